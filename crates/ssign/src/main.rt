@@ -1,0 +1,8 @@
+//! Reviews stored logs of signed syslog messages (RFC 5424, RFC 5848).
+#![tactic(auto)]
+
+mod scheme;
+
+pub use scheme::{Judge, Scheme, Verifier};
+
+fn main(rt: HostRuntime) {}
