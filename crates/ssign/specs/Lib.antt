@@ -1,1 +1,2 @@
 pub mod Verifier
+pub mod Log

@@ -1,0 +1,48 @@
+//! Why a run over a log gave no report.
+ghost use Rattle.std.specs.Prelude.{◌≡◌};
+ghost use Rattle.ssign.specs.declared.fault.RunFault.TheVariants.{Frame, Memory};
+
+use ss_frame::FrameFault;
+use std::alloc::{AllocError, AllocFailed};
+use thiserror::Error;
+
+/// Why a run gave no report. But for a failed write, nothing was written.
+#[derive(Clone, Copy, Debug, PartialEq, Eq, Error)]
+pub enum RunFault {
+    /// The log couldn't be read to its end: F1 to F5.
+    #[error("{0}")]
+    Frame(FrameFault),
+    /// W1: a write failed. What was written is a prefix of the report.
+    #[error("W1")]
+    Write,
+    /// W2: want of memory.
+    #[error("W2")]
+    Memory,
+    /// The log has blocks in a form that isn't reviewed yet.
+    #[error("not yet")]
+    NotYet,
+}
+
+impl From<FrameFault> for RunFault {
+    ghost from_gives = { λ f e. e ≡ Frame f };
+
+    fn from(fault: FrameFault) -> RunFault {
+        RunFault::Frame(fault)
+    }
+}
+
+impl From<AllocError> for RunFault {
+    ghost from_gives = { λ _ e. e ≡ Memory };
+
+    fn from(_e: AllocError) -> RunFault {
+        RunFault::Memory
+    }
+}
+
+impl<T: Drop> From<AllocFailed<T>> for RunFault {
+    ghost from_gives = { λ _ e. e ≡ Memory };
+
+    fn from(_e: AllocFailed<T>) -> RunFault {
+        RunFault::Memory
+    }
+}
