@@ -1,2 +1,4 @@
 pub mod Verifier
 pub mod Log
+pub mod ReportText
+pub mod Output

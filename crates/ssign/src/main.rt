@@ -3,10 +3,16 @@
 
 mod fault;
 mod log;
+mod output;
+mod report;
+mod report_text;
 mod scheme;
 
 pub use fault::RunFault;
 pub use log::{Log, read_log};
+pub use output::write_whole;
+pub use report::{Entry, Report, SessionReport, SessionState, Verdict};
+pub use report_text::report_text;
 pub use scheme::{Judge, Scheme, Verifier};
 
 fn main(rt: HostRuntime) {}
