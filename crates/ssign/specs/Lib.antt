@@ -1,1 +1,3 @@
 pub mod Verifier
+pub mod ThinText
+pub mod ThinReading

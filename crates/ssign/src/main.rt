@@ -2,6 +2,7 @@
 #![tactic(auto)]
 
 mod scheme;
+mod thin;
 
 pub use scheme::{Judge, Scheme, Verifier};
 

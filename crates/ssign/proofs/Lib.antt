@@ -1,0 +1,2 @@
+pub mod ThinLacks
+pub mod ThinValues
