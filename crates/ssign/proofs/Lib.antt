@@ -1,2 +1,3 @@
 pub mod ThinLacks
 pub mod ThinValues
+pub mod ThinHashes

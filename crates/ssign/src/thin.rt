@@ -2,6 +2,7 @@
 
 mod cut;
 mod encoded;
+mod hash_text;
 mod hashes;
 mod number;
 mod values;
