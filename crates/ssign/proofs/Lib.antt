@@ -1,3 +1,5 @@
 pub mod ThinLacks
 pub mod ThinValues
 pub mod ThinHashes
+pub mod ThinBlocks
+pub mod ThinSigned

@@ -1,3 +1,4 @@
 pub mod Verifier
 pub mod ThinText
 pub mod ThinReading
+pub mod ThinMessage

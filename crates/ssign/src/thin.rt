@@ -1,14 +1,29 @@
 //! Thin blocks: signature and certificate blocks in one fixed form (RFC 5848, sections 4 and 5).
+ghost use Rattle.std.specs.Prelude.{◌≡◌, IfOk};
+ghost use Rattle.ssign.specs.declared.thin.ThinSignature.{ThinSignature};
+ghost use Rattle.ssign.specs.declared.thin.ThinCertificate.{ThinCertificate};
+ghost use Rattle.ssign.specs.ThinMessage.{HasMarker, IsThin};
+ghost use Rattle.ssign.specs.ThinText.{IsSignature, IsCertificate};
 
+mod certificate;
 mod cut;
 mod encoded;
 mod hash_text;
 mod hashes;
+mod marker;
 mod number;
+mod signature;
+mod signed;
 mod values;
 
+use crate::thin::certificate::certificate_of;
 use crate::thin::hashes::Hashes;
+use crate::thin::marker::has_marker;
+use crate::thin::signature::signature_of;
 use ss_frame::Bytes;
+use std::alloc::{AllocError, Global};
+
+pub use crate::thin::signed::signed_octets;
 
 /// A signature block: one element `ssign` behind the header, with VER `0111`, SG and SPRI 0 and FMN 1.
 #[derive(Debug, Drop)]
@@ -46,4 +61,26 @@ pub enum Thin {
     Certificate(ThinCertificate),
     /// A message with the octets `[ssign` that is no thin block.
     Foreign,
+}
+
+/// What the message is. It is a thin block exactly where some block in range is spelled so, octet by octet; each
+/// number is decimal without leading zeros, each hash and the signature strict base64 (RFC 4648, section 4).
+///
+/// The only error is that memory runs out.
+pub fn thin_of(alloc: Global, message: &[u8]) -> Result<Thin, AllocError>
+    ensures found { IfOk result (λ t. IsThin message.now t) }
+    ensures signature { (b : ThinSignature) → IsSignature message.now b → IfOk result (λ t. t ≡ Thin.Signature b) }
+    ensures certificate { (c : ThinCertificate) → IsCertificate message.now c → IfOk result (λ t. t ≡ Thin.Certificate c) }
+    ensures normal { ¬ (HasMarker message.now) → IfOk result (λ t. t ≡ Thin.Normal) }
+{
+    if !has_marker(message) {
+        return Ok(Thin::Normal);
+    }
+    if let Some(block) = signature_of(alloc, message)? {
+        return Ok(Thin::Signature(block));
+    }
+    if let Some(block) = certificate_of(alloc, message)? {
+        return Ok(Thin::Certificate(block));
+    }
+    Ok(Thin::Foreign)
 }
