@@ -7,6 +7,7 @@ mod output;
 mod report;
 mod report_text;
 mod scheme;
+mod thin;
 
 pub use fault::RunFault;
 pub use log::{Log, read_log};

@@ -1,0 +1,65 @@
+-- The octets of a block that are signed.
+use Rattle.std.proofs.Common.{◌≡◌, ℕ, ◌+◌, ◌-◌, ◌≤◌, List, [], ◌∷◌, ◌++◌, length, take, get_or, codes, Some, None, refl, sym, ap, subst, ◌∙◌, append_assoc, arith, length-append}
+use Rattle.std.proofs.lemmas.List.{take_at}
+use Rattle.ssign.specs.declared.thin.ThinSignature.{ThinSignature}
+use Rattle.ssign.specs.declared.thin.ThinCertificate.{ThinCertificate}
+use Rattle.ssign.specs.ThinMessage.{HasMarker, HasSign, IsNoBlock, IsWithoutSign}
+use Rattle.ssign.specs.ThinReading.{Texts}
+use Rattle.ssign.specs.ThinText.{IsSignature, IsCertificate, signature_text, certificate_text, signed_signature_text, signed_certificate_text}
+use Rattle.ssign.proofs.ThinBlocks.{signature_values_in, signature_texts, signature_read, signature_values_are, certificate_values_in, certificate_texts, certificate_read, certificate_values_are}
+use Rattle.ssign.proofs.ThinValues.{values_take}
+
+-- a block's text up to the `"` behind its fourth value
+front_of : List ℕ → List ℕ → List ℕ → List ℕ → Texts → List ℕ
+front_of l1 l2 l3 l4 t = l1 ++ (t.rsid ++ (l2 ++ (t.total ++ (l3 ++ (t.count ++ (l4 ++ (t.content ++ 34 ∷ [])))))))
+
+front_then : (l1 l2 l3 l4 : List ℕ) (t : Texts) (rest : List ℕ) → front_of l1 l2 l3 l4 t ++ rest ≡ l1 ++ (t.rsid ++ (l2 ++ (t.total ++ (l3 ++ (t.count ++ (l4 ++ (t.content ++ 34 ∷ rest)))))))
+unfolding front_of
+front_then l1 l2 l3 l4 t rest = simp append_assoc
+
+-- the kinds of block differ behind `[ssign`
+apart : (message : List ℕ) (b : ThinSignature) (c : ThinCertificate) → message ≡ signature_text b → message ≡ certificate_text c → ⊥
+unfolding signature_text certificate_text
+apart message b c e f = let differ : 32 ≡ 45 = ap (λ (x : List ℕ). get_or x 23 0) (sym e ∙ f) in absurd (omega (arith, differ))
+
+pub kinds_apart : (message : List ℕ) (b : ThinSignature) (c : ThinCertificate) → IsSignature message b → IsCertificate message c → ⊥
+kinds_apart message b c is other = apart message b c is.text other.text
+
+pub from_signature : (message : List ℕ) (t : Texts) → Some t ≡ signature_values_in message → HasSign message t.signature
+unfolding front_of signed_signature_text certificate_text
+from_signature message t e =
+    let whole = values_take (codes "<110>1 - h s - - [ssign VER=\"0111\" RSID=\"") (codes "\" SG=\"0\" SPRI=\"0\" GBC=\"") (codes "\" FMN=\"1\" CNT=\"") (codes "\" HB=\"") (codes "\" SIGN=\"") (codes "\"]") message t e in
+    let front = front_of (codes "<110>1 - h s - - [ssign VER=\"0111\" RSID=\"") (codes "\" SG=\"0\" SPRI=\"0\" GBC=\"") (codes "\" FMN=\"1\" CNT=\"") (codes "\" HB=\"") in
+    let then = front_then (codes "<110>1 - h s - - [ssign VER=\"0111\" RSID=\"") (codes "\" SG=\"0\" SPRI=\"0\" GBC=\"") (codes "\" FMN=\"1\" CNT=\"") (codes "\" HB=\"") in
+    record {
+      front = front t;
+      parts = whole ∙ sym (then t (codes " SIGN=\"" ++ (t.signature ++ codes "\"]")));
+      signature = λ b is. ap (λ (x : Texts). front x ++ codes "]") (signature_values_are message t b e is) ∙ then (signature_texts b) (codes "]");
+      certificate = λ c is. let differ : 32 ≡ 45 = ap (λ (x : List ℕ). get_or x 23 0) (sym whole ∙ is.text) in absurd (omega (arith, differ));
+    }
+
+pub from_certificate : (message : List ℕ) (t : Texts) → None ≡ signature_values_in message → Some t ≡ certificate_values_in message → HasSign message t.signature
+unfolding front_of signed_certificate_text
+from_certificate message t not_one e =
+    let whole = values_take (codes "<110>1 - h s - - [ssign-cert VER=\"0111\" RSID=\"") (codes "\" SG=\"0\" SPRI=\"0\" TPBL=\"") (codes "\" INDEX=\"1\" FLEN=\"") (codes "\" FRAG=\"") (codes "\" SIGN=\"") (codes "\"]") message t e in
+    let front = front_of (codes "<110>1 - h s - - [ssign-cert VER=\"0111\" RSID=\"") (codes "\" SG=\"0\" SPRI=\"0\" TPBL=\"") (codes "\" INDEX=\"1\" FLEN=\"") (codes "\" FRAG=\"") in
+    let then = front_then (codes "<110>1 - h s - - [ssign-cert VER=\"0111\" RSID=\"") (codes "\" SG=\"0\" SPRI=\"0\" TPBL=\"") (codes "\" INDEX=\"1\" FLEN=\"") (codes "\" FRAG=\"") in
+    record {
+      front = front t;
+      parts = whole ∙ sym (then t (codes " SIGN=\"" ++ (t.signature ++ codes "\"]")));
+      signature = λ b is. let never = signature_read message None b not_one is in absurd (cc never);
+      certificate = λ c is. ap (λ (x : Texts). front x ++ codes "]") (certificate_values_are message t c e is) ∙ then (certificate_texts c) (codes "]");
+    }
+
+pub no_block : (message : List ℕ) → None ≡ signature_values_in message → None ≡ certificate_values_in message → IsNoBlock message
+no_block message not_one neither = (λ b is. let never = signature_read message None b not_one is in cc never, λ c is. let never = certificate_read message None c neither is in cc never)
+
+-- ---- every block has the marker
+
+pub signature_marked : (message : List ℕ) (b : ThinSignature) → IsSignature message b → HasMarker message
+unfolding signature_text
+signature_marked message b is = (codes "<110>1 - h s - - ", _, is.text)
+
+pub certificate_marked : (message : List ℕ) (c : ThinCertificate) → IsCertificate message c → HasMarker message
+unfolding certificate_text
+certificate_marked message c is = (codes "<110>1 - h s - - ", _, is.text)
