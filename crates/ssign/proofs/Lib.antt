@@ -5,3 +5,4 @@ pub mod ThinValues
 pub mod ThinHashes
 pub mod ThinBlocks
 pub mod ThinSigned
+pub mod BlockSearch

@@ -6,3 +6,4 @@ pub mod ThinText
 pub mod ThinReading
 pub mod ThinMessage
 pub mod Review
+pub mod Search

@@ -6,6 +6,7 @@ mod log;
 mod output;
 mod report;
 mod report_text;
+mod review;
 mod scheme;
 mod thin;
 

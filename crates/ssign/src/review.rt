@@ -1,0 +1,2 @@
+//! The review of a log with thin blocks.
+mod search;
