@@ -6,3 +6,5 @@ pub mod ThinHashes
 pub mod ThinBlocks
 pub mod ThinSigned
 pub mod BlockSearch
+pub mod Places
+pub mod EntriesIn

@@ -7,3 +7,4 @@ pub mod ThinReading
 pub mod ThinMessage
 pub mod Review
 pub mod Search
+pub mod Entries
