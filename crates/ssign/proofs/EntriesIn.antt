@@ -6,6 +6,8 @@ use Rattle.std.proofs.lemmas.Option.{slice_get_within}
 use Rattle.sha1.specs.Sha1.{sha1}
 use Rattle.ssign.specs.Review.{At, Blocks, Bears, IsEntry, AreEntries}
 use Rattle.ssign.specs.Entries.{digest_at, AreDigests, IsLeast, IsNowhere, IsEntryIn, AreEntriesIn}
+use Rattle.ssign.specs.Search.{AreFound}
+use Rattle.ssign.specs.declared.review.search.Found.{Found}
 use Rattle.ssign.specs.declared.report.Entry.{Entry}
 use Rattle.ssign.specs.declared.report.Entry.TheVariants as entries
 use Rattle.ssign.proofs.BlockSearch.{at_same, at_exists}
@@ -62,3 +64,12 @@ are_entries log blocks digests number [] [] are h = tt
 are_entries log blocks digests number [] (e ∷ es) are h = absurd h
 are_entries log blocks digests number (x ∷ hs) [] are h = absurd h
 are_entries log blocks digests number (x ∷ hs) (e ∷ es) are h = (is_entry log blocks digests number x e are h.0, are_entries log blocks digests (number + 1) hs es are h.1)
+
+-- the entries of the block that was found
+pub announced_entries : (log : List (List ℕ)) (found : Found) (digests : List (Option (List ℕ))) (hashes : List (List ℕ)) (es : List Entry)
+    → AreDigests log found.signature_place found.certificate_place (length log) digests → hashes ≡ found.signature.hashes → AreEntriesIn digests 1 hashes es
+    → (blocks : Blocks log) → AreFound log found blocks → AreEntries log blocks 1 found.signature.hashes es
+announced_entries log found digests hashes es are same h blocks is =
+    let by_signature = subst (λ p. AreDigests log p found.certificate_place (length log) digests) (sym is.signature_place) are in
+    let by_certificate = subst (λ p. AreDigests log blocks.signature_place p (length log) digests) (sym is.certificate_place) by_signature in
+    are_entries log blocks digests 1 found.signature.hashes es by_certificate (subst (λ hs. AreEntriesIn digests 1 hs es) same h)

@@ -8,3 +8,4 @@ pub mod ThinSigned
 pub mod BlockSearch
 pub mod Places
 pub mod EntriesIn
+pub mod BlockReview

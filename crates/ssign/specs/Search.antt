@@ -1,8 +1,12 @@
 -- Looking for the blocks of a log.
-use Rattle.std.specs.Prelude.{◌≡◌, ℕ, ◌==◌, Bool, true, false, List, Option, Some, None, if◌then◌else◌}
+use Rattle.std.specs.Prelude.{◌≡◌, ℕ, ◌==◌, Bool, true, false, List, [], Option, Some, None, if◌then◌else◌}
 use Rattle.ssign.specs.ThinText.{IsSignature, IsCertificate}
 use Rattle.ssign.specs.ThinMessage.{HasMarker, IsThin}
-use Rattle.ssign.specs.Review.{At, HasNoBlock, Blocks, IsNotCovered}
+use Rattle.ssign.specs.Review.{HasNoBlock, Blocks, IsNotCovered, Answers, AreEntries, IsBlockReview}
+use Rattle.ssign.specs.declared.report.SessionState.{SessionState}
+use Rattle.ssign.specs.declared.report.SessionState.TheVariants as states
+use Rattle.ssign.specs.declared.report.Entry.{Entry}
+use Rattle.ssign.specs.declared.report.Report.{Report}
 use Rattle.ssign.specs.declared.thin.Thin.{Thin}
 use Rattle.ssign.specs.declared.thin.Thin.TheVariants as thin
 use Rattle.ssign.specs.declared.thin.ThinSignature.{ThinSignature}
@@ -41,3 +45,18 @@ Notes (Some s) c place (thin.Signature b) s' c' noted = noted ≡ false
 Notes s None place (thin.Certificate b) s' c' noted = (s' ≡ s) × (c' ≡ Some (place, b)) × (noted ≡ true)
 Notes s (Some c) place (thin.Certificate b) s' c' noted = noted ≡ false
 Notes s c place thin.Foreign s' c' noted = noted ≡ false
+
+-- the entries are those of the verified signature block, or none
+abbrev pub AreAnnounced : (log : List (List ℕ)) → Found → (verified : Bool) → List Entry → Type 0
+AreAnnounced log found verified es = (verified ≡ true → (blocks : Blocks log) → AreFound log found blocks → AreEntries log blocks 1 found.signature.hashes es)
+    × (verified ≡ false → es ≡ [])
+
+-- the report is that on the log's blocks
+abbrev pub IsReviewOf : Answers → List (List ℕ) → Report → Type 0
+IsReviewOf answers log report = (blocks : Blocks log) × IsBlockReview answers log blocks report
+
+-- the state is that of a joined session
+abbrev pub tells_joined : SessionState → Bool
+tells_joined states.Joined = true
+tells_joined states.Untrusted = false
+tells_joined states.Unaccepted = false
