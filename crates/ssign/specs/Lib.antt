@@ -8,3 +8,4 @@ pub mod ThinMessage
 pub mod Review
 pub mod Search
 pub mod Entries
+pub mod Run

@@ -7,6 +7,7 @@ mod output;
 mod report;
 mod report_text;
 mod review;
+mod run;
 mod scheme;
 mod thin;
 
@@ -15,6 +16,8 @@ pub use log::{Log, read_log};
 pub use output::write_whole;
 pub use report::{Entry, Report, SessionReport, SessionState, Verdict};
 pub use report_text::report_text;
+pub use review::review;
+pub use run::run_review;
 pub use scheme::{Judge, Scheme, Verifier};
 
 fn main(rt: HostRuntime) {}
