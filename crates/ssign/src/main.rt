@@ -1,9 +1,12 @@
 //! Reviews stored logs of signed syslog messages (RFC 5424, RFC 5848).
 #![tactic(auto)]
 
+mod command_line;
 mod fault;
 mod log;
+mod nobody;
 mod output;
+mod program;
 mod report;
 mod report_text;
 mod review;
@@ -13,11 +16,15 @@ mod thin;
 
 pub use fault::RunFault;
 pub use log::{Log, read_log};
+pub use nobody::Nobody;
 pub use output::write_whole;
 pub use report::{Entry, Report, SessionReport, SessionState, Verdict};
 pub use report_text::report_text;
 pub use review::review;
 pub use run::run_review;
 pub use scheme::{Judge, Scheme, Verifier};
+use std::process::ExitCode;
 
-fn main(rt: HostRuntime) {}
+fn main(rt: HostRuntime) -> ExitCode {
+    ExitCode::from(program::run(&rt))
+}

@@ -1,0 +1,44 @@
+//! The command line.
+use clap::{Arg, ArgAction, ArgMatches, Command, Error};
+use ss_frame::Limits;
+use std::alloc::{AllocError, Global};
+
+/// The program's commands and their options.
+pub fn command<'a>(alloc: Global) -> Result<Command<'a>, AllocError> {
+    let review = Command::new(alloc, "review")
+        .about("Reviews the log on standard input, and writes the report to standard output")
+        .arg(max_len(alloc))?
+        .arg(max_messages(alloc))?;
+    Command::new(alloc, "ssign")
+        .about("Reviews stored logs of signed syslog messages (RFC 5424, RFC 5848)")
+        .subcommand_required(true)
+        .arg_required_else_help(true)
+        .subcommand(review)
+}
+
+fn max_len<'a>(alloc: Global) -> Arg<'a> {
+    Arg::new(alloc, "max-len")
+        .long("max-len")
+        .value_name("N")
+        .action(ArgAction::Set)
+        .value_parser(clap::value_parser!(u32).range(1..=1_048_576))
+        .help("The longest message, in octets: 1 to 1048576")
+        .default_value("65536")
+}
+
+fn max_messages<'a>(alloc: Global) -> Arg<'a> {
+    Arg::new(alloc, "max-messages")
+        .long("max-messages")
+        .value_name("N")
+        .action(ArgAction::Set)
+        .value_parser(clap::value_parser!(u32).range(1..=10_000_000))
+        .help("The most messages: 1 to 10000000")
+        .default_value("10000000")
+}
+
+/// The limits that the options give. `None` only where a value is out of its range, which `command` refuses.
+pub fn limits_of(matches: &ArgMatches<'_>) -> Option<Limits> {
+    let max_len = matches.get_one::<u32>("max-len")?;
+    let max_messages = matches.get_one::<u32>("max-messages")?;
+    Limits::new(max_len, max_messages)
+}

@@ -1,0 +1,24 @@
+//! A verifier that says no to everything.
+ghost use Rattle.std.specs.Prelude.{false};
+
+use crate::scheme::Judge;
+
+/// Trusts no payload, and accepts no signature.
+#[derive(Clone, Copy, Debug)]
+pub struct Nobody;
+
+impl Judge for Nobody {
+    ghost sound = { λ _. Unit {0} };
+
+    ghost trusted = { λ _ _. false };
+
+    ghost valid = { λ _ _ _ _. false };
+
+    fn trusts(&self, _payload: &[u8]) -> bool {
+        false
+    }
+
+    fn accepts(&self, _payload: &[u8], _bytes: &[u8], _signature: &[u8]) -> bool {
+        false
+    }
+}

@@ -1,0 +1,97 @@
+//! The program: its command line, its streams and its exit statuses.
+use crate::command_line::{command, limits_of};
+use crate::fault::RunFault;
+use crate::nobody::Nobody;
+use crate::report::Verdict;
+use crate::run::run_review;
+use clap::ArgMatches;
+use clap::error::ErrorKind;
+use ss_frame::{Limits, Watched};
+use std::alloc::AllocError;
+use std::io::{BufReader, BufWriter};
+use std::rt::Env;
+use std::{env, io};
+
+/// No finding.
+const CLEAN: u8 = 0;
+/// The report has findings.
+const FINDINGS: u8 = 1;
+/// A refusal or a usage fault.
+const REFUSED: u8 = 2;
+
+/// How much is read or written at once, in octets.
+const BUFFER_SIZE: usize = 65_536;
+
+/// Runs the program, and gives its exit status.
+pub fn run<R: Input + Print + Eprint + Env + AllocGlobal>(rt: &R) -> u8 {
+    match words(rt) {
+        Ok(words) => run_words(rt, words.as_slice()),
+        Err(_) => refuse(rt, &RunFault::Memory),
+    }
+}
+
+fn words<R: Env + AllocGlobal>(rt: &R) -> io::Result<Vec<String>> {
+    let mut words = Vec::new(rt.alloc());
+    for word in env::args(rt)? {
+        words.push(word).map_err(AllocError::from)?;
+    }
+    Ok(words)
+}
+
+fn run_words<R: Input + Print + Eprint + AllocGlobal>(rt: &R, words: &[String]) -> u8 {
+    let Ok(command) = command(rt.alloc()) else {
+        return refuse(rt, &RunFault::Memory);
+    };
+    match command.try_get_matches_from(words) {
+        Ok(matches) => run_command(rt, &matches),
+        Err(fault) => {
+            if fault.kind() == ErrorKind::OutOfMemory {
+                return refuse(rt, &RunFault::Memory);
+            }
+            if fault.print(rt).is_err() {
+                return refuse(rt, &RunFault::Write);
+            }
+            if fault.use_stderr() { REFUSED } else { CLEAN }
+        }
+    }
+}
+
+fn run_command<R: Input + Print + Eprint + AllocGlobal>(rt: &R, matches: &ArgMatches<'_>) -> u8 {
+    match matches.subcommand() {
+        Some(("review", options)) => review_command(rt, options),
+        _ => REFUSED,
+    }
+}
+
+fn review_command<R: Input + Print + Eprint + AllocGlobal>(rt: &R, options: &ArgMatches<'_>) -> u8 {
+    let Some(limits) = limits_of(options) else {
+        return REFUSED;
+    };
+    match review_streams(rt, limits) {
+        Ok(Verdict::Clean) => CLEAN,
+        Ok(Verdict::Findings) => FINDINGS,
+        Err(fault) => refuse(rt, &fault),
+    }
+}
+
+/// Reviews standard input onto standard output, each through a buffer.
+fn review_streams<R: Input + Print + AllocGlobal>(
+    rt: &R,
+    limits: Limits,
+) -> Result<Verdict, RunFault> {
+    let Ok(input) = BufReader::with_capacity(rt.alloc(), BUFFER_SIZE, rt.reader()) else {
+        return Err(RunFault::Memory);
+    };
+    let Ok(output) = BufWriter::with_capacity(rt.alloc(), BUFFER_SIZE, io::writer(rt)) else {
+        return Err(RunFault::Memory);
+    };
+    let mut reader = Watched::new(input);
+    let mut writer = Watched::new(output);
+    run_review(rt.alloc(), &mut reader, &mut writer, &Nobody, limits)
+}
+
+/// Says on standard error why nothing was done.
+fn refuse<R: Eprint>(rt: &R, fault: &RunFault) -> u8 {
+    let _ = eprintln!(rt; "ssign: {fault}");
+    REFUSED
+}
