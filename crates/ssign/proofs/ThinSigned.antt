@@ -1,9 +1,8 @@
 -- The octets of a block that are signed.
-use Rattle.std.proofs.Common.{◌≡◌, ℕ, ◌+◌, ◌-◌, ◌≤◌, List, [], ◌∷◌, ◌++◌, length, take, get_or, codes, Some, None, refl, sym, ap, subst, ◌∙◌, append_assoc, arith, length-append}
-use Rattle.std.proofs.lemmas.List.{take_at}
+use Rattle.std.proofs.Common.{◌≡◌, ℕ, List, [], ◌∷◌, ◌++◌, get_or, codes, Some, None, sym, ap, ◌∙◌, append_assoc, arith}
 use Rattle.ssign.specs.declared.thin.ThinSignature.{ThinSignature}
 use Rattle.ssign.specs.declared.thin.ThinCertificate.{ThinCertificate}
-use Rattle.ssign.specs.ThinMessage.{HasMarker, HasSign, IsNoBlock, IsWithoutSign}
+use Rattle.ssign.specs.ThinMessage.{HasMarker, HasSign, IsNoBlock}
 use Rattle.ssign.specs.ThinReading.{Texts}
 use Rattle.ssign.specs.ThinText.{IsSignature, IsCertificate, signature_text, certificate_text, signed_signature_text, signed_certificate_text}
 use Rattle.ssign.proofs.ThinBlocks.{signature_values_in, signature_texts, signature_read, signature_values_are, certificate_values_in, certificate_texts, certificate_read, certificate_values_are}

@@ -14,16 +14,17 @@ mod marker;
 mod number;
 mod signature;
 mod signed;
+#[cfg(test)]
+mod tests;
 mod values;
 
 use crate::thin::certificate::certificate_of;
 use crate::thin::hashes::Hashes;
 use crate::thin::marker::has_marker;
 use crate::thin::signature::signature_of;
+pub use crate::thin::signed::signed_octets;
 use ss_frame::Bytes;
 use std::alloc::{AllocError, Global};
-
-pub use crate::thin::signed::signed_octets;
 
 /// A signature block: one element `ssign` behind the header, with VER `0111`, SG and SPRI 0 and FMN 1.
 #[derive(Debug, Drop)]

@@ -59,7 +59,10 @@ pub fn certificate_values(message: &[u8]) -> Option<Values<'_>>
         (codes "\" SG=\"0\" SPRI=\"0\" TPBL=\"") (codes "\" INDEX=\"1\" FLEN=\"") (codes "\" FRAG=\"")
         (codes "\" SIGN=\"") (codes "\"]") message.now }
 {
-    let (rsid, rest) = value(message, b"<110>1 - h s - - [ssign-cert VER=\"0111\" RSID=\"")?;
+    let (rsid, rest) = value(
+        message,
+        b"<110>1 - h s - - [ssign-cert VER=\"0111\" RSID=\"",
+    )?;
     let (total, rest) = value(rest, b"\" SG=\"0\" SPRI=\"0\" TPBL=\"")?;
     let (count, rest) = value(rest, b"\" INDEX=\"1\" FLEN=\"")?;
     let (content, rest) = value(rest, b"\" FRAG=\"")?;

@@ -1,4 +1,4 @@
-use Rattle.std.proofs.Common.{◌≡◌, ℕ, List, length, not, true, false, None, Some, sym, ap, ◌∙◌, arith}
+use Rattle.std.proofs.Common.{◌≡◌, ℕ, List, length, true, false, None, Some, sym, ap, ◌∙◌, arith}
 use Rattle.std.specs.Fmt.{decimal}
 use Rattle.std.specs.List.{list_all}
 use Rattle.std.proofs.lemmas.Bool.{eqb-true, eqb-false}
@@ -34,12 +34,12 @@ returns-then-len-eq0-clause-only c = λ b is.
     let count = same_Some c.in-Some-number_of-3.count (length b.payload) (c.in-Some-number_of-3.ensures.only (length b.payload) is.in_range.at_most_9999_octets (ap (λ (x : Texts). x.count) t)) in
     let long : length c.in-Some.values.content.now ≡ length b.payload = ap (λ (x : Texts). length x.content) t in
     elim c.then-len-eq0.branch [
-      then-len-eq0-via-then-len-eq0 w ↦ absurd (omega (arith, is.in_range.some_payload))
-    | then-len-eq0-via-else-len-eq0+then-total-len w ↦ absurd (omega arith)
-    | then-len-eq0-via-else-len-eq0+else-total-len+then-count-len w ↦ absurd (omega arith)
-    | then-len-eq0-via-else-len-eq0+else-total-len+else-count-len+then-not-is_plain_text w ↦
-        let plain : true ≡ false = sym (ap (λ (x : Texts). list_all is_plain x.content) t ∙ is.in_range.plain) ∙ sym w.is_plain_text.ensures ∙ w.if-not-is_plain_text.true in
-        cc plain
+      | then-len-eq0-via-then-len-eq0 w ↦ absurd (omega (arith, is.in_range.some_payload))
+      | then-len-eq0-via-else-len-eq0+then-total-len w ↦ absurd (omega arith)
+      | then-len-eq0-via-else-len-eq0+else-total-len+then-count-len w ↦ absurd (omega arith)
+      | then-len-eq0-via-else-len-eq0+else-total-len+else-count-len+then-not-is_plain_text w ↦
+          let plain : true ≡ false = sym (ap (λ (x : Texts). list_all is_plain x.content) t ∙ is.in_range.plain) ∙ sym w.is_plain_text.ensures ∙ w.if-not-is_plain_text.true in
+          cc plain
     ]
 
 pub returns-in_default-2-clause-only : goal.returns-in_default-2-clause-only

@@ -1,4 +1,4 @@
-use Rattle.std.proofs.Common.{◌≡◌, ℕ, ◌<◌, ◌≤◌, ◌+◌, ◌-◌, nat_eq, List, [], ◌∷◌, ◌++◌, length, take, drop, codes, Bool, true, false, refl, sym, ap, ◌∙◌, arith, below_more, length-append}
+use Rattle.std.proofs.Common.{◌≡◌, ℕ, ◌<◌, ◌≤◌, ◌+◌, ◌-◌, nat_eq, List, ◌++◌, length, take, drop, codes, true, false, refl, sym, ap, ◌∙◌, arith, below_more, length-append}
 use Rattle.std.specs.List.{starts_with}
 use Rattle.std.proofs.lemmas.Bool.{false≢true}
 use Rattle.std.proofs.lemmas.Bool.Decides.{Decides-eqb}
@@ -6,7 +6,6 @@ use Rattle.std.proofs.lemmas.List.{take_rest, take-append-drop, drop_at}
 use Rattle.std.proofs.lemmas.Slice.Eq.{starts_is}
 use Rattle.ssign.specs.ThinMessage.{HasMarker}
 use Rattle.ssign.proofs.thin.marker.has_marker.Goals as goal
-
 
 -- it stands at a place where the rest begins with it
 stands : (message : List ℕ) (start : ℕ) → starts_with nat_eq (take (length message - start) (drop start message)) (codes "[ssign") ≡ true → HasMarker message

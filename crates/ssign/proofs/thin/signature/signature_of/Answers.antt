@@ -43,11 +43,11 @@ returns-then-as_slice-count-clause-only c = λ b is.
     let signature = same_Some c.in-Some-3.signature b.signature (sym c.in-Some-3.is ∙ c.in_ok-signature.ensures.only b.signature is.in_range.octets (ap (λ (x : Texts). x.signature) t)) in
     let many : length c.as_slice.result.now ≡ length b.hashes = ap (λ (x : List (List ℕ)). length x) (c.as_slice.ensures ∙ hashes) in
     elim c.then-as_slice-count.branch [
-      then-as_slice-count-via-then-as_slice-count w ↦ absurd (omega arith)
-    | then-as_slice-count-via-else-as_slice-count+then-is_empty w ↦
-        let empty : length w.as_slice-else-as_slice-count.result.now ≡ 0 = eqb-true _ _ (sym w.is_empty.ensures ∙ w.if-is_empty.true) in
-        let long : length w.as_slice-else-as_slice-count.result.now ≡ length b.signature = ap (λ (x : List ℕ). length x) (w.as_slice-else-as_slice-count.ensures ∙ signature) in
-        absurd (omega (arith, is.in_range.some_octet))
+      | then-as_slice-count-via-then-as_slice-count w ↦ absurd (omega arith)
+      | then-as_slice-count-via-else-as_slice-count+then-is_empty w ↦
+          let empty : length w.as_slice-else-as_slice-count.result.now ≡ 0 = eqb-true _ _ (sym w.is_empty.ensures ∙ w.if-is_empty.true) in
+          let long : length w.as_slice-else-as_slice-count.result.now ≡ length b.signature = ap (λ (x : List ℕ). length x) (w.as_slice-else-as_slice-count.ensures ∙ signature) in
+          absurd (omega (arith, is.in_range.some_octet))
     ]
 
 pub returns-clause-found : goal.returns-clause-found
