@@ -2,7 +2,7 @@
 ghost use Rattle.std.specs.Prelude.{◌≡◌, IfOk};
 ghost use Rattle.ssign.specs.declared.thin.ThinSignature.{ThinSignature};
 ghost use Rattle.ssign.specs.declared.thin.ThinCertificate.{ThinCertificate};
-ghost use Rattle.ssign.specs.ThinMessage.{HasMarker, IsThin};
+ghost use Rattle.ssign.specs.ThinMessage.{HasMarker, IsNoBlock, IsThin};
 ghost use Rattle.ssign.specs.ThinText.{IsSignature, IsCertificate};
 
 mod certificate;
@@ -73,6 +73,7 @@ pub fn thin_of(alloc: Global, message: &[u8]) -> Result<Thin, AllocError>
     ensures signature { (b : ThinSignature) → IsSignature message.now b → IfOk result (λ t. t ≡ Thin.Signature b) }
     ensures certificate { (c : ThinCertificate) → IsCertificate message.now c → IfOk result (λ t. t ≡ Thin.Certificate c) }
     ensures normal { ¬ (HasMarker message.now) → IfOk result (λ t. t ≡ Thin.Normal) }
+    ensures foreign { HasMarker message.now → IsNoBlock message.now → IfOk result (λ t. t ≡ Thin.Foreign) }
 {
     if !has_marker(message) {
         return Ok(Thin::Normal);
