@@ -1,12 +1,12 @@
 -- A block's values, and the block.
-use Rattle.std.proofs.Common.{◌≡◌, ℕ, ◌^◌, ◌<◌, ◌≤◌, Bool, true, false, not, eqb, ltb, ◌&&◌, List, [], ◌∷◌, ◌++◌, length, Option, Some, None, codes, refl, sym, ap, subst, ◌∙◌, arith}
+use Rattle.std.proofs.Common.{◌≡◌, ℕ, true, not, eqb, ltb, ◌&&◌, List, [], ◌∷◌, length, Option, Some, codes, refl, sym, ap, ◌∙◌, arith}
 use Rattle.std.specs.Fmt.{decimal}
 use Rattle.std.specs.List.{list_all}
 use Rattle.std.proofs.lemmas.Bool.{and_parts, not-true}
 use Rattle.std.proofs.lemmas.Option.{same_Some}
 use Rattle.ssign.specs.declared.thin.ThinSignature.{ThinSignature}
 use Rattle.ssign.specs.declared.thin.ThinCertificate.{ThinCertificate}
-use Rattle.ssign.specs.ThinReading.{Texts, values_between}
+use Rattle.ssign.specs.ThinReading.{Texts, signature_labels, certificate_labels, values_between}
 use Rattle.ssign.specs.ThinText.{base64, hashes_text, signature_text, certificate_text, is_plain, IsSignature, IsSignatureInRange, IsCertificate, IsCertificateInRange}
 use Rattle.ssign.proofs.ThinLacks.{Lacks, Lacks-decimal, quote_not_in_base64, quote_not_in_hashes}
 use Rattle.ssign.proofs.ThinValues.{LackQuotes, values_again, values_take}
@@ -19,7 +19,7 @@ same_texts t rsid total count content signature e1 e2 e3 e4 e5 = rw (← e1, ←
 
 -- the five values between the labels of a signature block
 abbrev pub signature_values_in : List ℕ → Option Texts
-signature_values_in message = values_between (codes "<110>1 - h s - - [ssign VER=\"0111\" RSID=\"") (codes "\" SG=\"0\" SPRI=\"0\" GBC=\"") (codes "\" FMN=\"1\" CNT=\"") (codes "\" HB=\"") (codes "\" SIGN=\"") (codes "\"]") message
+signature_values_in message = values_between signature_labels message
 
 abbrev pub signature_texts : ThinSignature → Texts
 signature_texts b = record { rsid = decimal b.rsid; total = decimal b.counter; count = decimal (length b.hashes); content = hashes_text b.hashes; signature = base64 b.signature }
@@ -52,13 +52,13 @@ same_signature b rsid counter hashes signature e1 e2 e3 e4 = rw (e1, e2, e3, e4)
 pub signature_found : (message : List ℕ) (t : Texts) (b : ThinSignature) → Some t ≡ signature_values_in message → t ≡ signature_texts b → IsSignatureInRange b → IsSignature message b
 unfolding signature_text
 signature_found message t b e same fit =
-    record { in_range = fit; text = values_take (codes "<110>1 - h s - - [ssign VER=\"0111\" RSID=\"") (codes "\" SG=\"0\" SPRI=\"0\" GBC=\"") (codes "\" FMN=\"1\" CNT=\"") (codes "\" HB=\"") (codes "\" SIGN=\"") (codes "\"]") message (signature_texts b) (sym (ap Some same) ∙ e) }
+    record { in_range = fit; text = values_take signature_labels message (signature_texts b) (sym (ap Some same) ∙ e) }
 
 -- ---- certificate blocks
 
 -- the five values between the labels of a certificate block
 abbrev pub certificate_values_in : List ℕ → Option Texts
-certificate_values_in message = values_between (codes "<110>1 - h s - - [ssign-cert VER=\"0111\" RSID=\"") (codes "\" SG=\"0\" SPRI=\"0\" TPBL=\"") (codes "\" INDEX=\"1\" FLEN=\"") (codes "\" FRAG=\"") (codes "\" SIGN=\"") (codes "\"]") message
+certificate_values_in message = values_between certificate_labels message
 
 abbrev pub certificate_texts : ThinCertificate → Texts
 certificate_texts c = record { rsid = decimal c.rsid; total = decimal (length c.payload); count = decimal (length c.payload); content = c.payload; signature = base64 c.signature }
@@ -100,4 +100,4 @@ same_certificate c rsid payload signature e1 e2 e3 = rw (e1, e2, e3) refl
 pub certificate_found : (message : List ℕ) (t : Texts) (c : ThinCertificate) → Some t ≡ certificate_values_in message → t ≡ certificate_texts c → IsCertificateInRange c → IsCertificate message c
 unfolding certificate_text
 certificate_found message t c e same fit =
-    record { in_range = fit; text = values_take (codes "<110>1 - h s - - [ssign-cert VER=\"0111\" RSID=\"") (codes "\" SG=\"0\" SPRI=\"0\" TPBL=\"") (codes "\" INDEX=\"1\" FLEN=\"") (codes "\" FRAG=\"") (codes "\" SIGN=\"") (codes "\"]") message (certificate_texts c) (sym (ap Some same) ∙ e) }
+    record { in_range = fit; text = values_take certificate_labels message (certificate_texts c) (sym (ap Some same) ∙ e) }

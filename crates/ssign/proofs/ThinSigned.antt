@@ -1,21 +1,20 @@
 -- The octets of a block that are signed.
-use Rattle.std.proofs.Common.{◌≡◌, ℕ, ◌+◌, ◌-◌, ◌≤◌, List, [], ◌∷◌, ◌++◌, length, take, get_or, codes, Some, None, refl, sym, ap, subst, ◌∙◌, append_assoc, arith, length-append}
-use Rattle.std.proofs.lemmas.List.{take_at}
+use Rattle.std.proofs.Common.{◌≡◌, ℕ, List, [], ◌∷◌, ◌++◌, get_or, codes, Some, None, sym, ap, ◌∙◌, append_assoc, arith}
 use Rattle.ssign.specs.declared.thin.ThinSignature.{ThinSignature}
 use Rattle.ssign.specs.declared.thin.ThinCertificate.{ThinCertificate}
-use Rattle.ssign.specs.ThinMessage.{HasMarker, HasSign, IsNoBlock, IsWithoutSign}
-use Rattle.ssign.specs.ThinReading.{Texts}
+use Rattle.ssign.specs.ThinMessage.{HasMarker, HasSign, IsNoBlock}
+use Rattle.ssign.specs.ThinReading.{Labels, Texts, signature_labels, certificate_labels}
 use Rattle.ssign.specs.ThinText.{IsSignature, IsCertificate, signature_text, certificate_text, signed_signature_text, signed_certificate_text}
 use Rattle.ssign.proofs.ThinBlocks.{signature_values_in, signature_texts, signature_read, signature_values_are, certificate_values_in, certificate_texts, certificate_read, certificate_values_are}
 use Rattle.ssign.proofs.ThinValues.{values_take}
 
 -- a block's text up to the `"` behind its fourth value
-front_of : List ℕ → List ℕ → List ℕ → List ℕ → Texts → List ℕ
-front_of l1 l2 l3 l4 t = l1 ++ (t.rsid ++ (l2 ++ (t.total ++ (l3 ++ (t.count ++ (l4 ++ (t.content ++ 34 ∷ [])))))))
+front_of : Labels → Texts → List ℕ
+front_of l t = l.rsid ++ (t.rsid ++ (l.total ++ (t.total ++ (l.count ++ (t.count ++ (l.content ++ (t.content ++ 34 ∷ [])))))))
 
-front_then : (l1 l2 l3 l4 : List ℕ) (t : Texts) (rest : List ℕ) → front_of l1 l2 l3 l4 t ++ rest ≡ l1 ++ (t.rsid ++ (l2 ++ (t.total ++ (l3 ++ (t.count ++ (l4 ++ (t.content ++ 34 ∷ rest)))))))
+front_then : (l : Labels) (t : Texts) (rest : List ℕ) → front_of l t ++ rest ≡ l.rsid ++ (t.rsid ++ (l.total ++ (t.total ++ (l.count ++ (t.count ++ (l.content ++ (t.content ++ 34 ∷ rest)))))))
 unfolding front_of
-front_then l1 l2 l3 l4 t rest = simp append_assoc
+front_then l t rest = simp append_assoc
 
 -- the kinds of block differ behind `[ssign`
 apart : (message : List ℕ) (b : ThinSignature) (c : ThinCertificate) → message ≡ signature_text b → message ≡ certificate_text c → ⊥
@@ -28,27 +27,25 @@ kinds_apart message b c is other = apart message b c is.text other.text
 pub from_signature : (message : List ℕ) (t : Texts) → Some t ≡ signature_values_in message → HasSign message t.signature
 unfolding front_of signed_signature_text certificate_text
 from_signature message t e =
-    let whole = values_take (codes "<110>1 - h s - - [ssign VER=\"0111\" RSID=\"") (codes "\" SG=\"0\" SPRI=\"0\" GBC=\"") (codes "\" FMN=\"1\" CNT=\"") (codes "\" HB=\"") (codes "\" SIGN=\"") (codes "\"]") message t e in
-    let front = front_of (codes "<110>1 - h s - - [ssign VER=\"0111\" RSID=\"") (codes "\" SG=\"0\" SPRI=\"0\" GBC=\"") (codes "\" FMN=\"1\" CNT=\"") (codes "\" HB=\"") in
-    let then = front_then (codes "<110>1 - h s - - [ssign VER=\"0111\" RSID=\"") (codes "\" SG=\"0\" SPRI=\"0\" GBC=\"") (codes "\" FMN=\"1\" CNT=\"") (codes "\" HB=\"") in
+    let whole = values_take signature_labels message t e in
+    let then = front_then signature_labels in
     record {
-      front = front t;
+      front = front_of signature_labels t;
       parts = whole ∙ sym (then t (codes " SIGN=\"" ++ (t.signature ++ codes "\"]")));
-      signature = λ b is. ap (λ (x : Texts). front x ++ codes "]") (signature_values_are message t b e is) ∙ then (signature_texts b) (codes "]");
+      signature = λ b is. ap (λ (x : Texts). front_of signature_labels x ++ codes "]") (signature_values_are message t b e is) ∙ then (signature_texts b) (codes "]");
       certificate = λ c is. let differ : 32 ≡ 45 = ap (λ (x : List ℕ). get_or x 23 0) (sym whole ∙ is.text) in absurd (omega (arith, differ));
     }
 
 pub from_certificate : (message : List ℕ) (t : Texts) → None ≡ signature_values_in message → Some t ≡ certificate_values_in message → HasSign message t.signature
 unfolding front_of signed_certificate_text
 from_certificate message t not_one e =
-    let whole = values_take (codes "<110>1 - h s - - [ssign-cert VER=\"0111\" RSID=\"") (codes "\" SG=\"0\" SPRI=\"0\" TPBL=\"") (codes "\" INDEX=\"1\" FLEN=\"") (codes "\" FRAG=\"") (codes "\" SIGN=\"") (codes "\"]") message t e in
-    let front = front_of (codes "<110>1 - h s - - [ssign-cert VER=\"0111\" RSID=\"") (codes "\" SG=\"0\" SPRI=\"0\" TPBL=\"") (codes "\" INDEX=\"1\" FLEN=\"") (codes "\" FRAG=\"") in
-    let then = front_then (codes "<110>1 - h s - - [ssign-cert VER=\"0111\" RSID=\"") (codes "\" SG=\"0\" SPRI=\"0\" TPBL=\"") (codes "\" INDEX=\"1\" FLEN=\"") (codes "\" FRAG=\"") in
+    let whole = values_take certificate_labels message t e in
+    let then = front_then certificate_labels in
     record {
-      front = front t;
+      front = front_of certificate_labels t;
       parts = whole ∙ sym (then t (codes " SIGN=\"" ++ (t.signature ++ codes "\"]")));
       signature = λ b is. let never = signature_read message None b not_one is in absurd (cc never);
-      certificate = λ c is. ap (λ (x : Texts). front x ++ codes "]") (certificate_values_are message t c e is) ∙ then (certificate_texts c) (codes "]");
+      certificate = λ c is. ap (λ (x : Texts). front_of certificate_labels x ++ codes "]") (certificate_values_are message t c e is) ∙ then (certificate_texts c) (codes "]");
     }
 
 pub no_block : (message : List ℕ) → None ≡ signature_values_in message → None ≡ certificate_values_in message → IsNoBlock message

@@ -8,7 +8,7 @@ use Rattle.std.proofs.lemmas.List.{take_at, drop_at, take-append-drop}
 use Rattle.std.proofs.lemmas.Option.{cond_some, same_Some}
 use Rattle.std.proofs.lemmas.Slice.Eq.{bytes_eq-Decides}
 use Rattle.ssign.proofs.ThinLacks.{Lacks}
-use Rattle.ssign.specs.ThinReading.{◌>>=◌, Texts, cut_at, behind, value_after, values_between}
+use Rattle.ssign.specs.ThinReading.{◌>>=◌, Labels, Texts, cut_at, behind, value_after, values_between}
 
 -- ---- one value
 
@@ -50,11 +50,16 @@ value_takes label text p e =
 
 -- ---- all five
 
+-- the text that the labels and values make
+abbrev pub spelled : Labels → Texts → List ℕ
+spelled l t = l.rsid ++ (t.rsid ++ (l.total ++ (t.total ++ (l.count ++ (t.count ++ (l.content ++ (t.content ++ (l.signature ++ (t.signature ++ l.end)))))))))
+
 -- each step found its value, so all do
-pub values_made : (l1 l2 l3 l4 l5 l6 text : List ℕ) (p1 p2 p3 p4 p5 : List ℕ × List ℕ) → Some p1 ≡ value_after l1 text → Some p2 ≡ value_after l2 p1.1 → Some p3 ≡ value_after l3 p2.1 → Some p4 ≡ value_after l4 p3.1 → Some p5 ≡ value_after l5 p4.1
-    → pointwise nat_eq p5.1 l6 ≡ true → Some (record { rsid = p1.0; total = p2.0; count = p3.0; content = p4.0; signature = p5.0 }) ≡ values_between l1 l2 l3 l4 l5 l6 text
+pub values_made : (l : Labels) (text : List ℕ) (p1 p2 p3 p4 p5 : List ℕ × List ℕ)
+    → Some p1 ≡ value_after l.rsid text → Some p2 ≡ value_after l.total p1.1 → Some p3 ≡ value_after l.count p2.1 → Some p4 ≡ value_after l.content p3.1 → Some p5 ≡ value_after l.signature p4.1
+    → pointwise nat_eq p5.1 l.end ≡ true → Some (record { rsid = p1.0; total = p2.0; count = p3.0; content = p4.0; signature = p5.0 }) ≡ values_between l text
 unfolding values_between
-values_made l1 l2 l3 l4 l5 l6 text p1 p2 p3 p4 p5 e1 e2 e3 e4 e5 same = rw (← e1, ← e2, ← e3, ← e4, ← e5, same) refl
+values_made l text p1 p2 p3 p4 p5 e1 e2 e3 e4 e5 same = rw (← e1, ← e2, ← e3, ← e4, ← e5, same) refl
 
 -- no value of them has a `"`
 pub record LackQuotes (t : Texts) : Type 0 where
@@ -64,40 +69,49 @@ pub record LackQuotes (t : Texts) : Type 0 where
   pub content : Lacks 34 t.content
   pub signature : Lacks 34 t.signature
 
--- values that lack a `"` are read, where each label but the first begins with one
-pub values_again : (l1 m2 m3 m4 m5 m6 : List ℕ) (t : Texts) → LackQuotes t → Some t ≡ values_between l1 (34 ∷ m2) (34 ∷ m3) (34 ∷ m4) (34 ∷ m5) (34 ∷ m6)
-    (l1 ++ (t.rsid ++ 34 ∷ (m2 ++ (t.total ++ 34 ∷ (m3 ++ (t.count ++ 34 ∷ (m4 ++ (t.content ++ 34 ∷ (m5 ++ (t.signature ++ 34 ∷ m6))))))))))
+-- labels of which each but the first begins with a `"`
+abbrev pub quoted : List ℕ → List ℕ → List ℕ → List ℕ → List ℕ → List ℕ → Labels
+quoted rsid total count content signature end = record { rsid = rsid; total = 34 ∷ total; count = 34 ∷ count; content = 34 ∷ content; signature = 34 ∷ signature; end = 34 ∷ end }
+
+-- values that lack a `"` are read
+pub values_again : (l1 m2 m3 m4 m5 m6 : List ℕ) (t : Texts) → LackQuotes t → Some t ≡ values_between (quoted l1 m2 m3 m4 m5 m6) (spelled (quoted l1 m2 m3 m4 m5 m6) t)
 values_again l1 m2 m3 m4 m5 m6 t lacks =
     let r4 : List ℕ = m5 ++ (t.signature ++ 34 ∷ m6) in
     let r3 : List ℕ = m4 ++ (t.content ++ 34 ∷ r4) in
     let r2 : List ℕ = m3 ++ (t.count ++ 34 ∷ r3) in
     let r1 : List ℕ = m2 ++ (t.total ++ 34 ∷ r2) in
-    values_made l1 (34 ∷ m2) (34 ∷ m3) (34 ∷ m4) (34 ∷ m5) (34 ∷ m6) _ (t.rsid, 34 ∷ r1) (t.total, 34 ∷ r2) (t.count, 34 ∷ r3) (t.content, 34 ∷ r4) (t.signature, 34 ∷ m6)
+    values_made (quoted l1 m2 m3 m4 m5 m6) _ (t.rsid, 34 ∷ r1) (t.total, 34 ∷ r2) (t.count, 34 ∷ r3) (t.content, 34 ∷ r4) (t.signature, 34 ∷ m6)
     (value_again l1 t.rsid r1 lacks.rsid) (value_again (34 ∷ m2) t.total r2 lacks.total) (value_again (34 ∷ m3) t.count r3 lacks.count) (value_again (34 ∷ m4) t.content r4 lacks.content) (value_again (34 ∷ m5) t.signature m6 lacks.signature)
     ((bytes_eq-Decides (34 ∷ m6) (34 ∷ m6)).1 refl)
-
--- the end of the message, once all values are read
-abbrev ended : List ℕ → List ℕ × List ℕ → List ℕ × List ℕ → List ℕ × List ℕ → List ℕ × List ℕ → List ℕ × List ℕ → Option Texts
-ended l6 p1 p2 p3 p4 p5 = cond (pointwise nat_eq p5.1 l6) (Some (record { rsid = p1.0; total = p2.0; count = p3.0; content = p4.0; signature = p5.0 })) None
 
 chained : (label text v rest tail : List ℕ) → text ≡ label ++ (v ++ rest) → rest ≡ tail → text ≡ label ++ (v ++ tail)
 chained label text v rest tail e same = e ∙ ap (λ (r : List ℕ). label ++ (v ++ r)) same
 
+-- each value stands behind its label, so they make the text
+all_chained : (l : Labels) (text : List ℕ) (p1 p2 p3 p4 p5 : List ℕ × List ℕ) (t : Texts)
+    → text ≡ l.rsid ++ (p1.0 ++ p1.1) → p1.1 ≡ l.total ++ (p2.0 ++ p2.1) → p2.1 ≡ l.count ++ (p3.0 ++ p3.1) → p3.1 ≡ l.content ++ (p4.0 ++ p4.1) → p4.1 ≡ l.signature ++ (p5.0 ++ p5.1) → p5.1 ≡ l.end
+    → ◌≡◌ {A = Texts} (record { rsid = p1.0; total = p2.0; count = p3.0; content = p4.0; signature = p5.0 }) t → text ≡ spelled l t
+all_chained l text p1 p2 p3 p4 p5 t e1 e2 e3 e4 e5 e6 made =
+    let f5 = chained l.signature p4.1 p5.0 p5.1 l.end e5 e6 in
+    let f4 = chained l.content p3.1 p4.0 p4.1 _ e4 f5 in
+    let f3 = chained l.count p2.1 p3.0 p3.1 _ e3 f4 in
+    let f2 = chained l.total p1.1 p2.0 p2.1 _ e2 f3 in
+    subst (λ (s : Texts). text ≡ spelled l s) made (chained l.rsid text p1.0 p1.1 _ e1 f2)
+
+-- the end of the message, once all values are read
+abbrev ended : Labels → List ℕ × List ℕ → List ℕ × List ℕ → List ℕ × List ℕ → List ℕ × List ℕ → List ℕ × List ℕ → Option Texts
+ended l p1 p2 p3 p4 p5 = cond (pointwise nat_eq p5.1 l.end) (Some (record { rsid = p1.0; total = p2.0; count = p3.0; content = p4.0; signature = p5.0 })) None
+
 -- values that were read stand between their labels
-pub values_take : (l1 l2 l3 l4 l5 l6 text : List ℕ) (t : Texts) → Some t ≡ values_between l1 l2 l3 l4 l5 l6 text
-    → text ≡ l1 ++ (t.rsid ++ (l2 ++ (t.total ++ (l3 ++ (t.count ++ (l4 ++ (t.content ++ (l5 ++ (t.signature ++ l6)))))))))
+pub values_take : (l : Labels) (text : List ℕ) (t : Texts) → Some t ≡ values_between l text → text ≡ spelled l t
 unfolding values_between
-values_take l1 l2 l3 l4 l5 l6 text t e =
-    let a1 = bind_some (value_after l1 text) (λ p1. value_after l2 p1.1 >>= λ p2. value_after l3 p2.1 >>= λ p3. value_after l4 p3.1 >>= λ p4. value_after l5 p4.1 >>= λ p5. ended l6 p1 p2 p3 p4 p5) t (sym e) in
-    let a2 = bind_some (value_after l2 a1.0.1) (λ p2. value_after l3 p2.1 >>= λ p3. value_after l4 p3.1 >>= λ p4. value_after l5 p4.1 >>= λ p5. ended l6 a1.0 p2 p3 p4 p5) t a1.2 in
-    let a3 = bind_some (value_after l3 a2.0.1) (λ p3. value_after l4 p3.1 >>= λ p4. value_after l5 p4.1 >>= λ p5. ended l6 a1.0 a2.0 p3 p4 p5) t a2.2 in
-    let a4 = bind_some (value_after l4 a3.0.1) (λ p4. value_after l5 p4.1 >>= λ p5. ended l6 a1.0 a2.0 a3.0 p4 p5) t a3.2 in
-    let a5 = bind_some (value_after l5 a4.0.1) (λ p5. ended l6 a1.0 a2.0 a3.0 a4.0 p5) t a4.2 in
+values_take l text t e =
+    let a1 = bind_some (value_after l.rsid text) (λ p1. value_after l.total p1.1 >>= λ p2. value_after l.count p2.1 >>= λ p3. value_after l.content p3.1 >>= λ p4. value_after l.signature p4.1 >>= λ p5. ended l p1 p2 p3 p4 p5) t (sym e) in
+    let a2 = bind_some (value_after l.total a1.0.1) (λ p2. value_after l.count p2.1 >>= λ p3. value_after l.content p3.1 >>= λ p4. value_after l.signature p4.1 >>= λ p5. ended l a1.0 p2 p3 p4 p5) t a1.2 in
+    let a3 = bind_some (value_after l.count a2.0.1) (λ p3. value_after l.content p3.1 >>= λ p4. value_after l.signature p4.1 >>= λ p5. ended l a1.0 a2.0 p3 p4 p5) t a2.2 in
+    let a4 = bind_some (value_after l.content a3.0.1) (λ p4. value_after l.signature p4.1 >>= λ p5. ended l a1.0 a2.0 a3.0 p4 p5) t a3.2 in
+    let a5 = bind_some (value_after l.signature a4.0.1) (λ p5. ended l a1.0 a2.0 a3.0 a4.0 p5) t a4.2 in
     let made : Texts = record { rsid = a1.0.0; total = a2.0.0; count = a3.0.0; content = a4.0.0; signature = a5.0.0 } in
-    let g = cond_some (pointwise nat_eq a5.0.1 l6) made t a5.2 in
-    let e5 = chained l5 a4.0.1 a5.0.0 a5.0.1 l6 (value_takes l5 a4.0.1 a5.0 a5.1) ((bytes_eq-Decides a5.0.1 l6).0 g.0) in
-    let e4 = chained l4 a3.0.1 a4.0.0 a4.0.1 _ (value_takes l4 a3.0.1 a4.0 a4.1) e5 in
-    let e3 = chained l3 a2.0.1 a3.0.0 a3.0.1 _ (value_takes l3 a2.0.1 a3.0 a3.1) e4 in
-    let e2 = chained l2 a1.0.1 a2.0.0 a2.0.1 _ (value_takes l2 a1.0.1 a2.0 a2.1) e3 in
-    let e1 = chained l1 text a1.0.0 a1.0.1 _ (value_takes l1 text a1.0 a1.1) e2 in
-    subst (λ (s : Texts). text ≡ l1 ++ (s.rsid ++ (l2 ++ (s.total ++ (l3 ++ (s.count ++ (l4 ++ (s.content ++ (l5 ++ (s.signature ++ l6)))))))))) g.1 e1
+    let g = cond_some (pointwise nat_eq a5.0.1 l.end) made t a5.2 in
+    all_chained l text a1.0 a2.0 a3.0 a4.0 a5.0 t (value_takes l.rsid text a1.0 a1.1) (value_takes l.total a1.0.1 a2.0 a2.1) (value_takes l.count a2.0.1 a3.0 a3.1) (value_takes l.content a3.0.1 a4.0 a4.1)
+    (value_takes l.signature a4.0.1 a5.0 a5.1) ((bytes_eq-Decides a5.0.1 l.end).0 g.0) g.1

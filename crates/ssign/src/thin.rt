@@ -1,8 +1,9 @@
-//! Thin blocks: signature and certificate blocks in one fixed form (RFC 5848, sections 4 and 5).
+//! Thin blocks: signature and certificate blocks in one fixed form (RFC 5848, sections 4 and 5), each the one
+//! element of a message with the header `<110>1 - h s - - ` (RFC 5424, section 6) and nothing behind it.
 ghost use Rattle.std.specs.Prelude.{◌≡◌, IfOk};
 ghost use Rattle.ssign.specs.declared.thin.ThinSignature.{ThinSignature};
 ghost use Rattle.ssign.specs.declared.thin.ThinCertificate.{ThinCertificate};
-ghost use Rattle.ssign.specs.ThinMessage.{HasMarker, IsThin};
+ghost use Rattle.ssign.specs.ThinMessage.{HasMarker, IsNoBlock, IsThin};
 ghost use Rattle.ssign.specs.ThinText.{IsSignature, IsCertificate};
 
 mod certificate;
@@ -14,6 +15,8 @@ mod marker;
 mod number;
 mod signature;
 mod signed;
+#[cfg(test)]
+mod tests;
 mod values;
 
 use crate::thin::certificate::certificate_of;
@@ -68,9 +71,13 @@ pub enum Thin {
 /// The only error is that memory runs out.
 pub fn thin_of(alloc: Global, message: &[u8]) -> Result<Thin, AllocError>
     ensures found { IfOk result (λ t. IsThin message.now t) }
-    ensures signature { (b : ThinSignature) → IsSignature message.now b → IfOk result (λ t. t ≡ Thin.Signature b) }
-    ensures certificate { (c : ThinCertificate) → IsCertificate message.now c → IfOk result (λ t. t ≡ Thin.Certificate c) }
+    ensures signature { (b : ThinSignature) → IsSignature message.now b
+        → IfOk result (λ t. t ≡ Thin.Signature b) }
+    ensures certificate { (c : ThinCertificate) → IsCertificate message.now c
+        → IfOk result (λ t. t ≡ Thin.Certificate c) }
     ensures normal { ¬ (HasMarker message.now) → IfOk result (λ t. t ≡ Thin.Normal) }
+    ensures foreign { HasMarker message.now → IsNoBlock message.now
+        → IfOk result (λ t. t ≡ Thin.Foreign) }
 {
     if !has_marker(message) {
         return Ok(Thin::Normal);

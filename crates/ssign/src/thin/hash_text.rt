@@ -1,4 +1,4 @@
-//! The hashes of a signature block, as its parameter HB spells them (RFC 5848, section 4.2.7).
+//! The hashes of a signature block, as its parameter HB spells them (RFC 5848, section 4.2).
 ghost use Rattle.std.specs.Prelude.{◌≡◌, ◌≤◌, List, ℕ, length, IfOk, IfSome};
 ghost use Rattle.std.specs.List.{AllByRecursion};
 ghost use Rattle.ssign.specs.ThinText.{IsHash, hashes_text};

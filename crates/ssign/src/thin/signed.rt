@@ -26,8 +26,8 @@ fn sign_value(message: &[u8]) -> Option<&[u8]>
     Some(values.signature)
 }
 
-/// The message as it was signed: without the parameter SIGN and the SP before it (RFC 5848, sections 4.2.8
-/// and 5.3.2.8). `None` where the message doesn't have the parameters of a thin block.
+/// The message as it was signed: without the parameter SIGN and the SP before it (RFC 5848, sections 4.2
+/// and 5.3.2). Every thin block has it; `None` where the message hasn't the parameters of one.
 pub fn signed_octets(alloc: Global, message: &[u8]) -> Result<Option<Bytes>, AllocError>
     ensures signature { (b : ThinSignature) → IsSignature message.now b
         → IfOk result (λ o. o ≡ Some (signed_signature_text b)) }
@@ -39,7 +39,8 @@ pub fn signed_octets(alloc: Global, message: &[u8]) -> Result<Option<Bytes>, All
         return Ok(None);
     };
     let end = message.len() - value.len() - SIGN_LEN;
-    let mut octets = Vec::from_slice(alloc, &message[..end])?;
+    let mut octets = Vec::with_capacity(alloc, end + 1)?;
+    octets.extend_from_slice(&message[..end])?;
     octets.push(b']')?;
     Ok(Some(Bytes::from_vec(octets)))
 }

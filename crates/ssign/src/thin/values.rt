@@ -1,6 +1,6 @@
 //! The five values that differ from one block to the next.
-ghost use Rattle.std.specs.Prelude.{◌≡◌, codes, option_map};
-ghost use Rattle.ssign.specs.ThinReading.{texts_of, value_after, values_between};
+ghost use Rattle.std.specs.Prelude.{◌≡◌, option_map};
+ghost use Rattle.ssign.specs.ThinReading.{certificate_labels, signature_labels, texts_of, value_after, values_between};
 
 use crate::thin::cut::cut;
 
@@ -31,9 +31,7 @@ fn value<'m>(text: &'m [u8], label: &[u8]) -> Option<(&'m [u8], &'m [u8])>
 /// The values of a message that begins as a thin signature block does, and ends behind SIGN.
 #[tactic(auto, unfolding(crate::specs::ThinReading::values_between))]
 pub fn signature_values(message: &[u8]) -> Option<Values<'_>>
-    ensures { option_map texts_of result ≡ values_between (codes "<110>1 - h s - - [ssign VER=\"0111\" RSID=\"")
-        (codes "\" SG=\"0\" SPRI=\"0\" GBC=\"") (codes "\" FMN=\"1\" CNT=\"") (codes "\" HB=\"")
-        (codes "\" SIGN=\"") (codes "\"]") message.now }
+    ensures { option_map texts_of result ≡ values_between signature_labels message.now }
 {
     let (rsid, rest) = value(message, b"<110>1 - h s - - [ssign VER=\"0111\" RSID=\"")?;
     let (total, rest) = value(rest, b"\" SG=\"0\" SPRI=\"0\" GBC=\"")?;
@@ -55,9 +53,7 @@ pub fn signature_values(message: &[u8]) -> Option<Values<'_>>
 /// The values of a message that begins as a thin certificate block does, and ends behind SIGN.
 #[tactic(auto, unfolding(crate::specs::ThinReading::values_between))]
 pub fn certificate_values(message: &[u8]) -> Option<Values<'_>>
-    ensures { option_map texts_of result ≡ values_between (codes "<110>1 - h s - - [ssign-cert VER=\"0111\" RSID=\"")
-        (codes "\" SG=\"0\" SPRI=\"0\" TPBL=\"") (codes "\" INDEX=\"1\" FLEN=\"") (codes "\" FRAG=\"")
-        (codes "\" SIGN=\"") (codes "\"]") message.now }
+    ensures { option_map texts_of result ≡ values_between certificate_labels message.now }
 {
     let (rsid, rest) = value(
         message,

@@ -1,4 +1,4 @@
-use Rattle.std.proofs.Common.{◌≡◌, true, false, refl, sym, ◌∙◌}
+use Rattle.std.proofs.Common.{sym, ◌∙◌}
 use Rattle.std.proofs.lemmas.Bool.{false≢true}
 use Rattle.ssign.proofs.ThinSigned.{kinds_apart, signature_marked, certificate_marked}
 use Rattle.ssign.proofs.thin.thin_of.Goals as goal
