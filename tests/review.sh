@@ -29,6 +29,13 @@ run review < <(dd if="$log" bs=1 2>/dev/null)
 expect 'the same, an octet at a time' 1 "$untrusted" ''
 run review <"$root/examples/torn.frames"
 expect 'a log that is torn in its third frame' 1 $'unlisted 0\nunlisted 1\ntorn 64\nend 2' ''
+run review <"$root/examples/openssl/signed.frames"
+expect 'a log with real signatures, nothing trusted' 1 'session h s - 1 untrusted
+unlisted 1
+unlisted 2
+refused 0
+refused 3
+end 4' ''
 octets '12' review
 expect 'a torn length' 1 $'torn 0\nend 0' ''
 octets '3 ab' review
