@@ -1,0 +1,90 @@
+#!/usr/bin/env python3
+"""Makes the example logs of this folder, or of the folder that is its one argument.
+
+four-messages.frames   two messages, a certificate block and a signature block over the two
+four-messages.answers  what a signature checker says about that log that accepts all of it
+torn.frames            the first 100 octets of that log, as a crash leaves them
+
+The two messages are the samples of FIPS 180, whose hashes are published, and the signatures are the three octets 0:
+these files show the layout, and nothing in them is signed by a real key (for that see openssl/ beside this file).
+"""
+import base64
+import hashlib
+import os
+import sys
+
+SAMPLES = {
+    b"abc": "a9993e364706816aba3e25717850c26c9cd0d89d",
+    b"abcdbcdecdefdefgefghfghighijhijkijkljklmklmnlmnomnopnopq": "84983e441c3bd26ebaae4aa1f95129e5e54670f1",
+}
+FIRST, SECOND = SAMPLES
+HEADER = b"<110>1 - h s - - "
+# RFC 5848, section 5.2.1: a time stamp, the kind of key (K, a public key), the key in base64 (here the text KEY)
+PAYLOAD = b"2009-05-03T14:00:39Z K S0VZ"
+SIGNATURE = bytes(3)
+
+
+def in_base64(octets):
+    return base64.b64encode(octets)
+
+
+def frame(message):
+    """Octet counting, RFC 6587, section 3.4.1."""
+    return b"%d %s" % (len(message), message)
+
+
+def block(element, *parameters):
+    """A block message with its signature left out: these are the octets that are signed (RFC 5848, section 4.2.8)."""
+    return HEADER + b"[" + element + b"".join(b' %s="%s"' % it for it in parameters) + b"]"
+
+
+def signed(text):
+    """The block message with its signature, the last parameter of the element that ends the message."""
+    return text[:-1] + b' SIGN="' + in_base64(SIGNATURE) + b'"]'
+
+
+def sha1(message):
+    digest = hashlib.sha1(message)
+    want(digest.hexdigest(), SAMPLES[message])
+    return digest.digest()
+
+
+def want(found, wanted):
+    if found != wanted:
+        raise SystemExit(f"make.py: {found} is not {wanted}")
+
+
+def certificate_block():
+    size = b"%d" % len(PAYLOAD)
+    return block(
+        b"ssign-cert", (b"VER", b"0111"), (b"RSID", b"1"), (b"SG", b"0"), (b"SPRI", b"0"),
+        (b"TPBL", size), (b"INDEX", b"1"), (b"FLEN", size), (b"FRAG", PAYLOAD),
+    )
+
+
+def signature_block():
+    hashes = b" ".join(in_base64(sha1(it)) for it in (FIRST, SECOND))
+    return block(
+        b"ssign", (b"VER", b"0111"), (b"RSID", b"1"), (b"SG", b"0"), (b"SPRI", b"0"),
+        (b"GBC", b"0"), (b"FMN", b"1"), (b"CNT", b"2"), (b"HB", hashes),
+    )
+
+
+def main():
+    folder = sys.argv[1] if len(sys.argv) > 1 else os.path.dirname(os.path.abspath(__file__))
+    texts = [certificate_block(), signature_block()]
+    messages = [FIRST, SECOND, *map(signed, texts)]
+    want([len(it) for it in messages], [3, 56, 142, 159])
+    want([len(it) for it in texts], [130, 147])
+    log = b"".join(map(frame, messages))
+    want(len(log), 373)
+    payload = in_base64(PAYLOAD)
+    answers = [b"trust %s\n" % payload]
+    answers += [b"yes %s %s %s\n" % (payload, in_base64(it), in_base64(SIGNATURE)) for it in texts]
+    made = {"four-messages.frames": log, "four-messages.answers": b"".join(answers), "torn.frames": log[:100]}
+    for name, octets in made.items():
+        with open(os.path.join(folder, name), "wb") as file:
+            file.write(octets)
+
+
+main()

@@ -1,0 +1,87 @@
+# shellcheck shell=bash
+# Helpers of the tests beside this file, which source it. A test states its checks one after the other and ends with
+# `finish`, whose line `NAME: N passed, M failed` is what ./check adds up.
+#
+# A test that drives the program calls `need_program` first. The program is the file that the variable SSIGN names, or
+# else the one that a build of this repository leaves.
+set -u
+
+root=$(CDPATH='' cd -- "$(dirname -- "${BASH_SOURCE[0]}")/.." && pwd) || exit 1
+program=${SSIGN:-$root/crates/ssign/out/ssign}
+[[ $program == /* ]] || program=$PWD/$program
+name=$(basename -- "$0" .sh)
+passed=0
+failed=0
+status=0
+# a program that takes longer than this hangs
+patience=60
+
+scratch=$(mktemp -d) || exit 1
+trap 'rm -rf -- "$scratch"' EXIT
+
+need_program() {
+    [[ -f $program && -x $program ]] && return
+    echo "$name: there is no program $program; ./ssign builds it"
+    failed=1
+    finish
+}
+
+# run ARG..: runs the program on this function's standard input, and keeps what it wrote and how it ended.
+run() {
+    timeout "$patience" "$program" "$@" >"$scratch/out" 2>"$scratch/err"
+    status=$?
+}
+
+# lines TEXT: TEXT and an LF, or nothing where TEXT is empty.
+lines() {
+    [[ -z $1 ]] || printf '%s\n' "$1"
+}
+
+# expect WHAT STATUS OUTPUT COMPLAINT: one check of the last run. OUTPUT and COMPLAINT are all of standard output and
+# of standard error, without the LF at the end. `SOME TEXT` stands for any text that isn't empty.
+expect() {
+    local what=$1 wanted=$2
+    local -A texts=([out]=$3 [err]=$4)
+    local fault='' stream
+    [[ $status == "$wanted" ]] || fault+="    status $status, and not $wanted"$'\n'
+    for stream in out err; do
+        if [[ ${texts[$stream]} == 'SOME TEXT' ]]; then
+            [[ -s $scratch/$stream ]] && continue
+        else
+            lines "${texts[$stream]}" | cmp -s -- - "$scratch/$stream" && continue
+        fi
+        fault+="    std$stream: $(head -c 300 -- "$scratch/$stream" | cat -v)"$'\n'
+        fault+="    and not: $(head -c 300 <<<"${texts[$stream]}")"$'\n'
+    done
+    tell "$what" "$fault"
+}
+
+# tell WHAT FAULT: one check, passed where FAULT is empty.
+tell() {
+    if [[ -z $2 ]]; then
+        passed=$((passed + 1))
+    else
+        failed=$((failed + 1))
+        printf '%s: %s: FAILED\n%s\n' "$name" "$1" "${2%$'\n'}"
+    fi
+}
+
+# holds WHAT COMMAND..: one check, passed where COMMAND ends with status 0.
+holds() {
+    local what=$1 said
+    shift
+    said=$("$@" 2>&1) && said='' || said="    ${said:-$* ended with another status than 0}"
+    tell "$what" "$said"
+}
+
+# frame TEXT: TEXT as an octet-counted frame.
+frame() {
+    local LC_ALL=C
+    printf '%d %s' "${#1}" "$1"
+}
+
+finish() {
+    printf '%s: %d passed, %d failed\n' "$name" "$passed" "$failed"
+    [[ $failed == 0 && $passed != 0 ]]
+    exit
+}
