@@ -1,1 +1,3 @@
 pub mod Verifier
+pub mod Answers
+pub mod AnswerLine

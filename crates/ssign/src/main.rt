@@ -1,6 +1,7 @@
 //! Reviews stored logs of signed syslog messages (RFC 5424, RFC 5848).
 #![tactic(auto)]
 
+mod answers;
 mod scheme;
 
 pub use scheme::{Judge, Scheme, Verifier};

@@ -1,0 +1,2 @@
+mod Base64Text
+mod AnswerLines

@@ -1,0 +1,3 @@
+//! Files that hold the answers of a signature checker.
+
+mod line;
