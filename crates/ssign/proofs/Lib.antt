@@ -1,2 +1,3 @@
 mod Base64Text
 mod AnswerLines
+mod OrderedLines

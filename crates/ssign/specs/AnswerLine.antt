@@ -1,13 +1,12 @@
 -- A line of an answer file as the program keeps it, and the order in which lines are kept.
-use Rattle.std.specs.Prelude.{◌≡◌, ℕ, Bool, List, []}
-use Rattle.std.specs.Cmp.Lexicographic.{slice_cmp}
-use Rattle.std.specs.Ordering.{nat_cmp, ordering_then, is_lt}
+use Rattle.std.specs.Prelude.{Bool, List, map}
+use Rattle.std.specs.Ordering.{is_eq, is_lt}
 use Rattle.std.specs.List.Sorted.{IsSortedBy}
-use Rattle.std.specs.declared.cmp.Ordering.{Ordering}
 use Rattle.ssign.specs.declared.answers.line.Line.{Line}
 use Rattle.ssign.specs.declared.answers.line.Line.TheVariants as kept
 use Rattle.ssign.specs.declared.answers.line.LineFault.{LineFault}
 use Rattle.ssign.specs.declared.answers.line.LineFault.TheVariants as faults
+use Rattle.ssign.specs.AnswerKey.{SortKey, key_cmp, key_of}
 use Rattle.ssign.specs.Answers.{Answer, Trust, Yes, Seal}
 
 -- what a line says
@@ -20,3 +19,19 @@ answer_of (kept.Seal octets signature) = Seal octets.items signature.items
 abbrev pub IfBad : LineFault → Type 0 → Type 0
 IfBad faults.Bad P = P
 IfBad faults.Memory P = Unit {0}
+
+-- what lines say
+abbrev pub answers_of : List Line → List Answer
+answers_of lines = map answer_of lines
+
+-- the key of a line
+abbrev pub line_key : Line → SortKey
+line_key line = key_of (answer_of line)
+
+-- a line has this key
+abbrev pub has_key : SortKey → Line → Bool
+has_key key line = is_eq (key_cmp (line_key line) key)
+
+-- no line has a lower key than the one before it
+abbrev pub IsInOrder : List Line → Type 0
+IsInOrder lines = IsSortedBy (λ a b. is_lt (key_cmp (line_key a) (line_key b))) lines

@@ -1,3 +1,4 @@
 pub mod Verifier
 pub mod Answers
 pub mod AnswerLine
+pub mod AnswerKey

@@ -1,3 +1,5 @@
 //! Files that hold the answers of a signature checker.
 
+mod key;
 mod line;
+mod table;

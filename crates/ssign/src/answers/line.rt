@@ -3,6 +3,7 @@ ghost use Rattle.std.specs.Prelude.{◌≡◌, ◌++◌, ◌∷◌, List, ℕ, I
 ghost use Rattle.ssign.specs.Answers.{IsField, IsNoField, IsPair, IsNoPair, IsTriple, IsNoTriple, IsNoLine, HasFields, base64, line_text, space, Lacks};
 ghost use Rattle.ssign.specs.AnswerLine.{answer_of, IfBad};
 
+use super::key::Key;
 use base64::DecodeAllocError;
 use base64::engine::general_purpose::STANDARD;
 use std::alloc::Global;
@@ -25,6 +26,22 @@ pub enum LineFault {
     Bad,
     /// Memory ran out.
     Memory,
+}
+
+impl Line {
+    ghost use Rattle.ssign.specs.AnswerKey.{sort_key};
+    ghost use Rattle.ssign.specs.AnswerLine.{line_key};
+
+    /// What the line is found by.
+    pub fn key(&self) -> Key<'_>
+        ensures { sort_key result ≡ line_key self.now }
+    {
+        match self {
+            Line::Trust(payload) => Key::trust(payload),
+            Line::Yes(payload, octets, signature) => Key::yes(payload, octets, signature),
+            Line::Seal(octets, _) => Key::seal(octets),
+        }
+    }
 }
 
 const SPACE: u8 = b' ';

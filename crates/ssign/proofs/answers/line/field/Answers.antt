@@ -29,5 +29,5 @@ unfolding base64
 returns-in-Err-DecodeError-clause-bad c = λ octets field spelt.
     let decoded : decode_of standard c.args.text.now ≡ Ok octets = (c.in-Err-DecodeError.ensures.strict is_strict octets field.bytes).1 spelt in
     let failed : decode_of standard c.args.text.now ≡ Err c.in-Err-DecodeError.field-0-0 =
-        rw c.in-Err-DecodeError.field-0-is at c.in-Err-DecodeError.ensures.err in
+    rw c.in-Err-DecodeError.field-0-is at c.in-Err-DecodeError.ensures.err in
     cc

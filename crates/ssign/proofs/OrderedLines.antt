@@ -1,0 +1,244 @@
+-- Lines in order: what a search finds among them, and that a stable sort changes no answer.
+use Rattle.std.proofs.Common.{◌≡◌, ℕ, zero, suc, ◌+◌, ◌<◌, ◌≤◌, Bool, true, false, not, cond, ◌&&◌, ◌||◌, List, [], ◌∷◌, map, length, get_or, Option, Some, None, is_some, option_and_then, sym, refl, ap, ◌∙◌, arith, rules, inl, inr}
+use Rattle.std.specs.List.{All, filter, find, list_any}
+use Rattle.std.specs.Str.{bytes_eq}
+use Rattle.std.specs.Option.{option_map}
+use Rattle.std.specs.Cmp.{IsTotalOrder}
+use Rattle.std.specs.Cmp.Lexicographic.{slice_cmp}
+use Rattle.std.specs.Ordering.{is_eq, is_lt, nat_cmp, on, ordering_index, ordering_reverse, ordering_then, then_cmp}
+use Rattle.std.specs.List.Sorted.{IsNonDecreasingBy, IsPartitionPoint, IsPartitionedBy, IsPermutation, IsStableBy, ties}
+use Rattle.std.specs.declared.cmp.Ordering.{Ordering}
+use Rattle.std.specs.declared.cmp.Ordering.TheVariants.{Less, Equal, Greater}
+use Rattle.std.proofs.lemmas.Bool.{cases_lt}
+use Rattle.std.proofs.lemmas.Cmp.{nat_cmp_total, nat_list_cmp_total, on_total, then_total, alike_right}
+use Rattle.std.proofs.lemmas.List.{get_or_default}
+use Rattle.std.proofs.lemmas.Map.Text.{is_eq-slice_cmp}
+use Rattle.std.proofs.lemmas.List.Sorted.{IsPermutation-map, list_any-IsPermutation, searchable_from_sorted}
+use Rattle.ssign.specs.declared.answers.line.Line.{Line}
+use Rattle.ssign.specs.declared.answers.line.Line.TheVariants as kept
+use Rattle.ssign.specs.Answers.{Answer, SaysTheSame, given_signature, is_seal, is_trust, is_yes, seal_of, trusted, valid}
+use Rattle.ssign.specs.AnswerKey.{SortKey, key_cmp, seal_key, trust_key, yes_key}
+use Rattle.ssign.specs.AnswerLine.{IsInOrder, answer_of, answers_of, has_key, line_key}
+
+pub key_cmp_total : IsTotalOrder key_cmp
+key_cmp_total =
+    then_total (then_total (then_total (on_total (λ k. k.kind) nat_cmp_total) (on_total (λ k. k.first) nat_list_cmp_total))
+    (on_total (λ k. k.second) nat_list_cmp_total)) (on_total (λ k. k.third) nat_list_cmp_total)
+
+-- ---- a search
+
+lt_index : (o : Ordering) → is_lt o ≡ true → ordering_index o ≡ 0
+lt_index Less h = refl
+lt_index Equal h = cc
+lt_index Greater h = cc
+
+index_lt : (o : Ordering) → ordering_index o ≤ 0 → is_lt o ≡ true
+index_lt Less h = refl
+index_lt Equal h = absurd (omega arith)
+index_lt Greater h = absurd (omega arith)
+
+lt_not_eq : (o : Ordering) → is_lt o ≡ true → is_eq o ≡ false
+lt_not_eq Less h = refl
+lt_not_eq Equal h = cc
+lt_not_eq Greater h = refl
+
+index_above : (o : Ordering) → is_lt o ≡ false → is_eq o ≡ false → ordering_index o ≡ 2
+index_above Less h k = cc
+index_above Equal h k = cc
+index_above Greater h k = refl
+
+above_not_eq : (o : Ordering) → 2 ≤ ordering_index o → is_eq o ≡ false
+above_not_eq Less h = refl
+above_not_eq Equal h = absurd (omega arith)
+above_not_eq Greater h = refl
+
+-- what the key of a line answers of another key
+abbrev pub against : SortKey → Line → Ordering
+against key line = key_cmp (line_key line) key
+
+abbrev pub is_below : SortKey → Line → Bool
+is_below key line = is_lt (against key line)
+
+rising : (key : SortKey) (lines : List Line) → IsInOrder lines → IsNonDecreasingBy (λ line. ordering_index (against key line)) lines
+rising key lines h = searchable_from_sorted key_cmp_total line_key lines key h
+
+pub IsPartitionedBy-is_below : (key : SortKey) (lines : List Line) → IsInOrder lines → IsPartitionedBy (is_below key) lines
+IsPartitionedBy-is_below key lines h = λ i j d le lt below.
+    let up = rising key lines h i j d le lt in
+    let low = lt_index (against key (get_or lines j d)) below in
+    index_lt (against key (get_or lines i d)) (omega (arith, up, low))
+
+is_none : {X : Type 0} (o : Option X) → is_some o ≡ false → o ≡ None
+is_none None h = refl
+is_none (Some x) h = cc
+
+module _ {X : Type 0} (p : X → Bool) where
+  find_none : (xs : List X) → All (λ x. p x ≡ false) xs → find p xs ≡ None
+  find_none [] h = refl
+  find_none (x ∷ xs) h = rw (h 0 x (omega arith)) (find_none xs (λ k d lt. h (suc k) d (omega arith)))
+
+  find_first : (xs : List X) (i : ℕ) (d : X) → i < length xs → ((k : ℕ) → k < i → p (get_or xs k d) ≡ false)
+      → p (get_or xs i d) ≡ true → find p xs ≡ Some (get_or xs i d)
+  find_first [] i d lt before here = absurd (omega arith)
+  find_first (x ∷ xs) zero d lt before here = rw here refl
+  find_first (x ∷ xs) (suc i) d lt before here =
+      rw (before 0 (omega arith)) (find_first xs i d (omega arith) (λ k h. before (suc k) (omega arith)) here)
+
+  list_any-find : (xs : List X) → list_any p xs ≡ is_some (find p xs)
+  list_any-find [] = refl
+  list_any-find (x ∷ xs) = elim (p x) as (λ b. (b || list_any p xs) ≡ is_some (cond b (Some x) (find p xs))) [ true ↦ refl | false ↦ list_any-find xs ]
+
+  none_found : (xs : List X) → list_any p xs ≡ false → find p xs ≡ None
+  none_found xs h = is_none (find p xs) (sym (list_any-find xs) ∙ h)
+
+  find_passes : (xs : List X) (x : X) → find p xs ≡ Some x → p x ≡ true
+  find_passes [] x h = cc
+  find_passes (y ∷ xs) x h =
+      (elim (p y) as (λ b. p y ≡ b → cond b (Some y) (find p xs) ≡ Some x → p x ≡ true) [ true ↦ λ e k. (let same : y ≡ x = cc in rw (← same) e) | false ↦ λ e k. find_passes xs x k ]) refl h
+
+module _ (key : SortKey) (lines : List Line) (at : ℕ) (order : IsInOrder lines)
+    (point : IsPartitionPoint (λ line. is_below key line ≡ true) (λ line. is_below key line ≡ false) lines at) where
+  pub find_at : (d : Line) → at < length lines → has_key key (get_or lines at d) ≡ true → find (has_key key) lines ≡ Some (get_or lines at d)
+  find_at d lt here =
+      find_first (has_key key) lines at d lt (λ k h. lt_not_eq (against key (get_or lines k d)) (point.0 k d (omega arith) h)) here
+
+  pub find_past : length lines ≤ at → find (has_key key) lines ≡ None
+  find_past le = find_none (has_key key) lines (λ k e lt. lt_not_eq (against key (get_or lines k e)) (point.0 k e (omega arith) (omega arith)))
+
+  pub find_absent : (d : Line) → at < length lines → has_key key (get_or lines at d) ≡ false → find (has_key key) lines ≡ None
+  find_absent d lt here = find_none (has_key key) lines (λ k e short. elim (cases_lt k at) [
+    | inl below ↦ lt_not_eq (against key (get_or lines k e)) (point.0 k e (omega arith) below)
+    | inr above ↦
+        let same : get_or lines at d ≡ get_or lines at e = get_or_default lines at d e lt in
+        let here_too : has_key key (get_or lines at e) ≡ false = rw same at here in
+        let at_top = index_above (against key (get_or lines at e)) (point.1 at e (omega arith) lt) here_too in
+        let up = rising key lines order at k e above short in
+        above_not_eq (against key (get_or lines k e)) (omega (arith, at_top, up))
+  ])
+
+-- ---- a stable sort
+
+alike : (o : Ordering) → (not (is_lt o) && not (is_lt (ordering_reverse o))) ≡ is_eq o
+alike Less = refl
+alike Equal = refl
+alike Greater = refl
+
+is_eq-reverse : (o : Ordering) → is_eq (ordering_reverse o) ≡ is_eq o
+is_eq-reverse Less = refl
+is_eq-reverse Equal = refl
+is_eq-reverse Greater = refl
+
+eq_from_is_eq : (o : Ordering) → is_eq o ≡ true → o ≡ Equal
+eq_from_is_eq Less h = cc
+eq_from_is_eq Equal h = refl
+eq_from_is_eq Greater h = cc
+
+-- the order that lines are sorted by
+abbrev pub is_before : Line → Line → Bool
+is_before a b = is_lt (key_cmp (line_key a) (line_key b))
+
+-- a line of a key ties with the lines of that key
+ties-has_key : (key : SortKey) (line other : Line) → has_key key line ≡ true → ties is_before line other ≡ has_key key other
+ties-has_key key line other h =
+    let forth = key_cmp (line_key line) (line_key other) in
+    let back : key_cmp (line_key other) (line_key line) ≡ ordering_reverse forth = key_cmp_total.antisymm (line_key other) (line_key line) in
+    let tied : key_cmp (line_key line) key ≡ Equal = eq_from_is_eq _ h in
+    let moved : key_cmp (line_key other) (line_key line) ≡ key_cmp (line_key other) key = alike_right key_cmp_total (line_key line) key (line_key other) tied in
+    ap (λ o. not (is_lt forth) && not (is_lt o)) back ∙ alike forth ∙ sym (is_eq-reverse forth) ∙ ap is_eq (sym back ∙ moved)
+
+module _ {X : Type 0} where
+  filter_alike : (p q : X → Bool) → ((x : X) → p x ≡ q x) → (xs : List X) → filter p xs ≡ filter q xs
+  filter_alike p q h [] = refl
+  filter_alike p q h (x ∷ xs) = rw (h x, filter_alike p q h xs) refl
+
+  abbrev front : List X → Option X
+  front [] = None
+  front (x ∷ xs) = Some x
+
+  find-filter : (p : X → Bool) (xs : List X) → find p xs ≡ front (filter p xs)
+  find-filter p [] = refl
+  find-filter p (x ∷ xs) = elim (p x) as (λ b. cond b (Some x) (find p xs) ≡ front (cond b (x ∷ filter p xs) (filter p xs))) [ true ↦ refl | false ↦ find-filter p xs ]
+
+-- the first line of a key is the same after a stable sort
+module _ (xs ys : List Line) (moved : IsPermutation xs ys) (stable : IsStableBy is_before xs ys) where
+  find_by : (key : SortKey) (found : Option Line) → find (has_key key) xs ≡ found → find (has_key key) ys ≡ found
+  find_by key None h =
+      let none : list_any (has_key key) ys ≡ false = sym (list_any-IsPermutation (has_key key) xs ys moved) ∙ list_any-find (has_key key) xs ∙ ap is_some h in
+      none_found (has_key key) ys none
+  find_by key (Some line) h =
+      let passes : has_key key line ≡ true = find_passes (has_key key) xs line h in
+      let alike_all = λ (other : Line). ties-has_key key line other passes in
+      find-filter (has_key key) ys ∙ ap front (sym (filter_alike _ _ alike_all ys) ∙ stable line ∙ filter_alike _ _ alike_all xs) ∙ sym (find-filter (has_key key) xs) ∙ h
+
+  pub find_sorted : (key : SortKey) → find (has_key key) ys ≡ find (has_key key) xs
+  find_sorted key = find_by key (find (has_key key) xs) refl
+
+-- ---- what lines say, by their keys
+
+then_Equal : (o : Ordering) → is_eq (ordering_then (ordering_then o Equal) Equal) ≡ is_eq o
+then_Equal Less = refl
+then_Equal Equal = refl
+then_Equal Greater = refl
+
+is_eq-then : (o p : Ordering) → is_eq (ordering_then o p) ≡ (is_eq o && is_eq p)
+is_eq-then Less p = refl
+is_eq-then Equal p = refl
+is_eq-then Greater p = refl
+
+and_assoc : (a b d : Bool) → ((a && b) && d) ≡ (a && (b && d))
+and_assoc true b d = refl
+and_assoc false b d = refl
+
+has_trust_key : (payload : List ℕ) (line : Line) → has_key (trust_key payload) line ≡ is_trust payload (answer_of line)
+has_trust_key payload (kept.Trust p) = then_Equal _ ∙ is_eq-slice_cmp p.items payload
+has_trust_key payload (kept.Yes p o s) = refl
+has_trust_key payload (kept.Seal o s) = refl
+
+has_yes_key : (payload octets signature : List ℕ) (line : Line)
+    → has_key (yes_key payload octets signature) line ≡ is_yes payload octets signature (answer_of line)
+has_yes_key payload octets signature (kept.Trust p) = refl
+has_yes_key payload octets signature (kept.Yes p o s) =
+    rw (is_eq-then, is_eq-then, is_eq-slice_cmp, is_eq-slice_cmp, is_eq-slice_cmp)
+    (and_assoc (bytes_eq p.items payload) (bytes_eq o.items octets) (bytes_eq s.items signature))
+has_yes_key payload octets signature (kept.Seal o s) = refl
+
+has_seal_key : (octets : List ℕ) (line : Line) → has_key (seal_key octets) line ≡ is_seal octets (answer_of line)
+has_seal_key octets (kept.Trust p) = refl
+has_seal_key octets (kept.Yes p o s) = refl
+has_seal_key octets (kept.Seal o s) = then_Equal _ ∙ is_eq-slice_cmp o.items octets
+
+list_any-answers : (p : Answer → Bool) (q : Line → Bool) → ((line : Line) → q line ≡ p (answer_of line)) → (lines : List Line)
+    → list_any p (answers_of lines) ≡ list_any q lines
+list_any-answers p q h [] = refl
+list_any-answers p q h (x ∷ lines) = rw (h x, list_any-answers p q h lines) refl
+
+pub find-answers : (p : Answer → Bool) (q : Line → Bool) → ((line : Line) → q line ≡ p (answer_of line)) → (lines : List Line)
+    → find p (answers_of lines) ≡ option_map answer_of (find q lines)
+find-answers p q h [] = refl
+find-answers p q h (x ∷ lines) =
+    rw (← h x) (elim (q x) as (λ b. cond b (Some (answer_of x)) (find p (answers_of lines)) ≡ option_map answer_of (cond b (Some x) (find q lines))) [ true ↦ refl | false ↦ find-answers p q h lines ])
+
+pub trusted-answers : (lines : List Line) (payload : List ℕ) → trusted (answers_of lines) payload ≡ is_some (find (has_key (trust_key payload)) lines)
+trusted-answers lines payload =
+    list_any-answers (is_trust payload) (has_key (trust_key payload)) (has_trust_key payload) lines ∙ list_any-find (has_key (trust_key payload)) lines
+
+pub valid-answers : (lines : List Line) (payload octets signature : List ℕ)
+    → valid (answers_of lines) payload octets signature ≡ is_some (find (has_key (yes_key payload octets signature)) lines)
+valid-answers lines payload octets signature =
+    let key = yes_key payload octets signature in
+    list_any-answers (is_yes payload octets signature) (has_key key) (has_yes_key payload octets signature) lines ∙ list_any-find (has_key key) lines
+
+pub seal_of-answers : (lines : List Line) (octets : List ℕ)
+    → seal_of (answers_of lines) octets ≡ option_and_then given_signature (option_map answer_of (find (has_key (seal_key octets)) lines))
+seal_of-answers lines octets =
+    ap (option_and_then given_signature) (find-answers (is_seal octets) (has_key (seal_key octets)) (has_seal_key octets) lines)
+
+-- a stable sort changes no answer
+pub SaysTheSame-sorted : (xs ys : List Line) → IsPermutation xs ys → IsStableBy is_before xs ys → SaysTheSame (answers_of xs) (answers_of ys)
+SaysTheSame-sorted xs ys moved stable = record {
+  trusted = λ payload. rw (trusted-answers ys payload, trusted-answers xs payload, find_sorted xs ys moved stable (trust_key payload)) refl;
+  valid = λ payload octets signature.
+      let key = yes_key payload octets signature in
+      rw (valid-answers ys payload octets signature, valid-answers xs payload octets signature, find_sorted xs ys moved stable key) refl;
+  seal = λ octets. rw (seal_of-answers ys octets, seal_of-answers xs octets, find_sorted xs ys moved stable (seal_key octets)) refl;
+}
