@@ -1,8 +1,8 @@
 -- Lines in order: what a search finds among them, and that a stable sort changes no answer.
-use Rattle.std.proofs.Common.{◌≡◌, ℕ, zero, suc, ◌+◌, ◌<◌, ◌≤◌, Bool, true, false, not, cond, ◌&&◌, ◌||◌, List, [], ◌∷◌, map, length, get_or, Option, Some, None, is_some, option_and_then, sym, refl, ap, ◌∙◌, arith, rules, inl, inr}
+use Rattle.std.proofs.Common.{Bor, ◌≡◌, ℕ, zero, suc, ◌+◌, ◌<◌, ◌≤◌, Bool, true, false, not, cond, ◌&&◌, ◌||◌, List, [], ◌∷◌, map, length, get_or, Option, Some, None, is_some, option_and_then, sym, refl, ap, ◌∙◌, arith, rules, inl, inr}
 use Rattle.std.specs.List.{All, filter, find, list_any}
 use Rattle.std.specs.Str.{bytes_eq}
-use Rattle.std.specs.Option.{option_map}
+use Rattle.std.specs.Option.{option_copied, option_map}
 use Rattle.std.specs.Cmp.{IsTotalOrder}
 use Rattle.std.specs.Cmp.Lexicographic.{slice_cmp}
 use Rattle.std.specs.Ordering.{is_eq, is_lt, nat_cmp, on, ordering_index, ordering_reverse, ordering_then, then_cmp}
@@ -242,3 +242,31 @@ SaysTheSame-sorted xs ys moved stable = record {
       rw (valid-answers ys payload octets signature, valid-answers xs payload octets signature, find_sorted xs ys moved stable key) refl;
   seal = λ octets. rw (seal_of-answers ys octets, seal_of-answers xs octets, find_sorted xs ys moved stable (seal_key octets)) refl;
 }
+
+is_some-option_copied : {X : Type 0} (o : Option (Bor X)) → is_some (option_copied o) ≡ is_some o
+is_some-option_copied None = refl
+is_some-option_copied (Some r) = refl
+
+-- what a search found, where it looked for a line of trust, of yes, of a seal
+pub trusted_from_find : (lines : List Line) (payload : List ℕ) (found : Option (Bor Line))
+    → option_copied found ≡ find (has_key (trust_key payload)) lines → is_some found ≡ trusted (answers_of lines) payload
+trusted_from_find lines payload found h =
+    sym (is_some-option_copied found) ∙ ap is_some h ∙ sym (trusted-answers lines payload)
+
+pub valid_from_find : (lines : List Line) (payload octets signature : List ℕ) (found : Option (Bor Line))
+    → option_copied found ≡ find (has_key (yes_key payload octets signature)) lines
+    → is_some found ≡ valid (answers_of lines) payload octets signature
+valid_from_find lines payload octets signature found h =
+    sym (is_some-option_copied found) ∙ ap is_some h ∙ sym (valid-answers lines payload octets signature)
+
+pub seal_from_find : (lines : List Line) (octets : List ℕ) (found : Option (Bor Line))
+    → option_copied found ≡ find (has_key (seal_key octets)) lines
+    → seal_of (answers_of lines) octets ≡ option_and_then given_signature (option_map answer_of (option_copied found))
+seal_from_find lines octets found h =
+    seal_of-answers lines octets ∙ ap (λ o. option_and_then given_signature (option_map answer_of o)) (sym h)
+
+pub seal_from_line : (lines : List Line) (octets : List ℕ) (found : Option (Bor Line)) (line : Bor Line) (given : Option (Bor (List ℕ)))
+    → option_copied found ≡ find (has_key (seal_key octets)) lines → found ≡ Some line
+    → option_copied given ≡ given_signature (answer_of line.now) → seal_of (answers_of lines) octets ≡ option_copied given
+seal_from_line lines octets found line given h is gives =
+    seal_from_find lines octets found h ∙ ap (λ o. option_and_then given_signature (option_map answer_of (option_copied o))) is ∙ sym gives

@@ -6,6 +6,8 @@ use Rattle.ssign.specs.declared.answers.line.Line.{Line}
 use Rattle.ssign.specs.declared.answers.line.Line.TheVariants as kept
 use Rattle.ssign.specs.declared.answers.line.LineFault.{LineFault}
 use Rattle.ssign.specs.declared.answers.line.LineFault.TheVariants as faults
+use Rattle.ssign.specs.declared.answers.fault.SealFault.{SealFault}
+use Rattle.ssign.specs.declared.answers.fault.SealFault.TheVariants as refusals
 use Rattle.ssign.specs.AnswerKey.{SortKey, key_cmp, key_of}
 use Rattle.ssign.specs.Answers.{Answer, Trust, Yes, Seal}
 
@@ -35,3 +37,8 @@ has_key key line = is_eq (key_cmp (line_key line) key)
 -- no line has a lower key than the one before it
 abbrev pub IsInOrder : List Line → Type 0
 IsInOrder lines = IsSortedBy (λ a b. is_lt (key_cmp (line_key a) (line_key b))) lines
+
+-- what a refusal says, where it isn't want of memory
+abbrev pub IfRefused : SealFault → Type 0 → Type 0
+IfRefused refusals.Refused P = P
+IfRefused refusals.Memory P = Unit {0}

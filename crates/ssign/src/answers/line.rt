@@ -30,7 +30,9 @@ pub enum LineFault {
 
 impl Line {
     ghost use Rattle.ssign.specs.AnswerKey.{sort_key};
-    ghost use Rattle.ssign.specs.AnswerLine.{line_key};
+    ghost use Rattle.std.specs.Option.{option_copied};
+    ghost use Rattle.ssign.specs.Answers.{given_signature};
+    ghost use Rattle.ssign.specs.AnswerLine.{answer_of, line_key};
 
     /// What the line is found by.
     pub fn key(&self) -> Key<'_>
@@ -40,6 +42,16 @@ impl Line {
             Line::Trust(payload) => Key::trust(payload),
             Line::Yes(payload, octets, signature) => Key::yes(payload, octets, signature),
             Line::Seal(octets, _) => Key::seal(octets),
+        }
+    }
+
+    /// The signature that the line gives octets.
+    pub fn given_signature(&self) -> Option<&[u8]>
+        ensures { option_copied result ≡ given_signature (answer_of self.now) }
+    {
+        match self {
+            Line::Seal(_, signature) => Some(signature),
+            _ => None,
         }
     }
 }

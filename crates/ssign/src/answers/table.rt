@@ -6,9 +6,111 @@ ghost use Rattle.ssign.specs.Answers.{SaysTheSame};
 ghost use Rattle.ssign.specs.AnswerKey.{sort_key};
 ghost use Rattle.ssign.specs.AnswerLine.{answers_of, has_key, IsInOrder};
 
+use super::fault::SealFault;
 use super::key::Key;
 use super::line::Line;
-use std::alloc::AllocError;
+use crate::scheme::{Judge, Scheme};
+use std::alloc::{AllocError, Global};
+use std::marker::Model;
+
+/// The answers of a signature checker, found by comparisons of which there are logarithmically many.
+///
+/// Contracts see a list of lines that say the same as those of the file.
+#[derive(Debug, Drop)]
+pub struct Answers {
+    lines: Vec<Line>,
+}
+
+impl Model for Answers {
+    ghost use Rattle.std.specs.Prelude.{List};
+    ghost use Rattle.ssign.specs.Answers.{Answer};
+    ghost use Rattle.ssign.specs.AnswerLine.{answers_of, IsInOrder};
+
+    ghost Value = { List Answer };
+
+    ghost view = { λ a. answers_of a.lines.items };
+
+    ghost invariant = { λ a. IsInOrder a.lines.items };
+}
+
+impl Answers {
+    ghost use Rattle.std.specs.Prelude.{◌≡◌, Some, None, IfOk, IfErr};
+    ghost use Rattle.ssign.specs.Answers.{SaysTheSame, trusted, valid, seal_of};
+    ghost use Rattle.ssign.specs.AnswerLine.{answers_of, IfRefused};
+
+    /// The answers that lines give.
+    ///
+    /// # Errors
+    ///
+    /// Want of memory alone.
+    pub(super) fn of_lines(mut lines: Vec<Line>) -> Result<Answers, AllocError>
+        ensures { IfOk result (λ answers. SaysTheSame (answers_of lines.items) answers) }
+    {
+        sort(&mut lines)?;
+        Ok(Answers { lines })
+    }
+
+    /// Whether some line trusts the payload.
+    pub fn trusts(&self, payload: &[u8]) -> bool
+        ensures { result ≡ trusted self.now payload.now }
+    {
+        find(&self.lines, Key::trust(payload)).is_some()
+    }
+
+    /// Whether some line says that under the payload the octets have this signature.
+    pub fn accepts(&self, payload: &[u8], bytes: &[u8], signature: &[u8]) -> bool
+        ensures { result ≡ valid self.now payload.now bytes.now signature.now }
+    {
+        find(&self.lines, Key::yes(payload, bytes, signature)).is_some()
+    }
+
+    /// The signature of the first line that gives these octets one.
+    ///
+    /// # Errors
+    ///
+    /// `Refused` where no line gives them one; `Memory` where the copy can't be made.
+    pub fn seal(&self, alloc: Global, bytes: &[u8]) -> Result<Vec<u8>, SealFault>
+        ensures ok { IfOk result (λ signature. seal_of self.now bytes.now ≡ Some signature.items) }
+        ensures refused { IfErr result (λ fault. IfRefused fault (seal_of self.now bytes.now ≡ None)) }
+    {
+        let Some(line) = find(&self.lines, Key::seal(bytes)) else {
+            return Err(SealFault::Refused);
+        };
+        let Some(signature) = line.given_signature() else {
+            return Err(SealFault::Refused);
+        };
+        match Vec::from_slice(alloc, signature) {
+            Ok(signature) => Ok(signature),
+            Err(_) => Err(SealFault::Memory),
+        }
+    }
+}
+
+impl Scheme for Answers {
+    ghost use Rattle.ssign.specs.Answers.{trusted, valid};
+
+    ghost trusted = { λ answers payload. trusted answers payload };
+
+    ghost valid = { λ answers payload bytes signature. valid answers payload bytes signature };
+}
+
+impl Judge for Answers {
+    ghost use Rattle.ssign.specs.Answers.{trusted, valid};
+
+    ghost sound = { λ answers. Unit {0} };
+
+    ghost trusted = { λ answers payload. trusted answers payload };
+
+    ghost valid = { λ answers payload bytes signature. valid answers payload bytes signature };
+
+    fn trusts(&self, payload: &[u8]) -> bool {
+        Answers::trusts(self, payload)
+    }
+
+    fn accepts(&self, payload: &[u8], bytes: &[u8], signature: &[u8]) -> bool {
+        Answers::accepts(self, payload, bytes, signature)
+    }
+}
 
 /// Puts lines in the order of their keys. Lines of one key stay in the order in which they were.
 fn sort(lines: &mut Vec<Line>) -> Result<(), AllocError>
