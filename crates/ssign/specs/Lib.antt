@@ -2,3 +2,4 @@ pub mod Verifier
 pub mod Answers
 pub mod AnswerLine
 pub mod AnswerKey
+pub mod AnswerInput

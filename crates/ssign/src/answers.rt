@@ -1,6 +1,7 @@
 //! Files that hold the answers of a signature checker.
 
 mod fault;
+mod input;
 mod key;
 mod line;
 mod table;
