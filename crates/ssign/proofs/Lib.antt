@@ -1,3 +1,4 @@
 mod Base64Text
 mod AnswerLines
 mod OrderedLines
+mod ReadLines

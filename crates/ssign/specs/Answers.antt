@@ -1,7 +1,7 @@
 -- Files that hold the answers of a signature checker: what a line says, how it is spelt, which lines a text
 -- has, and what lines say together.
-use Rattle.std.specs.Prelude.{◌≡◌, ℕ, ◌+◌, ◌<◌, ◌==◌, Bool, false, ◌&&◌, ◌⊎◌, List, [], ◌∷◌, ◌++◌, length, codes, Option, Some, None, option_and_then}
-use Rattle.std.specs.List.{All, AllByRecursion, before_first, find, flat_map, list_any}
+use Rattle.std.specs.Prelude.{◌≡◌, ℕ, ◌+◌, ◌<◌, ◌==◌, Bool, false, if◌then◌else◌, ◌&&◌, ◌⊎◌, List, [], ◌∷◌, ◌++◌, length, codes, Option, Some, None, option_and_then}
+use Rattle.std.specs.List.{All, AllByRecursion, find, flat_map, list_any}
 use Rattle.std.specs.Str.{bytes_eq}
 use Rattle.base64.specs.Engines.{standard}
 use Rattle.base64.specs.GeneralPurpose.{IsBytes, encode_of}
@@ -49,12 +49,10 @@ pub record HasLines (text : List ℕ) (lines : List Answer) : Type 0 where
   pub fields : AllByRecursion HasFields lines
   pub spelt : (text ≡ ended lines) ⊎ (text ++ line_feed ∷ [] ≡ ended lines)
 
-abbrev pub is_line_feed : ℕ → Bool
-is_line_feed octet = octet == line_feed
-
 -- the first line of a text, up to its line feed or to the end
 abbrev pub first_line : List ℕ → List ℕ
-first_line text = before_first is_line_feed text
+first_line [] = []
+first_line (octet ∷ text) = if octet == line_feed then [] else octet ∷ first_line text
 
 -- the octet stands nowhere in the text
 abbrev pub Lacks : ℕ → List ℕ → Type 0

@@ -4,4 +4,5 @@ mod fault;
 mod input;
 mod key;
 mod line;
+mod lines;
 mod table;

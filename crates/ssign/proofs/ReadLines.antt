@@ -1,0 +1,63 @@
+-- A step of reading the lines of a text.
+use Rattle.std.proofs.Common.{◌≡◌, ℕ, ◌<◌, cond, eqb, false, List, [], ◌∷◌, ◌++◌, length, map, sym, refl, ap, ◌∙◌, inl, inr, arith}
+use Rattle.std.specs.List.{AllByRecursion, flat_map}
+use Rattle.std.proofs.lemmas.Bool.{eqb-false}
+use Rattle.std.proofs.lemmas.List.{append-nil, append_assoc}
+use Rattle.std.proofs.lemmas.List.Elements.{recursion_from_All}
+use Rattle.ssign.specs.declared.answers.line.Line.{Line}
+use Rattle.ssign.specs.Answers.{Answer, HasFields, Lacks, ended, first_line, line_feed, line_text}
+use Rattle.ssign.specs.AnswerInput.{IsCutAfterLine, IsReadUpTo}
+use Rattle.ssign.specs.AnswerLine.{answer_of, answers_of}
+
+abbrev Clear : List ℕ → Type 0
+Clear text = AllByRecursion (λ x. eqb x line_feed ≡ false) text
+
+first_clear : (a b : List ℕ) → Clear a → first_line (a ++ line_feed ∷ b) ≡ a
+first_clear [] b h = refl
+first_clear (x ∷ a) b h = rw (h.0, first_clear a b h.1) refl
+
+whole_clear : (a : List ℕ) → Clear a → first_line a ≡ a
+whole_clear [] h = refl
+whole_clear (x ∷ a) h = rw (h.0, whole_clear a h.1) refl
+
+pub first_line-cut : (text line after : List ℕ) → Lacks line_feed line → IsCutAfterLine text line after → first_line text ≡ line
+first_line-cut text line after lacks (inl cut) = ap first_line cut ∙ first_clear line after (recursion_from_All _ line lacks)
+first_line-cut text line after lacks (inr cut) = ap first_line cut.0 ∙ whole_clear line (recursion_from_All _ line lacks)
+
+pub ended-push : (lines : List Answer) (line : Answer) → ended (lines ++ line ∷ []) ≡ ended lines ++ (line_text line ++ line_feed ∷ [])
+ended-push [] line = append-nil (line_text line ++ line_feed ∷ [])
+ended-push (x ∷ lines) line =
+    ap (λ t. (line_text x ++ line_feed ∷ []) ++ t) (ended-push lines line)
+    ∙ sym (append_assoc (line_text x ++ line_feed ∷ []) (ended lines) (line_text line ++ line_feed ∷ []))
+
+pub fields-push : (lines : List Answer) (line : Answer) → AllByRecursion HasFields lines → HasFields line → AllByRecursion HasFields (lines ++ line ∷ [])
+fields-push [] line h k = (k, tt)
+fields-push (x ∷ lines) line h k = (h.0, fields-push lines line h.1 k)
+
+pub answers_of-push : (lines : List Line) (line : Line) → answers_of (lines ++ line ∷ []) ≡ answers_of lines ++ answer_of line ∷ []
+answers_of-push [] line = refl
+answers_of-push (x ∷ lines) line = ap (λ t. answer_of x ∷ t) (answers_of-push lines line)
+
+-- with something left, the text goes on behind its lines
+pub reached_some : (text : List ℕ) (lines : List Answer) (rest : List ℕ) → IsReadUpTo text lines rest → 0 < length rest → text ≡ ended lines ++ rest
+reached_some text lines rest (inl h) some = h
+reached_some text lines rest (inr h) some = absurd (omega (arith, ap length h.0))
+
+regroup : (a b after : List ℕ) (c : ℕ) → a ++ (b ++ c ∷ after) ≡ (a ++ (b ++ c ∷ [])) ++ after
+regroup a b after c = simp append_assoc
+
+pub IsReadUpTo-more : (text : List ℕ) (lines : List Answer) (rest first after : List ℕ) (line : Answer)
+    → text ≡ ended lines ++ rest → IsCutAfterLine rest first after → first ≡ line_text line → IsReadUpTo text (lines ++ line ∷ []) after
+IsReadUpTo-more text lines rest first after line h (inl cut) spelt =
+    inl (h ∙ ap (λ t. ended lines ++ t) (cut ∙ ap (λ t. t ++ line_feed ∷ after) spelt)
+    ∙ regroup (ended lines) (line_text line) after line_feed ∙ ap (λ t. t ++ after) (sym (ended-push lines line)))
+IsReadUpTo-more text lines rest first after line h (inr cut) spelt =
+    inr (
+      cut.1,
+      ap (λ t. t ++ line_feed ∷ []) (h ∙ ap (λ t. ended lines ++ t) (cut.0 ∙ spelt))
+          ∙ append_assoc (ended lines) (line_text line) (line_feed ∷ []) ∙ sym (ended-push lines line),
+    )
+
+pub length-answers_of : (lines : List Line) → length (answers_of lines) ≡ length lines
+length-answers_of [] = refl
+length-answers_of (x ∷ lines) = omega (arith, length-answers_of lines)
