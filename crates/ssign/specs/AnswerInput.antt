@@ -1,5 +1,5 @@
 -- What reading a file of answers takes from its reader, and when each fault comes.
-use Rattle.std.specs.Prelude.{◌≡◌, ℕ, ◌+◌, ◌≤◌, Bool, true, false, ◌⊎◌, List, [], ◌∷◌, ◌++◌, length, Option, Result, Ok, Err}
+use Rattle.std.specs.Prelude.{◌≡◌, ℕ, ◌+◌, ◌^◌, ◌<◌, ◌≤◌, Bool, true, false, ◌⊎◌, List, [], ◌∷◌, ◌++◌, length, Option, Result, Ok, Err}
 use Rattle.std.specs.Io.KnownBytes.{Consumes, IsAtEnd}
 use Rattle.ssign.specs.declared.answers.fault.AnswerFault.{AnswerFault}
 use Rattle.ssign.specs.declared.answers.fault.AnswerFault.TheVariants.{BadLine, Read, TooBig, Memory}
@@ -89,3 +89,20 @@ IsReadUpTo text lines rest = (text ≡ ended lines ++ rest) ⊎ ((rest ≡ []) �
 -- a text is a line and what follows its line feed, or a line without one
 abbrev pub IsCutAfterLine : List ℕ → List ℕ → List ℕ → Type 0
 IsCutAfterLine text line after = (text ≡ line ++ line_feed ∷ after) ⊎ ((text ≡ line) × (after ≡ []))
+
+-- ---- a file
+
+-- the answers are those of the lines of some text within the limit of a file
+pub record AreOfFile (answers : List Answer) : Type 0 where
+  pub text : List ℕ
+  pub lines : List Answer
+  pub within : length text < 2 ^ 32
+  pub has : HasLines text lines
+  pub same : SaysTheSame lines answers
+
+-- what a fault says of a file
+abbrev pub IsFileFault : AnswerFault → Type 0
+IsFileFault (BadLine line) = (text : List ℕ) × (length text < 2 ^ 32) × HasFirstBadLine text line
+IsFileFault Read = Unit {0}
+IsFileFault TooBig = Unit {0}
+IsFileFault Memory = Unit {0}

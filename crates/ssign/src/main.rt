@@ -4,6 +4,7 @@
 mod answers;
 mod scheme;
 
+pub use answers::{AnswerFault, Answers, SealFault, open_answers, read_answers};
 pub use scheme::{Judge, Scheme, Verifier};
 
 fn main(rt: HostRuntime) {}
