@@ -9,6 +9,8 @@ mod key;
 mod line;
 mod lines;
 mod table;
+#[cfg(test)]
+mod tests;
 
 pub use fault::{AnswerFault, SealFault};
 use input::read_all;
