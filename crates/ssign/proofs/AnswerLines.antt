@@ -1,9 +1,9 @@
 -- What a text reads as is determined: it is cut at its first space in one way.
-use Rattle.std.proofs.Common.{◌≡◌, ℕ, eqb, false, List, [], ◌∷◌, ◌++◌, sym, refl, ap, ◌∙◌}
-use Rattle.std.specs.List.{All, AllByRecursion}
-use Rattle.std.proofs.lemmas.List.Elements.{recursion_from_All, All-from_recursion}
+use Rattle.std.proofs.Common.{◌≡◌, ℕ, eqb, false, List, [], ◌∷◌, ◌++◌, sym, refl, ◌∙◌}
+use Rattle.std.specs.List.{AllByRecursion}
+use Rattle.std.proofs.lemmas.List.Elements.{recursion_from_All}
 use Rattle.std.proofs.lemmas.Bool.{eqb-false}
-use Rattle.ssign.specs.Answers.{IsField, IsNoField, IsNoPair, IsNoTriple, IsPair, IsTriple, Lacks, base64, space}
+use Rattle.ssign.specs.Answers.{IsNoField, IsNoPair, IsNoTriple, Lacks, base64, space}
 use Rattle.ssign.proofs.Base64Text.{Lacks-space}
 use Rattle.ssign.specs.declared.answers.line.LineFault.{LineFault}
 use Rattle.ssign.specs.declared.answers.line.LineFault.TheVariants as faults

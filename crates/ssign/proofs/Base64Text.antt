@@ -1,17 +1,17 @@
 -- A text of base64 has no space and no line feed in it.
 use Rattle.std.proofs.Common.{◌≡◌, ℕ, zero, suc, ◌/◌, ◌%◌, ◌*◌, ◌+◌, ◌&&◌, Bool, true, false, not, eqb, List, [], ◌∷◌, ◌++◌, replicate, slice_index, refl}
 use Rattle.std.specs.List.{AllByRecursion, list_all}
-use Rattle.std.proofs.lemmas.List.Elements.{All-from_recursion}
-use Rattle.base64.specs.Rfc4648.{encode_group, encode_symbols, padding_len}
+use Rattle.std.proofs.lemmas.List.Elements.{All-from_recursion, recursion_from_All}
+use Rattle.base64.specs.Rfc4648.{encode_symbols}
 use Rattle.base64.specs.Engines.{standard}
 use Rattle.base64.specs.GeneralPurpose.{engine_symbols}
 use Rattle.ssign.specs.Answers.{Lacks, base64, line_feed, space}
 
 -- the octet stands nowhere in the text
-abbrev Clear : ℕ → List ℕ → Type 0
+abbrev pub Clear : ℕ → List ℕ → Type 0
 Clear c text = AllByRecursion (λ x. eqb x c ≡ false) text
 
-Clear-append : (c : ℕ) (a b : List ℕ) → Clear c a → Clear c b → Clear c (a ++ b)
+pub Clear-append : (c : ℕ) (a b : List ℕ) → Clear c a → Clear c b → Clear c (a ++ b)
 Clear-append c [] b h k = k
 Clear-append c (x ∷ a) b h k = (h.0, Clear-append c a b h.1 k)
 
@@ -48,3 +48,6 @@ Lacks-space octets = Lacks-base64 space octets (clear_at space (engine_symbols s
 
 pub Lacks-line_feed : (octets : List ℕ) → Lacks line_feed (base64 octets)
 Lacks-line_feed octets = Lacks-base64 line_feed octets (clear_at line_feed (engine_symbols standard) refl refl) refl
+
+pub Clear-base64 : (octets : List ℕ) → Clear line_feed (base64 octets)
+Clear-base64 octets = recursion_from_All (λ x. eqb x line_feed ≡ false) (base64 octets) (Lacks-line_feed octets)

@@ -1,4 +1,5 @@
 mod Base64Text
+mod AnswerLaws
 mod AnswerLines
 mod OrderedLines
 mod ReadLines

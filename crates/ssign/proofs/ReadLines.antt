@@ -1,7 +1,6 @@
 -- A step of reading the lines of a text.
-use Rattle.std.proofs.Common.{◌≡◌, ℕ, ◌<◌, cond, eqb, false, List, [], ◌∷◌, ◌++◌, length, map, sym, refl, ap, ◌∙◌, inl, inr, arith}
-use Rattle.std.specs.List.{AllByRecursion, flat_map}
-use Rattle.std.proofs.lemmas.Bool.{eqb-false}
+use Rattle.std.proofs.Common.{◌≡◌, ℕ, ◌<◌, eqb, false, List, [], ◌∷◌, ◌++◌, length, sym, refl, ap, ◌∙◌, inl, inr, arith}
+use Rattle.std.specs.List.{AllByRecursion}
 use Rattle.std.proofs.lemmas.List.{append-nil, append_assoc}
 use Rattle.std.proofs.lemmas.List.Elements.{recursion_from_All}
 use Rattle.ssign.specs.declared.answers.line.Line.{Line}
@@ -12,7 +11,7 @@ use Rattle.ssign.specs.AnswerLine.{answer_of, answers_of}
 abbrev Clear : List ℕ → Type 0
 Clear text = AllByRecursion (λ x. eqb x line_feed ≡ false) text
 
-first_clear : (a b : List ℕ) → Clear a → first_line (a ++ line_feed ∷ b) ≡ a
+pub first_clear : (a b : List ℕ) → Clear a → first_line (a ++ line_feed ∷ b) ≡ a
 first_clear [] b h = refl
 first_clear (x ∷ a) b h = rw (h.0, first_clear a b h.1) refl
 

@@ -90,6 +90,16 @@ pub record HasFirstBadLine (text : List ℕ) (number : ℕ) : Type 0 where
   pub place : number ≡ length lines + 1
   pub bad : IsNoLine (first_line rest)
 
+-- ---- laws
+
+-- no text has lines and a first bad line
+abbrev pub NoTextIsGoodAndBad : Type 0
+NoTextIsGoodAndBad = (text : List ℕ) (lines : List Answer) (number : ℕ) → HasLines text lines → HasFirstBadLine text number → ⊥
+
+-- a text has one first bad line
+abbrev pub BadLineIsDetermined : Type 0
+BadLineIsDetermined = (text : List ℕ) (m n : ℕ) → HasFirstBadLine text m → HasFirstBadLine text n → m ≡ n
+
 -- ---- what lines say
 
 -- the line says that this payload is trusted

@@ -6,6 +6,7 @@ ghost use Rattle.ssign.specs.AnswerInput.{AreOfFile, AreRead, IsAnswerFault, IsF
 mod fault;
 mod input;
 mod key;
+mod laws;
 mod line;
 mod lines;
 mod table;

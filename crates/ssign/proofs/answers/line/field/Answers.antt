@@ -1,9 +1,8 @@
-use Rattle.std.proofs.Common.{◌≡◌, ℕ, List, [], length, refl, arith, rules, Ok, Err, Result}
+use Rattle.std.proofs.Common.{◌≡◌, length, refl, arith, Ok, Err}
 use Rattle.std.proofs.Common.{◌<◌}
 use Rattle.std.proofs.lemmas.Bool.Decides.{nat_tests}
 use Rattle.base64.specs.Engines.{standard}
 use Rattle.base64.specs.GeneralPurpose.{IsStrict, decode_of}
-use Rattle.base64.specs.declared.decode.DecodeError.{DecodeError}
 use Rattle.ssign.specs.Answers.{base64}
 use Rattle.ssign.proofs.answers.line.field.Goals as goal
 

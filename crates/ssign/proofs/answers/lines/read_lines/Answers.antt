@@ -1,7 +1,7 @@
-use Rattle.std.proofs.Common.{◌≡◌, ◌++◌, ◌∷◌, ◌<◌, [], ◌+◌, length, vec_len, arith, rules, ap, sym, ◌∙◌}
+use Rattle.std.proofs.Common.{◌≡◌, ◌++◌, ◌∷◌, ◌<◌, [], ◌+◌, length, vec_len, arith, rules, ap, ◌∙◌}
 use Rattle.std.proofs.lemmas.Bool.Decides.{nat_tests}
 use Rattle.ssign.specs.Answers.{IsNoLine}
-use Rattle.ssign.specs.AnswerLine.{answer_of, answers_of}
+use Rattle.ssign.specs.AnswerLine.{answers_of}
 use Rattle.ssign.proofs.ReadLines.{IsReadUpTo-more, answers_of-push, fields-push, first_line-cut, length-answers_of, reached_some}
 use Rattle.ssign.proofs.answers.lines.read_lines.Goals as goal
 

@@ -1,6 +1,4 @@
 use Rattle.std.proofs.Common.{◌≡◌, true, false, get_or, subst, Some, sym, ap, ◌∙◌, arith, rules}
-use Rattle.std.specs.Ordering.{is_eq, is_lt}
-use Rattle.std.specs.List.Sorted.{IsPartitionPoint}
 use Rattle.std.proofs.lemmas.List.Sorted.{IsPartitionPoint-from_clause}
 use Rattle.ssign.specs.AnswerLine.{has_key}
 use Rattle.ssign.specs.AnswerKey.{sort_key}
