@@ -1,8 +1,8 @@
 -- A text of base64 has no space and no line feed in it.
-use Rattle.std.proofs.Common.{◌≡◌, ℕ, zero, suc, ◌/◌, ◌%◌, ◌*◌, ◌+◌, ◌&&◌, Bool, true, false, not, eqb, List, [], ◌∷◌, ◌++◌, replicate, slice_index, refl}
+use Rattle.std.proofs.Common.{◌≡◌, ℕ, zero, suc, ◌/◌, ◌%◌, ◌*◌, ◌+◌, ◌≤◌, length, length-append, arith, ◌&&◌, Bool, true, false, not, eqb, List, [], ◌∷◌, ◌++◌, replicate, slice_index, refl}
 use Rattle.std.specs.List.{AllByRecursion, list_all}
 use Rattle.std.proofs.lemmas.List.Elements.{All-from_recursion, recursion_from_All}
-use Rattle.base64.specs.Rfc4648.{encode_symbols}
+use Rattle.base64.specs.Rfc4648.{encode_symbols, padding_len}
 use Rattle.base64.specs.Engines.{standard}
 use Rattle.base64.specs.GeneralPurpose.{engine_symbols}
 use Rattle.ssign.specs.Answers.{Lacks, base64, line_feed, space}
@@ -51,3 +51,20 @@ Lacks-line_feed octets = Lacks-base64 line_feed octets (clear_at line_feed (engi
 
 pub Clear-base64 : (octets : List ℕ) → Clear line_feed (base64 octets)
 Clear-base64 octets = recursion_from_All (λ x. eqb x line_feed ≡ false) (base64 octets) (Lacks-line_feed octets)
+
+length-encode_symbols-le : (t m : List ℕ) → length m ≤ length (encode_symbols t m)
+unfolding encode_symbols
+length-encode_symbols-le t [] = omega arith
+length-encode_symbols-le t (a ∷ []) = omega arith
+length-encode_symbols-le t (a ∷ b ∷ []) = omega arith
+length-encode_symbols-le t (a ∷ b ∷ d ∷ rest) = omega (arith, length-encode_symbols-le t rest)
+
+-- base64 is no shorter than what it stands for
+pub length-base64 : (octets : List ℕ) → length octets ≤ length (base64 octets)
+unfolding base64
+length-base64 octets =
+    omega (
+      arith,
+      length-encode_symbols-le (engine_symbols standard) octets,
+      length-append (encode_symbols (engine_symbols standard) octets) (replicate (padding_len (length octets)) 61),
+    )

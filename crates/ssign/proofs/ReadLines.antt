@@ -1,12 +1,13 @@
 -- A step of reading the lines of a text.
-use Rattle.std.proofs.Common.{◌≡◌, ℕ, ◌<◌, eqb, false, List, [], ◌∷◌, ◌++◌, length, sym, refl, ap, ◌∙◌, inl, inr, arith}
+use Rattle.std.proofs.Common.{◌≡◌, ℕ, ◌+◌, ◌<◌, ◌≤◌, codes, length-append, eqb, false, List, [], ◌∷◌, ◌++◌, length, sym, refl, ap, ◌∙◌, inl, inr, arith}
 use Rattle.std.specs.List.{AllByRecursion}
 use Rattle.std.proofs.lemmas.List.{append-nil, append_assoc}
 use Rattle.std.proofs.lemmas.List.Elements.{recursion_from_All}
-use Rattle.ssign.specs.declared.answers.line.Line.{Line}
-use Rattle.ssign.specs.Answers.{Answer, HasFields, Lacks, ended, first_line, line_feed, line_text}
+use Rattle.ssign.specs.declared.answers.place.Place.{Place}
+use Rattle.ssign.specs.Answers.{Answer, Seal, Trust, Yes, base64, space, HasFields, Lacks, ended, first_line, line_feed, line_text}
 use Rattle.ssign.specs.AnswerInput.{IsCutAfterLine, IsReadUpTo}
-use Rattle.ssign.specs.AnswerLine.{answer_of, answers_of}
+use Rattle.ssign.specs.AnswerLine.{answers_at, size_of}
+use Rattle.ssign.proofs.Base64Text.{length-base64}
 
 abbrev Clear : List ℕ → Type 0
 Clear text = AllByRecursion (λ x. eqb x line_feed ≡ false) text
@@ -33,10 +34,6 @@ pub fields-push : (lines : List Answer) (line : Answer) → AllByRecursion HasFi
 fields-push [] line h k = (k, tt)
 fields-push (x ∷ lines) line h k = (h.0, fields-push lines line h.1 k)
 
-pub answers_of-push : (lines : List Line) (line : Line) → answers_of (lines ++ line ∷ []) ≡ answers_of lines ++ answer_of line ∷ []
-answers_of-push [] line = refl
-answers_of-push (x ∷ lines) line = ap (λ t. answer_of x ∷ t) (answers_of-push lines line)
-
 -- with something left, the text goes on behind its lines
 pub reached_some : (text : List ℕ) (lines : List Answer) (rest : List ℕ) → IsReadUpTo text lines rest → 0 < length rest → text ≡ ended lines ++ rest
 reached_some text lines rest (inl h) some = h
@@ -57,6 +54,27 @@ IsReadUpTo-more text lines rest first after line h (inr cut) spelt =
           ∙ append_assoc (ended lines) (line_text line) (line_feed ∷ []) ∙ sym (ended-push lines line),
     )
 
-pub length-answers_of : (lines : List Line) → length (answers_of lines) ≡ length lines
-length-answers_of [] = refl
-length-answers_of (x ∷ lines) = omega (arith, length-answers_of lines)
+pub length-answers_at : (octets : List ℕ) (places : List Place) → length (answers_at octets places) ≡ length places
+length-answers_at octets [] = refl
+length-answers_at octets (x ∷ places) = omega (arith, length-answers_at octets places)
+
+-- what a line and the rest behind it are shorter than
+pub cut_sizes : (text line after : List ℕ) → IsCutAfterLine text line after → length line + length after ≤ length text
+cut_sizes text line after (inl cut) = omega (arith, ap length cut, length-append line (line_feed ∷ after))
+cut_sizes text line after (inr cut) = omega (arith, ap length cut.0, ap length cut.1)
+
+-- the fields of a line have no more octets than its text
+pub size_of-line_text : (line : Answer) → size_of line ≤ length (line_text line)
+size_of-line_text (Trust p) = omega (arith, length-base64 p, length-append (codes "trust ") (base64 p))
+size_of-line_text (Yes p o s) =
+    omega (
+      arith,
+      length-base64 p,
+      length-base64 o,
+      length-base64 s,
+      length-append (codes "yes ") (base64 p ++ space ∷ (base64 o ++ space ∷ base64 s)),
+      length-append (base64 p) (space ∷ (base64 o ++ space ∷ base64 s)),
+      length-append (base64 o) (space ∷ base64 s),
+    )
+size_of-line_text (Seal o s) =
+    omega (arith, length-base64 o, length-base64 s, length-append (codes "seal ") (base64 o ++ space ∷ base64 s), length-append (base64 o) (space ∷ base64 s))

@@ -9,6 +9,7 @@ mod key;
 mod laws;
 mod line;
 mod lines;
+mod place;
 mod table;
 #[cfg(test)]
 mod tests;

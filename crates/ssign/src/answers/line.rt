@@ -3,7 +3,6 @@ ghost use Rattle.std.specs.Prelude.{◌≡◌, ◌++◌, ◌∷◌, List, ℕ, I
 ghost use Rattle.ssign.specs.Answers.{IsField, IsNoField, IsPair, IsNoPair, IsTriple, IsNoTriple, IsNoLine, HasFields, base64, line_text, space, Lacks};
 ghost use Rattle.ssign.specs.AnswerLine.{answer_of, IfBad};
 
-use super::key::Key;
 use base64::DecodeAllocError;
 use base64::engine::general_purpose::STANDARD;
 use std::alloc::Global;
@@ -29,29 +28,19 @@ pub enum LineFault {
 }
 
 impl Line {
-    ghost use Rattle.ssign.specs.AnswerKey.{sort_key};
-    ghost use Rattle.std.specs.Option.{option_copied};
-    ghost use Rattle.ssign.specs.Answers.{given_signature};
-    ghost use Rattle.ssign.specs.AnswerLine.{answer_of, line_key};
+    ghost use Rattle.std.specs.Prelude.{◌+◌, length};
+    ghost use Rattle.ssign.specs.AnswerLine.{answer_by_fields, answer_of, size_of};
 
-    /// What the line is found by.
-    pub fn key(&self) -> Key<'_>
-        ensures { sort_key result ≡ line_key self.now }
+    /// Payload, octets and signature, of which those that the line lacks are empty.
+    pub fn fields(&self) -> (&[u8], &[u8], &[u8])
+        requires { HasFields (answer_of self.now) }
+        ensures answer { answer_by_fields result.0.now result.1.now result.2.now ≡ answer_of self.now }
+        ensures size { length result.0.now + (length result.1.now + length result.2.now) ≡ size_of (answer_of self.now) }
     {
         match self {
-            Line::Trust(payload) => Key::trust(payload),
-            Line::Yes(payload, octets, signature) => Key::yes(payload, octets, signature),
-            Line::Seal(octets, _) => Key::seal(octets),
-        }
-    }
-
-    /// The signature that the line gives octets.
-    pub fn given_signature(&self) -> Option<&[u8]>
-        ensures { option_copied result ≡ given_signature (answer_of self.now) }
-    {
-        match self {
-            Line::Seal(_, signature) => Some(signature),
-            _ => None,
+            Line::Trust(payload) => (payload, &[], &[]),
+            Line::Yes(payload, octets, signature) => (payload, octets, signature),
+            Line::Seal(octets, signature) => (&[], octets, signature),
         }
     }
 }

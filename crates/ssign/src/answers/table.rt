@@ -4,11 +4,12 @@ ghost use Rattle.std.specs.List.{find};
 ghost use Rattle.std.specs.Option.{option_copied};
 ghost use Rattle.ssign.specs.Answers.{SaysTheSame};
 ghost use Rattle.ssign.specs.AnswerKey.{sort_key};
-ghost use Rattle.ssign.specs.AnswerLine.{answers_of, has_key, IsInOrder};
+ghost use Rattle.ssign.specs.AnswerLine.{answers_at, has_key, IsInOrder};
 
 use super::fault::SealFault;
 use super::key::Key;
-use super::line::Line;
+use super::lines::Lines;
+use super::place::Place;
 use crate::scheme::{Judge, Scheme};
 use std::alloc::{AllocError, Global};
 use std::marker::Model;
@@ -18,19 +19,20 @@ use std::marker::Model;
 /// Contracts see a list of lines that say the same as those of the file.
 #[derive(Debug, Drop)]
 pub struct Answers {
-    lines: Vec<Line>,
+    octets: Vec<u8>,
+    places: Vec<Place>,
 }
 
 impl Model for Answers {
     ghost use Rattle.std.specs.Prelude.{List};
     ghost use Rattle.ssign.specs.Answers.{Answer};
-    ghost use Rattle.ssign.specs.AnswerLine.{answers_of, IsInOrder};
+    ghost use Rattle.ssign.specs.AnswerLine.{answers_at, IsInOrder};
 
     ghost Value = { List Answer };
 
-    ghost view = { λ a. answers_of a.lines.items };
+    ghost view = { λ a. answers_at a.octets.items a.places.items };
 
-    ghost invariant = { λ a. IsInOrder a.lines.items };
+    ghost invariant = { λ a. IsInOrder a.octets.items a.places.items };
 }
 
 impl Answers {
@@ -43,25 +45,31 @@ impl Answers {
     /// # Errors
     ///
     /// Want of memory alone.
-    pub(super) fn of_lines(mut lines: Vec<Line>) -> Result<Answers, AllocError>
-        ensures { IfOk result (λ answers. SaysTheSame (answers_of lines.items) answers) }
+    pub(super) fn of_lines(lines: Lines) -> Result<Answers, AllocError>
+        ensures { IfOk result (λ answers. SaysTheSame (answers_of lines) answers) }
     {
-        sort(&mut lines)?;
-        Ok(Answers { lines })
+        let Lines { octets, mut places } = lines;
+        sort(&octets, &mut places)?;
+        Ok(Answers { octets, places })
     }
 
     /// Whether some line trusts the payload.
     pub fn trusts(&self, payload: &[u8]) -> bool
         ensures { result ≡ trusted self.now payload.now }
     {
-        find(&self.lines, Key::trust(payload)).is_some()
+        find(&self.octets, &self.places, Key::trust(payload)).is_some()
     }
 
     /// Whether some line says that under the payload the octets have this signature.
     pub fn accepts(&self, payload: &[u8], bytes: &[u8], signature: &[u8]) -> bool
         ensures { result ≡ valid self.now payload.now bytes.now signature.now }
     {
-        find(&self.lines, Key::yes(payload, bytes, signature)).is_some()
+        find(
+            &self.octets,
+            &self.places,
+            Key::yes(payload, bytes, signature),
+        )
+        .is_some()
     }
 
     /// The signature of the first line that gives these octets one.
@@ -73,10 +81,10 @@ impl Answers {
         ensures ok { IfOk result (λ signature. seal_of self.now bytes.now ≡ Some signature.items) }
         ensures refused { IfErr result (λ fault. IfRefused fault (seal_of self.now bytes.now ≡ None)) }
     {
-        let Some(line) = find(&self.lines, Key::seal(bytes)) else {
+        let Some(place) = find(&self.octets, &self.places, Key::seal(bytes)) else {
             return Err(SealFault::Refused);
         };
-        let Some(signature) = line.given_signature() else {
+        let Some(signature) = place.given_signature(&self.octets) else {
             return Err(SealFault::Refused);
         };
         match Vec::from_slice(alloc, signature) {
@@ -112,26 +120,26 @@ impl Judge for Answers {
     }
 }
 
-/// Puts lines in the order of their keys. Lines of one key stay in the order in which they were.
-fn sort(lines: &mut Vec<Line>) -> Result<(), AllocError>
-    ensures in_order { OnOk result (IsInOrder lines.new.items) }
-    ensures same { OnOk result (SaysTheSame (answers_of lines.old.items) (answers_of lines.new.items)) }
+/// Puts places in the order of the keys of their lines. Lines of one key stay in the order in which they were.
+fn sort(octets: &[u8], places: &mut Vec<Place>) -> Result<(), AllocError>
+    ensures in_order { OnOk result (IsInOrder octets.now places.new.items) }
+    ensures same { OnOk result (SaysTheSame (answers_at octets.now places.old.items) (answers_at octets.now places.new.items)) }
 {
-    lines.sort_by(|a, b| a.key().compare(&b.key()))
+    places.sort_by(|a, b| a.key(octets).compare(&b.key(octets)))
 }
 
 /// The first line of a key, among lines in order.
-fn find<'a>(lines: &'a [Line], key: Key<'_>) -> Option<&'a Line>
-    requires { IsInOrder lines.now }
-    ensures { option_copied result ≡ find (has_key (sort_key key.entry)) lines.now }
+fn find<'a>(octets: &[u8], places: &'a [Place], key: Key<'_>) -> Option<&'a Place>
+    requires { IsInOrder octets.now places.now }
+    ensures { option_copied result ≡ find (has_key octets.now (sort_key key.entry)) places.now }
 {
-    let at = lines.partition_point(|line| line.key().compare(&key).is_lt());
-    if at >= lines.len() {
+    let at = places.partition_point(|place| place.key(octets).compare(&key).is_lt());
+    if at >= places.len() {
         return None;
     }
-    let line = &lines[at];
-    if line.key().compare(&key).is_eq() {
-        Some(line)
+    let place = &places[at];
+    if place.key(octets).compare(&key).is_eq() {
+        Some(place)
     } else {
         None
     }
