@@ -3,9 +3,9 @@ use Rattle.std.proofs.Common.{◌≡◌, ℕ, ◌<◌, false, cond, eqb, List, [
 use Rattle.std.specs.List.{AllByRecursion}
 use Rattle.std.proofs.lemmas.List.{append_assoc}
 use Rattle.std.proofs.lemmas.List.Elements.{All-from_recursion}
-use Rattle.ssign.specs.Answers.{Answer, Trust, Yes, Seal, HasFields, HasFirstBadLine, HasLines, IsNoLine, Lacks, NoTextIsGoodAndBad, BadLineIsDetermined, base64, ended, first_line, line_feed, line_text, space}
+use Rattle.ssign.specs.Answers.{Answer, Trust, Yes, Seal, HasFields, HasFirstBadLine, HasLines, LinesAreDetermined, IsNoLine, Lacks, LinesAreDetermined, NoTextIsGoodAndBad, BadLineIsDetermined, base64, ended, first_line, line_feed, line_text, space}
 use Rattle.ssign.proofs.AnswerLines.{cut_once}
-use Rattle.ssign.proofs.Base64Text.{Clear, Clear-append, Clear-base64}
+use Rattle.ssign.proofs.Base64Text.{Clear, Clear-append, Clear-base64, Lacks-space, base64-injective}
 use Rattle.ssign.proofs.ReadLines.{first_clear}
 
 Clear-line_text : (line : Answer) → Clear line_feed (line_text line)
@@ -81,3 +81,62 @@ pub bad_line_is_determined : BadLineIsDetermined
 bad_line_is_determined text m n one two =
     let same = same_place one.lines two.lines one.rest two.rest one.fields two.fields (sym one.before ∙ two.before) one.bad two.bad in
     omega (arith, same, one.place, two.place)
+
+head : (c d : ℕ) (x y : List ℕ) → c ∷ x ≡ d ∷ y → c ≡ d
+head c d x y e = cc
+
+-- lines of one text are one line
+line_text-injective : (a b : Answer) → HasFields a → HasFields b → line_text a ≡ line_text b → a ≡ b
+line_text-injective (Trust p) (Trust q) f g e =
+    let tails : base64 p ≡ base64 q = cc in
+    ap Trust (base64-injective p q f.bytes g.bytes tails)
+line_text-injective (Trust p) (Yes q o s) f g e = absurd (omega (arith, head 116 121 _ _ e))
+line_text-injective (Trust p) (Seal o s) f g e = absurd (omega (arith, head 116 115 _ _ e))
+line_text-injective (Yes p o s) (Trust q) f g e = absurd (omega (arith, head 121 116 _ _ e))
+line_text-injective (Yes p o s) (Yes q m t) f g e =
+    let tails : base64 p ++ space ∷ (base64 o ++ space ∷ base64 s) ≡ base64 q ++ space ∷ (base64 m ++ space ∷ base64 t) = cc in
+    let one = cut_once space (base64 p) (base64 o ++ space ∷ base64 s) (base64 q) (base64 m ++ space ∷ base64 t) (Lacks-space p) (Lacks-space q) tails in
+    let two = cut_once space (base64 o) (base64 s) (base64 m) (base64 t) (Lacks-space o) (Lacks-space m) one.1 in
+    let payloads = base64-injective p q f.0.bytes g.0.bytes one.0 in
+    let octets = base64-injective o m f.1.bytes g.1.bytes two.0 in
+    let signatures = base64-injective s t f.2.bytes g.2.bytes two.1 in
+    cc (payloads, octets, signatures)
+line_text-injective (Yes p o s) (Seal m t) f g e = absurd (omega (arith, head 121 115 _ _ e))
+line_text-injective (Seal o s) (Trust q) f g e = absurd (omega (arith, head 115 116 _ _ e))
+line_text-injective (Seal o s) (Yes q m t) f g e = absurd (omega (arith, head 115 121 _ _ e))
+line_text-injective (Seal o s) (Seal m t) f g e =
+    let tails : base64 o ++ space ∷ base64 s ≡ base64 m ++ space ∷ base64 t = cc in
+    let one = cut_once space (base64 o) (base64 s) (base64 m) (base64 t) (Lacks-space o) (Lacks-space m) tails in
+    let octets = base64-injective o m f.0.bytes g.0.bytes one.0 in
+    let signatures = base64-injective s t f.1.bytes g.1.bytes one.1 in
+    cc (octets, signatures)
+
+ended-injective : (ms ns : List Answer) → AllByRecursion HasFields ms → AllByRecursion HasFields ns → ended ms ≡ ended ns → ms ≡ ns
+ended-injective [] [] f g e = refl
+ended-injective [] (n ∷ ns) f g e = let short = ap length (e ∙ ended-cons n ns) in absurd (omega (arith, short, length-append (line_text n) (line_feed ∷ ended ns)))
+ended-injective (m ∷ ms) [] f g e = let short = ap length (sym e ∙ ended-cons m ms) in absurd (omega (arith, short, length-append (line_text m) (line_feed ∷ ended ms)))
+ended-injective (m ∷ ms) (n ∷ ns) f g e =
+    let parts = cut_once line_feed (line_text m) (ended ms) (line_text n) (ended ns) (Lacks-line_text m) (Lacks-line_text n)
+    (sym (ended-cons m ms) ∙ e ∙ ended-cons n ns) in
+    let first = line_text-injective m n f.0 g.0 parts.0 in
+    let others = ended-injective ms ns f.1 g.1 parts.1 in
+    cc (first, others)
+
+line_text-some : (line : Answer) → [] ≡ line_text line → ⊥
+line_text-some (Trust p) e = cc
+line_text-some (Yes p o s) e = cc
+line_text-some (Seal o s) e = cc
+
+-- lines with a line feed more are no lines
+no_line_feed_more : (ms ns : List Answer) → AllByRecursion HasFields ns → ended ms ++ line_feed ∷ [] ≡ ended ns → ⊥
+no_line_feed_more ms ns g e = let next = next_is_line ms ns (line_feed ∷ []) g e (omega arith) in line_text-some next.0 next.2
+
+same_lines : (text : List ℕ) (ms ns : List Answer) → AllByRecursion HasFields ms → AllByRecursion HasFields ns
+    → (text ≡ ended ms) ⊎ (text ++ line_feed ∷ [] ≡ ended ms) → (text ≡ ended ns) ⊎ (text ++ line_feed ∷ [] ≡ ended ns) → ms ≡ ns
+same_lines text ms ns f g (inl a) (inl b) = ended-injective ms ns f g (sym a ∙ b)
+same_lines text ms ns f g (inl a) (inr b) = absurd (no_line_feed_more ms ns g (ap (λ t. t ++ line_feed ∷ []) (sym a) ∙ b))
+same_lines text ms ns f g (inr a) (inl b) = absurd (no_line_feed_more ns ms f (ap (λ t. t ++ line_feed ∷ []) (sym b) ∙ a))
+same_lines text ms ns f g (inr a) (inr b) = ended-injective ms ns f g (sym a ∙ b)
+
+pub lines_are_determined : LinesAreDetermined
+lines_are_determined text lines others one two = same_lines text lines others one.fields two.fields one.spelt two.spelt

@@ -1,16 +1,12 @@
 -- What a text reads as is determined: it is cut at its first space in one way.
 use Rattle.std.proofs.Common.{◌≡◌, ℕ, eqb, false, List, [], ◌∷◌, ◌++◌, sym, refl, ◌∙◌}
-use Rattle.std.specs.List.{AllByRecursion}
 use Rattle.std.proofs.lemmas.List.Elements.{recursion_from_All}
 use Rattle.std.proofs.lemmas.Bool.{eqb-false}
 use Rattle.ssign.specs.Answers.{IsNoField, IsNoPair, IsNoTriple, Lacks, base64, space}
-use Rattle.ssign.proofs.Base64Text.{Lacks-space}
+use Rattle.ssign.proofs.Base64Text.{Clear, Lacks-space}
 use Rattle.ssign.specs.declared.answers.line.LineFault.{LineFault}
 use Rattle.ssign.specs.declared.answers.line.LineFault.TheVariants as faults
 use Rattle.ssign.specs.AnswerLine.{IfBad}
-
-abbrev Clear : ℕ → List ℕ → Type 0
-Clear c text = AllByRecursion (λ x. eqb x c ≡ false) text
 
 cut_clear : (c : ℕ) (a x b y : List ℕ) → Clear c a → Clear c b → a ++ c ∷ x ≡ b ++ c ∷ y → (a ≡ b) × (x ≡ y)
 cut_clear c [] x [] y h k e = (refl, cc)

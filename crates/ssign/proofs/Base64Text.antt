@@ -1,10 +1,11 @@
 -- A text of base64 has no space and no line feed in it.
-use Rattle.std.proofs.Common.{◌≡◌, ℕ, zero, suc, ◌/◌, ◌%◌, ◌*◌, ◌+◌, ◌≤◌, length, length-append, arith, ◌&&◌, Bool, true, false, not, eqb, List, [], ◌∷◌, ◌++◌, replicate, slice_index, refl}
+use Rattle.std.proofs.Common.{◌≡◌, ℕ, zero, suc, ◌/◌, ◌%◌, ◌*◌, ◌+◌, ◌≤◌, length, length-append, arith, ◌&&◌, Bool, true, false, not, eqb, List, [], ◌∷◌, ◌++◌, Ok, ap, replicate, slice_index, refl}
 use Rattle.std.specs.List.{AllByRecursion, list_all}
 use Rattle.std.proofs.lemmas.List.Elements.{All-from_recursion, recursion_from_All}
 use Rattle.base64.specs.Rfc4648.{encode_symbols, padding_len}
 use Rattle.base64.specs.Engines.{standard}
-use Rattle.base64.specs.GeneralPurpose.{engine_symbols}
+use Rattle.base64.specs.GeneralPurpose.{IsBytes, decode_of, encode_of, engine_symbols}
+use Rattle.base64.proofs.EngineFacts.{decode_of-encode_of}
 use Rattle.ssign.specs.Answers.{Lacks, base64, line_feed, space}
 
 -- the octet stands nowhere in the text
@@ -68,3 +69,12 @@ length-base64 octets =
       length-encode_symbols-le (engine_symbols standard) octets,
       length-append (encode_symbols (engine_symbols standard) octets) (replicate (padding_len (length octets)) 61),
     )
+
+-- octets of one text are the same
+pub base64-injective : (a b : List ℕ) → IsBytes a → IsBytes b → base64 a ≡ base64 b → a ≡ b
+unfolding base64
+base64-injective a b bytes others same =
+    let one : decode_of standard (encode_of standard a) ≡ Ok a = decode_of-encode_of standard a refl bytes in
+    let two : decode_of standard (encode_of standard b) ≡ Ok b = decode_of-encode_of standard b refl others in
+    let both : decode_of standard (encode_of standard a) ≡ decode_of standard (encode_of standard b) = ap (decode_of standard) same in
+    cc

@@ -1,5 +1,5 @@
 -- A step of reading the lines of a text.
-use Rattle.std.proofs.Common.{◌≡◌, ℕ, ◌+◌, ◌<◌, ◌≤◌, codes, length-append, eqb, false, List, [], ◌∷◌, ◌++◌, length, sym, refl, ap, ◌∙◌, inl, inr, arith}
+use Rattle.std.proofs.Common.{◌≡◌, ℕ, ◌+◌, ◌<◌, ◌≤◌, codes, length-append, List, [], ◌∷◌, ◌++◌, length, sym, refl, ap, ◌∙◌, inl, inr, arith}
 use Rattle.std.specs.List.{AllByRecursion}
 use Rattle.std.proofs.lemmas.List.{append-nil, append_assoc}
 use Rattle.std.proofs.lemmas.List.Elements.{recursion_from_All}
@@ -7,16 +7,13 @@ use Rattle.ssign.specs.declared.answers.place.Place.{Place}
 use Rattle.ssign.specs.Answers.{Answer, Seal, Trust, Yes, base64, space, HasFields, Lacks, ended, first_line, line_feed, line_text}
 use Rattle.ssign.specs.AnswerInput.{IsCutAfterLine, IsReadUpTo}
 use Rattle.ssign.specs.AnswerLine.{answers_at, size_of}
-use Rattle.ssign.proofs.Base64Text.{length-base64}
+use Rattle.ssign.proofs.Base64Text.{Clear, length-base64}
 
-abbrev Clear : List ℕ → Type 0
-Clear text = AllByRecursion (λ x. eqb x line_feed ≡ false) text
-
-pub first_clear : (a b : List ℕ) → Clear a → first_line (a ++ line_feed ∷ b) ≡ a
+pub first_clear : (a b : List ℕ) → Clear line_feed a → first_line (a ++ line_feed ∷ b) ≡ a
 first_clear [] b h = refl
 first_clear (x ∷ a) b h = rw (h.0, first_clear a b h.1) refl
 
-whole_clear : (a : List ℕ) → Clear a → first_line a ≡ a
+whole_clear : (a : List ℕ) → Clear line_feed a → first_line a ≡ a
 whole_clear [] h = refl
 whole_clear (x ∷ a) h = rw (h.0, whole_clear a h.1) refl
 

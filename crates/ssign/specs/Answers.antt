@@ -96,6 +96,10 @@ pub record HasFirstBadLine (text : List ℕ) (number : ℕ) : Type 0 where
 abbrev pub NoTextIsGoodAndBad : Type 0
 NoTextIsGoodAndBad = (text : List ℕ) (lines : List Answer) (number : ℕ) → HasLines text lines → HasFirstBadLine text number → ⊥
 
+-- a text has its lines in one way
+abbrev pub LinesAreDetermined : Type 0
+LinesAreDetermined = (text : List ℕ) (lines others : List Answer) → HasLines text lines → HasLines text others → lines ≡ others
+
 -- a text has one first bad line
 abbrev pub BadLineIsDetermined : Type 0
 BadLineIsDetermined = (text : List ℕ) (m n : ℕ) → HasFirstBadLine text m → HasFirstBadLine text n → m ≡ n
