@@ -9,3 +9,9 @@ pub mod BlockSearch
 pub mod Places
 pub mod EntriesIn
 pub mod BlockReview
+mod Base64Text
+mod AnswerLaws
+mod AnswerLines
+mod KeptLines
+mod OrderedLines
+mod ReadLines

@@ -1,8 +1,8 @@
 -- The octets of a block that are signed.
-use Rattle.std.proofs.Common.{◌≡◌, ℕ, List, [], ◌∷◌, ◌++◌, get_or, codes, Some, None, sym, ap, ◌∙◌, append_assoc, arith}
+use Rattle.std.proofs.Common.{◌≡◌, ℕ, List, [], ◌∷◌, ◌++◌, get_or, codes, Option, Some, None, ◌⊎◌, inl, inr, refl, sym, ap, ◌∙◌, append_assoc, arith}
 use Rattle.ssign.specs.declared.thin.ThinSignature.{ThinSignature}
 use Rattle.ssign.specs.declared.thin.ThinCertificate.{ThinCertificate}
-use Rattle.ssign.specs.ThinMessage.{HasMarker, HasSign, IsNoBlock}
+use Rattle.ssign.specs.ThinMessage.{HasMarker, HasSign, IsNoBlock, IsWithoutSign}
 use Rattle.ssign.specs.ThinReading.{Labels, Texts, signature_labels, certificate_labels}
 use Rattle.ssign.specs.ThinText.{IsSignature, IsCertificate, signature_text, certificate_text, signed_signature_text, signed_certificate_text}
 use Rattle.ssign.proofs.ThinBlocks.{signature_values_in, signature_texts, signature_read, signature_values_are, certificate_values_in, certificate_texts, certificate_read, certificate_values_are}
@@ -60,3 +60,23 @@ signature_marked message b is = (codes "<110>1 - h s - - ", _, is.text)
 pub certificate_marked : (message : List ℕ) (c : ThinCertificate) → IsCertificate message c → HasMarker message
 unfolding certificate_text
 certificate_marked message c is = (codes "<110>1 - h s - - ", _, is.text)
+
+-- ---- what is signed of a block is its message without SIGN
+
+by_option : {X : Type 0} (o : Option X) → ((x : X) × (o ≡ Some x)) ⊎ (o ≡ None)
+by_option None = inr refl
+by_option (Some x) = inl (x, refl)
+
+pub signature_without_sign : (message : List ℕ) (b : ThinSignature) → IsSignature message b → IsWithoutSign message (signed_signature_text b)
+signature_without_sign message b is =
+    let h = from_signature message (signature_texts b) (sym (signature_read message (signature_values_in message) b refl is)) in
+    (h.front, (signature_texts b).signature, h.parts, sym (h.signature b is))
+
+pub certificate_without_sign : (message : List ℕ) (c : ThinCertificate) → IsCertificate message c → IsWithoutSign message (signed_certificate_text c)
+certificate_without_sign message c is =
+    elim (by_option (signature_values_in message)) [
+      | inl some ↦ let h = from_signature message some.0 (sym some.1) in (h.front, (some.0).signature, h.parts, sym (h.certificate c is))
+      | inr none ↦
+          let h = from_certificate message (certificate_texts c) (sym none) (sym (certificate_read message (certificate_values_in message) c refl is)) in
+          (h.front, (certificate_texts c).signature, h.parts, sym (h.certificate c is))
+    ]

@@ -9,3 +9,7 @@ pub mod Review
 pub mod Search
 pub mod Entries
 pub mod Run
+pub mod Answers
+pub mod AnswerLine
+pub mod AnswerKey
+pub mod AnswerInput

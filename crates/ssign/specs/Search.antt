@@ -1,10 +1,6 @@
 -- Looking for the blocks of a log.
 use Rattle.std.specs.Prelude.{◌≡◌, ℕ, ◌==◌, Bool, true, false, List, [], Option, Some, None, if◌then◌else◌}
-use Rattle.ssign.specs.ThinText.{IsSignature, IsCertificate}
-use Rattle.ssign.specs.ThinMessage.{HasMarker, IsThin}
-use Rattle.ssign.specs.Review.{HasNoBlock, Blocks, IsNotCovered, Answers, AreEntries, IsBlockReview}
-use Rattle.ssign.specs.declared.report.SessionState.{SessionState}
-use Rattle.ssign.specs.declared.report.SessionState.TheVariants as states
+use Rattle.ssign.specs.Review.{HasNoBlock, Blocks, IsNotCovered, Says, AreEntries, IsBlockReview}
 use Rattle.ssign.specs.declared.report.Entry.{Entry}
 use Rattle.ssign.specs.declared.report.Report.{Report}
 use Rattle.ssign.specs.declared.thin.Thin.{Thin}
@@ -52,11 +48,5 @@ AreAnnounced log found verified es = (verified ≡ true → (blocks : Blocks log
     × (verified ≡ false → es ≡ [])
 
 -- the report is that on the log's blocks
-abbrev pub IsReviewOf : Answers → List (List ℕ) → Report → Type 0
+abbrev pub IsReviewOf : Says → List (List ℕ) → Report → Type 0
 IsReviewOf answers log report = (blocks : Blocks log) × IsBlockReview answers log blocks report
-
--- the state is that of a joined session
-abbrev pub tells_joined : SessionState → Bool
-tells_joined states.Joined = true
-tells_joined states.Untrusted = false
-tells_joined states.Unaccepted = false

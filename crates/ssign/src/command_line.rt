@@ -7,6 +7,7 @@ use std::alloc::{AllocError, Global};
 pub fn command<'a>(alloc: Global) -> Result<Command<'a>, AllocError> {
     let review = Command::new(alloc, "review")
         .about("Reviews the log on standard input, and writes the report to standard output")
+        .arg(answers(alloc))?
         .arg(max_len(alloc))?
         .arg(max_messages(alloc))?;
     Command::new(alloc, "ssign")
@@ -14,6 +15,14 @@ pub fn command<'a>(alloc: Global) -> Result<Command<'a>, AllocError> {
         .subcommand_required(true)
         .arg_required_else_help(true)
         .subcommand(review)
+}
+
+fn answers<'a>(alloc: Global) -> Arg<'a> {
+    Arg::new(alloc, "answers")
+        .long("answers")
+        .value_name("FILE")
+        .action(ArgAction::Set)
+        .help("The answers of a signature checker; without it nothing is trusted")
 }
 
 fn max_len<'a>(alloc: Global) -> Arg<'a> {
@@ -34,6 +43,11 @@ fn max_messages<'a>(alloc: Global) -> Arg<'a> {
         .value_parser(clap::value_parser!(u32).range(1..=10_000_000))
         .help("The most messages: 1 to 10000000")
         .default_value("10000000")
+}
+
+/// The file of answers, if one was given.
+pub fn answers_file<'a>(matches: &ArgMatches<'a>) -> Option<&'a str> {
+    matches.get_str("answers")
 }
 
 /// The limits that the options give. `None` only where a value is out of its range, which `command` refuses.

@@ -1,6 +1,7 @@
 //! Reviews stored logs of signed syslog messages (RFC 5424, RFC 5848).
 #![tactic(auto)]
 
+mod answers;
 mod command_line;
 mod fault;
 mod log;
@@ -14,6 +15,7 @@ mod run;
 mod scheme;
 mod thin;
 
+pub use answers::{AnswerFault, Answers, SealFault, open_answers, read_answers};
 pub use fault::RunFault;
 pub use log::{Log, read_log};
 pub use nobody::Nobody;

@@ -1,15 +1,18 @@
 //! The program: its command line, its streams and its exit statuses.
-use crate::command_line::{command, limits_of};
+use crate::answers::open_answers;
+use crate::command_line::{answers_file, command, limits_of};
 use crate::fault::RunFault;
 use crate::nobody::Nobody;
 use crate::report::Verdict;
 use crate::run::run_review;
+use crate::scheme::Judge;
 use clap::ArgMatches;
 use clap::error::ErrorKind;
 use ss_frame::{Limits, Watched};
 use std::alloc::AllocError;
+use std::fmt::Display;
 use std::io::{BufReader, BufWriter};
-use std::rt::Env;
+use std::rt::{Env, Files};
 use std::{env, io};
 
 /// No finding.
@@ -23,7 +26,7 @@ const REFUSED: u8 = 2;
 const BUFFER_SIZE: usize = 65_536;
 
 /// Runs the program, and gives its exit status.
-pub fn run<R: Input + Print + Eprint + Env + AllocGlobal>(rt: &R) -> u8 {
+pub fn run<R: Input + Print + Eprint + Env + Files + AllocGlobal>(rt: &R) -> u8 {
     match words(rt) {
         Ok(words) => run_words(rt, words.as_slice()),
         Err(_) => refuse(rt, &RunFault::Memory),
@@ -38,7 +41,7 @@ fn words<R: Env + AllocGlobal>(rt: &R) -> io::Result<Vec<String>> {
     Ok(words)
 }
 
-fn run_words<R: Input + Print + Eprint + AllocGlobal>(rt: &R, words: &[String]) -> u8 {
+fn run_words<R: Input + Print + Eprint + Files + AllocGlobal>(rt: &R, words: &[String]) -> u8 {
     let Ok(command) = command(rt.alloc()) else {
         return refuse(rt, &RunFault::Memory);
     };
@@ -56,18 +59,31 @@ fn run_words<R: Input + Print + Eprint + AllocGlobal>(rt: &R, words: &[String]) 
     }
 }
 
-fn run_command<R: Input + Print + Eprint + AllocGlobal>(rt: &R, matches: &ArgMatches<'_>) -> u8 {
+fn run_command<R: Input + Print + Eprint + Files + AllocGlobal>(
+    rt: &R,
+    matches: &ArgMatches<'_>,
+) -> u8 {
     match matches.subcommand() {
         Some(("review", options)) => review_command(rt, options),
         _ => REFUSED,
     }
 }
 
-fn review_command<R: Input + Print + Eprint + AllocGlobal>(rt: &R, options: &ArgMatches<'_>) -> u8 {
+fn review_command<R: Input + Print + Eprint + Files + AllocGlobal>(
+    rt: &R,
+    options: &ArgMatches<'_>,
+) -> u8 {
     let Some(limits) = limits_of(options) else {
         return REFUSED;
     };
-    match review_streams(rt, limits) {
+    let reviewed = match answers_file(options) {
+        None => review_streams(rt, &Nobody, limits),
+        Some(file) => match open_answers(rt, file) {
+            Ok(answers) => review_streams(rt, &answers, limits),
+            Err(fault) => return refuse(rt, &fault),
+        },
+    };
+    match reviewed {
         Ok(Verdict::Clean) => CLEAN,
         Ok(Verdict::Findings) => FINDINGS,
         Err(fault) => refuse(rt, &fault),
@@ -75,10 +91,13 @@ fn review_command<R: Input + Print + Eprint + AllocGlobal>(rt: &R, options: &Arg
 }
 
 /// Reviews standard input onto standard output, each through a buffer.
-fn review_streams<R: Input + Print + AllocGlobal>(
+fn review_streams<R: Input + Print + AllocGlobal, J: Judge>(
     rt: &R,
+    judge: &J,
     limits: Limits,
-) -> Result<Verdict, RunFault> {
+) -> Result<Verdict, RunFault>
+    requires { J.sound judge.now }
+{
     let Ok(input) = BufReader::with_capacity(rt.alloc(), BUFFER_SIZE, rt.reader()) else {
         return Err(RunFault::Memory);
     };
@@ -87,11 +106,11 @@ fn review_streams<R: Input + Print + AllocGlobal>(
     };
     let mut reader = Watched::new(input);
     let mut writer = Watched::new(output);
-    run_review(rt.alloc(), &mut reader, &mut writer, &Nobody, limits)
+    run_review(rt.alloc(), &mut reader, &mut writer, judge, limits)
 }
 
 /// Says on standard error why nothing was done.
-fn refuse<R: Eprint>(rt: &R, fault: &RunFault) -> u8 {
+fn refuse<R: Eprint, F: Display>(rt: &R, fault: &F) -> u8 {
     let _ = eprintln!(rt; "ssign: {fault}");
     REFUSED
 }

@@ -1,7 +1,7 @@
 //! The review of a log with thin blocks (RFC 5848, section 7.1).
 ghost use Rattle.std.specs.Prelude.{◌≡◌, ◌≤◌, length, IfOk, IfSome, MatchOption};
-ghost use Rattle.ssign.specs.Review.{Blocks, IsReview, IsNotCovered, IsPlainReview, ListsAnnounced};
-ghost use Rattle.ssign.specs.Search.{AreFound, AreAnnounced, IsReviewOf, tells_joined};
+ghost use Rattle.ssign.specs.Review.{Blocks, IsReview, IsNotCovered, IsPlainReview, ListsAnnounced, is_joined_state};
+ghost use Rattle.ssign.specs.Search.{AreFound, AreAnnounced, IsReviewOf};
 
 mod entries;
 mod judging;
@@ -98,7 +98,7 @@ fn block_report<J: Judge>(
 
 /// Whether the session is joined.
 fn is_joined(state: SessionState) -> bool
-    ensures { result ≡ tells_joined state }
+    ensures { result ≡ is_joined_state state }
 {
     matches!(state, SessionState::Joined)
 }

@@ -1,0 +1,150 @@
+-- Files that hold the answers of a signature checker: what a line says, how it is spelt, which lines a text
+-- has, and what lines say together.
+use Rattle.std.specs.Prelude.{◌≡◌, ℕ, ◌+◌, ◌<◌, ◌==◌, Bool, false, if◌then◌else◌, ◌&&◌, ◌⊎◌, List, [], ◌∷◌, ◌++◌, length, codes, Option, Some, None, option_and_then}
+use Rattle.std.specs.List.{All, AllByRecursion, find, flat_map, list_any}
+use Rattle.std.specs.Str.{bytes_eq}
+use Rattle.base64.specs.Engines.{standard}
+use Rattle.base64.specs.GeneralPurpose.{IsBytes, encode_of}
+
+-- what a line says: a payload is trusted; under a payload, octets have this valid signature; octets are to be
+-- given this signature
+pub data Answer : Type 0 where
+  Trust : List ℕ → Answer
+  Yes : List ℕ → List ℕ → List ℕ → Answer
+  Seal : List ℕ → List ℕ → Answer
+
+abbrev pub line_feed : ℕ
+line_feed = 10
+
+abbrev pub space : ℕ
+space = 32
+
+-- the base64 of octets, with its padding (RFC 4648, section 4)
+unfoldable pub base64 : List ℕ → List ℕ
+base64 octets = encode_of standard octets
+
+-- the one spelling of a line, without its line feed
+abbrev pub line_text : Answer → List ℕ
+line_text (Trust payload) = codes "trust " ++ base64 payload
+line_text (Yes payload octets signature) =
+    codes "yes " ++ (base64 payload ++ space ∷ (base64 octets ++ space ∷ base64 signature))
+line_text (Seal octets signature) = codes "seal " ++ (base64 octets ++ space ∷ base64 signature)
+
+-- what a field may hold: at least one octet
+pub record IsField (octets : List ℕ) : Type 0 where
+  pub bytes : IsBytes octets
+  pub some : 0 < length octets
+
+abbrev pub HasFields : Answer → Type 0
+HasFields (Trust payload) = IsField payload
+HasFields (Yes payload octets signature) = IsField payload × IsField octets × IsField signature
+HasFields (Seal octets signature) = IsField octets × IsField signature
+
+-- lines, each ended by a line feed
+abbrev pub ended : List Answer → List ℕ
+ended lines = flat_map (λ line. line_text line ++ line_feed ∷ []) lines
+
+-- a text has these lines: it spells each of them, ended by a line feed that may be missing at the last
+pub record HasLines (text : List ℕ) (lines : List Answer) : Type 0 where
+  pub fields : AllByRecursion HasFields lines
+  pub spelt : (text ≡ ended lines) ⊎ (text ++ line_feed ∷ [] ≡ ended lines)
+
+-- the first line of a text, up to its line feed or to the end
+abbrev pub first_line : List ℕ → List ℕ
+first_line [] = []
+first_line (octet ∷ text) = if octet == line_feed then [] else octet ∷ first_line text
+
+-- the octet stands nowhere in the text
+abbrev pub Lacks : ℕ → List ℕ → Type 0
+Lacks octet text = All (λ x. (x == octet) ≡ false) text
+
+-- a text is no field; two fields with a space between them, and no such two; three, and no such three
+abbrev pub IsNoField : List ℕ → Type 0
+IsNoField text = (octets : List ℕ) → IsField octets → text ≡ base64 octets → ⊥
+
+abbrev pub IsPair : List ℕ → List ℕ → List ℕ → Type 0
+IsPair text first second = IsField first × IsField second × (text ≡ base64 first ++ space ∷ base64 second)
+
+abbrev pub IsNoPair : List ℕ → Type 0
+IsNoPair text = (first second : List ℕ) → IsPair text first second → ⊥
+
+abbrev pub IsTriple : List ℕ → List ℕ → List ℕ → List ℕ → Type 0
+IsTriple text first second third = IsField first × IsField second × IsField third
+    × (text ≡ base64 first ++ space ∷ (base64 second ++ space ∷ base64 third))
+
+abbrev pub IsNoTriple : List ℕ → Type 0
+IsNoTriple text = (first second third : List ℕ) → IsTriple text first second third → ⊥
+
+-- a text is the spelling of no line
+abbrev pub IsNoLine : List ℕ → Type 0
+IsNoLine text = (line : Answer) → HasFields line → text ≡ line_text line → ⊥
+
+-- the line of this number is the first bad one: good lines stand before it, and what follows them begins with
+-- a line that is none
+pub record HasFirstBadLine (text : List ℕ) (number : ℕ) : Type 0 where
+  pub lines : List Answer
+  pub rest : List ℕ
+  pub fields : AllByRecursion HasFields lines
+  pub before : text ≡ ended lines ++ rest
+  pub some : 0 < length rest
+  pub place : number ≡ length lines + 1
+  pub bad : IsNoLine (first_line rest)
+
+-- ---- laws
+
+-- no text has lines and a first bad line
+abbrev pub NoTextIsGoodAndBad : Type 0
+NoTextIsGoodAndBad = (text : List ℕ) (lines : List Answer) (number : ℕ) → HasLines text lines → HasFirstBadLine text number → ⊥
+
+-- a text has its lines in one way
+abbrev pub LinesAreDetermined : Type 0
+LinesAreDetermined = (text : List ℕ) (lines others : List Answer) → HasLines text lines → HasLines text others → lines ≡ others
+
+-- a text has one first bad line
+abbrev pub BadLineIsDetermined : Type 0
+BadLineIsDetermined = (text : List ℕ) (m n : ℕ) → HasFirstBadLine text m → HasFirstBadLine text n → m ≡ n
+
+-- ---- what lines say
+
+-- the line says that this payload is trusted
+abbrev pub is_trust : List ℕ → Answer → Bool
+is_trust payload (Trust p) = bytes_eq p payload
+is_trust payload (Yes p o s) = false
+is_trust payload (Seal o s) = false
+
+-- the line says that under this payload these octets have this signature
+abbrev pub is_yes : List ℕ → List ℕ → List ℕ → Answer → Bool
+is_yes payload octets signature (Trust p) = false
+is_yes payload octets signature (Yes p o s) = bytes_eq p payload && (bytes_eq o octets && bytes_eq s signature)
+is_yes payload octets signature (Seal o s) = false
+
+-- the line gives these octets a signature
+abbrev pub is_seal : List ℕ → Answer → Bool
+is_seal octets (Trust p) = false
+is_seal octets (Yes p o s) = false
+is_seal octets (Seal o s) = bytes_eq o octets
+
+-- the signature that a line gives
+abbrev pub given_signature : Answer → Option (List ℕ)
+given_signature (Trust p) = None
+given_signature (Yes p o s) = None
+given_signature (Seal o s) = Some s
+
+-- some line trusts the payload
+abbrev pub trusted : List Answer → List ℕ → Bool
+trusted lines payload = list_any (is_trust payload) lines
+
+-- some line says yes to the three
+abbrev pub valid : List Answer → List ℕ → List ℕ → List ℕ → Bool
+valid lines payload octets signature = list_any (is_yes payload octets signature) lines
+
+-- the signature of the first line that gives the octets one
+abbrev pub seal_of : List Answer → List ℕ → Option (List ℕ)
+seal_of lines octets = option_and_then given_signature (find (is_seal octets) lines)
+
+-- the answers are those of the lines
+pub record SaysTheSame (lines answers : List Answer) : Type 0 where
+  pub trusted : (payload : List ℕ) → trusted answers payload ≡ trusted lines payload
+  pub valid : (payload octets signature : List ℕ)
+      → valid answers payload octets signature ≡ valid lines payload octets signature
+  pub seal : (octets : List ℕ) → seal_of answers octets ≡ seal_of lines octets

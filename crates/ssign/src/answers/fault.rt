@@ -1,0 +1,33 @@
+//! Why answers weren't read, and why octets weren't given a signature.
+use thiserror::Error;
+
+/// Why a file of answers wasn't taken.
+#[derive(Clone, Copy, Debug, Drop, PartialEq, Eq, Error)]
+pub enum AnswerFault {
+    /// A1: a line that isn't an answer, an empty one too.
+    #[error("A1 {line}")]
+    BadLine {
+        /// The number of the first such line, counted from 1.
+        line: u32,
+    },
+    /// A2: a read failed, or the file couldn't be opened.
+    #[error("A2")]
+    Read,
+    /// A3: there are more octets than were allowed.
+    #[error("A3")]
+    TooBig,
+    /// A4: want of memory.
+    #[error("A4")]
+    Memory,
+}
+
+/// Why octets weren't given a signature.
+#[derive(Clone, Copy, Debug, Drop, PartialEq, Eq, Error)]
+pub enum SealFault {
+    /// There is none for them.
+    #[error("no signature was given")]
+    Refused,
+    /// Memory ran out.
+    #[error("memory ran out")]
+    Memory,
+}
