@@ -12,6 +12,8 @@ mod report_text;
 mod review;
 mod run;
 mod scheme;
+#[cfg(test)]
+mod tests;
 mod thin;
 
 pub use fault::RunFault;
