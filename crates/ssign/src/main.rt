@@ -13,6 +13,8 @@ mod report_text;
 mod review;
 mod run;
 mod scheme;
+#[cfg(test)]
+mod tests;
 mod thin;
 
 pub use answers::{AnswerFault, Answers, SealFault, open_answers, read_answers};

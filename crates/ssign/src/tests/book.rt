@@ -1,0 +1,98 @@
+//! Who answers for signatures in these tests.
+ghost use Rattle.std.specs.Prelude.{◌≡◌, ◌&&◌, ◌||◌, false, Bool};
+ghost use Rattle.std.specs.Str.{bytes_eq};
+ghost use Rattle.ss_frame.specs.Watched.{has_failed};
+
+use crate::fault::RunFault;
+use crate::report::Verdict;
+use crate::run::run_review;
+use crate::scheme::{Scheme, Verifier};
+use crate::tests::logs::{PAYLOAD, SIGN, SIGNED_CERTIFICATE, SIGNED_SIGNATURE};
+use ss_frame::{Limits, Watched};
+use std::alloc::Global;
+use std::io::{Read, Write};
+
+/// A scheme in which one payload is trusted, and two texts have one valid signature under one payload.
+pub struct Book<'b> {
+    /// The payload that is trusted.
+    pub trusted: &'b [u8],
+    /// The payload under which there are valid signatures.
+    pub payload: &'b [u8],
+    /// The texts.
+    pub signed: (&'b [u8], &'b [u8]),
+    /// Their signature.
+    pub sign: &'b [u8],
+}
+
+impl<'b> Scheme for Book<'b> {
+    ghost trusted = { λ b p. bytes_eq p b.trusted.now };
+
+    ghost valid = { λ b p x s. bytes_eq p b.payload.now && bytes_eq s b.sign.now
+        && (bytes_eq x b.signed.0.now || bytes_eq x b.signed.1.now) };
+}
+
+/// Says yes to the blocks of the logs, and to nothing else.
+pub const ALL: Book<'static> = Book {
+    trusted: PAYLOAD,
+    payload: PAYLOAD,
+    signed: (SIGNED_CERTIFICATE, SIGNED_SIGNATURE),
+    sign: SIGN,
+};
+
+/// Trusts no payload, though the blocks are valid.
+pub const NO_TRUST: Book<'static> = Book {
+    trusted: b"",
+    payload: PAYLOAD,
+    signed: (SIGNED_CERTIFICATE, SIGNED_SIGNATURE),
+    sign: SIGN,
+};
+
+/// Trusts the payload, under which no block is valid.
+pub const NO_SIGNATURE: Book<'static> = Book {
+    trusted: PAYLOAD,
+    payload: PAYLOAD,
+    signed: (b"", b""),
+    sign: SIGN,
+};
+
+/// Trusts the payload, under which the certificate block alone is valid.
+pub const CERTIFICATE_ALONE: Book<'static> = Book {
+    trusted: PAYLOAD,
+    payload: PAYLOAD,
+    signed: (SIGNED_CERTIFICATE, b""),
+    sign: SIGN,
+};
+
+impl<'b> Book<'b> {
+    fn trusts(&self, payload: &[u8]) -> bool
+        ensures { result ≡ bytes_eq payload.now self.now.trusted.now }
+    {
+        payload == self.trusted
+    }
+
+    fn accepts(&self, payload: &[u8], bytes: &[u8], sign: &[u8]) -> bool
+        ensures { result ≡ (bytes_eq payload.now self.now.payload.now && bytes_eq sign.now self.now.sign.now
+            && (bytes_eq bytes.now self.now.signed.0.now || bytes_eq bytes.now self.now.signed.1.now)) }
+    {
+        payload == self.payload
+            && sign == self.sign
+            && (bytes == self.signed.0 || bytes == self.signed.1)
+    }
+}
+
+/// Reviews a log with two closures that answer as `book` says.
+pub fn review_by<R: Read, W: Write>(
+    alloc: Global,
+    reader: &mut Watched<R>,
+    writer: &mut Watched<W>,
+    book: &Book<'_>,
+    limits: Limits,
+) -> Result<Verdict, RunFault>
+    requires reader { has_failed reader.old ≡ false }
+    requires writer { has_failed writer.old ≡ false }
+{
+    let trust = |payload: &[u8]| book.trusts(payload);
+    let check = |payload: &[u8], bytes: &[u8], sign: &[u8]| book.accepts(payload, bytes, sign);
+    let verifier = Verifier::new(book, trust, check);
+    run_review(alloc, reader, writer, &verifier, limits)
+}
