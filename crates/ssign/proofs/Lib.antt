@@ -1,5 +1,4 @@
 pub mod LogSoFar
-pub mod WrittenSoFar
 pub mod ThinLacks
 pub mod ThinValues
 pub mod ThinHashes

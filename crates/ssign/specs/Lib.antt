@@ -1,7 +1,6 @@
 pub mod Verifier
 pub mod Log
 pub mod ReportText
-pub mod Output
 pub mod ThinText
 pub mod ThinReading
 pub mod ThinMessage

@@ -8,6 +8,7 @@ pub fn command<'a>(alloc: Global) -> Result<Command<'a>, AllocError> {
     let review = Command::new(alloc, "review")
         .about("Reviews the log on standard input, and writes the report to standard output")
         .arg(answers(alloc))?
+        .arg(lines(alloc))?
         .arg(max_len(alloc))?
         .arg(max_messages(alloc))?;
     Command::new(alloc, "ssign")
@@ -23,6 +24,13 @@ fn answers<'a>(alloc: Global) -> Arg<'a> {
         .value_name("FILE")
         .action(ArgAction::Set)
         .help("The answers of a signature checker; without it nothing is trusted")
+}
+
+fn lines<'a>(alloc: Global) -> Arg<'a> {
+    Arg::new(alloc, "lines")
+        .long("lines")
+        .action(ArgAction::SetTrue)
+        .help("The log has one message a line, ended by LF, in place of octet-counted frames")
 }
 
 fn max_len<'a>(alloc: Global) -> Arg<'a> {
@@ -54,5 +62,10 @@ pub fn answers_file<'a>(matches: &ArgMatches<'a>) -> Option<&'a str> {
 pub fn limits_of(matches: &ArgMatches<'_>) -> Option<Limits> {
     let max_len = matches.get_one::<u32>("max-len")?;
     let max_messages = matches.get_one::<u32>("max-messages")?;
-    Limits::new(max_len, max_messages)
+    let limits = Limits::new(max_len, max_messages)?;
+    if matches.get_flag("lines") {
+        Some(limits.lines())
+    } else {
+        Some(limits)
+    }
 }
