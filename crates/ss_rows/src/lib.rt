@@ -6,4 +6,10 @@ mod asking;
 #[cfg(test)]
 mod frames;
 #[cfg(test)]
+mod lines;
+#[cfg(test)]
+mod output;
+#[cfg(test)]
+mod paper;
+#[cfg(test)]
 mod pieces;
