@@ -9,7 +9,7 @@ use thiserror::Error;
 /// Why a run gave no report. But for a failed write, nothing was written.
 #[derive(Clone, Copy, Debug, PartialEq, Eq, Error)]
 pub enum RunFault {
-    /// The log couldn't be read to its end: F1 to F5.
+    /// The log couldn't be read to its end: F1 to F5, or F9.
     #[error("{0}")]
     Frame(FrameFault),
     /// W1: a write failed. What was written is a prefix of the report.
