@@ -8,10 +8,10 @@ use crate::run::run_review;
 use crate::scheme::Judge;
 use clap::ArgMatches;
 use clap::error::ErrorKind;
-use ss_frame::{Limits, Watched};
+use ss_frame::{Buffered, Limits, Watched};
 use std::alloc::AllocError;
 use std::fmt::Display;
-use std::io::{BufReader, BufWriter};
+use std::io::BufWriter;
 use std::rt::{Env, Files};
 use std::{env, io};
 
@@ -22,7 +22,7 @@ const FINDINGS: u8 = 1;
 /// A refusal or a usage fault.
 const REFUSED: u8 = 2;
 
-/// How much is read or written at once, in octets.
+/// How much is written at once, in octets.
 const BUFFER_SIZE: usize = 65_536;
 
 /// Runs the program, and gives its exit status.
@@ -98,7 +98,7 @@ fn review_streams<R: Input + Print + AllocGlobal, J: Judge>(
 ) -> Result<Verdict, RunFault>
     requires { J.sound judge.now }
 {
-    let Ok(input) = BufReader::with_capacity(rt.alloc(), BUFFER_SIZE, rt.reader()) else {
+    let Ok(input) = Buffered::new(rt.alloc(), rt.reader()) else {
         return Err(RunFault::Memory);
     };
     let Ok(output) = BufWriter::with_capacity(rt.alloc(), BUFFER_SIZE, io::writer(rt)) else {
