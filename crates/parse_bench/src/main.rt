@@ -4,11 +4,11 @@
 
 use ss_message::parse;
 use std::alloc::Global;
-use std::env;
-use std::io;
 use std::io::Read;
+use std::{env, io};
 
 /// How many lines are messages, and how many aren't.
+#[derive(Clone, Copy)]
 struct Counts {
     read: u64,
     refused: u64,
