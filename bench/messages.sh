@@ -1,6 +1,6 @@
 #!/bin/sh
 # Times the reader of messages over texts that strangers could send, at 256 KiB and at 1 MiB. Four times the octets
-# should take about four times as long. Each text stands 20 times in its file, and the time to scan the file is taken off.
+# should take about four times as long. Each text stands 60 times in its file, and the time to scan the file is taken off.
 #
 #   rt ci                      leaves the program behind
 #   bench/messages.sh [LOG]    LOG: a log of one message a line, which is timed too
@@ -40,7 +40,7 @@ for size, name in ((1 << 18, "256k"), (1 << 20, "1m")):
     }
     for shape, text in shapes.items():
         with open(f"{work}/{shape}.{name}", "wb") as f:
-            f.write(b"\n".join([text] * 20))
+            f.write(b"\n".join([text] * 60))
 P
 
 seconds() {
@@ -62,7 +62,7 @@ P
 for shape in different repeat_at_the_end parameters; do
     small=$(seconds "$work/$shape.256k")
     large=$(seconds "$work/$shape.1m")
-    python3 -c "print('%-18s 256 KiB %.2f ms, 1 MiB %.2f ms, ratio %.2f' % ('$shape', $small / 20 * 1000, $large / 20 * 1000, $large / $small))"
+    python3 -c "print('%-18s 256 KiB %.2f ms, 1 MiB %.2f ms, ratio %.2f' % ('$shape', $small / 60 * 1000, $large / 60 * 1000, $large / $small))"
 done
 if [ $# -gt 0 ]; then
     echo "log: $(seconds "$1") s"
