@@ -17,7 +17,7 @@ const FOURTH: &[u8] =
 
 /// A text with a block element between two others, and a MSG that looks like one.
 const BLOCK: &[u8] =
-    b"<110>1 - h s - - [x@1 SIGN=\"AAAA\"][ssign VER=\"0111\" SIGN=\"AAAA\"][y@1 a=\"\\]\"] hello SIGN=\"AAAA\"";
+    b"<110>1 - h s - - [x@1 SIGN=\"AAAA\"][ssign VER=\"0111\" RSID=\"1\" SG=\"0\" SPRI=\"0\" GBC=\"0\" FMN=\"1\" CNT=\"1\" HB=\"qZk+NkcGgWq6PiVxeFDCbJzQ2J0=\" SIGN=\"AAAA\"][y@1 a=\"\\]\"] hello SIGN=\"AAAA\"";
 
 /// The octets of a span, or none where it passes the source.
 fn text_of<'a>(source: &'a [u8], span: Span) -> Option<&'a [u8]> {
@@ -93,7 +93,12 @@ fn elements(rt: HostRuntime) -> Result<(), Fail> {
 #[test]
 fn places(rt: HostRuntime) -> Result<(), Fail> {
     let m = read(rt.alloc(), BLOCK)?;
+    assert_eq!(rt; BLOCK.len(), 177);
     assert_eq!(rt; m.element(b"ssign"), Some(1));
+    assert_eq!(rt; m.element(b"z"), None);
+    let host = m.hostname;
+    assert!(rt; host.start <= host.end && host.end <= m.source.len());
+    assert_eq!(rt; m.part(host), b"h".as_slice());
     let element = m.elements.as_slice().get(1).ok_or("an element")?;
     let sign = element.parameters.as_slice().last().ok_or("a parameter")?;
     assert_eq!(rt; text_of(BLOCK, sign.name), Some(b"SIGN".as_slice()));
@@ -103,7 +108,7 @@ fn places(rt: HostRuntime) -> Result<(), Fail> {
         BLOCK.get(before..behind),
         Some(b" SIGN=\"AAAA\"".as_slice())
     );
-    assert_eq!(rt; before, 51);
+    assert_eq!(rt; (before, behind), (134, 146));
     assert_eq!(rt;
         BLOCK.get(behind..),
         Some(b"][y@1 a=\"\\]\"] hello SIGN=\"AAAA\"".as_slice())
