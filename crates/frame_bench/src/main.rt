@@ -2,9 +2,9 @@
 //! octets they hold. It measures the reader of frames and nothing else.
 #![tactic(auto)]
 
-use ss_frame::{FrameReader, Limits, Step, Watched};
+use ss_frame::{Buffered, FrameReader, Limits, Step, Watched};
 use std::alloc::Global;
-use std::io::{BufReader, Read};
+use std::io::Read;
 use std::{env, io};
 
 /// What was read.
@@ -46,7 +46,7 @@ fn main(rt: HostRuntime) -> io::Result<()> {
     if env::args(&rt)?.count() > 1 {
         limits = limits.lines();
     }
-    let mut reader = Watched::new(BufReader::with_capacity(rt.alloc(), 65_536, rt.reader())?);
+    let mut reader = Watched::new(Buffered::new(rt.alloc(), rt.reader())?);
     let counts = count(rt.alloc(), &mut reader, limits);
     println!(rt;
         "{} messages, {} octets, {}",
