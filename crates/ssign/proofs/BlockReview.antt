@@ -1,9 +1,9 @@
 -- The report on a log with blocks, put together.
-use Rattle.std.proofs.Common.{◌≡◌, ◌<◌, ℕ, zero, suc, ◌+◌, ◌-◌, Bool, true, false, ◌&&◌, cond, ◌⊎◌, inl, inr, List, [], ◌∷◌, length, get_or, Option, Some, None, refl, sym, ap, subst, ◌∙◌, arith, Vec, Global}
-use Rattle.std.specs.Prelude.{slice_get, filter, Contains}
+use Rattle.std.proofs.Common.{◌≡◌, ◌<◌, ℕ, zero, suc, ◌+◌, Bool, true, false, ◌&&◌, cond, ◌⊎◌, inl, inr, List, [], ◌∷◌, length, get_or, Some, refl, sym, ap, subst, ◌∙◌, arith, Vec, Global}
+use Rattle.std.specs.Prelude.{slice_get, filter}
 use Rattle.std.specs.List.{range_with_len}
-use Rattle.ssign.specs.ThinText.{signed_signature_text, signed_certificate_text}
-use Rattle.ssign.specs.Review.{Says, Blocks, Bears, IsEntry, AreEntries, IsBlockReview, IsReview, IsPlainReview, ListsAnnounced, HasNoBlock, state_of, is_verified, is_joined, is_unlisted, refused_places, is_joined_state}
+use Rattle.ssign.specs.ThinText.{signed_certificate_text}
+use Rattle.ssign.specs.Review.{Says, Blocks, Bears, IsEntry, AreEntries, IsBlockReview, ListsAnnounced, state_of, is_verified, is_joined, is_unlisted, refused_places, is_joined_state}
 use Rattle.ssign.specs.Search.{AreFound, AreAnnounced}
 use Rattle.ssign.proofs.ThinSigned.{signature_without_sign, certificate_without_sign}
 use Rattle.ssign.specs.declared.thin.ThinCertificate.{ThinCertificate}

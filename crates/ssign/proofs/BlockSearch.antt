@@ -1,17 +1,16 @@
 -- Looking for the blocks of a log: what was found among the first messages.
-use Rattle.std.proofs.Common.{◌≡◌, ◌≢◌, ℕ, ◌+◌, ◌<◌, ◌≤◌, ◌==◌, ◌⊎◌, inl, inr, Bool, true, false, cond, List, [], ◌∷◌, length, get_or, Option, Some, None, refl, sym, ap, subst, ◌∙◌, arith}
-use Rattle.std.specs.Prelude.{IfSome, slice_get}
+use Rattle.std.proofs.Common.{◌≡◌, ◌≢◌, ℕ, ◌+◌, ◌<◌, ◌==◌, ◌⊎◌, inl, inr, true, false, cond, List, [], length, get_or, Option, Some, None, refl, sym, ap, subst, ◌∙◌, arith}
+use Rattle.std.specs.Prelude.{IfSome}
 use Rattle.std.proofs.lemmas.Bool.Decides.{eqb_tells}
 use Rattle.std.proofs.lemmas.Option.{slice_get_within, slice_get-get_or}
 use Rattle.ssign.specs.ThinText.{IsSignature, IsCertificate}
 use Rattle.ssign.specs.ThinMessage.{HasMarker, IsThin}
 use Rattle.ssign.specs.Review.{At, HasNoBlock, Blocks, IsNotCovered}
-use Rattle.ssign.specs.Search.{IsOutcome, Notes, IsPaired, AreFound}
+use Rattle.ssign.specs.Search.{IsOutcome, Notes, IsPaired}
 use Rattle.ssign.specs.declared.thin.Thin.{Thin}
 use Rattle.ssign.specs.declared.thin.Thin.TheVariants as thin
 use Rattle.ssign.specs.declared.thin.ThinSignature.{ThinSignature}
 use Rattle.ssign.specs.declared.thin.ThinCertificate.{ThinCertificate}
-use Rattle.ssign.specs.declared.review.search.Found.{Found}
 use Rattle.ssign.specs.declared.review.search.Outcome.{Outcome}
 use Rattle.ssign.specs.declared.review.search.Outcome.TheVariants as outcome
 

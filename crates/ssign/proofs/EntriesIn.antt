@@ -1,16 +1,16 @@
 -- Entries one after the other, and what they say of the log.
-use Rattle.std.proofs.Common.{◌≡◌, ◌≢◌, ℕ, zero, suc, ◌+◌, ◌<◌, ◌==◌, ◌||◌, Bool, true, false, cond, ◌⊎◌, inl, inr, List, [], ◌∷◌, ◌++◌, length, Option, Some, None, refl, sym, ap, subst, ◌∙◌, arith}
+use Rattle.std.proofs.Common.{◌≡◌, ℕ, ◌+◌, ◌<◌, ◌==◌, false, inl, inr, List, [], ◌∷◌, ◌++◌, length, Option, Some, None, sym, ap, subst, ◌∙◌, arith}
 use Rattle.std.specs.Prelude.{slice_get}
 use Rattle.std.proofs.lemmas.Bool.Decides.{eqb_tells}
 use Rattle.std.proofs.lemmas.Option.{slice_get_within}
 use Rattle.sha1.specs.Sha1.{sha1}
-use Rattle.ssign.specs.Review.{At, Blocks, Bears, IsEntry, AreEntries}
-use Rattle.ssign.specs.Entries.{digest_at, AreDigests, IsLeast, IsNowhere, IsEntryIn, AreEntriesIn}
+use Rattle.ssign.specs.Review.{Blocks, Bears, IsEntry, AreEntries}
+use Rattle.ssign.specs.Entries.{digest_at, AreDigests, IsEntryIn, AreEntriesIn}
 use Rattle.ssign.specs.Search.{AreFound}
 use Rattle.ssign.specs.declared.review.search.Found.{Found}
 use Rattle.ssign.specs.declared.report.Entry.{Entry}
 use Rattle.ssign.specs.declared.report.Entry.TheVariants as entries
-use Rattle.ssign.proofs.BlockSearch.{at_same, at_exists}
+use Rattle.ssign.proofs.BlockSearch.{at_exists}
 
 pub entries_push : (digests : List (Option (List ℕ))) (number : ℕ) (hs : List (List ℕ)) (es : List Entry) (h : List ℕ) (e : Entry)
     → AreEntriesIn digests number hs es → IsEntryIn digests (number + length hs) h e → AreEntriesIn digests number (hs ++ h ∷ []) (es ++ e ∷ [])

@@ -1,6 +1,6 @@
 -- What a review of a log with thin blocks says (RFC 5848, section 7.1). A log is the list of its messages, and a place is a position in it,
 -- from 0.
-use Rattle.std.specs.Prelude.{◌≡◌, ◌≢◌, ℕ, ◌+◌, ◌-◌, ◌<◌, ◌==◌, nat_lt, Bool, true, false, ◌&&◌, not, ◌⊎◌, ⊤, List, [], ◌∷◌, ◌++◌, length, filter, Contains, Option, Some, None, slice_get, if◌then◌else◌}
+use Rattle.std.specs.Prelude.{◌≡◌, ◌≢◌, ℕ, ◌+◌, ◌<◌, ◌==◌, nat_lt, Bool, true, false, ◌&&◌, not, ◌⊎◌, ⊤, List, [], ◌∷◌, ◌++◌, length, filter, Contains, Some, None, slice_get, if◌then◌else◌}
 use Rattle.std.specs.List.{list_any, range_with_len}
 use Rattle.sha1.specs.Sha1.{sha1}
 use Rattle.ssign.specs.ThinText.{IsSignature, IsCertificate, signed_signature_text, signed_certificate_text}

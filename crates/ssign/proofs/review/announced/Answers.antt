@@ -1,4 +1,4 @@
-use Rattle.std.proofs.Common.{◌≡◌, true, false, sym, subst, ◌∙◌}
+use Rattle.std.proofs.Common.{subst}
 use Rattle.std.proofs.lemmas.Result.{IfOk-weaker}
 use Rattle.ssign.specs.Entries.{AreEntriesIn}
 use Rattle.ssign.specs.Search.{AreAnnounced}

@@ -1,4 +1,4 @@
-use Rattle.std.proofs.Common.{◌≡◌, ◌+◌, ◌∷◌, [], ◌++◌, take, length, get_or, subst, sym, ap, refl, arith}
+use Rattle.std.proofs.Common.{◌≡◌, ◌+◌, ◌∷◌, [], ◌++◌, take, length, get_or, subst, sym, arith}
 use Rattle.std.proofs.lemmas.List.{take_more, length-take-le}
 use Rattle.ssign.specs.Entries.{IsEntryIn, AreEntriesIn}
 use Rattle.ssign.proofs.EntriesIn.{entries_push}

@@ -1,4 +1,4 @@
-use Rattle.std.proofs.Common.{◌≡◌, ◌++◌, ◌∷◌, [], sym, ◌∙◌, ap}
+use Rattle.std.proofs.Common.{sym}
 use Rattle.ssign.proofs.Places.{range-more}
 use Rattle.ssign.proofs.review.places.all_places.Goals as goal
 

@@ -1,4 +1,4 @@
-use Rattle.std.proofs.Common.{◌≡◌, ◌++◌, ◌∷◌, [], sym, ◌∙◌, ap, true, false}
+use Rattle.std.proofs.Common.{sym, ◌∙◌}
 use Rattle.ssign.specs.Review.{is_unlisted}
 use Rattle.ssign.proofs.Places.{kept_more, dropped_more}
 use Rattle.ssign.proofs.review.places.unlisted_places.Goals as goal

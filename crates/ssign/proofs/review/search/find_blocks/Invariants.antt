@@ -1,4 +1,3 @@
-use Rattle.std.proofs.Common.{length}
 use Rattle.ssign.proofs.BlockSearch.{Searched}
 use Rattle.ssign.proofs.review.search.find_blocks.Given as goal
 
