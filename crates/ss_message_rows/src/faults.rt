@@ -77,7 +77,7 @@ fn accepted(rt: HostRuntime) {
     }
 }
 
-const REFUSED: [(&[u8], Part, usize); 88] = [
+const REFUSED: [(&[u8], Part, usize); 90] = [
     (b"", Part::Pri, 0),
     (b"<", Part::Pri, 0),
     (b"<>1 - - - - - -", Part::Pri, 0),
@@ -165,6 +165,16 @@ const REFUSED: [(&[u8], Part, usize); 88] = [
     (b"<13>1 - - - - - [a b=\"\xED\xA0\x80\" =]", Part::Value, 22),
     (b"<13>1 - - - - - [a][a]", Part::RepeatedId, 20),
     (b"<13>1 - - - - - [a][b][a", Part::RepeatedId, 23),
+    (
+        b"<13>1 - - - - - [aaaaaaaaaaaaaaaaaaaaaaaaaaaaaaaa][aaaaaaaaaaaaaaaaaaaaaaaaaaaaaaaa]",
+        Part::RepeatedId,
+        51,
+    ),
+    (
+        b"<13>1 - - - - - [aaaaaaaaaaaaaaaaaaaaaaaaaaaaaaaa][aaaaaaaaaaaaaaaaaaaaaaaaaaaaaaaaa]",
+        Part::Name,
+        51,
+    ),
     (b"<13>1 - - - - - - \xEF\xBB\xBF\xFF", Part::Msg, 18),
 ];
 

@@ -98,9 +98,14 @@ pub fn ask_all(
 }
 
 /// As `ask_all`, over one watched reader and up to the last of `wants`. A call that wants memory is made again.
-pub fn ask_on(rt: &(impl Abort + AllocGlobal), pieces: Pieces<'_>, wants: &[(Want<'_>, u64)]) {
+pub fn ask_on(
+    rt: &(impl Abort + AllocGlobal),
+    limits: Limits,
+    pieces: Pieces<'_>,
+    wants: &[(Want<'_>, u64)],
+) {
     let mut reader = Watched::new(pieces);
-    let mut frames = FrameReader::new(rt.alloc(), Limits::standard());
+    let mut frames = FrameReader::new(rt.alloc(), limits);
     for (want, offset) in wants {
         assert!(rt; !reader.failed() && !frames.failed(), "before {want:?}");
         let mut answer = frames.next_frame(&mut reader);

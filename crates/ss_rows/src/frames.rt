@@ -125,11 +125,12 @@ fn goes_on_after_want_of_memory(rt: HostRuntime) {
         (Message(&stream[11..]), 10_011),
         (Done, 10_011),
     ];
-    ask_on(&rt, Pieces::new(&stream, usize::MAX), &wants);
-    ask_on(&rt, Pieces::new(&stream, 1_000), &wants);
+    let limits = Limits::standard();
+    ask_on(&rt, limits, Pieces::new(&stream, usize::MAX), &wants);
+    ask_on(&rt, limits, Pieces::new(&stream, 1_000), &wants);
     let wants = [(Message(b"abc"), 5), (Torn(5), 9)];
-    ask_on(&rt, Pieces::new(b"3 abc3 ab", usize::MAX), &wants);
-    ask_on(&rt, Pieces::new(b"3 abc3 ab", 1), &wants);
+    ask_on(&rt, limits, Pieces::new(b"3 abc3 ab", usize::MAX), &wants);
+    ask_on(&rt, limits, Pieces::new(b"3 abc3 ab", 1), &wants);
 }
 
 #[test]

@@ -1,6 +1,6 @@
 //! The lines of a stream, whole and octet by octet.
 use crate::asking::Want::{Done, Fault, Message, Torn};
-use crate::asking::{Want, ask_all};
+use crate::asking::{Want, ask_all, ask_on};
 use crate::pieces::Pieces;
 use ss_frame::{Form, FrameFault, FrameReader, Limits, Step, Watched};
 use std::io::ErrorKind;
@@ -115,6 +115,24 @@ fn stops_at_each_read_that_fails(rt: HostRuntime) {
             }
         }
     }
+}
+
+/// As the test of that name for frames: the octets of a line are stored in parts, and the last of them behind its LF.
+#[test]
+fn goes_on_after_want_of_memory(rt: HostRuntime) {
+    let mut stream = [b'x'; 10_005];
+    stream[3] = b'\n';
+    stream[10_004] = b'\n';
+    let wants = [
+        (Message(&stream[..3]), 4),
+        (Message(&stream[4..10_004]), 10_005),
+        (Done, 10_005),
+    ];
+    let limits = Limits::standard().lines();
+    ask_on(&rt, limits, Pieces::new(&stream, usize::MAX), &wants);
+    ask_on(&rt, limits, Pieces::new(&stream, 1), &wants);
+    let wants = [(Message(b"xxx".as_slice()), 4), (Torn(4), 6)];
+    ask_on(&rt, limits, Pieces::new(&stream[..6], 1), &wants);
 }
 
 #[test]
