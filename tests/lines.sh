@@ -45,6 +45,8 @@ expect 'real signatures, and what openssl said of them' 0 'session h s - 1 joine
 ok h s - 1 0 0 1 1
 ok h s - 1 0 0 2 2
 end 4' ''
+run review --lines --answers "$root/examples/four-messages.answers" < <(head -c -1 -- "$log")
+expect 'the last line without its LF, which leaves one block' 2 '' 'ssign: not yet'
 run review --lines </dev/null
 expect 'an empty log' 0 'end 0' ''
 octets 'abc\nab' --max-len 3
