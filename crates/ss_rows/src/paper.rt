@@ -1,4 +1,6 @@
 //! A writer whose octets are known.
+ghost use Rattle.std.specs.Prelude.{◌≤◌};
+
 use std::io;
 use std::io::{ErrorKind, Write};
 
@@ -20,6 +22,7 @@ pub struct Paper {
     refusal: Option<(u64, Refusal)>,
     /// How many writes there were.
     pub writes: u64,
+    ghost fits: { len ≤ 16 },
 }
 
 impl Paper {
@@ -58,9 +61,8 @@ impl Write for Paper {
                 };
             }
         }
-        let room = self.text.len().saturating_sub(self.len);
-        let taken = buf.len().min(self.most).min(room);
-        let end = self.len.saturating_add(taken);
+        let taken = buf.len().min(self.most).min(16 - self.len);
+        let end = self.len + taken;
         self.text[self.len..end].copy_from_slice(&buf[..taken]);
         self.len = end;
         Ok(taken)
