@@ -1,0 +1,75 @@
+-- The first cause of an element `ssign-cert` that is no block, from the causes before it.
+use Rattle.std.proofs.Common.{◌≡◌, Bool, true, false, [], ◌∷◌, refl, ◌∙◌}
+use Rattle.std.specs.Prelude.{not, is_some}
+use Rattle.ss_message.specs.Message.{ElementValue}
+use Rattle.ss_block.specs.declared.spoil.Spoil.TheVariants as spoils
+use Rattle.ss_block.specs.declared.reading.Reading.{Reading}
+use Rattle.ss_block.specs.declared.reading.Reading.TheVariants.{Certificate, Spoilt}
+use Rattle.ss_block.specs.Encoded.{octets_in}
+use Rattle.ss_block.specs.Reading.{has_names, first_cause, is_version, certificate_names, certificate_texts, certificate_numbers, certificate_block, unless_spoilt, certificate_reading}
+use Rattle.ss_block.specs.Causes.{misfits}
+
+abbrev told : Bool → Bool → Bool → Bool → Bool → Reading → Reading
+told n v u s f x = unless_spoilt (first_cause ((not n, spoils.Names) ∷ (not v, spoils.Version) ∷ (not u, spoils.Number) ∷ (not s, spoils.Sign) ∷ (f, spoils.Fragment) ∷ [])) x
+
+abbrev whole : ElementValue → Reading
+whole e =
+    let t = certificate_texts e in
+    told (has_names certificate_names e) (is_version t.ver) (certificate_numbers t) (is_some (octets_in t.sign)) (misfits t) (Certificate (certificate_block t))
+
+reading_is : (e : ElementValue) → certificate_reading e ≡ whole e
+unfolding certificate_reading
+reading_is e = refl
+
+at_names : (n v u s f : Bool) (x : Reading) → n ≡ false → told n v u s f x ≡ Spoilt spoils.Names
+at_names n v u s f x e = rw e refl
+
+at_version : (n v u s f : Bool) (x : Reading) → n ≡ true → v ≡ false → told n v u s f x ≡ Spoilt spoils.Version
+at_version n v u s f x e g = rw (e, g) refl
+
+at_numbers : (n v u s f : Bool) (x : Reading) → n ≡ true → v ≡ true → u ≡ false → told n v u s f x ≡ Spoilt spoils.Number
+at_numbers n v u s f x e g h = rw (e, g, h) refl
+
+at_sign : (n v u s f : Bool) (x : Reading) → n ≡ true → v ≡ true → u ≡ true → s ≡ false → told n v u s f x ≡ Spoilt spoils.Sign
+at_sign n v u s f x e g h i = rw (e, g, h, i) refl
+
+at_fragment : (n v u s f : Bool) (x : Reading) → n ≡ true → v ≡ true → u ≡ true → s ≡ true → f ≡ true → told n v u s f x ≡ Spoilt spoils.Fragment
+at_fragment n v u s f x e g h i j = rw (e, g, h, i, j) refl
+
+at_none : (n v u s f : Bool) (x : Reading) → n ≡ true → v ≡ true → u ≡ true → s ≡ true → f ≡ false → told n v u s f x ≡ x
+at_none n v u s f x e g h i j = rw (e, g, h, i, j) refl
+
+-- ---- of an element
+
+pub spoilt_names : (e : ElementValue) → has_names certificate_names e ≡ false → certificate_reading e ≡ Spoilt spoils.Names
+spoilt_names e n =
+    let t = certificate_texts e in
+    reading_is e ∙ at_names (has_names certificate_names e) (is_version t.ver) (certificate_numbers t) (is_some (octets_in t.sign)) (misfits t) (Certificate (certificate_block t)) n
+
+pub spoilt_version : (e : ElementValue) → has_names certificate_names e ≡ true → is_version (certificate_texts e).ver ≡ false → certificate_reading e ≡ Spoilt spoils.Version
+spoilt_version e n v =
+    let t = certificate_texts e in
+    reading_is e ∙ at_version (has_names certificate_names e) (is_version t.ver) (certificate_numbers t) (is_some (octets_in t.sign)) (misfits t) (Certificate (certificate_block t)) n v
+
+pub spoilt_number : (e : ElementValue) → has_names certificate_names e ≡ true → is_version (certificate_texts e).ver ≡ true → certificate_numbers (certificate_texts e) ≡ false → certificate_reading e ≡ Spoilt spoils.Number
+spoilt_number e n v u =
+    let t = certificate_texts e in
+    reading_is e ∙ at_numbers (has_names certificate_names e) (is_version t.ver) (certificate_numbers t) (is_some (octets_in t.sign)) (misfits t) (Certificate (certificate_block t)) n v u
+
+pub spoilt_sign : (e : ElementValue) → has_names certificate_names e ≡ true → is_version (certificate_texts e).ver ≡ true → certificate_numbers (certificate_texts e) ≡ true
+    → is_some (octets_in (certificate_texts e).sign) ≡ false → certificate_reading e ≡ Spoilt spoils.Sign
+spoilt_sign e n v u s =
+    let t = certificate_texts e in
+    reading_is e ∙ at_sign (has_names certificate_names e) (is_version t.ver) (certificate_numbers t) (is_some (octets_in t.sign)) (misfits t) (Certificate (certificate_block t)) n v u s
+
+pub spoilt_fragment : (e : ElementValue) → has_names certificate_names e ≡ true → is_version (certificate_texts e).ver ≡ true → certificate_numbers (certificate_texts e) ≡ true
+    → is_some (octets_in (certificate_texts e).sign) ≡ true → misfits (certificate_texts e) ≡ true → certificate_reading e ≡ Spoilt spoils.Fragment
+spoilt_fragment e n v u s f =
+    let t = certificate_texts e in
+    reading_is e ∙ at_fragment (has_names certificate_names e) (is_version t.ver) (certificate_numbers t) (is_some (octets_in t.sign)) (misfits t) (Certificate (certificate_block t)) n v u s f
+
+pub is_block : (e : ElementValue) → has_names certificate_names e ≡ true → is_version (certificate_texts e).ver ≡ true → certificate_numbers (certificate_texts e) ≡ true
+    → is_some (octets_in (certificate_texts e).sign) ≡ true → misfits (certificate_texts e) ≡ false → certificate_reading e ≡ Certificate (certificate_block (certificate_texts e))
+is_block e n v u s f =
+    let t = certificate_texts e in
+    reading_is e ∙ at_none (has_names certificate_names e) (is_version t.ver) (certificate_numbers t) (is_some (octets_in t.sign)) (misfits t) (Certificate (certificate_block t)) n v u s f

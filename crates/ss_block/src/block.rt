@@ -1,0 +1,322 @@
+//! Signature blocks and certificate blocks (RFC 5848, sections 4.2 and 5.3.2).
+ghost use Rattle.std.specs.Prelude.{◌≡◌, ◌↔◌, IsSome, IfSome, IsTrue};
+ghost use Rattle.std.specs.List.{list_all};
+ghost use Rattle.std.specs.Str.{is_utf8};
+ghost use Rattle.ss_block.specs.Block.{IsGroup, IsSignature, IsCertificate, is_of};
+
+use crate::hash::{Alg, Hash};
+use crate::hashes::Hashes;
+use ss_frame::Bytes;
+use std::marker::Model;
+
+/// The group of messages that a block speaks of (RFC 5848, section 4.2.3).
+#[derive(Clone, Copy, Debug, PartialEq, Eq, PartialOrd, Ord)]
+pub struct Group {
+    /// SG, 0 to 3: 0 one group, 1 a group per PRI, 2 ranges of PRI, 3 by private arrangement.
+    pub sg: u8,
+    /// SPRI, 0 to 191: with SG 1 the PRI, with SG 2 the highest PRI of the range.
+    pub spri: u8,
+}
+
+impl Group {
+    /// Whether SG and SPRI are in their ranges.
+    pub fn is_valid(self) -> bool
+        ensures { IsTrue result ↔ IsGroup self }
+    {
+        self.sg <= 3 && self.spri <= 191
+    }
+}
+
+/// Whether the hash is one of this algorithm.
+fn is_of(alg: Alg, hash: &Hash) -> bool
+    ensures { result ≡ is_of alg hash.now }
+{
+    match hash {
+        Hash::Sha1(_) => alg == Alg::Sha1,
+        Hash::Sha256(_) => alg == Alg::Sha256,
+    }
+}
+
+/// Whether each of the hashes is one of this algorithm.
+fn are_of(alg: Alg, hashes: &[Hash]) -> bool
+    ensures { result ≡ list_all (is_of alg) hashes.now }
+{
+    for hash in hashes {
+        if !is_of(alg, hash) {
+            return false;
+        }
+    }
+    true
+}
+
+/// Whether the octets are UTF-8.
+fn is_utf8(octets: &[u8]) -> bool
+    ensures { result ≡ is_utf8 octets.now }
+{
+    simdutf8::basic::from_utf8(octets).is_ok()
+}
+
+/// A signature block: hashes of messages that are numbered one after another in their group. Contracts see its
+/// fields, which are in their ranges.
+#[derive(Debug, Drop)]
+pub struct SigBlock {
+    alg: Alg,
+    rsid: u64,
+    group: Group,
+    gbc: u64,
+    first: u64,
+    hashes: Hashes,
+    signature: Bytes,
+}
+
+impl Model for SigBlock {
+    ghost use Rattle.ss_block.specs.Block.{Signature, IsSignature};
+
+    ghost Value = { Signature };
+
+    ghost view = { λ b. record { alg = b.alg; rsid = b.rsid; group = b.group; gbc = b.gbc; first = b.first; hashes = b.hashes; signature = b.signature } };
+
+    ghost invariant = { λ b. IsSignature (record { alg = b.alg; rsid = b.rsid; group = b.group; gbc = b.gbc; first = b.first; hashes = b.hashes; signature = b.signature }) };
+}
+
+impl SigBlock {
+    /// `None` where `rsid` or `gbc` is over 9,999,999,999, `first` is 0, SG or SPRI is out of its range, there are not
+    /// 1 to 99 hashes or not all of them are of `alg`, or the last message's number is over 9,999,999,999. Takes no
+    /// memory.
+    pub fn new(
+        alg: Alg,
+        rsid: u64,
+        group: Group,
+        gbc: u64,
+        first: u64,
+        hashes: Hashes,
+        signature: Bytes,
+    ) -> Option<SigBlock>
+        ensures valid { IsSome result ↔ IsSignature (record {
+          alg = alg;
+          rsid = rsid;
+          group = group;
+          gbc = gbc;
+          first = first;
+          hashes = hashes;
+          signature = signature;
+        }) }
+        ensures value { IfSome result (λ b. b ≡ record {
+          alg = alg;
+          rsid = rsid;
+          group = group;
+          gbc = gbc;
+          first = first;
+          hashes = hashes;
+          signature = signature;
+        }) }
+    {
+        let count = hashes.as_slice().len();
+        if rsid > 9_999_999_999 || !group.is_valid() || gbc > 9_999_999_999 {
+            return None;
+        }
+        if first < 1 || count < 1 || count > 99 || first > 10_000_000_000 - count as u64 {
+            return None;
+        }
+        if !are_of(alg, hashes.as_slice()) {
+            return None;
+        }
+        Some(SigBlock {
+            alg,
+            rsid,
+            group,
+            gbc,
+            first,
+            hashes,
+            signature,
+        })
+    }
+
+    /// VER's hash algorithm, which each of the hashes is of.
+    pub fn alg(&self) -> Alg
+        ensures { result ≡ self.now.alg }
+    {
+        self.alg
+    }
+
+    /// RSID, 0 to 9,999,999,999: it rises at each reboot of the originator; 0 where that can't be guaranteed.
+    pub fn rsid(&self) -> u64
+        ensures { result ≡ self.now.rsid }
+    {
+        self.rsid
+    }
+
+    /// SG and SPRI.
+    pub fn group(&self) -> Group
+        ensures { result ≡ self.now.group }
+    {
+        self.group
+    }
+
+    /// GBC, 0 to 9,999,999,999: the signature blocks sent before in the session, over all groups.
+    pub fn gbc(&self) -> u64
+        ensures { result ≡ self.now.gbc }
+    {
+        self.gbc
+    }
+
+    /// FMN, 1 to 9,999,999,999: the number, in its group, of the first message.
+    pub fn first(&self) -> u64
+        ensures { result ≡ self.now.first }
+    {
+        self.first
+    }
+
+    /// HB: 1 to 99 hashes, in order.
+    pub fn hashes(&self) -> &Hashes
+        ensures { result.now ≡ self.now.hashes }
+    {
+        &self.hashes
+    }
+
+    /// SIGN's octets.
+    pub fn signature(&self) -> &Bytes
+        ensures { result.now ≡ self.now.signature }
+    {
+        &self.signature
+    }
+
+    /// Every block is in the ranges that `new` asks for.
+    pub fn in_range(&self)
+        ensures { IsSignature self.now }
+    {
+        let _rsid = self.rsid;
+    }
+}
+
+/// A certificate block: a fragment of the payload block of a session. Contracts see its fields, which are in their
+/// ranges.
+#[derive(Debug, Drop)]
+pub struct CertBlock {
+    alg: Alg,
+    rsid: u64,
+    group: Group,
+    total: u32,
+    index: u32,
+    fragment: Bytes,
+    signature: Bytes,
+}
+
+impl Model for CertBlock {
+    ghost use Rattle.ss_block.specs.Block.{Certificate, IsCertificate};
+
+    ghost Value = { Certificate };
+
+    ghost view = { λ b. record { alg = b.alg; rsid = b.rsid; group = b.group; total = b.total; index = b.index; fragment = b.fragment; signature = b.signature } };
+
+    ghost invariant = { λ b. IsCertificate (record { alg = b.alg; rsid = b.rsid; group = b.group; total = b.total; index = b.index; fragment = b.fragment; signature = b.signature }) };
+}
+
+impl CertBlock {
+    /// `None` where `rsid` is over 9,999,999,999, `total` over 99,999,999, `index` is 0, SG or SPRI is out of its range,
+    /// the fragment has not 1 to 9,999 octets, isn't UTF-8, or ends behind the payload's end. Takes no memory.
+    pub fn new(
+        alg: Alg,
+        rsid: u64,
+        group: Group,
+        total: u32,
+        index: u32,
+        fragment: Bytes,
+        signature: Bytes,
+    ) -> Option<CertBlock>
+        ensures valid { IsSome result ↔ IsCertificate (record {
+          alg = alg;
+          rsid = rsid;
+          group = group;
+          total = total;
+          index = index;
+          fragment = fragment;
+          signature = signature;
+        }) }
+        ensures value { IfSome result (λ b. b ≡ record {
+          alg = alg;
+          rsid = rsid;
+          group = group;
+          total = total;
+          index = index;
+          fragment = fragment;
+          signature = signature;
+        }) }
+    {
+        let count = fragment.as_slice().len();
+        if rsid > 9_999_999_999 || !group.is_valid() || total > 99_999_999 || index < 1 {
+            return None;
+        }
+        if count < 1 || count > 9_999 || index as u64 + count as u64 > total as u64 + 1 {
+            return None;
+        }
+        if !is_utf8(fragment.as_slice()) {
+            return None;
+        }
+        Some(CertBlock {
+            alg,
+            rsid,
+            group,
+            total,
+            index,
+            fragment,
+            signature,
+        })
+    }
+
+    /// VER's hash algorithm.
+    pub fn alg(&self) -> Alg
+        ensures { result ≡ self.now.alg }
+    {
+        self.alg
+    }
+
+    /// RSID, 0 to 9,999,999,999.
+    pub fn rsid(&self) -> u64
+        ensures { result ≡ self.now.rsid }
+    {
+        self.rsid
+    }
+
+    /// SG and SPRI.
+    pub fn group(&self) -> Group
+        ensures { result ≡ self.now.group }
+    {
+        self.group
+    }
+
+    /// TPBL, 1 to 99,999,999: the octets of the whole payload.
+    pub fn total(&self) -> u32
+        ensures { result ≡ self.now.total }
+    {
+        self.total
+    }
+
+    /// INDEX, from 1: where the fragment begins in the payload.
+    pub fn index(&self) -> u32
+        ensures { result ≡ self.now.index }
+    {
+        self.index
+    }
+
+    /// FRAG: 1 to 9,999 octets of UTF-8, FLEN many, none of them behind the payload's end.
+    pub fn fragment(&self) -> &Bytes
+        ensures { result.now ≡ self.now.fragment }
+    {
+        &self.fragment
+    }
+
+    /// SIGN's octets.
+    pub fn signature(&self) -> &Bytes
+        ensures { result.now ≡ self.now.signature }
+    {
+        &self.signature
+    }
+
+    /// Every block is in the ranges that `new` asks for.
+    pub fn in_range(&self)
+        ensures { IsCertificate self.now }
+    {
+        let _rsid = self.rsid;
+    }
+}

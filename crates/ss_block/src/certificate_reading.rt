@@ -1,0 +1,108 @@
+//! A certificate block, read from the element `ssign-cert` (RFC 5848, section 5.3.2).
+ghost use Rattle.std.specs.Prelude.{◌≡◌, true, IfOk};
+ghost use Rattle.ss_message.specs.Message.{has_raws};
+ghost use Rattle.ss_message.specs.Layout.{element_value};
+ghost use Rattle.ss_message.specs.Places.{ElementIsWithin};
+ghost use Rattle.ss_block.specs.declared.spoil.Spoil.TheVariants as spoils;
+ghost use Rattle.ss_block.specs.declared.reading.Reading.TheVariants.{Certificate};
+ghost use Rattle.ss_block.specs.Reading.{has_names, certificate_names, certificate_texts, certificate_numbers, certificate_reading};
+ghost use Rattle.ss_block.specs.Meanings.{HasNine};
+ghost use Rattle.ss_block.specs.Causes.{Tests, Reads, IsCertificateNumbers};
+
+use crate::block::{CertBlock, Group};
+use crate::parameters::{number_at, sign, version};
+use crate::reading::Reading;
+use crate::refusal::Refusal;
+use crate::spoil::Spoil;
+use crate::texts::{has_names, octets_at};
+use ss_message::{Element, NoMemory};
+use std::alloc::Global;
+
+/// The numbers of a certificate block.
+#[derive(Clone, Copy)]
+pub struct CertificateNumbers {
+    rsid: u64,
+    group: Group,
+    total: u32,
+    index: u32,
+    octets: u32,
+}
+
+// RSID, SG, SPRI, TPBL, INDEX and FLEN.
+fn numbers(alloc: Global, source: &[u8], element: &Element) -> Result<CertificateNumbers, Refusal>
+    requires { HasNine source.now element.now }
+    ensures value { Tests spoils.Number (certificate_numbers (certificate_texts (element_value source.now element.now))) (IsCertificateNumbers (certificate_texts (element_value source.now element.now))) result }
+{
+    let rsid = number_at(alloc, source, element, 1, 0, 9_999_999_999)?;
+    let sg = number_at(alloc, source, element, 2, 0, 3)? as u8;
+    let spri = number_at(alloc, source, element, 3, 0, 191)? as u8;
+    let total = number_at(alloc, source, element, 4, 1, 99_999_999)? as u32;
+    let index = number_at(alloc, source, element, 5, 1, 99_999_999)? as u32;
+    let octets = number_at(alloc, source, element, 6, 1, 9999)? as u32;
+    let group = Group { sg, spri };
+    Ok(CertificateNumbers {
+        rsid,
+        group,
+        total,
+        index,
+        octets,
+    })
+}
+
+// The block of an element with the nine names.
+fn named_block(alloc: Global, source: &[u8], element: &Element) -> Result<CertBlock, Refusal>
+    requires nine { HasNine source.now element.now }
+    requires raws { has_raws (element_value source.now element.now) ≡ true }
+    requires names { has_names certificate_names (element_value source.now element.now) ≡ true }
+    ensures { Reads Certificate result (certificate_reading (element_value source.now element.now)) }
+{
+    let alg = version(alloc, source, element)?;
+    let numbers = numbers(alloc, source, element)?;
+    let signature = sign(alloc, source, element)?;
+    let fragment = octets_at(alloc, source, element, 7)?;
+    if fragment.as_slice().len() as u64 != numbers.octets as u64 {
+        return Err(Refusal::Spoilt(Spoil::Fragment));
+    }
+    let block = CertBlock::new(
+        alg,
+        numbers.rsid,
+        numbers.group,
+        numbers.total,
+        numbers.index,
+        fragment,
+        signature,
+    );
+    // All else was told to be in its range.
+    block.ok_or(Refusal::Spoilt(Spoil::Fragment))
+}
+
+fn certificate_block(alloc: Global, source: &[u8], element: &Element) -> Result<CertBlock, Refusal>
+    requires within { ElementIsWithin source.now element.now }
+    requires raws { has_raws (element_value source.now element.now) ≡ true }
+    ensures { Reads Certificate result (certificate_reading (element_value source.now element.now)) }
+{
+    let names: [&[u8]; 9] = [
+        b"VER", b"RSID", b"SG", b"SPRI", b"TPBL", b"INDEX", b"FLEN", b"FRAG", b"SIGN",
+    ];
+    if !has_names(source, element, &names) {
+        return Err(Refusal::Spoilt(Spoil::Names));
+    }
+    named_block(alloc, source, element)
+}
+
+/// The certificate block of the element `ssign-cert`, or the first cause why it holds none.
+pub fn read_certificate(
+    alloc: Global,
+    source: &[u8],
+    element: &Element,
+) -> Result<Reading, NoMemory>
+    requires within { ElementIsWithin source.now element.now }
+    requires raws { has_raws (element_value source.now element.now) ≡ true }
+    ensures { IfOk result (λ r. r ≡ certificate_reading (element_value source.now element.now)) }
+{
+    match certificate_block(alloc, source, element) {
+        Ok(block) => Ok(Reading::Certificate(block)),
+        Err(Refusal::Spoilt(cause)) => Ok(Reading::Spoilt(cause)),
+        Err(Refusal::Memory) => Err(NoMemory),
+    }
+}

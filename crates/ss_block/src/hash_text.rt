@@ -1,0 +1,79 @@
+//! The hashes of a signature block, as HB spells them (RFC 5848, section 4.2.7).
+ghost use Rattle.std.specs.Prelude.{◌≡◌, ◌≤◌, List, ℕ, length, Some, None, IfOk, IsTrue, is_some, if◌then◌else◌};
+ghost use Rattle.std.specs.List.{list_all};
+ghost use Rattle.ss_block.specs.Encoded.{octets_in};
+ghost use Rattle.ss_block.specs.Reading.{hash_in, hashes_in, pieces};
+
+use crate::hash::{Alg, Hash};
+use crate::hashes::Hashes;
+use crate::split::split_first;
+use base64::engine::general_purpose::STANDARD;
+use ss_message::NoMemory;
+use std::alloc::Global;
+
+/// Whether `text` spells as many octets as `octets` has room for, which then holds them.
+fn fills(text: &[u8], octets: &mut [u8]) -> bool
+    requires { 1 ≤ length octets.old }
+    ensures found { IsTrue result → octets_in text.now ≡ Some octets.new }
+    ensures only { (b : List ℕ) → length b ≡ length octets.old → octets_in text.now ≡ Some b → IsTrue result }
+{
+    match STANDARD.decode_slice(text, octets) {
+        Ok(count) => count == octets.len(),
+        Err(_) => false,
+    }
+}
+
+/// The hash of this algorithm that `text` spells; `None` where it spells none, or octets of another length.
+pub fn hash_of(alg: Alg, text: &[u8]) -> Option<Hash>
+    ensures { result ≡ hash_in alg text.now }
+{
+    match alg {
+        Alg::Sha1 => {
+            let mut octets = [0; 20];
+            if fills(text, &mut octets) {
+                return Some(Hash::Sha1(octets));
+            }
+        }
+        Alg::Sha256 => {
+            let mut octets = [0; 32];
+            if fills(text, &mut octets) {
+                return Some(Hash::Sha256(octets));
+            }
+        }
+    }
+    None
+}
+
+/// How many pieces HB is cut into: one more than it has SPs.
+pub fn count_pieces(text: &[u8]) -> usize
+    ensures { result ≡ length (pieces text.now) }
+{
+    let mut count = 1;
+    for octet in text {
+        if *octet == b' ' {
+            count += 1;
+        }
+    }
+    count
+}
+
+/// The hashes that HB's pieces spell; `None` where a piece spells no hash of this algorithm.
+pub fn hashes_of(alloc: Global, alg: Alg, text: &[u8]) -> Result<Option<Hashes>, NoMemory>
+    ensures { IfOk result (λ o. o ≡ (if list_all (λ piece. is_some (hash_in alg piece)) (pieces text.now)
+        then Some (hashes_in alg (pieces text.now)) else None)) }
+{
+    let mut hashes = Vec::new(alloc);
+    let mut rest = text;
+    while let Some((piece, after)) = split_first(rest, b' ') {
+        let Some(hash) = hash_of(alg, piece) else {
+            return Ok(None);
+        };
+        hashes.push(hash)?;
+        rest = after;
+    }
+    let Some(last) = hash_of(alg, rest) else {
+        return Ok(None);
+    };
+    hashes.push(last)?;
+    Ok(Some(Hashes::from_vec(hashes)))
+}

@@ -1,0 +1,13 @@
+//! What holds of every text: each law is a call that does nothing, and its clause is the law.
+ghost use Rattle.ss_block.specs.ReadingLaws.{ReadingsAreOfValues};
+
+use ss_message::laws::{faults_are_of_no_message, one_text};
+
+/// What a text is is told by the one value whose text it is, and a text that is told to be no message is the text of
+/// no value.
+pub fn readings_are_of_values()
+    ensures { ReadingsAreOfValues }
+{
+    faults_are_of_no_message();
+    one_text();
+}

@@ -1,0 +1,51 @@
+//! Signature blocks and certificate blocks (RFC 5848, sections 4 and 5): read from messages, and what is signed of them.
+#![tactic(auto)]
+
+mod block;
+mod certificate_reading;
+mod cuts;
+mod cutting;
+mod elements;
+mod encoded;
+mod encoding;
+mod hash;
+mod hash_text;
+mod hashes;
+mod head;
+mod joiner;
+mod kind;
+pub mod laws;
+mod number;
+mod parameters;
+mod parsed;
+mod payload;
+mod payload_reading;
+mod payload_writing;
+mod reading;
+mod refusal;
+mod scheme;
+mod session;
+mod signature_reading;
+mod signed;
+mod sound;
+mod spelling;
+mod split;
+mod spoil;
+mod texts;
+mod writing;
+
+pub use block::{CertBlock, Group, SigBlock};
+pub use cuts::{Cut, Cuts};
+pub use cutting::cut;
+pub use hash::{Alg, Hash, HashPair, pair_of};
+pub use hashes::Hashes;
+pub use head::Head;
+pub use joiner::{JoinState, Joined, Joiner};
+pub use kind::Kind;
+pub use payload::Payload;
+pub use reading::{Reading, classify};
+pub use scheme::Scheme;
+pub use session::{Session, classify_with_session, session_of};
+pub use signed::signed_bytes;
+pub use spoil::Spoil;
+pub use writing::{unsigned_cert, unsigned_sig, write_cert, write_sig};

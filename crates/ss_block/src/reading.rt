@@ -1,0 +1,61 @@
+//! What a message is to a review (RFC 5848, sections 4 and 5).
+ghost use Rattle.std.specs.Prelude.{◌≡◌, true, IfOk};
+ghost use Rattle.std.specs.List.{All, list_all};
+ghost use Rattle.ss_message.specs.Message.{has_raws};
+ghost use Rattle.ss_message.specs.Layout.{value_of};
+ghost use Rattle.ss_message.specs.Places.{ElementIsWithin};
+ghost use Rattle.ss_block.specs.Reading.{value_reading, reading};
+
+use crate::block::{CertBlock, SigBlock};
+use crate::certificate_reading::read_certificate;
+use crate::elements::element_with;
+use crate::signature_reading::read_signature;
+use crate::spoil::Spoil;
+use ss_message::{Fault, Message, NoMemory, Part, parse};
+use std::alloc::Global;
+
+/// What a message holds (RFC 5848, sections 4 and 5).
+#[derive(Debug, Drop)]
+pub enum Reading {
+    /// A message without `ssign` and `ssign-cert`.
+    Plain,
+    /// No message of RFC 5424: the part that fails first, and where, in octets from 0.
+    Unparsed { part: Part, pos: usize },
+    /// One signature block.
+    Signature(SigBlock),
+    /// One certificate block.
+    Certificate(CertBlock),
+    /// A block element that is no block, with the first cause.
+    Spoilt(Spoil),
+}
+
+pub(crate) fn message_reading(alloc: Global, message: &Message<'_>) -> Result<Reading, NoMemory>
+    requires within { All (ElementIsWithin message.now.source.now) message.now.elements }
+    requires raws { list_all has_raws (value_of message.now).elements ≡ true }
+    ensures { IfOk result (λ r. r ≡ value_reading (value_of message.now)) }
+{
+    let signature = element_with(message, b"ssign");
+    let certificate = element_with(message, b"ssign-cert");
+    match (signature, certificate) {
+        (None, None) => Ok(Reading::Plain),
+        (Some(element), None) => read_signature(alloc, message.source, element),
+        (None, Some(element)) => read_certificate(alloc, message.source, element),
+        (Some(_), Some(_)) => Ok(Reading::Spoilt(Spoil::BothBlocks)),
+    }
+}
+
+/// What the message in `bytes`, all of them, is: a block, an element that is no block with the first cause, a message
+/// without either element, or no message.
+///
+/// Memory is taken as `parse` takes it, for the block's hashes, fragment and signature, and for a value while its
+/// escapes are taken off; no number inside a message reserves any.
+pub fn classify(alloc: Global, bytes: &[u8]) -> Result<Reading, NoMemory>
+    // What a text is is told by what the message in it says, and by nothing else.
+    ensures value { IfOk result (λ r. r ≡ reading bytes.now) }
+{
+    match parse(alloc, bytes) {
+        Ok(message) => message_reading(alloc, &message),
+        Err(Fault::Bad { part, pos }) => Ok(Reading::Unparsed { part, pos }),
+        Err(Fault::Memory) => Err(NoMemory),
+    }
+}

@@ -1,0 +1,89 @@
+//! The session of a block.
+ghost use Rattle.std.specs.Prelude.{◌≡◌, IfOk};
+ghost use Rattle.ss_message.specs.Layout.{field_of, value_of};
+ghost use Rattle.ss_block.specs.Parsed.{IsRead};
+ghost use Rattle.ss_block.specs.Reading.{reading};
+ghost use Rattle.ss_block.specs.Session.{field_from, session, session_if_block};
+
+use crate::reading::{Reading, message_reading};
+use ss_frame::Bytes;
+use ss_message::{Fault, Field, Message, NoMemory, parse};
+use std::alloc::Global;
+
+/// Who sent a block, and since which reboot: the header fields of its message and RSID (RFC 5848, section 4.2).
+#[derive(Debug, Drop)]
+pub struct Session {
+    /// HOSTNAME.
+    pub host: Field,
+    /// APP-NAME.
+    pub app: Field,
+    /// PROCID.
+    pub procid: Field,
+    /// RSID, 0 to 9,999,999,999.
+    pub rsid: u64,
+}
+
+// The field of the header that these octets spell; `-` is the absent one.
+fn field(alloc: Global, octets: &[u8]) -> Result<Field, NoMemory>
+    ensures { IfOk result (λ f. f ≡ field_from (field_of octets.now)) }
+{
+    if octets == b"-".as_slice() {
+        return Ok(Field::Nil);
+    }
+    Ok(Field::Text(Bytes::from_vec(Vec::from_slice(alloc, octets)?)))
+}
+
+// The session of a message that was read as this; none unless that is a block.
+#[tactic(auto, unfolding(crate::specs::Session::session))]
+fn session_with(
+    alloc: Global,
+    message: &Message<'_>,
+    reading: &Reading,
+) -> Result<Option<Session>, NoMemory>
+    requires { IsRead message.now }
+    ensures { IfOk result (λ o. o ≡ session_if_block reading.now (value_of message.now)) }
+{
+    let rsid = match reading {
+        Reading::Signature(block) => block.rsid(),
+        Reading::Certificate(block) => block.rsid(),
+        Reading::Plain | Reading::Unparsed { .. } | Reading::Spoilt(_) => return Ok(None),
+    };
+    Ok(Some(Session {
+        host: field(alloc, message.part(message.hostname))?,
+        app: field(alloc, message.part(message.app_name))?,
+        procid: field(alloc, message.part(message.procid))?,
+        rsid,
+    }))
+}
+
+/// What the message in `bytes` is, as `classify` tells it, and its session, as `session_of` does, by one reading.
+///
+/// Errs only where memory runs out. It is taken as those two take it.
+pub fn classify_with_session(
+    alloc: Global,
+    bytes: &[u8],
+) -> Result<(Reading, Option<Session>), NoMemory>
+    ensures reading { IfOk result (λ x. x.0 ≡ reading bytes.now) }
+    ensures session { IfOk result (λ x. x.1 ≡ session bytes.now) }
+{
+    match parse(alloc, bytes) {
+        Ok(message) => {
+            let reading = message_reading(alloc, &message)?;
+            let session = session_with(alloc, &message, &reading)?;
+            Ok((reading, session))
+        }
+        Err(Fault::Bad { part, pos }) => Ok((Reading::Unparsed { part, pos }, None)),
+        Err(Fault::Memory) => Err(NoMemory),
+    }
+}
+
+/// The session of a block message: its HOSTNAME, APP-NAME and PROCID, and RSID. None unless `bytes` are a message
+/// with a signature block or a certificate block, and not a spoilt one.
+///
+/// Errs only where memory runs out. It is taken for the parse, the block and the three fields.
+pub fn session_of(alloc: Global, bytes: &[u8]) -> Result<Option<Session>, NoMemory>
+    ensures { IfOk result (λ o. o ≡ session bytes.now) }
+{
+    let (_, session) = classify_with_session(alloc, bytes)?;
+    Ok(session)
+}

@@ -1,0 +1,122 @@
+//! A signature block, read from the element `ssign` (RFC 5848, section 4.2).
+ghost use Rattle.std.specs.Prelude.{◌≡◌, true, IfOk};
+ghost use Rattle.ss_message.specs.Layout.{element_value};
+ghost use Rattle.ss_message.specs.Places.{ElementIsWithin};
+ghost use Rattle.ss_block.specs.declared.spoil.Spoil.TheVariants as spoils;
+ghost use Rattle.ss_block.specs.declared.reading.Reading.TheVariants.{Signature};
+ghost use Rattle.ss_block.specs.Number.{number};
+ghost use Rattle.ss_block.specs.Reading.{has_names, text_at, alg_of, pieces, hashes_in, signature_names, signature_texts, signature_numbers, signature_reading};
+ghost use Rattle.ss_block.specs.Meanings.{HasNine};
+ghost use Rattle.ss_block.specs.Causes.{Tests, Spoils, hash_causes, Reads, IsSignatureNumbers};
+
+use crate::block::{Group, SigBlock};
+use crate::hash::Alg;
+use crate::hash_text::{count_pieces, hashes_of};
+use crate::hashes::Hashes;
+use crate::parameters::{number_at, sign, version};
+use crate::reading::Reading;
+use crate::refusal::Refusal;
+use crate::spoil::Spoil;
+use crate::texts::{has_names, text_at};
+use ss_message::{Element, NoMemory};
+use std::alloc::Global;
+
+/// The numbers of a signature block.
+#[derive(Clone, Copy)]
+pub struct SignatureNumbers {
+    rsid: u64,
+    group: Group,
+    gbc: u64,
+    first: u64,
+    count: u64,
+}
+
+// RSID, SG, SPRI, GBC, FMN and CNT.
+fn numbers(alloc: Global, source: &[u8], element: &Element) -> Result<SignatureNumbers, Refusal>
+    requires { HasNine source.now element.now }
+    ensures value { Tests spoils.Number (signature_numbers (signature_texts (element_value source.now element.now))) (IsSignatureNumbers (signature_texts (element_value source.now element.now))) result }
+{
+    let rsid = number_at(alloc, source, element, 1, 0, 9_999_999_999)?;
+    let sg = number_at(alloc, source, element, 2, 0, 3)? as u8;
+    let spri = number_at(alloc, source, element, 3, 0, 191)? as u8;
+    let gbc = number_at(alloc, source, element, 4, 0, 9_999_999_999)?;
+    let first = number_at(alloc, source, element, 5, 1, 9_999_999_999)?;
+    let count = number_at(alloc, source, element, 6, 1, 99)?;
+    let group = Group { sg, spri };
+    Ok(SignatureNumbers {
+        rsid,
+        group,
+        gbc,
+        first,
+        count,
+    })
+}
+
+// HB: the hashes, of which there have to be `count`, each of this algorithm.
+fn hashes(
+    alloc: Global,
+    source: &[u8],
+    element: &Element,
+    alg: Alg,
+    count: u64,
+) -> Result<Hashes, Refusal>
+    requires nine { HasNine source.now element.now }
+    requires alg { alg ≡ alg_of (text_at (element_value source.now element.now) 0) }
+    requires count { count ≡ number (text_at (element_value source.now element.now) 6) }
+    ensures { Spoils (hash_causes (signature_texts (element_value source.now element.now))) (λ h. h ≡ hashes_in alg (pieces (text_at (element_value source.now element.now) 7))) result }
+{
+    let text = text_at(alloc, source, element, 7)?;
+    let text = text.as_slice();
+    if count_pieces(text) as u64 != count {
+        return Err(Refusal::Spoilt(Spoil::HashCount));
+    }
+    Ok(hashes_of(alloc, alg, text)?.ok_or(Spoil::Hash)?)
+}
+
+// The block of an element with the nine names.
+fn named_block(alloc: Global, source: &[u8], element: &Element) -> Result<SigBlock, Refusal>
+    requires nine { HasNine source.now element.now }
+    requires names { has_names signature_names (element_value source.now element.now) ≡ true }
+    ensures { Reads Signature result (signature_reading (element_value source.now element.now)) }
+{
+    let alg = version(alloc, source, element)?;
+    let numbers = numbers(alloc, source, element)?;
+    let hashes = hashes(alloc, source, element, alg, numbers.count)?;
+    let signature = sign(alloc, source, element)?;
+    let block = SigBlock::new(
+        alg,
+        numbers.rsid,
+        numbers.group,
+        numbers.gbc,
+        numbers.first,
+        hashes,
+        signature,
+    );
+    // All else was told to be in its range.
+    block.ok_or(Refusal::Spoilt(Spoil::LastNumber))
+}
+
+fn signature_block(alloc: Global, source: &[u8], element: &Element) -> Result<SigBlock, Refusal>
+    requires { ElementIsWithin source.now element.now }
+    ensures { Reads Signature result (signature_reading (element_value source.now element.now)) }
+{
+    let names: [&[u8]; 9] = [
+        b"VER", b"RSID", b"SG", b"SPRI", b"GBC", b"FMN", b"CNT", b"HB", b"SIGN",
+    ];
+    if !has_names(source, element, &names) {
+        return Err(Refusal::Spoilt(Spoil::Names));
+    }
+    named_block(alloc, source, element)
+}
+
+/// The signature block of the element `ssign`, or the first cause why it holds none.
+pub fn read_signature(alloc: Global, source: &[u8], element: &Element) -> Result<Reading, NoMemory>
+    requires { ElementIsWithin source.now element.now }
+    ensures { IfOk result (λ r. r ≡ signature_reading (element_value source.now element.now)) }
+{
+    match signature_block(alloc, source, element) {
+        Ok(block) => Ok(Reading::Signature(block)),
+        Err(Refusal::Spoilt(cause)) => Ok(Reading::Spoilt(cause)),
+        Err(Refusal::Memory) => Err(NoMemory),
+    }
+}

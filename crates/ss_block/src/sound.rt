@@ -1,0 +1,44 @@
+//! What the types of octets and hashes say of each value, told to contracts.
+ghost use Rattle.std.specs.Prelude.{◌≡◌, length};
+ghost use Rattle.std.specs.List.{All};
+ghost use Rattle.base64.specs.GeneralPurpose.{IsBytes};
+ghost use Rattle.ss_block.specs.WritingLaws.{IsHash};
+
+use crate::hash::Hash;
+
+/// Each octet is below 256.
+pub fn are_octets(octets: &[u8])
+    ensures { IsBytes octets.now }
+{}
+
+fn is_sha1(octets: &[u8; 20])
+    ensures count { length octets.now ≡ 20 }
+    ensures octets { IsBytes octets.now }
+{
+    are_octets(octets);
+}
+
+fn is_sha256(octets: &[u8; 32])
+    ensures count { length octets.now ≡ 32 }
+    ensures octets { IsBytes octets.now }
+{
+    are_octets(octets);
+}
+
+fn is_hash(hash: &Hash)
+    ensures { IsHash hash.now }
+{
+    match hash {
+        Hash::Sha1(octets) => is_sha1(octets),
+        Hash::Sha256(octets) => is_sha256(octets),
+    }
+}
+
+/// Each hash has as many octets as its algorithm makes, each of them below 256.
+pub fn are_hashes(hashes: &[Hash])
+    ensures { All IsHash hashes.now }
+{
+    for hash in hashes {
+        is_hash(hash);
+    }
+}
