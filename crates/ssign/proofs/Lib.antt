@@ -1,4 +1,3 @@
-pub mod LogSoFar
 pub mod ThinLacks
 pub mod ThinValues
 pub mod ThinHashes

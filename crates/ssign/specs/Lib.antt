@@ -1,5 +1,4 @@
 pub mod Verifier
-pub mod Log
 pub mod ReportText
 pub mod ThinText
 pub mod ThinReading

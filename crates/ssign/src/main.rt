@@ -3,10 +3,7 @@
 
 mod answers;
 mod command_line;
-mod fault;
-mod log;
 mod nobody;
-mod output;
 mod program;
 mod report;
 mod report_text;
@@ -18,11 +15,8 @@ mod tests;
 mod thin;
 
 pub use answers::{AnswerFault, Answers, SealFault, open_answers, read_answers};
-pub use fault::RunFault;
-pub use log::{Log, read_log};
 pub use nobody::Nobody;
-pub use output::write_whole;
-pub use report::{Entry, Report, SessionReport, SessionState, Verdict};
+pub use report::{Entry, Report, SessionReport, SessionState};
 pub use report_text::report_text;
 pub use review::review;
 pub use run::run_review;

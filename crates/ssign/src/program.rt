@@ -1,14 +1,13 @@
 //! The program: its command line, its streams and its exit statuses.
 use crate::answers::open_answers;
 use crate::command_line::{answers_file, command, limits_of};
-use crate::fault::RunFault;
 use crate::nobody::Nobody;
-use crate::report::Verdict;
 use crate::run::run_review;
 use crate::scheme::Judge;
 use clap::ArgMatches;
 use clap::error::ErrorKind;
 use ss_frame::{Buffered, Limits, Watched};
+use ss_report::{RunFault, Verdict};
 use std::alloc::AllocError;
 use std::fmt::Display;
 use std::io::BufWriter;

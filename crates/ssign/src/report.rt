@@ -51,13 +51,3 @@ pub struct Report {
     /// How many messages the log has.
     pub count: u32,
 }
-
-/// Whether a log leaves anything to look into.
-#[derive(Clone, Copy, Debug, PartialEq, Eq)]
-pub enum Verdict {
-    /// Each announced message is listed, each stored message is listed or a verified block, each session is
-    /// joined, and the log has a clean end.
-    Clean,
-    /// Something of that isn't so.
-    Findings,
-}

@@ -1,8 +1,8 @@
 //! What a review writes, and its verdict.
-use crate::report::Verdict;
 use crate::tests::book::{ALL, Book, CERTIFICATE_ALONE, NO_SIGNATURE, NO_TRUST, review_by};
 use crate::tests::logs::{CERTIFICATE, LONG, SHORT, SIGNATURE, log_of};
 use ss_frame::{Limits, Watched};
+use ss_report::Verdict;
 use std::process::Abort;
 use std::test::Fail;
 

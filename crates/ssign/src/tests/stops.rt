@@ -1,10 +1,9 @@
 //! Why a run stops, and that nothing is written then but by a write that failed.
-use crate::fault::RunFault;
-use crate::report::Verdict;
 use crate::tests::book::{ALL, review_by};
 use crate::tests::devices::{Failure, Sink, Source};
 use crate::tests::logs::{CERTIFICATE, LONG, SECOND_CERTIFICATE, SHORT, SIGNATURE, log_of};
 use ss_frame::{FrameFault, Limits, Watched};
+use ss_report::{RunFault, Verdict};
 use std::alloc::{AllocError, Global};
 use std::io::ErrorKind;
 use std::process::Abort;

@@ -1,6 +1,6 @@
 //! Why a run over a log gave no report.
 ghost use Rattle.std.specs.Prelude.{◌≡◌};
-ghost use Rattle.ssign.specs.declared.fault.RunFault.TheVariants.{Frame, Memory};
+ghost use Rattle.ss_report.specs.declared.fault.RunFault.TheVariants.{Frame, Memory};
 
 use ss_frame::FrameFault;
 use std::alloc::{AllocError, AllocFailed};
@@ -18,7 +18,7 @@ pub enum RunFault {
     /// W2: want of memory.
     #[error("W2")]
     Memory,
-    /// The log has blocks in a form that isn't reviewed yet.
+    /// The log has blocks in a form that isn't reviewed yet. Only a review answers it.
     #[error("not yet")]
     NotYet,
 }

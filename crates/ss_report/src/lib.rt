@@ -1,0 +1,12 @@
+//! What every run over a stored log needs: the log read to its end, a text written whole, and how the run ended.
+#![tactic(auto)]
+
+mod fault;
+mod log;
+mod output;
+mod verdict;
+
+pub use fault::RunFault;
+pub use log::{Log, read_log};
+pub use output::write_whole;
+pub use verdict::Verdict;
