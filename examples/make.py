@@ -4,6 +4,7 @@
 four-messages.frames   two messages, a certificate block and a signature block over the two
 four-messages.answers  what a signature checker says about that log that accepts all of it
 torn.frames            the first 100 octets of that log, as a crash leaves them
+kinds.frames           a message of each kind that `inspect` tells, and a torn end
 
 The two messages are the samples of FIPS 180, whose hashes are published, and the signatures are the three octets 0:
 these files show the layout, and nothing in them is signed by a real key (for that see openssl/ beside this file).
@@ -70,6 +71,14 @@ def signature_block():
     )
 
 
+def kinds():
+    """A plain message, one that isn't RFC 5424's, a block of each kind, a spoilt one, and the front of a frame."""
+    certificate, signature = map(signed, (certificate_block(), signature_block()))
+    plain = b"<13>1 2009-05-03T14:00:39Z h s - - - a job was done"
+    spoilt = signature.replace(b'VER="0111"', b'VER="0211"')
+    return b"".join(map(frame, [plain, FIRST, certificate, signature, spoilt])) + frame(SECOND)[:-1]
+
+
 def main():
     folder = sys.argv[1] if len(sys.argv) > 1 else os.path.dirname(os.path.abspath(__file__))
     texts = [certificate_block(), signature_block()]
@@ -81,7 +90,7 @@ def main():
     payload = in_base64(PAYLOAD)
     answers = [b"trust %s\n" % payload]
     answers += [b"yes %s %s %s\n" % (payload, in_base64(it), in_base64(SIGNATURE)) for it in texts]
-    made = {"four-messages.frames": log, "four-messages.answers": b"".join(answers), "torn.frames": log[:100]}
+    made = {"four-messages.frames": log, "four-messages.answers": b"".join(answers), "torn.frames": log[:100], "kinds.frames": kinds()}
     for name, octets in made.items():
         with open(os.path.join(folder, name), "wb") as file:
             file.write(octets)

@@ -1,1 +1,2 @@
 pub mod LogSoFar
+pub mod TextSoFar

@@ -3,6 +3,7 @@ ghost use Rattle.std.specs.Prelude.{◌≡◌};
 ghost use Rattle.ss_report.specs.declared.fault.RunFault.TheVariants.{Frame, Memory};
 
 use ss_frame::FrameFault;
+use ss_message::NoMemory;
 use std::alloc::{AllocError, AllocFailed};
 use thiserror::Error;
 
@@ -43,6 +44,14 @@ impl<T: Drop> From<AllocFailed<T>> for RunFault {
     ghost from_gives = { λ _ e. e ≡ Memory };
 
     fn from(_e: AllocFailed<T>) -> RunFault {
+        RunFault::Memory
+    }
+}
+
+impl From<NoMemory> for RunFault {
+    ghost from_gives = { λ _ e. e ≡ Memory };
+
+    fn from(_e: NoMemory) -> RunFault {
         RunFault::Memory
     }
 }

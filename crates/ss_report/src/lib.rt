@@ -2,11 +2,14 @@
 #![tactic(auto)]
 
 mod fault;
+mod inspect;
+mod inspection;
 mod log;
 mod output;
 mod verdict;
 
 pub use fault::RunFault;
+pub use inspect::run_inspect;
 pub use log::{Log, read_log};
 pub use output::write_whole;
 pub use verdict::Verdict;

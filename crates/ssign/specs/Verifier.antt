@@ -1,5 +1,5 @@
 -- What a verifier keeps.
-use Rattle.ssign.specs.declared.scheme.Verifier.{Verifier}
+use Rattle.ssign.specs.declared.judge.Verifier.{Verifier}
 
 module _ {S T C : Type 0} where
   -- the scheme that it answers for

@@ -11,11 +11,17 @@ pub fn command<'a>(alloc: Global) -> Result<Command<'a>, AllocError> {
         .arg(lines(alloc))?
         .arg(max_len(alloc))?
         .arg(max_messages(alloc))?;
+    let inspect = Command::new(alloc, "inspect")
+        .about("Says of each message what it is")
+        .arg(lines(alloc))?
+        .arg(max_len(alloc))?
+        .arg(max_messages(alloc))?;
     Command::new(alloc, "ssign")
         .about("Reviews stored logs of signed syslog messages (RFC 5424, RFC 5848)")
         .subcommand_required(true)
         .arg_required_else_help(true)
-        .subcommand(review)
+        .subcommand(review)?
+        .subcommand(inspect)
 }
 
 fn answers<'a>(alloc: Global) -> Arg<'a> {

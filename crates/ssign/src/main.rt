@@ -3,24 +3,24 @@
 
 mod answers;
 mod command_line;
+mod judge;
 mod nobody;
 mod program;
 mod report;
 mod report_text;
 mod review;
 mod run;
-mod scheme;
 #[cfg(test)]
 mod tests;
 mod thin;
 
 pub use answers::{AnswerFault, Answers, SealFault, open_answers, read_answers};
+pub use judge::{Judge, Verifier};
 pub use nobody::Nobody;
 pub use report::{Entry, Report, SessionReport, SessionState};
 pub use report_text::report_text;
 pub use review::review;
 pub use run::run_review;
-pub use scheme::{Judge, Scheme, Verifier};
 use std::process::ExitCode;
 
 fn main(rt: HostRuntime) -> ExitCode {

@@ -1,13 +1,13 @@
 //! The program: its command line, its streams and its exit statuses.
 use crate::answers::open_answers;
 use crate::command_line::{answers_file, command, limits_of};
+use crate::judge::Judge;
 use crate::nobody::Nobody;
 use crate::run::run_review;
-use crate::scheme::Judge;
 use clap::ArgMatches;
 use clap::error::ErrorKind;
 use ss_frame::{Buffered, Limits, Watched};
-use ss_report::{RunFault, Verdict};
+use ss_report::{RunFault, Verdict, run_inspect};
 use std::alloc::AllocError;
 use std::fmt::Display;
 use std::io::BufWriter;
@@ -16,7 +16,7 @@ use std::{env, io};
 
 /// No finding.
 const CLEAN: u8 = 0;
-/// The report has findings.
+/// Findings.
 const FINDINGS: u8 = 1;
 /// A refusal or a usage fault.
 const REFUSED: u8 = 2;
@@ -64,6 +64,7 @@ fn run_command<R: Input + Print + Eprint + Files + AllocGlobal>(
 ) -> u8 {
     match matches.subcommand() {
         Some(("review", options)) => review_command(rt, options),
+        Some(("inspect", options)) => inspect_command(rt, options),
         _ => REFUSED,
     }
 }
@@ -82,11 +83,7 @@ fn review_command<R: Input + Print + Eprint + Files + AllocGlobal>(
             Err(fault) => return refuse(rt, &fault),
         },
     };
-    match reviewed {
-        Ok(Verdict::Clean) => CLEAN,
-        Ok(Verdict::Findings) => FINDINGS,
-        Err(fault) => refuse(rt, &fault),
-    }
+    end(rt, reviewed)
 }
 
 /// Reviews standard input onto standard output, each through a buffer.
@@ -106,6 +103,41 @@ fn review_streams<R: Input + Print + AllocGlobal, J: Judge>(
     let mut reader = Watched::new(input);
     let mut writer = Watched::new(output);
     run_review(rt.alloc(), &mut reader, &mut writer, judge, limits)
+}
+
+fn inspect_command<R: Input + Print + Eprint + AllocGlobal>(
+    rt: &R,
+    options: &ArgMatches<'_>,
+) -> u8 {
+    let Some(limits) = limits_of(options) else {
+        return REFUSED;
+    };
+    end(rt, inspect_streams(rt, limits))
+}
+
+/// Inspects standard input onto standard output, each through a buffer.
+fn inspect_streams<R: Input + Print + AllocGlobal>(
+    rt: &R,
+    limits: Limits,
+) -> Result<Verdict, RunFault> {
+    let Ok(input) = Buffered::new(rt.alloc(), rt.reader()) else {
+        return Err(RunFault::Memory);
+    };
+    let Ok(output) = BufWriter::with_capacity(rt.alloc(), BUFFER_SIZE, io::writer(rt)) else {
+        return Err(RunFault::Memory);
+    };
+    let mut reader = Watched::new(input);
+    let mut writer = Watched::new(output);
+    run_inspect(rt.alloc(), &mut reader, &mut writer, limits)
+}
+
+/// The exit status of a run that ended so.
+fn end<R: Eprint>(rt: &R, ended: Result<Verdict, RunFault>) -> u8 {
+    match ended {
+        Ok(Verdict::Clean) => CLEAN,
+        Ok(Verdict::Findings) => FINDINGS,
+        Err(fault) => refuse(rt, &fault),
+    }
 }
 
 /// Says on standard error why nothing was done.

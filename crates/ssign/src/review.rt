@@ -8,12 +8,12 @@ mod judging;
 mod places;
 mod search;
 
+use crate::judge::Judge;
 use crate::report::{Entry, Report, SessionReport, SessionState};
 use crate::review::entries::{digests_of, entries_of};
 use crate::review::judging::judged;
 use crate::review::places::{all_places, refused, unlisted_places};
 use crate::review::search::{Found, Outcome, find_blocks};
-use crate::scheme::Judge;
 use ss_frame::Bytes;
 use std::alloc::{AllocError, Global};
 

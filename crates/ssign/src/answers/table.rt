@@ -10,7 +10,8 @@ use super::fault::SealFault;
 use super::key::Key;
 use super::lines::Lines;
 use super::place::Place;
-use crate::scheme::{Judge, Scheme};
+use crate::judge::Judge;
+use ss_block::Scheme;
 use std::alloc::{AllocError, Global};
 use std::marker::Model;
 

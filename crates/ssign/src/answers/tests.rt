@@ -3,7 +3,7 @@ ghost use Rattle.std.specs.Prelude.{◌≡◌};
 ghost use Rattle.ssign.specs.Answers.{trusted, valid};
 
 use super::{AnswerFault, Answers, SealFault, read_answers};
-use crate::scheme::{Judge, Verifier};
+use crate::judge::{Judge, Verifier};
 use ss_frame::Watched;
 use std::io;
 use std::io::{ErrorKind, Read};

@@ -1,15 +1,7 @@
-//! Signature schemes, and who answers for them.
+//! Who answers for a signature scheme.
 ghost use Rattle.std.specs.Prelude.{◌≡◌, List, ℕ, Bool};
 
-/// A signature scheme, of which contracts alone speak: which payloads are trusted, and which signatures of
-/// which octets are valid under a payload.
-pub trait Scheme {
-    /// The scheme trusts a payload.
-    ghost trusted: { Self → List ℕ → Bool };
-
-    /// Under a payload, octets have a valid signature.
-    ghost valid: { Self → List ℕ → List ℕ → List ℕ → Bool };
-}
+use ss_block::Scheme;
 
 /// Whoever answers for a scheme.
 pub trait Judge {

@@ -1,0 +1,124 @@
+#!/usr/bin/env bash
+# `inspect`: what each stored message is, one line a message, through the built program.
+# shellcheck source=tests/lib.sh
+. "$(dirname -- "$0")/lib.sh"
+need_program
+
+H='<110>1 - h s - - '
+A='qZk+NkcGgWq6PiVxeFDCbJzQ2J0='
+B='hJg+RBw70m66rkqh+VEp5eVGcPE='
+A2='ungWv48Bz+pBQUDeXa4iI7ADYaOWF3qctBD/YfIAFa0='
+certificate='[ssign-cert VER="0111" RSID="1" SG="0" SPRI="0" TPBL="27" INDEX="1" FLEN="27" FRAG="2009-05-03T14:00:39Z K S0VZ" SIGN="AAAA"]'
+signature="[ssign VER=\"0111\" RSID=\"1\" SG=\"0\" SPRI=\"0\" GBC=\"0\" FMN=\"1\" CNT=\"2\" HB=\"$A $B\" SIGN=\"AAAA\"]"
+
+# told WHAT MESSAGE LINE: the line about a message that is the only one of its log.
+told() {
+    run inspect < <(frame "$2")
+    expect "$1" 0 "$3"$'\nend 1' ''
+}
+
+run inspect <"$root/examples/kinds.frames"
+expect 'a message of each kind, and a torn end' 1 'plain 0
+unparsed 1 M1 0
+certificate 2 h s - 1 0 0 27 1 27
+signature 3 h s - 1 0 0 0 1 2
+spoilt 4 S3
+torn 531
+end 5' ''
+run inspect <"$root/examples/four-messages.frames"
+expect 'four messages' 0 'unparsed 0 M1 0
+unparsed 1 M1 0
+certificate 2 h s - 1 0 0 27 1 27
+signature 3 h s - 1 0 0 0 1 2
+end 4' ''
+run inspect <"$root/examples/openssl/signed.frames"
+expect 'real signatures' 0 'certificate 0 h s - 1 0 0 '"$(grep -o -a 'TPBL="[0-9]*"' "$root/examples/openssl/signed.frames" | tr -dc 0-9) 1 $(grep -o -a 'FLEN="[0-9]*"' "$root/examples/openssl/signed.frames" | tr -dc 0-9)"'
+plain 1
+plain 2
+signature 3 h s - 1 0 0 0 1 2
+end 4' ''
+run inspect </dev/null
+expect 'an empty log' 0 'end 0' ''
+
+# What stands in a block, and what stands beside it
+told 'another header' "<0>1 2009-05-03T14:00:39.25-07:00 host.example app 42 id ${signature/RSID=\"1\"/RSID=\"9999999999\"}" \
+    'signature 0 host.example app 42 9999999999 0 0 0 1 2'
+told 'no header field' "<191>1 - - - - - $certificate and a MSG" 'certificate 0 - - - 1 0 0 27 1 27'
+told 'elements beside the block' "${H}[x@1 SIGN=\"AAAA\"]$signature[y@1 a=\"\\]\"] hello SIGN=\"AAAA\"" 'signature 0 h s - 1 0 0 0 1 2'
+told 'SHA-256' "${H}[ssign VER=\"0121\" RSID=\"0\" SG=\"3\" SPRI=\"191\" GBC=\"9999999999\" FMN=\"9999999999\" CNT=\"1\" HB=\"$A2\" SIGN=\"AAAA\"]" \
+    'signature 0 h s - 0 3 191 9999999999 9999999999 1'
+told 'a fragment far inside its payload' "${H}[ssign-cert VER=\"0111\" RSID=\"1\" SG=\"0\" SPRI=\"0\" TPBL=\"99999999\" INDEX=\"99999999\" FLEN=\"1\" FRAG=\"x\" SIGN=\"AAAA\"]" \
+    'certificate 0 h s - 1 0 0 99999999 99999999 1'
+told 'a fragment whose value is shorter than its spelling' "${H}[ssign-cert VER=\"0111\" RSID=\"1\" SG=\"0\" SPRI=\"0\" TPBL=\"4\" INDEX=\"1\" FLEN=\"4\" FRAG=\"\\\"\\]\\\\x\" SIGN=\"AAAA\"]" \
+    'certificate 0 h s - 1 0 0 4 1 4'
+told 'a plain backslash in a fragment' "${H}[ssign-cert VER=\"0111\" RSID=\"1\" SG=\"0\" SPRI=\"0\" TPBL=\"2\" INDEX=\"1\" FLEN=\"2\" FRAG=\"\\x\" SIGN=\"AAAA\"]" \
+    'certificate 0 h s - 1 0 0 2 1 2'
+told 'another SD-ID in capitals' "$H[SSIGN]" 'plain 0'
+told 'the octets of a block in MSG alone' "<13>1 - - - - - - $signature" 'plain 0'
+
+# Each cause, and the first of two
+told 'both blocks' "$H$certificate$signature" 'spoilt 0 S1'
+told 'both blocks, one of them with a wrong name' "$H$certificate[ssign]" 'spoilt 0 S1'
+told 'no parameter' "${H}[ssign]" 'spoilt 0 S2'
+told 'one parameter too many' "$H${signature/ SIGN=/ X=\"\" SIGN=}" 'spoilt 0 S2'
+told 'a name in small letters and a wrong version' "$H${signature/VER=\"0111\"/ver=\"0211\"}" 'spoilt 0 S2'
+told 'an unknown version and a bad number' "$H${signature/VER=\"0111\" RSID=\"1\"/VER=\"0211\" RSID=\"x\"}" 'spoilt 0 S3'
+told 'a needless zero and a wrong count' "$H${signature/CNT=\"2\"/CNT=\"03\"}" 'spoilt 0 S4'
+told 'a group that is none' "$H${signature/SG=\"0\"/SG=\"4\"}" 'spoilt 0 S4'
+told 'a fragment at 0' "$H${certificate/INDEX=\"1\"/INDEX=\"0\"}" 'spoilt 0 S4'
+told 'three hashes announced, two there' "$H${signature/CNT=\"2\"/CNT=\"3\"}" 'spoilt 0 S5'
+told 'no hash' "${H}[ssign VER=\"0111\" RSID=\"1\" SG=\"0\" SPRI=\"0\" GBC=\"0\" FMN=\"1\" CNT=\"1\" HB=\"\" SIGN=\"AAAA\"]" 'spoilt 0 S6'
+told 'hashes of the other version' "$H${signature/VER=\"0111\"/VER=\"0121\"}" 'spoilt 0 S6'
+unsigned=${signature/SIGN=\"AAAA\"/SIGN=\"\"}
+told 'a hash without its padding and no signature' "$H${unsigned/J0= /J0 }" 'spoilt 0 S6'
+told 'no signature and a last number of eleven digits' "$H${unsigned/FMN=\"1\"/FMN=\"9999999999\"}" 'spoilt 0 S7'
+told 'unused bits that are not zero' "$H${certificate/SIGN=\"AAAA\"/SIGN=\"AAB=\"}" 'spoilt 0 S7'
+told 'a fragment past the end of its payload' "$H${certificate/TPBL=\"27\"/TPBL=\"26\"}" 'spoilt 0 S8'
+told 'a fragment of another length' "$H${certificate/FLEN=\"27\"/FLEN=\"26\"}" 'spoilt 0 S8'
+told 'a last number of eleven digits' "$H${signature/FMN=\"1\"/FMN=\"9999999999\"}" 'spoilt 0 S9'
+told 'a last number of ten digits' "$H${signature/FMN=\"1\"/FMN=\"9999999998\"}" 'signature 0 h s - 1 0 0 0 9999999998 2'
+
+# Messages that aren't RFC 5424's, with the part and the position
+told 'a priority of 192' '<192>1 - - - - - -' 'unparsed 0 M1 0'
+told 'version 2' '<13>2 - - - - - -' 'unparsed 0 M2 4'
+told 'a 29 February that there was not' '<13>1 2023-02-29T00:00:00Z - - - - -' 'unparsed 0 M3 6'
+told 'no structured data' '<13>1 - - - - -' 'unparsed 0 M7 14'
+told 'octets behind the structured data' '<13>1 - - - - - -x' 'unparsed 0 M8 17'
+told 'an element without a name' '<13>1 - - - - - [=' 'unparsed 0 M9 17'
+told 'an SD-ID twice' '<13>1 - - - - - [a][a]' 'unparsed 0 M11 20'
+told 'a block element twice' "$H$signature$signature" "unparsed 0 M11 $((17 + ${#signature} + 1))"
+run inspect < <(frame '<13>1 - - - - - [a b="X"]' | LC_ALL=C tr X '\303')
+expect 'a value that is not UTF-8' 0 $'unparsed 0 M10 22\nend 1' ''
+run inspect < <(printf '22 <13>1 - - - - - - \357\273\277\377')
+expect 'a marked MSG that is not UTF-8' 0 $'unparsed 0 M12 18\nend 1' ''
+
+# Lines, limits and refusals, as in a review
+run inspect --lines < <(printf '%s\n' abc "$H$certificate" 'ab')
+expect 'lines' 0 $'unparsed 0 M1 0\ncertificate 1 h s - 1 0 0 27 1 27\nunparsed 2 M1 0\nend 3' ''
+run inspect --lines < <(printf 'abc\nab')
+expect 'a line without its LF' 1 $'unparsed 0 M1 0\ntorn 4\nend 1' ''
+run inspect --lines < <(printf 'abc\n\n')
+expect 'an empty line' 2 '' 'ssign: F9 4'
+run inspect < <(printf '3 abc3 ab')
+expect 'a torn frame' 1 $'unparsed 0 M1 0\ntorn 5\nend 1' ''
+run inspect < <(printf '3 abcx')
+expect 'an octet that is no length' 2 '' 'ssign: F1 5'
+run inspect --max-len 3 < <(printf '3 abc4 abcd')
+expect 'a frame over --max-len' 2 '' 'ssign: F2 5'
+run inspect --max-messages 1 < <(printf '1 a1 b')
+expect 'a message too many' 2 '' 'ssign: F5 3'
+run inspect <"$root"
+expect 'a folder as standard input' 2 '' 'ssign: F3'
+run inspect --answers "$root/examples/four-messages.answers" </dev/null
+expect 'an option of another command' 2 '' 'SOME TEXT'
+run inspect --help
+expect 'help' 0 'SOME TEXT' ''
+if [[ -c /dev/full ]]; then
+    timeout "$patience" "$program" inspect <"$root/examples/kinds.frames" >/dev/full 2>"$scratch/err"
+    status=$?
+    : >"$scratch/out"
+    expect 'a full device' 2 '' 'ssign: W1'
+fi
+run inspect < <(yes '3 abc' | head -n 20000 | tr -d '\n')
+expect 'a log of many messages' 0 "$(seq -f 'unparsed %.0f M1 0' 0 19999)"$'\nend 20000' ''
+finish
