@@ -1,10 +1,11 @@
 #!/usr/bin/env python3
 """What a file of answers costs: seconds and peak memory, against the octets of the file.
 
-    bench/answers.py PROGRAM [--signed COUNT..] [--short COUNT..] [--generator gen_log.py]
+    bench/answers.py PROGRAM [--signed COUNT..] [--short COUNT..] [--generator PROGRAM]
 
 PROGRAM is run as `PROGRAM review --answers FILE` with nothing on standard input, so that reading the answers is
-all of its work. `--signed` takes the answers of a signed log of COUNT messages, as the generator writes them;
+all of its work. `--signed` takes the answers of a signed log of COUNT messages, as a generator of logs writes them, which is
+called with `--count COUNT --signed --answers FILE`;
 `--short` takes COUNT lines `trust P` of a payload of eight octets, the most lines that a file of its size has in
 practice. The peak is that of the process less that of a run on an empty file, told as a ratio to the file's octets.
 """
@@ -52,8 +53,10 @@ def main():
     parser.add_argument("program")
     parser.add_argument("--signed", type=int, nargs="*", default=[])
     parser.add_argument("--short", type=int, nargs="*", default=[])
-    parser.add_argument("--generator", default="../shared/bench/gen_log.py")
+    parser.add_argument("--generator")
     given = parser.parse_args()
+    if given.signed and not given.generator:
+        parser.error("--signed wants a --generator")
     with tempfile.TemporaryDirectory() as folder:
         path = os.path.join(folder, "answers")
         open(path, "wb").close()

@@ -2,7 +2,7 @@
 # Times the reader of messages over texts that strangers could send, at 256 KiB and at 1 MiB. Four times the octets
 # should take about four times as long. Each text stands 60 times in its file, and the time to scan the file is taken off.
 #
-#   rt ci                      leaves the program behind
+#   ./check                    leaves the program behind
 #   bench/messages.sh [LOG]    LOG: a log of one message a line, which is timed too
 set -eu
 here=$(cd "$(dirname "$0")/.." && pwd)
