@@ -1,4 +1,5 @@
--- What a message is to a review (RFC 5848, sections 4 and 5): a block, a spoilt block, or a normal message.
+-- What a stored text is to a review (RFC 5848, sections 4 and 5): a block, a spoilt block, a message without a block, or
+-- no message of RFC 5424.
 use Rattle.std.specs.Prelude.{ℕ, ◌+◌, Bool, true, ◌&&◌, ◌||◌, not, List, [], ◌∷◌, length, drop, map, flat_map, codes, Option, Some, None, Result, Ok, Err, nat_lt, ◌==◌, if◌then◌else◌, is_some}
 use Rattle.std.specs.List.{list_all, slice_split}
 use Rattle.std.specs.Str.{bytes_eq}

@@ -44,7 +44,7 @@ signed_from t (Err e) = None
 unfoldable pub signed : List ℕ → Option (List ℕ)
 signed t = signed_from t (layout_at t)
 
--- The text is that of a message with one block element, whose ninth parameter is SIGN, and these octets are what is left
+-- The text is that of a message with a block element, whose ninth parameter is SIGN, and these octets are what is left
 -- of it without that parameter and the SP before it: all up to the first eight parameters of the element, and all from its
 -- `]` on.
 pub record IsWithoutSign (t octets : List ℕ) : Type 0 where

@@ -64,7 +64,7 @@ impl Joiner {
     /// (INDEX, 1 to 99,999,999), of which there are 1 to 9,999 (FLEN), the last within the total. Whether it disagrees
     /// with a fragment that was added before; it is added then too.
     ///
-    /// Where memory runs out, `NoMemory`, and the joiner is as it was.
+    /// Where memory runs out, `NoMemory`, and the joiner stands for what it did before.
     pub fn add(&mut self, total: u32, index: u32, fragment: &[u8]) -> Result<Joined, NoMemory>
         requires total { (1 ≤ total) × (total ≤ 99999999) }
         requires index { (1 ≤ index) × (index ≤ 99999999) }

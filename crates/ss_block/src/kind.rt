@@ -8,7 +8,7 @@ ghost use Rattle.ss_block.specs.PayloadReading.{kind_in};
 pub enum Kind {
     /// `C`: a PKIX certificate.
     C,
-    /// `P`: an OpenPGP certificate.
+    /// `P`: an OpenPGP key.
     P,
     /// `K`: a public key.
     K,

@@ -1,4 +1,5 @@
-//! Signature blocks and certificate blocks (RFC 5848, sections 4 and 5): read from messages, and what is signed of them.
+//! Signature blocks and certificate blocks (RFC 5848, sections 4 and 5): read from messages and written, what is signed
+//! of them, their sessions, and payloads with their fragments.
 #![tactic(auto)]
 
 mod block;

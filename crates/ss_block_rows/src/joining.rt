@@ -1,4 +1,4 @@
-//! Fragments that agree and disagree, in every order, and far too many of them.
+//! Fragments that agree and disagree, rising and falling, and far too many of them.
 use ss_block::{JoinState, Joined, Joiner};
 use ss_message::NoMemory;
 use std::alloc::Global;

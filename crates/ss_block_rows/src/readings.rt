@@ -1,4 +1,4 @@
-//! What texts are: blocks with all their fields, each cause, alone and beside each later one, and each form in which a
+//! What texts are: blocks with all their fields, each cause, alone and beside later ones, and each form in which a
 //! parameter may stand or may not.
 use ss_block::{Alg, Group, Hash, Reading, Spoil, classify};
 use ss_message::Part;

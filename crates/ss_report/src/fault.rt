@@ -1,4 +1,4 @@
-//! Why a run over a log gave no report.
+//! Why a run over a log gave no output.
 ghost use Rattle.std.specs.Prelude.{◌≡◌};
 ghost use Rattle.ss_report.specs.declared.fault.RunFault.TheVariants.{Frame, Memory};
 
@@ -7,13 +7,13 @@ use ss_message::NoMemory;
 use std::alloc::{AllocError, AllocFailed};
 use thiserror::Error;
 
-/// Why a run gave no report. But for a failed write, nothing was written.
+/// Why a run gave no output. But for a failed write, nothing was written.
 #[derive(Clone, Copy, Debug, PartialEq, Eq, Error)]
 pub enum RunFault {
     /// The log couldn't be read to its end: F1 to F5, or F9.
     #[error("{0}")]
     Frame(FrameFault),
-    /// W1: a write failed. What was written is a prefix of the report.
+    /// W1: a write failed. What was written is a prefix of the output.
     #[error("W1")]
     Write,
     /// W2: want of memory.

@@ -1,4 +1,5 @@
-//! What every run over a stored log needs: the log read to its end, a text written whole, and how the run ended.
+//! What every run over a stored log needs, the log read to its end, a text written whole, and how the run ended; and the
+//! inspection, which says what each message is.
 #![tactic(auto)]
 
 mod fault;
