@@ -77,7 +77,7 @@ fn accepted(rt: HostRuntime) {
     }
 }
 
-const REFUSED: [(&[u8], Part, usize); 90] = [
+const REFUSED: [(&[u8], Part, usize); 94] = [
     (b"", Part::Pri, 0),
     (b"<", Part::Pri, 0),
     (b"<>1 - - - - - -", Part::Pri, 0),
@@ -161,6 +161,9 @@ const REFUSED: [(&[u8], Part, usize); 90] = [
     (b"<13>1 - - - - - [a ", Part::Name, 19),
     (b"<13>1 - - - - - [a ]", Part::Name, 19),
     (b"<13>1 - - - - - [a  b=\"\"]", Part::Name, 19),
+    (b"<13>1 - - - - - [a b=\"\" =]", Part::Name, 24),
+    (b"<13>1 - - - - - [a][", Part::Name, 20),
+    (b"<13>1 - - - - - [a b=\"\\", Part::Syntax, 23),
     (b"<13>1 - - - - - [a b=\"\xC3\"]", Part::Value, 22),
     (b"<13>1 - - - - - [a b=\"\xED\xA0\x80\" =]", Part::Value, 22),
     (b"<13>1 - - - - - [a][a]", Part::RepeatedId, 20),
@@ -176,6 +179,7 @@ const REFUSED: [(&[u8], Part, usize); 90] = [
         51,
     ),
     (b"<13>1 - - - - - - \xEF\xBB\xBF\xFF", Part::Msg, 18),
+    (b"<13>1 - - - - - [a] \xEF\xBB\xBF\xFF", Part::Msg, 20),
 ];
 
 #[test]
