@@ -1,7 +1,7 @@
 //! What holds of every text: each law is a call that does nothing, and its clause is the law.
-ghost use Rattle.ss_block.specs.ReadingLaws.{ReadingsAreOfValues};
+ghost use Rattle.ss_block.specs.ReadingLaws.{ReadingsAreOfValues, UnparsedTextsFail};
 
-use ss_message::laws::{faults_are_of_no_message, one_text};
+use ss_message::laws::{faults_are_of_no_message, faults_are_rows, one_text};
 
 /// What a text is is told by the one value whose text it is, and a text that is told to be no message is the text of
 /// no value.
@@ -10,4 +10,12 @@ pub fn readings_are_of_values()
 {
     faults_are_of_no_message();
     one_text();
+}
+
+/// A text is told to be no message exactly where it fails by a row of the table of faults, with that row's part and
+/// position.
+pub fn unparsed_texts_fail()
+    ensures { UnparsedTextsFail }
+{
+    faults_are_rows();
 }
