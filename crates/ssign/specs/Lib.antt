@@ -11,3 +11,4 @@ pub mod Answers
 pub mod AnswerLine
 pub mod AnswerKey
 pub mod AnswerInput
+pub mod CommandLine

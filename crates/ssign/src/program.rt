@@ -1,4 +1,7 @@
 //! The program: its command line, its streams and its exit statuses.
+ghost use Rattle.std.specs.Prelude.{◌≡◌, ◌≤◌, map};
+ghost use Rattle.ssign.specs.CommandLine.{AreMistaken, status_of};
+
 use crate::answers::open_answers;
 use crate::command_line::{answers_file, command, limits_of};
 use crate::judge::Judge;
@@ -25,7 +28,9 @@ const REFUSED: u8 = 2;
 const BUFFER_SIZE: usize = 65_536;
 
 /// Runs the program, and gives its exit status.
-pub fn run<R: Input + Print + Eprint + Env + Files + AllocGlobal>(rt: &R) -> u8 {
+pub fn run<R: Input + Print + Eprint + Env + Files + AllocGlobal>(rt: &R) -> u8
+    ensures { result ≤ 2 }
+{
     match words(rt) {
         Ok(words) => run_words(rt, words.as_slice()),
         Err(_) => refuse(rt, &RunFault::Memory),
@@ -40,7 +45,10 @@ fn words<R: Env + AllocGlobal>(rt: &R) -> io::Result<Vec<String>> {
     Ok(words)
 }
 
-fn run_words<R: Input + Print + Eprint + Files + AllocGlobal>(rt: &R, words: &[String]) -> u8 {
+fn run_words<R: Input + Print + Eprint + Files + AllocGlobal>(rt: &R, words: &[String]) -> u8
+    ensures most { result ≤ 2 }
+    ensures usage { AreMistaken (map (λ word. word.bytes.items) words.now) → result ≡ 2 }
+{
     let Ok(command) = command(rt.alloc()) else {
         return refuse(rt, &RunFault::Memory);
     };
@@ -61,7 +69,9 @@ fn run_words<R: Input + Print + Eprint + Files + AllocGlobal>(rt: &R, words: &[S
 fn run_command<R: Input + Print + Eprint + Files + AllocGlobal>(
     rt: &R,
     matches: &ArgMatches<'_>,
-) -> u8 {
+) -> u8
+    ensures { result ≤ 2 }
+{
     match matches.subcommand() {
         Some(("review", options)) => review_command(rt, options),
         Some(("inspect", options)) => inspect_command(rt, options),
@@ -72,7 +82,9 @@ fn run_command<R: Input + Print + Eprint + Files + AllocGlobal>(
 fn review_command<R: Input + Print + Eprint + Files + AllocGlobal>(
     rt: &R,
     options: &ArgMatches<'_>,
-) -> u8 {
+) -> u8
+    ensures { result ≤ 2 }
+{
     let Some(limits) = limits_of(options) else {
         return REFUSED;
     };
@@ -105,10 +117,9 @@ fn review_streams<R: Input + Print + AllocGlobal, J: Judge>(
     run_review(rt.alloc(), &mut reader, &mut writer, judge, limits)
 }
 
-fn inspect_command<R: Input + Print + Eprint + AllocGlobal>(
-    rt: &R,
-    options: &ArgMatches<'_>,
-) -> u8 {
+fn inspect_command<R: Input + Print + Eprint + AllocGlobal>(rt: &R, options: &ArgMatches<'_>) -> u8
+    ensures { result ≤ 2 }
+{
     let Some(limits) = limits_of(options) else {
         return REFUSED;
     };
@@ -132,7 +143,10 @@ fn inspect_streams<R: Input + Print + AllocGlobal>(
 }
 
 /// The exit status of a run that ended so.
-fn end<R: Eprint>(rt: &R, ended: Result<Verdict, RunFault>) -> u8 {
+fn end<R: Eprint>(rt: &R, ended: Result<Verdict, RunFault>) -> u8
+    ensures status { result ≡ status_of ended }
+    ensures most { result ≤ 2 }
+{
     match ended {
         Ok(Verdict::Clean) => CLEAN,
         Ok(Verdict::Findings) => FINDINGS,
@@ -140,8 +154,10 @@ fn end<R: Eprint>(rt: &R, ended: Result<Verdict, RunFault>) -> u8 {
     }
 }
 
-/// Says on standard error why nothing was done.
-fn refuse<R: Eprint, F: Display>(rt: &R, fault: &F) -> u8 {
+/// Says on standard error why there is no verdict.
+fn refuse<R: Eprint, F: Display>(rt: &R, fault: &F) -> u8
+    ensures { result ≡ 2 }
+{
     let _ = eprintln!(rt; "ssign: {fault}");
     REFUSED
 }
