@@ -82,6 +82,12 @@ told 'a last number of ten digits' "$H${signature/FMN=\"1\"/FMN=\"9999999998\"}"
 told 'a priority of 192' '<192>1 - - - - - -' 'unparsed 0 M1 0'
 told 'version 2' '<13>2 - - - - - -' 'unparsed 0 M2 4'
 told 'a 29 February that there was not' '<13>1 2023-02-29T00:00:00Z - - - - -' 'unparsed 0 M3 6'
+x=$(printf 'x%.0s' {1..256})
+told 'each field as long as it may be' "<13>1 - ${x:0:255} ${x:0:48} ${x:0:128} ${x:0:32} -" 'plain 0'
+told 'a HOSTNAME of 256 octets' "<13>1 - $x - - - -" 'unparsed 0 M4 8'
+told 'an APP-NAME of 49 octets' "<13>1 - - ${x:0:49} - - -" 'unparsed 0 M5 10'
+told 'a PROCID of 129 octets' "<13>1 - - - ${x:0:129} - -" 'unparsed 0 M6 12'
+told 'a MSGID of 33 octets' "<13>1 - - - - ${x:0:33} -" 'unparsed 0 M7 14'
 told 'no structured data' '<13>1 - - - - -' 'unparsed 0 M7 14'
 told 'octets behind the structured data' '<13>1 - - - - - -x' 'unparsed 0 M8 17'
 told 'an element without a name' '<13>1 - - - - - [=' 'unparsed 0 M9 17'
