@@ -11,7 +11,7 @@ use Rattle.ss_block.specs.declared.reading.Reading.TheVariants.{Certificate, Spo
 use Rattle.ss_block.specs.declared.certificate_reading.CertificateNumbers.{CertificateNumbers}
 use Rattle.ss_block.specs.Block as block
 use Rattle.ss_block.specs.Block.{IsCertificate}
-use Rattle.ss_block.specs.Encoded.{octets_in}
+use Rattle.ss_payload.specs.StrictBase64.{octets_in}
 use Rattle.ss_block.specs.Number.{number}
 use Rattle.ss_block.specs.Reading.{has_names, is_version, alg_of, or_none, certificate_names, certificate_texts, certificate_numbers, certificate_block, certificate_reading}
 use Rattle.ss_block.specs.Causes.{Reads, IsCertificateNumbers, misfits}

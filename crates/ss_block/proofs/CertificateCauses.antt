@@ -5,7 +5,7 @@ use Rattle.ss_message.specs.Message.{ElementValue}
 use Rattle.ss_block.specs.declared.spoil.Spoil.TheVariants as spoils
 use Rattle.ss_block.specs.declared.reading.Reading.{Reading}
 use Rattle.ss_block.specs.declared.reading.Reading.TheVariants.{Certificate, Spoilt}
-use Rattle.ss_block.specs.Encoded.{octets_in}
+use Rattle.ss_payload.specs.StrictBase64.{octets_in}
 use Rattle.ss_block.specs.Reading.{has_names, first_cause, is_version, certificate_names, certificate_texts, certificate_numbers, certificate_block, unless_spoilt, certificate_reading}
 use Rattle.ss_block.specs.Causes.{misfits}
 

@@ -1,17 +1,7 @@
-pub mod Adding
-pub mod JoiningLaws
-pub mod Placed
-pub mod Runs
-pub mod Standing
 pub mod Numbers
-pub mod Base64Text
 pub mod Filled
 pub mod HashTexts
-pub mod DecodedOctets
 pub mod Meanings
-pub mod CutLists
-pub mod StampEnds
-pub mod Payloads
 pub mod Lookups
 pub mod Plain
 pub mod Values

@@ -11,7 +11,7 @@ use Rattle.ss_block.specs.declared.reading.Reading.TheVariants.{Signature, Spoil
 use Rattle.ss_block.specs.declared.signature_reading.SignatureNumbers.{SignatureNumbers}
 use Rattle.ss_block.specs.Block as block
 use Rattle.ss_block.specs.Block.{is_of, IsSignature}
-use Rattle.ss_block.specs.Encoded.{octets_in}
+use Rattle.ss_payload.specs.StrictBase64.{octets_in}
 use Rattle.ss_block.specs.Number.{number}
 use Rattle.ss_block.specs.Reading.{has_names, first_cause, is_version, alg_of, pieces, hashes_in, or_none, signature_names, signature_texts, signature_numbers, signature_block, signature_reading}
 use Rattle.ss_block.specs.declared.refusal.Refusal.TheVariants as refusals

@@ -7,7 +7,7 @@ use Rattle.ss_block.specs.declared.spoil.Spoil.{Spoil}
 use Rattle.ss_block.specs.declared.spoil.Spoil.TheVariants as spoils
 use Rattle.ss_block.specs.declared.reading.Reading.{Reading}
 use Rattle.ss_block.specs.declared.reading.Reading.TheVariants.{Signature, Spoilt}
-use Rattle.ss_block.specs.Encoded.{octets_in}
+use Rattle.ss_payload.specs.StrictBase64.{octets_in}
 use Rattle.ss_block.specs.Number.{number}
 use Rattle.ss_block.specs.Reading.{has_names, first_cause, is_version, alg_of, hash_in, pieces, signature_names, SignatureTexts, signature_texts, signature_numbers, signature_block, unless_spoilt, signature_reading}
 use Rattle.ss_block.specs.Causes.{hash_causes}

@@ -1,0 +1,9 @@
+pub mod StrictBase64
+pub mod Joiner
+pub mod Joining
+pub mod JoiningLaws
+pub mod Slots
+pub mod Totals
+pub mod Cuts
+pub mod Payload
+pub mod PayloadReading
