@@ -3,6 +3,8 @@ pub mod Joiner
 pub mod Joining
 pub mod JoiningLaws
 pub mod Slots
+pub mod RunSlots
+pub mod Room
 pub mod Totals
 pub mod Cuts
 pub mod Payload

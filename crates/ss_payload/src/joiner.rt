@@ -4,6 +4,7 @@ ghost use Rattle.ss_payload.specs.declared.joiner.JoinState.TheVariants.{Whole};
 ghost use Rattle.ss_payload.specs.declared.joiner.Joined.TheVariants.{Disagrees};
 ghost use Rattle.ss_payload.specs.Joining.{Stated, nothing_stated, with_fragment, DisagreesWith, HasState, IsPayload};
 ghost use Rattle.ss_payload.specs.Joiner.{Stands, KeepsAll, LacksSome};
+ghost use Rattle.ss_payload.specs.Room.{HasNoRoom, GrowsFor};
 
 mod runs;
 mod slot;
@@ -36,8 +37,8 @@ pub enum JoinState {
 }
 
 /// Joins the fragments of a payload, which may come in any order, overlap and come again. Nothing is reserved for a
-/// total that is stated: it keeps room for the octets that came. Each octet of a fragment takes time by the logarithm of
-/// how many are kept.
+/// total that is stated: it keeps room for the octets that came, by sixteen indexes each. A fragment takes time by its
+/// octets, and for each sixteen of them by the logarithm of how many are kept.
 #[derive(Drop)]
 pub struct Joiner {
     alloc: Global,
@@ -50,7 +51,8 @@ pub struct Joiner {
 impl Joiner {
     /// A joiner to which nothing was stated. It takes no memory, and keeps the allocator for later.
     pub fn new(alloc: Global) -> Joiner
-        ensures { Stands result nothing_stated }
+        ensures stands { Stands result nothing_stated }
+        ensures room { HasNoRoom result }
     {
         Joiner {
             alloc,
@@ -76,6 +78,8 @@ impl Joiner {
         ensures answer { (stated : Stated)
             → Stands self.old stated
             → IfOk result (λ joined. (joined ≡ Disagrees) ↔ DisagreesWith stated total index fragment.now) }
+        // It makes room for the octets of this fragment alone, also where memory runs out.
+        ensures room { GrowsFor self.old self.new index (length fragment.now) }
     {
         self.runs.make_room(index, fragment.len())?;
         let other_total = self.totals.differs(total);

@@ -5,7 +5,7 @@ use Rattle.std.specs.BTreeMap as tree
 use Rattle.std.proofs.lemmas.Grind.{common_steps}
 use Rattle.ss_payload.specs.declared.joiner.slot.Slot.TheVariants.{Empty}
 use Rattle.ss_payload.specs.Slots.{slot_at, HasRun}
-use Rattle.ss_payload.proofs.Runs.{run_made, empty_run, some_stays, some_there}
+use Rattle.ss_payload.proofs.Runs.{run_made, empty_run, some_stays, some_there, get_apart}
 use Rattle.ss_payload.proofs.joiner.runs.Runs.make_run.Goals as goal
 
 pub returns-in_ok-insert-clause-same : goal.returns-in_ok-insert-clause-same
@@ -33,3 +33,11 @@ returns-in_err-insert-clause-kept c = λ n h. grind (arith, common_steps)
 pub returns-else-not-contains_key-clause-made : goal.returns-else-not-contains_key-clause-made
 unfolding HasRun
 returns-else-not-contains_key-clause-made c = grind (arith, common_steps)
+
+pub returns-in_ok-insert-clause-alone : goal.returns-in_ok-insert-clause-alone
+unfolding HasRun
+returns-in_ok-insert-clause-alone c = λ n ne h. rw (get_apart c.args.self.now.runs c.insert.new.self c.args.number (replicate 16 Empty) c.in_ok-insert.ensures.updates n ne) at h
+
+pub returns-in_err-insert-clause-alone : goal.returns-in_err-insert-clause-alone
+unfolding HasRun
+returns-in_err-insert-clause-alone c = λ n ne h. grind (arith, common_steps)
