@@ -1,5 +1,6 @@
 pub mod Number
 pub mod Block
+pub mod Hashes
 pub mod Reading
 pub mod Signed
 pub mod Session

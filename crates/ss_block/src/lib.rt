@@ -27,7 +27,7 @@ mod texts;
 mod writing;
 
 pub use block::{CertBlock, Group, SigBlock};
-pub use hash::{Alg, Hash, HashPair, pair_of};
+pub use hash::{Alg, Hash, HashPair, hash_of, pair_of};
 pub use hashes::Hashes;
 pub use head::Head;
 pub use reading::{Reading, classify};
