@@ -4,6 +4,7 @@
 
 mod block;
 mod certificate_reading;
+mod copies;
 mod elements;
 mod hash;
 mod hash_text;

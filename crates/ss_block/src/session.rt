@@ -4,9 +4,11 @@ ghost use Rattle.ss_message.specs.Layout.{field_of, value_of};
 ghost use Rattle.ss_block.specs.Parsed.{IsRead};
 ghost use Rattle.ss_block.specs.Reading.{reading};
 ghost use Rattle.ss_block.specs.Session.{field_from, session, session_if_block};
+ghost use Rattle.ss_block.specs.Writing.{head_session};
 
+use crate::copies::{copy_of, copy_of_field};
+use crate::head::Head;
 use crate::reading::{Reading, message_reading};
-use ss_frame::Bytes;
 use ss_message::{Fault, Field, Message, NoMemory, parse};
 use std::alloc::Global;
 
@@ -23,6 +25,34 @@ pub struct Session {
     pub rsid: u64,
 }
 
+impl Session {
+    /// The session of the blocks that are sent under this head since the reboot with this RSID.
+    ///
+    /// Errs only where memory runs out. It is taken for the three fields.
+    pub fn of_head(alloc: Global, head: &Head, rsid: u64) -> Result<Session, NoMemory>
+        ensures { IfOk result (λ s. s ≡ head_session head.now rsid) }
+    {
+        Ok(Session {
+            host: copy_of_field(alloc, head.hostname())?,
+            app: copy_of_field(alloc, head.app_name())?,
+            procid: copy_of_field(alloc, head.procid())?,
+            rsid,
+        })
+    }
+
+    /// The same session, in memory of its own. Errs only where memory runs out.
+    pub fn try_clone(&self, alloc: Global) -> Result<Session, NoMemory>
+        ensures { IfOk result (λ s. s ≡ self.now) }
+    {
+        Ok(Session {
+            host: copy_of_field(alloc, &self.host)?,
+            app: copy_of_field(alloc, &self.app)?,
+            procid: copy_of_field(alloc, &self.procid)?,
+            rsid: self.rsid,
+        })
+    }
+}
+
 // The field of the header that these octets spell; `-` is the absent one.
 fn field(alloc: Global, octets: &[u8]) -> Result<Field, NoMemory>
     ensures { IfOk result (λ f. f ≡ field_from (field_of octets.now)) }
@@ -30,7 +60,7 @@ fn field(alloc: Global, octets: &[u8]) -> Result<Field, NoMemory>
     if octets == b"-".as_slice() {
         return Ok(Field::Nil);
     }
-    Ok(Field::Text(Bytes::from_vec(Vec::from_slice(alloc, octets)?)))
+    Ok(Field::Text(copy_of(alloc, octets)?))
 }
 
 // The session of a message that was read as this; none unless that is a block.
