@@ -4,6 +4,8 @@ pub mod Hashes
 pub mod Reading
 pub mod Signed
 pub mod Session
+pub mod Order
+pub mod OrderLaws
 pub mod Meanings
 pub mod Causes
 pub mod ReadingLaws

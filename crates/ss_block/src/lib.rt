@@ -12,6 +12,7 @@ mod hashes;
 mod head;
 pub mod laws;
 mod number;
+mod order;
 mod parameters;
 mod parsed;
 mod reading;
