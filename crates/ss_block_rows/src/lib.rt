@@ -5,6 +5,8 @@
 #[cfg(test)]
 mod joining;
 #[cfg(test)]
+mod orders;
+#[cfg(test)]
 mod payloads;
 #[cfg(test)]
 mod readings;
