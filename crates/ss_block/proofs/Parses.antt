@@ -1,6 +1,6 @@
 -- What is told of a text through its parse.
 use Rattle.std.proofs.Common.{◌≡◌, ℕ, List, Some, None, Result, Ok, Err, ◌⊎◌, inl, inr, refl, sym, ap, ◌∙◌}
-use Rattle.ss_message.specs.declared.fault.Fault.{Fault}
+use Rattle.ss_message.specs.declared.fault.BadPart.{BadPart}
 use Rattle.ss_message.specs.declared.fault.Part.{Part}
 use Rattle.ss_message.specs.declared.draft.Field.{Field}
 use Rattle.ss_message.specs.declared.message.Message.{Message}
@@ -19,7 +19,7 @@ pub signed_none : (t : List ℕ) → IsParsed t None → None ≡ signed t
 unfolding signed
 signed_none t fault = by_layout t (layout_at t) fault
   where
-    by_layout : (t : List ℕ) (r : Result Layout Fault) → IsFault r → None ≡ signed_from t r
+    by_layout : (t : List ℕ) (r : Result Layout BadPart) → IsFault r → None ≡ signed_from t r
     by_layout t (Ok l) fault = absurd fault
     by_layout t (Err e) fault = refl
 
@@ -43,7 +43,7 @@ pub session_none : (t : List ℕ) → IsParsed t None → None ≡ session t
 unfolding session
 session_none t fault = by_layout t (layout_at t) fault
   where
-    by_layout : (t : List ℕ) (r : Result Layout Fault) → IsFault r → None ≡ session_at t r
+    by_layout : (t : List ℕ) (r : Result Layout BadPart) → IsFault r → None ≡ session_at t r
     by_layout t (Ok l) fault = absurd fault
     by_layout t (Err e) fault = refl
 

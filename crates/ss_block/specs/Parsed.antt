@@ -1,6 +1,6 @@
 -- What a text was parsed to.
 use Rattle.std.specs.Prelude.{◌≡◌, ℕ, List, Option, Some, None, Result, Ok, Err}
-use Rattle.ss_message.specs.declared.fault.Fault.{Fault}
+use Rattle.ss_message.specs.declared.fault.BadPart.{BadPart}
 use Rattle.ss_message.specs.declared.message.Message.{Message}
 use Rattle.ss_message.specs.Message.{IsMessage, text}
 use Rattle.ss_message.specs.Layout.{Layout, layout_of, value_of}
@@ -14,7 +14,7 @@ pub record IsRead (m : Message) : Type 0 where
   pub spelled : m.source.now ≡ text (value_of m)
   pub places : PartsLie m.source.now (layout_of m)
 
-abbrev pub IsFault : Result Layout Fault → Type 0
+abbrev pub IsFault : Result Layout BadPart → Type 0
 IsFault (Ok l) = ⊥
 IsFault (Err e) = Unit {0}
 

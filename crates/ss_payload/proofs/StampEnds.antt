@@ -3,7 +3,7 @@ use Rattle.std.proofs.Common.{◌≡◌, ℕ, ◌+◌, Bool, true, false, cond, 
 use Rattle.std.specs.Prelude.{ok_or}
 use Rattle.std.specs.List.{prefix_len}
 use Rattle.std.proofs.lemmas.List.{drop_at}
-use Rattle.ss_message.specs.declared.fault.Fault.{Fault}
+use Rattle.ss_message.specs.declared.fault.BadPart.{BadPart}
 use Rattle.ss_message.specs.Octets.{is_no_space}
 use Rattle.ss_message.specs.Stamp.{Moment}
 use Rattle.ss_message.specs.Message.{timestamp_text, is_timestamp}
@@ -11,7 +11,7 @@ use Rattle.ss_message.specs.Reading.{◌>>=◌, timestamp_at}
 use Rattle.ss_message.proofs.Standing.{stands_from}
 use Rattle.ss_message.proofs.Fields.{timestamp_again}
 
-end_is : (fails absent : Bool) (stamp : Option Moment) (end : ℕ) (f g : Fault) (x : Option Moment × ℕ)
+end_is : (fails absent : Bool) (stamp : Option Moment) (end : ℕ) (f g : BadPart) (x : Option Moment × ℕ)
     → cond fails (Err f) (cond absent (Ok (None, end)) (ok_or stamp g >>= λ m. Ok (Some m, end))) ≡ Ok x → x.1 ≡ end
 end_is true absent stamp end f g x e = absurd cc
 end_is false true stamp end f g x e = let same : (None, end) ≡ x = cc in sym (ap (λ (y : Option Moment × ℕ). y.1) same)

@@ -1,7 +1,7 @@
 use Rattle.std.proofs.Common.{◌≡◌, Err, Ok, sym, ◌∙◌, ap, subst, List, ℕ}
 use Rattle.std.specs.Prelude.{IfOk}
-use Rattle.ss_message.specs.declared.fault.Fault.TheVariants.{Bad}
 use Rattle.ss_message.specs.Layout.{layout_of, value_at}
+use Rattle.ss_message.specs.Reading.{bad}
 use Rattle.ss_block.specs.declared.reading.Reading.{Reading}
 use Rattle.ss_block.specs.Reading.{value_reading}
 use Rattle.ss_block.proofs.Readings.{reading_is}
@@ -16,5 +16,5 @@ returns-in-Ok c =
 pub returns-in-Err-Bad : goal.returns-in-Err-Bad
 returns-in-Err-Bad c =
     let a = rw c.in-Err-Bad.field-0-is at c.in-Err-Bad.ensures.fault in
-    let e = sym (reading_is c.args.bytes.now (Err (Bad c.in-Err-Bad.part c.in-Err-Bad.pos)) a) in
+    let e = sym (reading_is c.args.bytes.now (Err (bad c.in-Err-Bad.part c.in-Err-Bad.pos)) a) in
     rw (c.in-Err-Bad.part-is, c.in-Err-Bad.pos-is) (record { value = e })

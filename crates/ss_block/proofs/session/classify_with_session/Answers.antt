@@ -1,8 +1,7 @@
 use Rattle.std.proofs.Common.{Err, Ok, sym, ◌∙◌, ap, subst, List, ℕ}
-use Rattle.ss_message.specs.declared.fault.Fault.TheVariants.{Bad}
 use Rattle.ss_message.specs.Layout.{layout_of, value_at, value_of}
 use Rattle.ss_message.specs.Places.{PartsLie}
-use Rattle.ss_message.specs.Reading.{layout_at}
+use Rattle.ss_message.specs.Reading.{bad, layout_at}
 use Rattle.ss_block.specs.declared.reading.Reading.{Reading}
 use Rattle.ss_block.specs.Parsed.{IsRead, IsFault}
 use Rattle.ss_block.specs.Reading.{value_reading}
@@ -32,7 +31,7 @@ returns-in_ok-session-in-Ok-clause-session c =
 pub returns-in-Err-Bad-clause-reading : goal.returns-in-Err-Bad-clause-reading
 returns-in-Err-Bad-clause-reading c =
     let a = rw c.in-Err-Bad.field-0-is at c.in-Err-Bad.ensures.fault in
-    let e = sym (reading_is c.args.bytes.now (Err (Bad c.in-Err-Bad.part c.in-Err-Bad.pos)) a) in
+    let e = sym (reading_is c.args.bytes.now (Err (bad c.in-Err-Bad.part c.in-Err-Bad.pos)) a) in
     rw (c.in-Err-Bad.part-is, c.in-Err-Bad.pos-is) e
 
 pub returns-in-Err-Bad-clause-session : goal.returns-in-Err-Bad-clause-session
