@@ -18,7 +18,7 @@ absent="ssign: the program isn't built from these sources yet, and the command r
 tools=$scratch/tools
 with_rt=$scratch/with_rt:$tools
 mkdir -- "$tools" "$scratch/with_rt"
-for tool in bash cat chmod cp dirname env find flock mkdir nproc readlink rm sleep tail touch; do
+for tool in bash cat chmod cp dirname env find flock grep mkdir nproc readlink rm sleep tail touch; do
     found=$(command -v "$tool") && ln -s -- "$found" "$tools/$tool"
 done
 
