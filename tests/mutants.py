@@ -12,6 +12,7 @@ of its own. One lane a processor works at that, as many as there is memory for, 
 import os
 import queue
 import re
+import resource
 import shutil
 import signal
 import subprocess
@@ -398,6 +399,8 @@ def try_all(word):
                 try_edits(run, edits)
         except BadEdit as fault:
             run.tell("mutants", False, str(fault))
+        used = resource.getrusage(resource.RUSAGE_CHILDREN)
+        print(f"mutants: {(used.ru_utime + used.ru_stime) / 60:.0f} minutes of one processor")
         print(f"{run.passed} passed, {run.failed} failed", flush=True)
         return run.failed
 
