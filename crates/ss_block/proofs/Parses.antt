@@ -10,8 +10,8 @@ use Rattle.ss_message.specs.Reading.{layout_at}
 use Rattle.ss_block.specs.declared.reading.Reading.{Reading}
 use Rattle.ss_block.specs.declared.reading.Reading.TheVariants.{Plain, Unparsed, Spoilt}
 use Rattle.ss_block.specs.declared.spoil.Spoil.{Spoil}
-use Rattle.ss_block.specs.Parsed.{IsFault, IsParsed}
-use Rattle.ss_block.specs.Reading.{value_reading}
+use Rattle.ss_block.specs.Parsed.{IsFault, IsParsed, IsReadAs}
+use Rattle.ss_block.specs.Reading.{value_reading, reading_from, reading}
 use Rattle.ss_block.specs.Session.{field_from, session, session_at, session_from, session_if_block}
 use Rattle.ss_block.specs.Signed.{signed, signed_from, signed_if_block}
 
@@ -63,3 +63,18 @@ session_other t r v read told other = sym (told ∙ ap (λ (x : Reading). sessio
 pub session_made : (v : MessageValue) (host app procid : Field) (rsid : ℕ) → host ≡ field_from v.hostname → app ≡ field_from v.app_name → procid ≡ field_from v.procid
     → Some (record { host = host; app = app; procid = procid; rsid = rsid }) ≡ Some (session_from v rsid)
 session_made v host app procid rsid a b c = cc
+
+-- ---- as a text was read
+
+pub reading_some : (t : List ℕ) (m : Message) → IsParsed t (Some m) → reading t ≡ value_reading (value_of m)
+unfolding reading
+reading_some t m p = ap reading (sym p.0) ∙ ap (reading_from m.source.now) p.1.layout
+
+pub value_read : (t : List ℕ) (r : Reading) (m : Message) → IsReadAs t r (Some m) → r ≡ value_reading (value_of m)
+value_read t r m read = read.reading ∙ reading_some t m read.parsed
+
+pub session_read : (t : List ℕ) (r : Reading) (m : Message) → IsReadAs t r (Some m) → session_if_block r (value_of m) ≡ session t
+session_read t r m read = ap (λ (x : Reading). session_if_block x (value_of m)) (value_read t r m read) ∙ sym (session_some t m read.parsed)
+
+pub signed_read : (t : List ℕ) (r : Reading) (m : Message) → IsReadAs t r (Some m) → signed_if_block r (value_of m) ≡ signed t
+signed_read t r m read = ap (λ (x : Reading). signed_if_block x (value_of m)) (value_read t r m read) ∙ sym (signed_some t m read.parsed)

@@ -6,6 +6,7 @@ mod block;
 mod certificate_reading;
 mod copies;
 mod elements;
+mod full_reading;
 mod hash;
 mod hash_text;
 mod hashes;
@@ -14,7 +15,7 @@ pub mod laws;
 mod number;
 mod order;
 mod parameters;
-mod parsed;
+
 mod reading;
 mod refusal;
 mod scheme;
@@ -29,6 +30,7 @@ mod texts;
 mod writing;
 
 pub use block::{CertBlock, Group, SigBlock};
+pub use full_reading::{FullReading, read_fully};
 pub use hash::{Alg, Hash, HashPair, hash_of, pair_of};
 pub use hashes::Hashes;
 pub use head::Head;

@@ -8,8 +8,8 @@ ghost use Rattle.ss_block.specs.Writing.{head_session};
 
 use crate::copies::{copy_of, copy_of_field};
 use crate::head::Head;
-use crate::reading::{Reading, message_reading};
-use ss_message::{Fault, Field, Message, NoMemory, parse};
+use crate::reading::{Reading, read};
+use ss_message::{Field, Message, NoMemory};
 use std::alloc::Global;
 
 /// Who sent a block, and since which reboot: the header fields of its message and RSID (RFC 5848, section 4.2).
@@ -65,7 +65,7 @@ fn field(alloc: Global, octets: &[u8]) -> Result<Field, NoMemory>
 
 // The session of a message that was read as this; none unless that is a block.
 #[tactic(auto, unfolding(crate::specs::Session::session))]
-fn session_with(
+pub(crate) fn session_with(
     alloc: Global,
     message: &Message<'_>,
     reading: &Reading,
@@ -96,15 +96,12 @@ pub fn classify_with_session(
     ensures reading { IfOk result (λ x. x.0 ≡ reading bytes.now) }
     ensures session { IfOk result (λ x. x.1 ≡ session bytes.now) }
 {
-    match parse(alloc, bytes) {
-        Ok(message) => {
-            let reading = message_reading(alloc, &message)?;
-            let session = session_with(alloc, &message, &reading)?;
-            Ok((reading, session))
-        }
-        Err(Fault::Bad { part, pos }) => Ok((Reading::Unparsed { part, pos }, None)),
-        Err(Fault::Memory) => Err(NoMemory),
-    }
+    let (reading, message) = read(alloc, bytes)?;
+    let Some(message) = message else {
+        return Ok((reading, None));
+    };
+    let session = session_with(alloc, &message, &reading)?;
+    Ok((reading, session))
 }
 
 /// The session of a block message: its HOSTNAME, APP-NAME and PROCID, and RSID. None unless `bytes` are a message
