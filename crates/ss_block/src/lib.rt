@@ -15,7 +15,6 @@ pub mod laws;
 mod number;
 mod order;
 mod parameters;
-
 mod reading;
 mod refusal;
 mod scheme;
