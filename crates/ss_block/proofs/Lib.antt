@@ -10,6 +10,8 @@ pub mod Refusals
 pub mod SignatureBlocks
 pub mod CertificateBlocks
 pub mod Readings
+pub mod ReadBlocks
+pub mod Standings
 pub mod CertificateCauses
 pub mod Placing
 pub mod Blocks

@@ -9,6 +9,7 @@ pub mod OrderLaws
 pub mod Meanings
 pub mod Causes
 pub mod ReadingLaws
+pub mod Stands
 pub mod Parsed
 pub mod SignPlace
 pub mod Head
