@@ -1,9 +1,9 @@
-use Rattle.std.proofs.Common.{Err, Ok, Some, None, sym, ◌∙◌, ap, subst, List, ℕ}
+use Rattle.std.proofs.Common.{Err, Ok, sym, ◌∙◌, ap, subst, List, ℕ}
 use Rattle.ss_message.specs.declared.fault.Fault.TheVariants.{Bad}
 use Rattle.ss_message.specs.Layout.{layout_of, value_at}
 use Rattle.ss_message.specs.Places.{PartsLie}
 use Rattle.ss_message.specs.Reading.{layout_at}
-use Rattle.ss_block.specs.Parsed.{IsFault, IsRead, IsReadAs}
+use Rattle.ss_block.specs.Parsed.{IsFault}
 use Rattle.ss_block.specs.Reading.{value_reading}
 use Rattle.ss_block.proofs.Readings.{reading_is}
 use Rattle.ss_block.proofs.reading.read.Goals as goal
@@ -15,12 +15,15 @@ returns-in_ok-reading-in-Ok c =
     let source = c.in-Ok.ensures.source in
     record {
       reading = c.in_ok-reading-in-Ok.ensures ∙ ap (λ (b : List ℕ). value_reading (value_at b l)) source ∙ sym (reading_is c.args.bytes.now (Ok l) c.in-Ok.ensures.fault);
-      parsed = (source, record {
-        layout = ap layout_at source ∙ c.in-Ok.ensures.fault;
-        valid = c.in-Ok.ensures.found.0;
-        spelled = source ∙ c.in-Ok.ensures.found.1;
-        places = subst (λ (t : List ℕ). PartsLie t l) (sym source) c.in-Ok.ensures.places;
-      });
+      parsed = (
+        source,
+        record {
+          layout = ap layout_at source ∙ c.in-Ok.ensures.fault;
+          valid = c.in-Ok.ensures.found.0;
+          spelled = source ∙ c.in-Ok.ensures.found.1;
+          places = subst (λ (t : List ℕ). PartsLie t l) (sym source) c.in-Ok.ensures.places;
+        },
+      );
     }
 
 pub returns-in-Err-Bad : goal.returns-in-Err-Bad
