@@ -2,8 +2,7 @@
 use Rattle.std.proofs.Common.{◌≡◌, ℕ, true, List, Option, Some, None, Result, Ok, Err, refl, sym, ◌∙◌}
 use Rattle.std.specs.Prelude.{codes, is_some}
 use Rattle.std.specs.List.{list_all}
-use Rattle.ss_message.specs.declared.fault.Fault.{Fault}
-use Rattle.ss_message.specs.declared.fault.Fault.TheVariants.{Bad, Memory}
+use Rattle.ss_message.specs.declared.fault.BadPart.{BadPart}
 use Rattle.ss_message.specs.Message.{ElementValue, MessageValue, has_raws}
 use Rattle.ss_message.specs.Layout.{Layout, value_at}
 use Rattle.ss_message.specs.Reading.{layout_at}
@@ -55,22 +54,20 @@ certificate_there es (Some e) (Some f) b raws found h = absurd cc
 pub signature_in_range : (t : List ℕ) (b : block.Signature) → reading t ≡ Signature b → IsSignature b
 signature_in_range t b told = by_layout t b (layout_at t) (sym (reading_is t (layout_at t) refl) ∙ told)
   where
-    by_layout : (t : List ℕ) (b : block.Signature) (r : Result Layout Fault) → reading_from t r ≡ Signature b → IsSignature b
+    by_layout : (t : List ℕ) (b : block.Signature) (r : Result Layout BadPart) → reading_from t r ≡ Signature b → IsSignature b
     by_layout t b (Ok l) told =
         let es = (value_at t l).elements in
         signature_there (element_with (codes "ssign") es) (element_with (codes "ssign-cert") es) b told
-    by_layout t b (Err (Bad part pos)) told = absurd cc
-    by_layout t b (Err Memory) told = absurd cc
+    by_layout t b (Err e) told = absurd cc
 
 pub certificate_in_range : FaultsAreOfNoMessage → (t : List ℕ) (b : block.Certificate) → reading t ≡ Certificate b → IsCertificate b
 certificate_in_range faults t b told = by_layout faults t b (layout_at t) refl (sym (reading_is t (layout_at t) refl) ∙ told)
   where
-    by_layout : FaultsAreOfNoMessage → (t : List ℕ) (b : block.Certificate) (r : Result Layout Fault) → layout_at t ≡ r → reading_from t r ≡ Certificate b → IsCertificate b
+    by_layout : FaultsAreOfNoMessage → (t : List ℕ) (b : block.Certificate) (r : Result Layout BadPart) → layout_at t ≡ r → reading_from t r ≡ Certificate b → IsCertificate b
     by_layout faults t b (Ok l) layout told =
         let es = (value_at t l).elements in
         certificate_there es (element_with (codes "ssign") es) (element_with (codes "ssign-cert") es) b (faults.0 t l layout).0.raws refl told
-    by_layout faults t b (Err (Bad part pos)) layout told = absurd cc
-    by_layout faults t b (Err Memory) layout told = absurd cc
+    by_layout faults t b (Err e) layout told = absurd cc
 
 -- ---- what is signed, and the session
 
@@ -85,10 +82,9 @@ signed_there t = by_layout t (layout_at t)
     by_reading (Certificate b) v = refl
     by_reading (Spoilt cause) v = refl
 
-    by_layout : (t : List ℕ) (r : Result Layout Fault) → is_some (signed_from t r) ≡ is_block (reading_from t r)
+    by_layout : (t : List ℕ) (r : Result Layout BadPart) → is_some (signed_from t r) ≡ is_block (reading_from t r)
     by_layout t (Ok l) = by_reading (reading_from t (Ok l)) (value_at t l)
-    by_layout t (Err (Bad part pos)) = refl
-    by_layout t (Err Memory) = refl
+    by_layout t (Err e) = refl
 
 pub session_there : (t : List ℕ) → is_some (session t) ≡ is_block (reading t)
 unfolding session reading
@@ -101,7 +97,6 @@ session_there t = by_layout t (layout_at t)
     by_reading (Certificate b) v = refl
     by_reading (Spoilt cause) v = refl
 
-    by_layout : (t : List ℕ) (r : Result Layout Fault) → is_some (session_at t r) ≡ is_block (reading_from t r)
+    by_layout : (t : List ℕ) (r : Result Layout BadPart) → is_some (session_at t r) ≡ is_block (reading_from t r)
     by_layout t (Ok l) = by_reading (reading_from t (Ok l)) (value_at t l)
-    by_layout t (Err (Bad part pos)) = refl
-    by_layout t (Err Memory) = refl
+    by_layout t (Err e) = refl
