@@ -14,7 +14,7 @@ pub record AreFrom (index octets size : ℕ) (cuts : List Cut) : Type 0 where
   pub full : (before : List Cut) (c next : Cut) (after : List Cut) → cuts ≡ before ++ c ∷ next ∷ after → c.len ≡ size
   pub last : (before : List Cut) (c : Cut) → cuts ≡ before ++ c ∷ [] → (1 ≤ c.len) × (c.len ≤ size)
 
-more_octets : (c : Cut) (cuts : List Cut) → octet_count (c ∷ cuts) ≡ c.len + octet_count cuts
+pub more_octets : (c : Cut) (cuts : List Cut) → octet_count (c ∷ cuts) ≡ c.len + octet_count cuts
 more_octets c cuts = sum_by-cons (λ (d : Cut). d.len) c cuts
 
 none_split : (before : List Cut) (c : Cut) (after : List Cut) → [] ≡ before ++ c ∷ after → ⊥
@@ -33,7 +33,7 @@ none_left index size = record {
 }
 
 -- the first piece has an octet at least
-first_size : (index octets size : ℕ) (c : Cut) (cuts : List Cut) → 1 ≤ size → AreFrom index octets size (c ∷ cuts) → (1 ≤ c.len) × (c.len ≤ size)
+pub first_size : (index octets size : ℕ) (c : Cut) (cuts : List Cut) → 1 ≤ size → AreFrom index octets size (c ∷ cuts) → (1 ≤ c.len) × (c.len ≤ size)
 first_size index octets size c [] some a = a.last [] c refl
 first_size index octets size c (d ∷ cuts) some a = let e = a.full [] c d cuts refl in (omega arith, omega arith)
 
@@ -74,7 +74,7 @@ one_more index octets size c cuts rest at some most full = record {
     last_more (b ∷ before) d e = rest.last before d (parts_same c b cuts (before ++ d ∷ []) e).1
 
 -- what stands behind the first piece
-one_less : (index octets size : ℕ) (c : Cut) (cuts : List Cut) → AreFrom index octets size (c ∷ cuts) → AreFrom (index + c.len) (octets - c.len) size cuts
+pub one_less : (index octets size : ℕ) (c : Cut) (cuts : List Cut) → AreFrom index octets size (c ∷ cuts) → AreFrom (index + c.len) (octets - c.len) size cuts
 one_less index octets size c cuts a = record {
   follow = λ before d after e. omega (arith, a.follow (c ∷ before) d after (ap (λ (t : List Cut). c ∷ t) e), more_octets c before);
   end = omega (arith, more_octets c cuts, a.end);
@@ -152,7 +152,7 @@ all_cut octets size start cuts begun end =
     let a : AreFrom 1 octets size cuts = subst (AreFrom 1 octets size) (append-nil cuts) (begun.whole [] left) in
     record { follow = a.follow; end = a.end; full = a.full; last = a.last }
 
-from_cuts : (octets size : ℕ) (cuts : List Cut) → AreCuts octets size cuts → AreFrom 1 octets size cuts
+pub from_cuts : (octets size : ℕ) (cuts : List Cut) → AreCuts octets size cuts → AreFrom 1 octets size cuts
 from_cuts octets size cuts a = record { follow = a.follow; end = a.end; full = a.full; last = a.last }
 
 -- Two lists of pieces of one text are one.

@@ -8,3 +8,7 @@ pub mod DecodedOctets
 pub mod CutLists
 pub mod StampEnds
 pub mod Payloads
+pub mod FragmentLaws
+pub mod PlacedPieces
+pub mod SentPieces
+pub mod PayloadTexts

@@ -125,9 +125,11 @@ module _ (old mid new : Runs) (index start : ℕ) (octets piece : List ℕ) (is 
   }
 
   pub more_differ : start + length piece ≤ length octets → SomeDiffers mid (index + start) piece → SomeDiffers old index octets
-  more_differ within d =
-      (start + d.0, omega (arith, within, d.1),
-      ap (λ (o : ℕ). slot_differs (slot_at old (index + (start + d.0))) o) (sym (is d.0 d.1)) ∙ ap (λ (s : Slot). slot_differs s (slice_index piece d.0)) (sym (there d.0)) ∙ d.2)
+  more_differ within d = (
+    start + d.0,
+    omega (arith, within, d.1),
+    ap (λ (o : ℕ). slot_differs (slot_at old (index + (start + d.0))) o) (sym (is d.0 d.1)) ∙ ap (λ (s : Slot). slot_differs s (slice_index piece d.0)) (sym (there d.0)) ∙ d.2,
+  )
 
   pub more_agree : NoneDiffers old index octets start → NoneDiffers mid (index + start) piece (length piece) → NoneDiffers old index octets (start + length piece)
   more_agree before d j lt = ⊎_elim

@@ -1,6 +1,7 @@
 pub mod StrictBase64
 pub mod Joiner
 pub mod Joining
+pub mod Fragments
 pub mod JoiningLaws
 pub mod Slots
 pub mod RunSlots
@@ -9,3 +10,5 @@ pub mod Totals
 pub mod Cuts
 pub mod Payload
 pub mod PayloadReading
+pub mod PayloadLaws
+pub mod CuttingLaws

@@ -1,5 +1,5 @@
 //! What holds of all that the fragments of a payload can state.
-ghost use Rattle.ss_payload.specs.JoiningLaws.{DisputesStay, OnePayload, OneState, OrderIsFree, RepeatsAreFree};
+ghost use Rattle.ss_payload.specs.JoiningLaws.{DisputesStay, OctetsAreOfFragments, OnePayload, OneState, OrderIsFree, PiecesAreWhole, RepeatsAreFree, TotalsAreOfFragments};
 
 /// What is disputed stays so, whatever fragment comes.
 pub fn disputes_stay()
@@ -24,4 +24,19 @@ pub fn one_state()
 /// What is stated has one payload, unless it is disputed.
 pub fn one_payload()
     ensures { OnePayload }
+{}
+
+/// A total is stated by fragments where some fragment states it.
+pub fn totals_are_of_fragments()
+    ensures { TotalsAreOfFragments }
+{}
+
+/// An octet is stated by fragments where some fragment has it at the index.
+pub fn octets_are_of_fragments()
+    ensures { OctetsAreOfFragments }
+{}
+
+/// The pieces of a text, sent in any order and as often as one likes, are a whole payload, which is the text.
+pub fn pieces_are_whole()
+    ensures { PiecesAreWhole }
 {}
