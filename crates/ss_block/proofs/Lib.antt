@@ -24,3 +24,4 @@ pub mod WrittenSignatures
 pub mod WrittenCertificates
 pub mod Written
 pub mod JoinedHashes
+pub mod Pieces

@@ -15,6 +15,7 @@ pub mod SignPlace
 pub mod Head
 pub mod Writing
 pub mod WritingLaws
+pub mod FragmentLaws
 pub use Rattle.ss_payload.specs.StrictBase64
 pub use Rattle.ss_payload.specs.Payload
 pub use Rattle.ss_payload.specs.PayloadReading
@@ -22,3 +23,7 @@ pub use Rattle.ss_payload.specs.Cuts
 pub use Rattle.ss_payload.specs.Joining
 pub use Rattle.ss_payload.specs.Joiner
 pub use Rattle.ss_payload.specs.JoiningLaws
+pub use Rattle.ss_payload.specs.Fragments
+pub use Rattle.ss_payload.specs.PayloadLaws
+pub use Rattle.ss_payload.specs.Room
+pub use Rattle.ss_payload.specs.CuttingLaws
