@@ -1,6 +1,6 @@
 //! Asks a frame reader for its frames, and compares each answer with what is wanted.
-use crate::pieces::Pieces;
-use ss_frame::{FrameFault, FrameReader, Limits, Step, Watched};
+use crate::devices::Pieces;
+use ss_frame::{Form, FrameFault, FrameReader, Limits, Step, Watched};
 use std::process::Abort;
 
 /// What a call is to answer.
@@ -36,9 +36,29 @@ impl<'w> Want<'w> {
     }
 }
 
+/// The form of a stream, the most octets of a message, and the most messages.
+pub type Bounds = (Form, u32, u32);
+
+/// The standard limits, for frames.
+pub const FRAMES: Bounds = (Form::Frames, 65_536, 10_000_000);
+
+/// The standard limits, for lines.
+pub const LINES: Bounds = (Form::Lines, 65_536, 10_000_000);
+
+/// The limits with these bounds.
+pub fn limits_of(bounds: Bounds) -> Option<Limits> {
+    let (form, max_len, max_messages) = bounds;
+    let limits = Limits::new(max_len, max_messages)?;
+    Some(match form {
+        Form::Frames => limits,
+        Form::Lines => limits.lines(),
+    })
+}
+
 /// One call, which is to answer `want` and leave `offset` octets taken, of the reader as of the frames.
-pub fn ask(
+fn ask(
     rt: &impl Abort,
+    name: &str,
     frames: &mut FrameReader,
     pieces: &mut Pieces<'_>,
     want: Want<'_>,
@@ -50,39 +70,27 @@ pub fn ask(
     *pieces = reader.into_inner();
     assert!(rt;
         want.is_given(&answer),
-        "{answer:?}, not {want:?}, at {offset}"
+        "{name}: {answer:?}, not {want:?}, at {offset}"
     );
-    assert_eq!(rt; frames.offset(), offset, "after {want:?}");
-    assert_eq!(rt; pieces.taken, offset, "after {want:?}");
+    assert_eq!(rt; frames.offset(), offset, "{name}: after {want:?}");
+    assert_eq!(rt; pieces.taken, offset, "{name}: after {want:?}");
     assert_eq!(rt;
         read_failed,
         matches!(want, Want::Fault(FrameFault::Read)),
-        "at {offset}"
+        "{name}: at {offset}"
     );
     assert_eq!(rt;
         frames.failed(),
         matches!(want, Want::Fault(_)),
-        "at {offset}"
+        "{name}: at {offset}"
     );
 }
 
-/// Two more calls after the end that `last` was, which read nothing.
-pub fn ask_again(
-    rt: &impl Abort,
-    frames: &mut FrameReader,
-    pieces: &mut Pieces<'_>,
-    last: Want<'_>,
-    offset: u64,
-) {
-    let reads = pieces.reads;
-    ask(rt, frames, pieces, last.again(), offset);
-    ask(rt, frames, pieces, last.again(), offset);
-    assert_eq!(rt; pieces.reads, reads, "after {last:?}");
-}
-
-/// Asks for all frames of `pieces`. Each answer is wanted with the octets that are then taken. The last is an end.
+/// Asks for all frames of `pieces`. Each answer is wanted with the octets that are then taken. The last is an end, and two
+/// more calls after it read nothing.
 pub fn ask_all(
     rt: &(impl Abort + AllocGlobal),
+    name: &str,
     limits: Limits,
     pieces: Pieces<'_>,
     wants: &[(Want<'_>, u64)],
@@ -90,10 +98,13 @@ pub fn ask_all(
     let mut pieces = pieces;
     let mut frames = FrameReader::new(rt.alloc(), limits);
     for (want, offset) in wants {
-        ask(rt, &mut frames, &mut pieces, *want, *offset);
+        ask(rt, name, &mut frames, &mut pieces, *want, *offset);
     }
     if let Some((last, offset)) = wants.last() {
-        ask_again(rt, &mut frames, &mut pieces, *last, *offset);
+        let reads = pieces.reads;
+        ask(rt, name, &mut frames, &mut pieces, last.again(), *offset);
+        ask(rt, name, &mut frames, &mut pieces, last.again(), *offset);
+        assert_eq!(rt; pieces.reads, reads, "{name}: after {last:?}");
     }
 }
 

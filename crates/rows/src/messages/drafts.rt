@@ -109,29 +109,6 @@ const HEADERS: [(u8, [&[u8]; 4], Part); 8] = [
     ),
 ];
 
-#[test]
-fn headers(rt: HostRuntime) -> Result<(), Fail> {
-    let alloc = rt.alloc();
-    for (pri, fields, part) in &HEADERS {
-        let mut draft = empty(alloc);
-        draft.pri = *pri;
-        draft.hostname = field(alloc, fields[0])?;
-        draft.app_name = field(alloc, fields[1])?;
-        draft.procid = field(alloc, fields[2])?;
-        draft.msgid = field(alloc, fields[3])?;
-        assert_eq!(rt; refused(alloc, &draft), bad(*part), "{part:?}");
-    }
-    Ok(())
-}
-
-#[test]
-fn no_text(rt: HostRuntime) -> Result<(), Fail> {
-    let mut draft = empty(rt.alloc());
-    draft.hostname = Field::Text(bytes(rt.alloc(), b"")?);
-    assert_eq!(rt; refused(rt.alloc(), &draft), bad(Part::Hostname));
-    Ok(())
-}
-
 /// SD-ID, name and value of a parameter, a second SD-ID, a MSG, and the part that is refused.
 const BODIES: [([&[u8]; 5], Part); 8] = [
     (
@@ -153,6 +130,16 @@ const BODIES: [([&[u8]; 5], Part); 8] = [
     ([b"a", b"b", b"c", b"d", b"\xEF\xBB\xBF\xFF"], Part::Msg),
 ];
 
+fn header(alloc: Global, pri: u8, texts: &[&[u8]; 4]) -> Result<Draft, AllocError> {
+    let mut draft = empty(alloc);
+    draft.pri = pri;
+    draft.hostname = field(alloc, texts[0])?;
+    draft.app_name = field(alloc, texts[1])?;
+    draft.procid = field(alloc, texts[2])?;
+    draft.msgid = field(alloc, texts[3])?;
+    Ok(draft)
+}
+
 fn body(alloc: Global, texts: &[&[u8]; 5]) -> Result<Draft, AllocError> {
     let mut elements = Vec::new(alloc);
     elements.push(element(alloc, texts[0], texts[1], texts[2])?)?;
@@ -164,10 +151,19 @@ fn body(alloc: Global, texts: &[&[u8]; 5]) -> Result<Draft, AllocError> {
 }
 
 #[test]
-fn bodies(rt: HostRuntime) -> Result<(), Fail> {
-    for (texts, part) in &BODIES {
-        let draft = body(rt.alloc(), texts)?;
-        assert_eq!(rt; refused(rt.alloc(), &draft), bad(*part), "{part:?}");
+fn not_written(rt: HostRuntime) -> Result<(), Fail> {
+    let alloc = rt.alloc();
+    for (pri, texts, part) in &HEADERS {
+        let draft = header(alloc, *pri, texts)?;
+        assert_eq!(rt; refused(alloc, &draft), bad(*part), "{pri} {texts:?}");
     }
+    for (texts, part) in &BODIES {
+        let draft = body(alloc, texts)?;
+        assert_eq!(rt; refused(alloc, &draft), bad(*part), "{texts:?}");
+    }
+    // A text without an octet is no text.
+    let mut draft = empty(alloc);
+    draft.hostname = Field::Text(bytes(alloc, b"")?);
+    assert_eq!(rt; refused(alloc, &draft), bad(Part::Hostname));
     Ok(())
 }

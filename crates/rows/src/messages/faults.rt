@@ -11,17 +11,11 @@ fn fault_of(alloc: Global, text: &[u8]) -> Option<Fault> {
     }
 }
 
-/// `front`, an octet so many times, and `back`.
-fn filled(
-    alloc: Global,
-    front: &[u8],
-    octet: u8,
-    count: usize,
-    back: &[u8],
-) -> Result<Vec<u8>, AllocError> {
+/// `front`, the octet `n` so many times, and `back`.
+fn filled(alloc: Global, front: &[u8], count: usize, back: &[u8]) -> Result<Vec<u8>, AllocError> {
     let mut text = Vec::from_slice(alloc, front)?;
     for _ in 0..count {
-        text.push(octet)?;
+        text.push(b'n')?;
     }
     text.extend_from_slice(back)?;
     Ok(text)
@@ -69,13 +63,6 @@ const ACCEPTED: [&[u8]; 40] = [
     b"<13>1 - - - - - [a b=\"\xF4\x8F\xBF\xBF\"]",
     b"<13>1 - - - - - [a b=\"\0\n\"]",
 ];
-
-#[test]
-fn accepted(rt: HostRuntime) {
-    for text in &ACCEPTED {
-        assert_eq!(rt; fault_of(rt.alloc(), text), None, "in {text:?}");
-    }
-}
 
 const REFUSED: [(&[u8], Part, usize); 94] = [
     (b"", Part::Pri, 0),
@@ -182,41 +169,89 @@ const REFUSED: [(&[u8], Part, usize); 94] = [
     (b"<13>1 - - - - - [a] \xEF\xBB\xBF\xFF", Part::Msg, 20),
 ];
 
-#[test]
-fn refused(rt: HostRuntime) {
-    for (text, part, pos) in &REFUSED {
-        let want = Fault::Bad {
-            part: *part,
-            pos: *pos,
-        };
-        assert_eq!(rt; fault_of(rt.alloc(), text), Some(want), "in {text:?}");
-    }
+/// A run of octets, the most that it may have, and the fault past that.
+#[derive(Clone, Copy)]
+struct Limit {
+    before: &'static [u8],
+    most: usize,
+    behind: &'static [u8],
+    part: Part,
+    pos: usize,
 }
 
-/// What stands before a run, the most octets that it may have, what stands behind it, and the fault past that.
-const LIMITS: [(&[u8], usize, &[u8], Part, usize); 6] = [
-    (b"<13>1 - ", 255, b" - - - -", Part::Hostname, 8),
-    (b"<13>1 - - ", 48, b" - - -", Part::AppName, 10),
-    (b"<13>1 - - - ", 128, b" - -", Part::ProcId, 12),
-    (b"<13>1 - - - - ", 32, b" -", Part::MsgId, 14),
-    (b"<13>1 - - - - - [", 32, b"]", Part::Name, 17),
-    (b"<13>1 - - - - - [a ", 32, b"=\"\"]", Part::Name, 19),
+const LIMITS: [Limit; 6] = [
+    Limit {
+        before: b"<13>1 - ",
+        most: 255,
+        behind: b" - - - -",
+        part: Part::Hostname,
+        pos: 8,
+    },
+    Limit {
+        before: b"<13>1 - - ",
+        most: 48,
+        behind: b" - - -",
+        part: Part::AppName,
+        pos: 10,
+    },
+    Limit {
+        before: b"<13>1 - - - ",
+        most: 128,
+        behind: b" - -",
+        part: Part::ProcId,
+        pos: 12,
+    },
+    Limit {
+        before: b"<13>1 - - - - ",
+        most: 32,
+        behind: b" -",
+        part: Part::MsgId,
+        pos: 14,
+    },
+    Limit {
+        before: b"<13>1 - - - - - [",
+        most: 32,
+        behind: b"]",
+        part: Part::Name,
+        pos: 17,
+    },
+    Limit {
+        before: b"<13>1 - - - - - [a ",
+        most: 32,
+        behind: b"=\"\"]",
+        part: Part::Name,
+        pos: 19,
+    },
 ];
 
+/// What is found in a text is this fault.
+fn bad(part: Part, pos: usize) -> Option<Fault> {
+    Some(Fault::Bad { part, pos })
+}
+
 #[test]
-fn limits(rt: HostRuntime) -> Result<(), Fail> {
-    for (front, most, back, part, pos) in &LIMITS {
-        let longest = filled(rt.alloc(), front, b'n', *most, back)?;
-        assert_eq!(rt; fault_of(rt.alloc(), longest.as_slice()), None, "{part:?}");
-        let longer = filled(rt.alloc(), front, b'n', most.wrapping_add(1), back)?;
-        let want = Fault::Bad {
-            part: *part,
-            pos: *pos,
-        };
+fn faults(rt: HostRuntime) -> Result<(), Fail> {
+    for text in &ACCEPTED {
+        assert_eq!(rt; fault_of(rt.alloc(), text), None, "in {text:?}");
+    }
+    for (text, part, pos) in &REFUSED {
+        assert_eq!(rt; fault_of(rt.alloc(), text), bad(*part, *pos), "in {text:?}");
+    }
+    for row in &LIMITS {
+        let longest = filled(rt.alloc(), row.before, row.most, row.behind)?;
+        assert_eq!(rt;
+            fault_of(rt.alloc(), longest.as_slice()),
+            None,
+            "{:?}",
+            row.part
+        );
+        let longer = filled(rt.alloc(), row.before, row.most.wrapping_add(1), row.behind)?;
+        let want = bad(row.part, row.pos);
         assert_eq!(rt;
             fault_of(rt.alloc(), longer.as_slice()),
-            Some(want),
-            "{part:?}"
+            want,
+            "{:?}",
+            row.part
         );
     }
     Ok(())

@@ -1,5 +1,6 @@
 //! The examples of RFC 5424, section 6.5, and the values of parameters.
-use ss_message::{Message, Span, escape, parse, value, write_stamp};
+use ss_frame::Bytes;
+use ss_message::{Message, NoMemory, Span, Stamp, escape, parse, value, write_stamp};
 use std::alloc::Global;
 use std::test::Fail;
 
@@ -24,64 +25,114 @@ fn text_of<'a>(source: &'a [u8], span: Span) -> Option<&'a [u8]> {
     source.get(span.start..span.end)
 }
 
+/// What a text is read as: each part as it stands, and the SD-IDs in order.
+#[derive(Clone, Copy)]
+struct Example {
+    name: &'static str,
+    text: &'static [u8],
+    pri: u8,
+    stamp: &'static [u8],
+    fields: [&'static [u8]; 4],
+    ids: &'static [&'static [u8]],
+    msg: Option<&'static [u8]>,
+}
+
+const EXAMPLES: [Example; 5] = [
+    Example {
+        name: "the first",
+        text: FIRST,
+        pri: 34,
+        stamp: b"2003-10-11T22:14:15.003Z",
+        fields: [b"mymachine.example.com", b"su", b"-", b"ID47"],
+        ids: &[],
+        msg: Some(b"\xEF\xBB\xBF'su root' failed for lonvick on /dev/pts/8"),
+    },
+    Example {
+        name: "the second",
+        text: SECOND,
+        pri: 165,
+        stamp: b"2003-08-24T05:14:15.000003-07:00",
+        fields: [b"192.0.2.1", b"myproc", b"8710", b"-"],
+        ids: &[],
+        msg: Some(b"%% It's time to make the do-nuts."),
+    },
+    Example {
+        name: "the third",
+        text: THIRD,
+        pri: 165,
+        stamp: b"2003-10-11T22:14:15.003Z",
+        fields: [b"mymachine.example.com", b"evntslog", b"-", b"ID47"],
+        ids: &[b"exampleSDID@32473"],
+        msg: Some(b"\xEF\xBB\xBFAn application event log entry..."),
+    },
+    Example {
+        name: "the fourth",
+        text: FOURTH,
+        pri: 165,
+        stamp: b"2003-10-11T22:14:15.003Z",
+        fields: [b"mymachine.example.com", b"evntslog", b"-", b"ID47"],
+        ids: &[b"exampleSDID@32473", b"examplePriority@32473"],
+        msg: None,
+    },
+    Example {
+        name: "a block among elements",
+        text: BLOCK,
+        pri: 110,
+        stamp: b"-",
+        fields: [b"h", b"s", b"-", b"-"],
+        ids: &[b"x@1", b"ssign", b"y@1"],
+        msg: Some(b"hello SIGN=\"AAAA\""),
+    },
+];
+
 fn read<'a>(alloc: Global, text: &'a [u8]) -> Result<Message<'a>, &'static str> {
     parse(alloc, text).ok().ok_or("the text is a message")
 }
 
-#[test]
-fn headers(rt: HostRuntime) -> Result<(), Fail> {
-    let m = read(rt.alloc(), FIRST)?;
-    assert_eq!(rt; m.pri, 34);
-    let stamp = m.stamp.ok_or("a stamp")?;
-    assert_eq!(rt;
-        write_stamp(rt.alloc(), &stamp)?.as_slice(),
-        b"2003-10-11T22:14:15.003Z".as_slice()
-    );
-    assert_eq!(rt;
-        text_of(FIRST, m.hostname),
-        Some(b"mymachine.example.com".as_slice())
-    );
-    assert_eq!(rt; text_of(FIRST, m.app_name), Some(b"su".as_slice()));
-    assert_eq!(rt; text_of(FIRST, m.procid), Some(b"-".as_slice()));
-    assert_eq!(rt; text_of(FIRST, m.msgid), Some(b"ID47".as_slice()));
-    assert_eq!(rt; m.elements.as_slice().len(), 0);
-    let msg = m.msg.ok_or("a MSG")?;
-    assert_eq!(rt;
-        text_of(FIRST, msg),
-        Some(b"\xEF\xBB\xBF'su root' failed for lonvick on /dev/pts/8".as_slice())
-    );
+/// The text of a stamp; `-` for none.
+fn stamp_text(alloc: Global, stamp: &Option<Stamp>) -> Result<Bytes, NoMemory> {
+    match stamp {
+        Some(stamp) => write_stamp(alloc, stamp),
+        None => Ok(Bytes::from_vec(Vec::from_slice(alloc, b"-")?)),
+    }
+}
 
-    let m = read(rt.alloc(), SECOND)?;
-    assert_eq!(rt; m.pri, 165);
-    assert_eq!(rt; text_of(SECOND, m.hostname), Some(b"192.0.2.1".as_slice()));
-    assert_eq!(rt; text_of(SECOND, m.app_name), Some(b"myproc".as_slice()));
-    assert_eq!(rt; text_of(SECOND, m.procid), Some(b"8710".as_slice()));
-    assert_eq!(rt; text_of(SECOND, m.msgid), Some(b"-".as_slice()));
-    let msg = m.msg.ok_or("a MSG")?;
-    assert_eq!(rt;
-        text_of(SECOND, msg),
-        Some(b"%% It's time to make the do-nuts.".as_slice())
-    );
+#[test]
+fn examples(rt: HostRuntime) -> Result<(), Fail> {
+    for row in &EXAMPLES {
+        let m = read(rt.alloc(), row.text)?;
+        assert_eq!(rt; m.pri, row.pri, "{}", row.name);
+        let stamp = stamp_text(rt.alloc(), &m.stamp)?;
+        assert_eq!(rt; stamp.as_slice(), row.stamp, "{}", row.name);
+        for (i, span) in [m.hostname, m.app_name, m.procid, m.msgid]
+            .iter()
+            .enumerate()
+        {
+            let field = row.fields.get(i).copied();
+            assert_eq!(rt; text_of(row.text, *span), field, "{}", row.name);
+        }
+        assert_eq!(rt; m.elements.as_slice().len(), row.ids.len(), "{}", row.name);
+        for (i, element) in m.elements.as_slice().iter().enumerate() {
+            let id = row.ids.get(i).copied();
+            assert_eq!(rt; text_of(row.text, element.id), id, "{}", row.name);
+        }
+        let msg = match m.msg {
+            Some(span) => text_of(row.text, span),
+            None => None,
+        };
+        assert_eq!(rt; msg, row.msg, "{}", row.name);
+    }
     Ok(())
 }
 
 #[test]
 fn elements(rt: HostRuntime) -> Result<(), Fail> {
-    let m = read(rt.alloc(), THIRD)?;
-    assert_eq!(rt; m.elements.as_slice().len(), 1);
-    assert!(rt; m.msg.is_some());
-
     let m = read(rt.alloc(), FOURTH)?;
-    assert_eq!(rt; m.msg, None);
     assert_eq!(rt; m.element(b"exampleSDID@32473"), Some(0));
     assert_eq!(rt; m.element(b"examplePriority@32473"), Some(1));
     assert_eq!(rt; m.element(b"examplesdid@32473"), None);
     assert_eq!(rt; m.element(b"example"), None);
     let first = m.elements.as_slice().first().ok_or("an element")?;
-    assert_eq!(rt;
-        text_of(FOURTH, first.id),
-        Some(b"exampleSDID@32473".as_slice())
-    );
     assert_eq!(rt; first.parameters.as_slice().len(), 3);
     let last = first.parameters.as_slice().last().ok_or("a parameter")?;
     assert_eq!(rt; text_of(FOURTH, last.name), Some(b"eventID".as_slice()));
@@ -118,6 +169,7 @@ fn places(rt: HostRuntime) -> Result<(), Fail> {
     Ok(())
 }
 
+/// A value as it stands, and what it stands for.
 const RAW: [(&[u8], &[u8]); 10] = [
     (b"", b""),
     (b"abc", b"abc"),
@@ -131,15 +183,16 @@ const RAW: [(&[u8], &[u8]); 10] = [
     (b"\xC3\xA9\\]", b"\xC3\xA9]"),
 ];
 
+/// A text, and how it is escaped.
+const ESCAPED: [(&[u8], &[u8]); 2] = [(b"]\"\\\\x", b"\\]\\\"\\\\\\\\x"), (b"a [=", b"a [=")];
+
 #[test]
 fn values(rt: HostRuntime) -> Result<(), Fail> {
     for (raw, want) in &RAW {
         assert_eq!(rt; value(rt.alloc(), raw)?.as_slice(), *want, "of {raw:?}");
     }
-    assert_eq!(rt;
-        escape(rt.alloc(), b"]\"\\\\x")?.as_slice(),
-        b"\\]\\\"\\\\\\\\x".as_slice()
-    );
-    assert_eq!(rt; escape(rt.alloc(), b"a [=")?.as_slice(), b"a [=".as_slice());
+    for (text, want) in &ESCAPED {
+        assert_eq!(rt; escape(rt.alloc(), text)?.as_slice(), *want, "of {text:?}");
+    }
     Ok(())
 }

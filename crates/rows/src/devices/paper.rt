@@ -13,26 +13,28 @@ pub enum Refusal {
     Nothing,
 }
 
-/// Keeps up to sixteen octets, and counts its writes.
+/// Keeps up to 256 octets without taking memory, and counts its writes.
 #[derive(Clone, Copy)]
 pub struct Paper {
-    text: [u8; 16],
+    text: [u8; 256],
     len: usize,
     most: usize,
     refusal: Option<(u64, Refusal)>,
+    flush_fails: bool,
     /// How many writes there were.
     pub writes: u64,
-    ghost fits: { len ≤ 16 },
+    ghost fits: { len ≤ 256 },
 }
 
 impl Paper {
     /// A write takes at most `most` octets.
     pub fn new(most: usize) -> Paper {
         Paper {
-            text: [0; 16],
+            text: [0; 256],
             len: 0,
             most,
             refusal: None,
+            flush_fails: false,
             writes: 0,
         }
     }
@@ -41,6 +43,13 @@ impl Paper {
     pub fn refusing(most: usize, write: u64, refusal: Refusal) -> Paper {
         let mut paper = Paper::new(most);
         paper.refusal = Some((write, refusal));
+        paper
+    }
+
+    /// As `new`, but each flush fails.
+    pub fn failing_at_flush(most: usize) -> Paper {
+        let mut paper = Paper::new(most);
+        paper.flush_fails = true;
         paper
     }
 
@@ -61,7 +70,7 @@ impl Write for Paper {
                 };
             }
         }
-        let taken = buf.len().min(self.most).min(16 - self.len);
+        let taken = buf.len().min(self.most).min(256 - self.len);
         let end = self.len + taken;
         self.text[self.len..end].copy_from_slice(&buf[..taken]);
         self.len = end;
@@ -69,6 +78,9 @@ impl Write for Paper {
     }
 
     fn flush(&mut self) -> io::Result<()> {
+        if self.flush_fails {
+            return Err(io::Error::from(ErrorKind::StorageFull));
+        }
         Ok(())
     }
 }

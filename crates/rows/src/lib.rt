@@ -1,0 +1,9 @@
+//! Tests of what the libraries promise, as tables. It holds nothing else.
+#![tactic(auto)]
+
+#[cfg(test)]
+mod devices;
+#[cfg(test)]
+mod frames;
+#[cfg(test)]
+mod messages;
