@@ -8,7 +8,7 @@
 #   bench/joining.sh          times it; it needs /usr/bin/time, which tells the memory
 set -eu
 here=$(cd "$(dirname "$0")/.." && pwd)
-program=$here/crates/join_bench/out/join_bench
+program=$here/crates/timing/out/timing
 
 if [ ! -x "$program" ]; then
     echo "bench/joining.sh: there is no program $program; ./check leaves it behind" >&2
@@ -22,7 +22,7 @@ program = sys.argv[1]
 def run(order, count):
     """What the program printed, and its seconds on a processor and most memory in KiB."""
     before = resource.getrusage(resource.RUSAGE_CHILDREN)
-    done = subprocess.run(["/usr/bin/time", "-f", "%M", program, order, str(count)], stdin=subprocess.DEVNULL,
+    done = subprocess.run(["/usr/bin/time", "-f", "%M", program, "joining", order, str(count)], stdin=subprocess.DEVNULL,
                           stdout=subprocess.PIPE, stderr=subprocess.PIPE, check=True)
     after = resource.getrusage(resource.RUSAGE_CHILDREN)
     seconds = after.ru_utime - before.ru_utime + after.ru_stime - before.ru_stime

@@ -1,21 +1,18 @@
-//! Joins fragments of one octet each, and prints what came of it. It measures the joiner and nothing else. Its two words
-//! are the order of the fragments and how many there are; without them it joins a few.
+//! Joins fragments of one octet each. It times the joiner. The orders:
 //!
 //! - `rising`, `falling`, `shuffled`: at odd indexes of the longest payload, so that no two of them meet.
 //! - `whole`: at each index of a payload of so many octets, falling.
 //! - `joiners`: each to a joiner of its own, all kept at once, of the longest payload.
-#![tactic(auto)]
-
 use ss_block::{JoinState, Joined, Joiner};
 use std::alloc::Global;
-use std::{env, io};
+use std::io;
 
 /// The octets of the longest payload (TPBL).
 const LONGEST: u32 = 99_999_999;
 
 /// In which order fragments come.
 #[derive(Clone, Copy)]
-enum Order {
+pub enum Order {
     Rising,
     Falling,
     Shuffled,
@@ -24,7 +21,8 @@ enum Order {
 }
 
 impl Order {
-    fn named(word: &str) -> Order {
+    /// The order of that name; another word is `rising`.
+    pub fn named(word: &str) -> Order {
         match word {
             "falling" => Order::Falling,
             "shuffled" => Order::Shuffled,
@@ -94,16 +92,8 @@ fn keep(alloc: Global, count: u32) -> u32 {
     kept
 }
 
-fn main(rt: HostRuntime) -> io::Result<()> {
-    let mut order = Order::Shuffled;
-    let mut count: u32 = 1_000;
-    for (place, word) in env::args(&rt)?.enumerate() {
-        match place {
-            0 => {}
-            1 => order = Order::named(word.as_str()),
-            _ => count = word.as_str().parse::<u32>().unwrap_or(count),
-        }
-    }
+/// Joins so many fragments in this order, and prints what came of it.
+pub fn run<R: Print + AllocGlobal>(rt: &R, order: Order, count: u32) -> io::Result<()> {
     if let Order::Joiners = order {
         println!(rt; "{} joiners", keep(rt.alloc(), count))?;
     } else {

@@ -1,11 +1,8 @@
-//! Reads the frames of standard input, or its lines with the word `lines`, and prints how many there are and how many
-//! octets they hold. It measures the reader of frames and nothing else.
-#![tactic(auto)]
-
+//! Counts the messages of standard input, and the octets that they hold. It times the reader of frames and lines.
 use ss_frame::{Buffered, FrameReader, Limits, Step, Watched};
 use std::alloc::Global;
+use std::io;
 use std::io::Read;
-use std::{env, io};
 
 /// What was read.
 #[derive(Clone, Copy)]
@@ -41,11 +38,8 @@ fn count<R: Read>(alloc: Global, reader: &mut Watched<R>, limits: Limits) -> Cou
     counts
 }
 
-fn main(rt: HostRuntime) -> io::Result<()> {
-    let mut limits = Limits::standard();
-    if env::args(&rt)?.count() > 1 {
-        limits = limits.lines();
-    }
+/// Reads standard input under these limits, and prints what was read.
+pub fn run<R: Input + Print + AllocGlobal>(rt: &R, limits: Limits) -> io::Result<()> {
     let mut reader = Watched::new(Buffered::new(rt.alloc(), rt.reader())?);
     let counts = count(rt.alloc(), &mut reader, limits);
     println!(rt;

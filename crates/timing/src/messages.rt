@@ -1,11 +1,8 @@
-//! Reads the messages of standard input, one a line, and prints how many were read and how many refused. It
-//! measures the reader of messages and nothing else; with the word `scan` it counts the lines alone.
-#![tactic(auto)]
-
+//! Counts the lines that are messages, and those that are refused. It times the reader of messages.
 use ss_message::parse;
 use std::alloc::Global;
+use std::io;
 use std::io::Read;
-use std::{env, io};
 
 /// How many lines are messages, and how many aren't.
 #[derive(Clone, Copy)]
@@ -35,11 +32,16 @@ fn count(alloc: Global, log: &[u8], scan: bool) -> Counts {
     counts
 }
 
-fn main(rt: HostRuntime) -> io::Result<()> {
-    let scan = env::args(&rt)?.count() > 1;
-    let mut log = Vec::new(rt.alloc());
-    rt.reader().read_to_end(&mut log)?;
-    let counts = count(rt.alloc(), &log, scan);
+/// Prints how many lines of the log are messages; with `scan` how many lines there are.
+pub fn print<R: Print + AllocGlobal>(rt: &R, log: &[u8], scan: bool) -> io::Result<()> {
+    let counts = count(rt.alloc(), log, scan);
     println!(rt; "{} read, {} refused", counts.read, counts.refused)?;
     Ok(())
+}
+
+/// As `print`, of standard input.
+pub fn run<R: Input + Print + AllocGlobal>(rt: &R, scan: bool) -> io::Result<()> {
+    let mut log = Vec::new(rt.alloc());
+    rt.reader().read_to_end(&mut log)?;
+    print(rt, &log, scan)
 }
