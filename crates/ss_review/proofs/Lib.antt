@@ -1,3 +1,7 @@
 pub mod Members
 pub mod Rising
 pub mod TotalOrders
+pub mod Finding
+pub mod Tests
+pub mod Ends
+pub mod Sections

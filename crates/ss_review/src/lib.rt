@@ -5,11 +5,13 @@
 mod entry;
 mod fault;
 mod group_report;
+mod index;
 pub mod laws;
 mod message;
 mod places;
 mod question;
 mod report;
+mod scan;
 mod session_report;
 mod spoilt;
 mod verifier;

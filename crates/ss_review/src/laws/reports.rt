@@ -1,10 +1,15 @@
 //! What holds of the reports of all logs, and of some.
-ghost use Rattle.ss_review.specs.Laws.{NotesSuffice};
+ghost use Rattle.ss_review.specs.Laws.{NotesSuffice, SpoiltEndsAddThemselves};
 ghost use Rattle.ss_review.specs.Rows.{ReportsAreThese};
 
 /// Two logs with equal notes have equal reports.
 pub fn notes_suffice()
     ensures { NotesSuffice }
+{}
+
+/// A spoilt block at the end of a log adds itself and one to the count, and changes nothing else.
+pub fn spoilt_ends_add_themselves()
+    ensures { SpoiltEndsAddThemselves }
 {}
 
 /// The reports of small logs, computed.
