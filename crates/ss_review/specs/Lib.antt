@@ -20,3 +20,4 @@ pub mod Witness
 pub mod Accounts
 pub mod Laws
 pub mod Rows
+pub mod Stated

@@ -6,6 +6,7 @@ mod entry;
 mod fault;
 mod group_report;
 mod index;
+mod joining;
 pub mod laws;
 mod message;
 mod places;
