@@ -2,6 +2,7 @@ pub mod Members
 pub mod Rising
 pub mod TotalOrders
 pub mod Finding
+pub mod Counting
 pub mod Tests
 pub mod Stating
 pub mod Ends

@@ -20,4 +20,5 @@ pub mod Witness
 pub mod Accounts
 pub mod Laws
 pub mod Rows
+pub mod Assigning
 pub mod Stated
