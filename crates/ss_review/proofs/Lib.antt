@@ -7,3 +7,5 @@ pub mod Tests
 pub mod Stating
 pub mod Ends
 pub mod Sections
+pub mod Announcements
+pub mod Covering

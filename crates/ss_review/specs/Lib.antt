@@ -22,3 +22,4 @@ pub mod Laws
 pub mod Rows
 pub mod Assigning
 pub mod Stated
+pub mod Covering
