@@ -13,6 +13,10 @@ pub record Answers : Type 0 where
   pub trusted : List ℕ → Bool
   pub valid : List ℕ → List ℕ → List ℕ → Bool
 
+-- what somebody answers
+abbrev pub answers : {J : Type 0} → (J → List ℕ → Bool) → (J → List ℕ → List ℕ → List ℕ → Bool) → J → Answers
+answers trusted valid judge = record { trusted = trusted judge; valid = valid judge }
+
 abbrev pub signature_of : Said → List ℕ
 signature_of (Hashes b) = b.signature
 signature_of (Fragment c) = c.signature

@@ -15,6 +15,7 @@ mod question;
 mod report;
 mod scan;
 mod session_report;
+mod span;
 mod spoilt;
 mod verifier;
 
