@@ -2,6 +2,7 @@
 //! stored, and what is missing, disputed or in vain.
 #![tactic(auto)]
 
+mod accepting;
 mod assign;
 mod entry;
 mod fault;
