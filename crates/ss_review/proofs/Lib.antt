@@ -9,3 +9,4 @@ pub mod Ends
 pub mod Sections
 pub mod Announcements
 pub mod Covering
+pub mod SessionStates
