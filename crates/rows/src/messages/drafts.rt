@@ -43,7 +43,12 @@ fn element(
     })
 }
 
-/// What is written, or the part that is refused.
+/// What is written.
+fn text_of(alloc: Global, draft: &Draft) -> Result<Bytes, DraftFault> {
+    write_message(alloc, draft)
+}
+
+/// The part that is refused, or none.
 fn refused(alloc: Global, draft: &Draft) -> Option<DraftFault> {
     match write_message(alloc, draft) {
         Ok(_) => None,
@@ -60,7 +65,7 @@ fn written(rt: HostRuntime) -> Result<(), Fail> {
     let alloc = rt.alloc();
     let draft = empty(alloc);
     assert_eq!(rt;
-        write_message(alloc, &draft)?.as_slice(),
+        text_of(alloc, &draft)?.as_slice(),
         b"<13>1 - - - - - -".as_slice()
     );
 
@@ -81,7 +86,7 @@ fn written(rt: HostRuntime) -> Result<(), Fail> {
         msg: Some(bytes(alloc, b"")?),
     };
     let want = b"<191>1 2009-05-03T14:00:39Z h s -- m [a@1 b=\"\\]\\\"\\\\\"][c] ";
-    assert_eq!(rt; write_message(alloc, &draft)?.as_slice(), want.as_slice());
+    assert_eq!(rt; text_of(alloc, &draft)?.as_slice(), want.as_slice());
     Ok(())
 }
 

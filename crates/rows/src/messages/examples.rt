@@ -144,7 +144,7 @@ fn elements(rt: HostRuntime) -> Result<(), Fail> {
 #[test]
 fn places(rt: HostRuntime) -> Result<(), Fail> {
     let m = read(rt.alloc(), BLOCK)?;
-    assert_eq!(rt; BLOCK.len(), 177);
+    assert_eq!(rt; m.source.len(), 177);
     assert_eq!(rt; m.element(b"ssign"), Some(1));
     assert_eq!(rt; m.element(b"z"), None);
     let host = m.hostname;
@@ -152,16 +152,16 @@ fn places(rt: HostRuntime) -> Result<(), Fail> {
     assert_eq!(rt; m.part(host), b"h".as_slice());
     let element = m.elements.as_slice().get(1).ok_or("an element")?;
     let sign = element.parameters.as_slice().last().ok_or("a parameter")?;
-    assert_eq!(rt; text_of(BLOCK, sign.name), Some(b"SIGN".as_slice()));
+    assert_eq!(rt; text_of(m.source, sign.name), Some(b"SIGN".as_slice()));
     let before = sign.name.start.checked_sub(1).ok_or("a SP")?;
     let behind = sign.value.end.checked_add(1).ok_or("a quote")?;
     assert_eq!(rt;
-        BLOCK.get(before..behind),
+        m.source.get(before..behind),
         Some(b" SIGN=\"AAAA\"".as_slice())
     );
     assert_eq!(rt; (before, behind), (134, 146));
     assert_eq!(rt;
-        BLOCK.get(behind..),
+        m.source.get(behind..),
         Some(b"][y@1 a=\"\\]\"] hello SIGN=\"AAAA\"".as_slice())
     );
     assert!(rt; sign.value.start <= sign.value.end && sign.value.end <= m.source.len());
