@@ -8,4 +8,6 @@ mod devices;
 #[cfg(test)]
 mod frames;
 #[cfg(test)]
+mod inspections;
+#[cfg(test)]
 mod messages;
