@@ -13,6 +13,7 @@ pub mod laws;
 mod message;
 mod places;
 mod question;
+mod reading;
 mod report;
 mod scan;
 mod session_report;
