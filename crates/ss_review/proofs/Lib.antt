@@ -10,3 +10,4 @@ pub mod Sections
 pub mod Announcements
 pub mod Covering
 pub mod SessionStates
+pub mod StatesTold

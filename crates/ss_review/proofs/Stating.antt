@@ -150,7 +150,7 @@ index_from_octet cs p h =
     let b = from_has-placed w.0.index w.0.fragment p w.2 in
     member_any (λ (c : block.Certificate). nat_le c.index p.0 && nat_lt p.0 (c.index + length c.fragment)) cs w.0 w.1 (within_true w.0 p.0 b.0 b.1)
 
-octet_from_index : (cs : List block.Certificate) (i : ℕ) → has_index cs i ≡ true → (o : ℕ) × Has (octets cs) (i, o)
+pub octet_from_index : (cs : List block.Certificate) (i : ℕ) → has_index cs i ≡ true → (o : ℕ) × Has (octets cs) (i, o)
 octet_from_index cs i e =
     let w : (c : block.Certificate) × Has cs c × ((nat_le c.index i && nat_lt i (c.index + length c.fragment)) ≡ true)
     = any_member (λ (c : block.Certificate). nat_le c.index i && nat_lt i (c.index + length c.fragment)) cs e in
@@ -248,7 +248,7 @@ found_at true p ps i o t h = (p.1, refl, inl (λ j. (eqb-true p.0 i t j, p.1)))
 found_at false p ps i o t (inl w) = (w.0, w.1, inr w.2)
 found_at false p ps i o t (inr e) = absurd (eqb-false p.0 i t (ap (λ (q : ℕ × ℕ). q.0) e))
 
-found : (ps : List (ℕ × ℕ)) (i o : ℕ) → Has ps (i, o) → (w : ℕ) × (octet_at ps i ≡ w) × Has ps (i, w)
+pub found : (ps : List (ℕ × ℕ)) (i o : ℕ) → Has ps (i, o) → (w : ℕ) × (octet_at ps i ≡ w) × Has ps (i, w)
 found [] i o h = absurd h
 found (p ∷ ps) i o (inl e) = found_at (p.0 == i) p ps i o refl (inr e)
 found (p ∷ ps) i o (inr h) = found_at (p.0 == i) p ps i o refl (inl (found ps i o h))
