@@ -1,5 +1,5 @@
 //! What holds of the reports of all logs, and of some.
-ghost use Rattle.ss_review.specs.Laws.{NotesSuffice, SpoiltEndsAddThemselves};
+ghost use Rattle.ss_review.specs.Laws.{NotesSuffice, SpoiltEndsAddThemselves, StatesAreTheirs};
 ghost use Rattle.ss_review.specs.Rows.{ReportsAreThese};
 
 /// Two logs with equal notes have equal reports.
@@ -10,6 +10,11 @@ pub fn notes_suffice()
 /// A spoilt block at the end of a log adds itself and one to the count, and changes nothing else.
 pub fn spoilt_ends_add_themselves()
     ensures { SpoiltEndsAddThemselves }
+{}
+
+/// The state of a session is the one that its certificate blocks state together, and no other.
+pub fn states_are_theirs()
+    ensures { StatesAreTheirs }
 {}
 
 /// The reports of small logs, computed.
