@@ -1,5 +1,5 @@
 -- Counts over a list: of one more element, of those below a key in a list that rises, and of wanted pairs.
-use Rattle.std.proofs.Common.{◌≡◌, ℕ, ◌+◌, ◌<◌, ◌≤◌, inl, length, get_or, take, drop, Bool, true, false, cond, ◌&&◌, List, [], ◌∷◌, ◌++◌, map, refl, sym, ap, ◌∙◌, subst, arith}
+use Rattle.std.proofs.Common.{◌≡◌, ℕ, ◌+◌, ◌<◌, inl, length, get_or, take, drop, Bool, true, false, cond, ◌&&◌, List, [], ◌∷◌, ◌++◌, map, refl, sym, ap, ◌∙◌, subst, arith}
 use Rattle.std.specs.Prelude.{Option, Some, None, unwrap_or, count_by, slice_get}
 use Rattle.std.specs.Str.{bytes_eq}
 use Rattle.std.specs.declared.cmp.Ordering.{Ordering}
@@ -20,8 +20,9 @@ use Rattle.ss_review.specs.declared.message.NormalMessage.{NormalMessage}
 use Rattle.ss_review.specs.Orders.{pair_cmp}
 use Rattle.ss_review.specs.Announced.{Key, Row, key_cmp, keys}
 use Rattle.ss_review.specs.Assigned.{same_pair, is_pair, places_with, wanted, rank, place_of, assigned}
-use Rattle.ss_review.specs.Assigning.{pair_wanted, pairs_wanted, place_after, assigned_after, count_of, Counts}
-use Rattle.ss_review.proofs.Members.{Has, has-append_right}
+use Rattle.ss_review.specs.Assigning.{pair_wanted, pairs_wanted, place_after, assigned_after, assigned_all, count_of, Counts}
+use Rattle.ss_review.proofs.Announcements.{keys-rise}
+use Rattle.ss_review.proofs.Members.{has-append_right}
 use Rattle.ss_review.proofs.Rising.{below_all}
 use Rattle.ss_review.proofs.TotalOrders.{key_cmp_total, pair_cmp_exact}
 
@@ -133,6 +134,11 @@ module _ (ms : List NormalMessage) (rs : List Row) where
       = assigned_in_turn (front ++ k ∷ []) back up (e ∙ sym (append_assoc front (k ∷ []) back)) in
       let before : map (wanted ms rs) front ++ wanted ms rs k ∷ [] ≡ map (wanted ms rs) (front ++ k ∷ []) = sym (map-append (wanted ms rs) front (k ∷ [])) in
       λ i. here i ∷ (ap (λ b. assigned_after ms b (map (wanted ms rs) back)) before ∙ next) i
+
+-- the places of all keys are those that they are assigned, where each comes with the two hashes that it wants
+pub all_assigned : (ms : List NormalMessage) (rs : List Row) (hs : List (Option Hash)) → pairs_wanted ms hs ≡ map (wanted ms rs) (keys rs) → assigned_all ms hs ≡ map (assigned ms rs) (keys rs)
+unfolding assigned_all
+all_assigned ms rs hs e = ap (assigned_after ms []) e ∙ assigned_in_turn ms rs [] (keys rs) (keys-rise rs) refl
 
 -- ---- a list of hashes from the front on
 
