@@ -1,15 +1,12 @@
 -- What one more message at the end of a log adds.
-use Rattle.std.proofs.Common.{◌≡◌, ℕ, ◌+◌, List, [], ◌∷◌, ◌++◌, length, map, refl, sym, ap, ◌∙◌, arith, length-append}
-use Rattle.std.specs.Prelude.{Option, Some, None}
+use Rattle.std.proofs.Common.{◌≡◌, ℕ, ◌+◌, List, [], ◌∷◌, ◌++◌, length, ap, ◌∙◌, arith, length-append}
+use Rattle.std.specs.Prelude.{Option}
 use Rattle.std.specs.List.{enumerate_from, filter_map, cons_option}
 use Rattle.std.proofs.lemmas.List.{map-append, append-nil}
 use Rattle.std.proofs.lemmas.List.Elements.{filter_map-append}
 use Rattle.ss_block.specs.declared.spoil.Spoil.{Spoil}
-use Rattle.ss_review.specs.declared.message.NormalMessage.{NormalMessage}
-use Rattle.ss_review.specs.declared.message.BlockMessage.{BlockMessage}
-use Rattle.ss_review.specs.declared.spoilt.SpoiltPlace.{SpoiltPlace}
 use Rattle.ss_review.specs.Notes.{Note, Spoilt, note, notes}
-use Rattle.ss_review.specs.Contents.{Contents, normal_at, block_at, spoilt_at, normals, blocks, spoilts, contents}
+use Rattle.ss_review.specs.Contents.{normal_at, block_at, spoilt_at, normals, blocks, spoilts, contents}
 use Rattle.ss_review.specs.Verified.{Answers}
 use Rattle.ss_review.specs.Report.{report_of, report}
 use Rattle.ss_review.specs.Laws.{with_spoilt}

@@ -1,18 +1,18 @@
 -- A list in the order of a key falls into sections, one for each key: the first is what stands before the first element
 -- with another key, and the others are those of the rest.
-use Rattle.std.proofs.Common.{◌≡◌, ℕ, ◌⊎◌, inl, inr, Bool, true, false, cond, List, [], ◌∷◌, ◌++◌, map, filter, refl, sym, ap, ◌∙◌, subst}
+use Rattle.std.proofs.Common.{◌≡◌, ◌⊎◌, inl, inr, Bool, true, false, cond, List, [], ◌∷◌, ◌++◌, map, filter, refl, sym, ap, ◌∙◌, subst}
 use Rattle.std.specs.declared.cmp.Ordering.{Ordering}
 use Rattle.std.specs.declared.cmp.Ordering.TheVariants.{Less, Equal, Greater}
 use Rattle.std.specs.Ordering.{is_eq, is_gt, ordering_reverse}
 use Rattle.std.specs.Cmp.{IsTotalOrder, Equal-is}
 use Rattle.std.specs.List.{AllByRecursion}
 use Rattle.std.specs.List.Sorted.{IsStrictlySortedBy}
-use Rattle.std.proofs.lemmas.Cmp.{tied_itself, tied_back, alike_right}
+use Rattle.std.proofs.lemmas.Cmp.{tied_itself, alike_right}
 use Rattle.std.proofs.lemmas.List.{append-nil}
 use Rattle.std.proofs.lemmas.List.Elements.{filter-append}
 use Rattle.std.proofs.lemmas.Map.Lookups.{CmpEqualImpliesEq}
 use Rattle.ss_review.specs.Ordered.{in_order}
-use Rattle.ss_review.proofs.Members.{Has, has-map, from_has-map, has-append_left, has-append_right, has-append_cases}
+use Rattle.ss_review.proofs.Members.{Has, has-map, from_has-map, has-append_right, has-append_cases}
 use Rattle.ss_review.proofs.Rising.{below_all, all_below, rises-in_order, has-in_order, from_has-in_order, in_order_is}
 
 -- ---- filters that keep all, or none

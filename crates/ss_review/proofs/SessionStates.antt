@@ -1,9 +1,8 @@
 -- The state of a session is the one that its certificate blocks state together.
-use Rattle.std.proofs.Common.{◌≡◌, ℕ, ◌+◌, ◌<◌, ◌≤◌, ◌⊎◌, inl, inr, Bool, true, false, cond, ◌&&◌, not, List, [], ◌∷◌, length, get_or, map, filter, refl, sym, ap, ◌∙◌, subst, arith}
-use Rattle.std.specs.Prelude.{nat_le, nat_lt, slice_index, Option, Some, None, is_some, find, Result, Ok, Err}
+use Rattle.std.proofs.Common.{◌≡◌, ℕ, true, List, map, sym, ap, ◌∙◌, subst}
+use Rattle.std.specs.Prelude.{Err}
 use Rattle.std.specs.FinSet as set
 use Rattle.std.specs.FinSet.{IsAntisymmetric, contains-from_list, nat_cmp-IsAntisymmetric}
-use Rattle.std.specs.List.{list_any, list_all, range_with_len}
 use Rattle.std.specs.declared.cmp.Ordering.{Ordering}
 use Rattle.std.specs.Ordering.{nat_cmp, eq_by_cmp, is_eq}
 use Rattle.std.specs.Cmp.{IsTotalOrder, Equal-is, nat_cmp_total}
@@ -11,11 +10,9 @@ use Rattle.std.proofs.lemmas.Cmp.{then_total, on_total, tied_itself}
 use Rattle.std.proofs.lemmas.Map.Lookups.{exact_pairs}
 use Rattle.ss_block.specs.Block as block
 use Rattle.ss_block.specs.declared.joiner.JoinState.TheVariants as join
-use Rattle.ss_block.specs.Joining.{Stated, placed_cmp, HasTotal, HasOctet, IsDisputed, HasGap, HasState, IsPayload}
-use Rattle.ss_block.specs.PayloadReading.{payload_in}
-use Rattle.ss_review.specs.declared.session_report.SessionState.{SessionState}
+use Rattle.ss_block.specs.Joining.{placed_cmp, IsDisputed, HasGap, IsPayload}
 use Rattle.ss_review.specs.declared.session_report.SessionState.TheVariants as states
-use Rattle.ss_review.specs.Payloads.{octets, is_payload, payload_or_malformed, stated_payload}
+use Rattle.ss_review.specs.Payloads.{octets, payload_or_malformed, stated_payload}
 use Rattle.ss_review.specs.States.{stated_by}
 use Rattle.ss_review.proofs.Members.{Has}
 use Rattle.ss_review.proofs.Tests.{any_member, member_any}

@@ -1,11 +1,10 @@
 -- What certificate blocks state together: as sets, and as it is computed from the list of them.
-use Rattle.std.proofs.Common.{◌≡◌, ℕ, zero, suc, ◌+◌, ◌-◌, ◌<◌, ◌≤◌, ◌⊎◌, inl, inr, Bool, true, false, cond, ◌||◌, ◌&&◌, not, List, [], ◌∷◌, ◌++◌, length, get_or, take, map, Bor, refl, sym, ap, ◌∙◌, subst, arith}
-use Rattle.std.specs.Prelude.{◌≢◌, ◌==◌, nat_le, nat_lt, eqb, slice_index, Option, Some, None, find, Result, Ok, Err}
+use Rattle.std.proofs.Common.{◌≡◌, ℕ, zero, suc, ◌+◌, ◌<◌, ◌≤◌, ◌⊎◌, inl, inr, Bool, true, false, cond, ◌&&◌, not, List, [], ◌∷◌, ◌++◌, length, get_or, take, map, Bor, refl, sym, ap, ◌∙◌, subst, arith}
+use Rattle.std.specs.Prelude.{◌≢◌, ◌==◌, nat_le, nat_lt, slice_index, Some, find, Err}
 use Rattle.std.specs.FinSet as set
 use Rattle.std.specs.FinSet.{IsAntisymmetric, contains-union, contains-from_list, contains-insert, contains-empty, nat_cmp-IsAntisymmetric}
 use Rattle.std.specs.List.{list_any, list_all, range_with_len}
 use Rattle.std.specs.declared.cmp.Ordering.{Ordering}
-use Rattle.std.specs.declared.cmp.Ordering.TheVariants.{Equal}
 use Rattle.std.specs.Ordering.{nat_cmp, eq_by_cmp, is_eq}
 use Rattle.std.specs.Cmp.{IsTotalOrder, Equal-is, nat_cmp_total}
 use Rattle.std.proofs.lemmas.Bool.{cases_eq, eqb-true, eqb-false, eq-eqb, ne_eqb, not-true, le-leb, lt-ltb, leb-true, ltb-true, false≢true, true≢false}
@@ -19,7 +18,6 @@ use Rattle.ss_block.specs.declared.joiner.JoinState.{JoinState}
 use Rattle.ss_block.specs.declared.joiner.JoinState.TheVariants.{Incomplete, Disputed, Whole}
 use Rattle.ss_block.specs.Joining.{Stated, placed_cmp, placed, nothing_stated, with_fragment, HasTotal, HasOctet, IsDisputed, HasGap, HasState, IsPayload}
 use Rattle.ss_review.specs.declared.message.BlockMessage.{BlockMessage}
-use Rattle.ss_review.specs.declared.session_report.SessionState.{SessionState}
 use Rattle.ss_review.specs.declared.session_report.SessionState.TheVariants as states
 use Rattle.ss_review.specs.Payloads.{certificate_of, certificates, octets, clash, is_disputed, has_index, cover, lacks_some, octet_found, octet_at, joined_text, payload_or_malformed, stated_payload}
 use Rattle.ss_review.specs.Stated.{stated_after, stated_in_turn, unjoined}

@@ -1,5 +1,5 @@
 -- The places so far, and those of the rest, are all; and each pair was counted as often as it was wanted so far.
-use Rattle.std.proofs.Common.{◌≡◌, ◌++◌, List, length, take, drop}
+use Rattle.std.proofs.Common.{◌≡◌, ◌++◌, List, take, drop}
 use Rattle.ss_review.specs.declared.message.NormalMessage.{NormalMessage}
 use Rattle.ss_review.specs.Assigning.{pairs_wanted, assigned_after, assigned_all, Counts}
 use Rattle.ss_review.proofs.assign.assign.Given as goal

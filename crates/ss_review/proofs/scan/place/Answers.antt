@@ -1,4 +1,4 @@
-use Rattle.std.proofs.Common.{◌+◌, true, false, drop, sym, ap, ◌∙◌}
+use Rattle.std.proofs.Common.{◌+◌, drop, sym, ap, ◌∙◌}
 use Rattle.std.specs.Prelude.{slice_get}
 use Rattle.ss_review.specs.Assigned.{places_with}
 use Rattle.ss_review.proofs.Finding.{place_here, place_later, place_other, no_place}

@@ -1,4 +1,4 @@
-use Rattle.std.proofs.Common.{sym, subst, ◌∙◌}
+use Rattle.std.proofs.Common.{subst}
 use Rattle.ss_review.specs.Covering.{IsFirstUncovered}
 use Rattle.ss_review.proofs.Covering.{cover_is, first_permuted, starts_rise}
 use Rattle.ss_review.proofs.span.cover.Goals as goal
