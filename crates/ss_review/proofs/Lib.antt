@@ -11,3 +11,4 @@ pub mod Announcements
 pub mod Covering
 pub mod SessionStates
 pub mod StatesTold
+pub mod Wanting
