@@ -9,7 +9,7 @@ use Rattle.std.specs.Cmp.{IsTotalOrder, Equal-is, nat_cmp_total}
 use Rattle.std.proofs.lemmas.Cmp.{then_total, on_total, tied_itself}
 use Rattle.std.proofs.lemmas.Map.Lookups.{exact_pairs}
 use Rattle.ss_block.specs.Block as block
-use Rattle.ss_block.specs.declared.joiner.JoinState.TheVariants as join
+use Rattle.ss_payload.specs.declared.joiner.JoinState.TheVariants as join
 use Rattle.ss_block.specs.Joining.{placed_cmp, IsDisputed, HasGap, IsPayload}
 use Rattle.ss_review.specs.declared.session_report.SessionState.TheVariants as states
 use Rattle.ss_review.specs.Payloads.{octets, payload_or_malformed, stated_payload}

@@ -14,8 +14,8 @@ use Rattle.std.proofs.lemmas.List.Elements.{filter_map-append}
 use Rattle.std.proofs.lemmas.List.Sums.{fold-append}
 use Rattle.std.proofs.lemmas.Map.Lookups.{exact_pairs}
 use Rattle.ss_block.specs.Block as block
-use Rattle.ss_block.specs.declared.joiner.JoinState.{JoinState}
-use Rattle.ss_block.specs.declared.joiner.JoinState.TheVariants.{Incomplete, Disputed, Whole}
+use Rattle.ss_payload.specs.declared.joiner.JoinState.{JoinState}
+use Rattle.ss_payload.specs.declared.joiner.JoinState.TheVariants.{Incomplete, Disputed, Whole}
 use Rattle.ss_block.specs.Joining.{Stated, placed_cmp, placed, nothing_stated, with_fragment, HasTotal, HasOctet, IsDisputed, HasGap, HasState, IsPayload}
 use Rattle.ss_review.specs.declared.message.BlockMessage.{BlockMessage}
 use Rattle.ss_review.specs.declared.session_report.SessionState.TheVariants as states

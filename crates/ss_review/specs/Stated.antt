@@ -1,7 +1,7 @@
 -- What certificate blocks state together, as a joiner that is given one after the other has it.
 use Rattle.std.specs.Prelude.{List, fold}
-use Rattle.ss_block.specs.declared.joiner.JoinState.{JoinState}
-use Rattle.ss_block.specs.declared.joiner.JoinState.TheVariants.{Incomplete, Disputed, Whole}
+use Rattle.ss_payload.specs.declared.joiner.JoinState.{JoinState}
+use Rattle.ss_payload.specs.declared.joiner.JoinState.TheVariants.{Incomplete, Disputed, Whole}
 use Rattle.ss_block.specs.Block as block
 use Rattle.ss_block.specs.Joining.{Stated, nothing_stated, with_fragment}
 use Rattle.ss_review.specs.declared.session_report.SessionState.{SessionState}

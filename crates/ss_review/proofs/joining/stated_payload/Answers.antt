@@ -1,6 +1,6 @@
 use Rattle.std.proofs.Common.{◌≡◌, map, sym, ap, ◌∙◌, subst, Bor}
 use Rattle.std.specs.Prelude.{Err, IfOk, MatchOption}
-use Rattle.ss_block.specs.declared.joiner.JoinState.TheVariants.{Whole}
+use Rattle.ss_payload.specs.declared.joiner.JoinState.TheVariants.{Whole}
 use Rattle.ss_block.specs.Joining.{HasState, IsPayload}
 use Rattle.ss_review.specs.declared.message.BlockMessage.{BlockMessage}
 use Rattle.ss_review.specs.declared.session_report.SessionState.{SessionState}
