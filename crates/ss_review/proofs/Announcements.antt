@@ -23,7 +23,7 @@ use Rattle.ss_review.proofs.TotalOrders.{key_cmp_total, key_cmp_exact, row_cmp_t
 
 -- ---- numbered elements
 
-numbered_from : {X : Type 0} (k : ℕ) (xs : List X) (n : ℕ × X) → Has (enumerate_from k xs) n → (i : ℕ) × (n.0 ≡ k + i) × (slice_get xs i ≡ Some n.1)
+pub numbered_from : {X : Type 0} (k : ℕ) (xs : List X) (n : ℕ × X) → Has (enumerate_from k xs) n → (i : ℕ) × (n.0 ≡ k + i) × (slice_get xs i ≡ Some n.1)
 numbered_from k [] n h = absurd h
 numbered_from {X} k (x ∷ xs) n (inl e) =
     let at : k ≡ n.0 = ap (λ (m : ℕ × X). m.0) e in
@@ -33,7 +33,7 @@ numbered_from {X} k (x ∷ xs) n (inr h) =
     let w : (i : ℕ) × (n.0 ≡ k + 1 + i) × (slice_get xs i ≡ Some n.1) = numbered_from (k + 1) xs n h in
     (suc w.0, omega (arith, w.1), w.2)
 
-has-numbered : {X : Type 0} (k : ℕ) (xs : List X) (i : ℕ) (x : X) → slice_get xs i ≡ Some x → Has (enumerate_from k xs) (k + i, x)
+pub has-numbered : {X : Type 0} (k : ℕ) (xs : List X) (i : ℕ) (x : X) → slice_get xs i ≡ Some x → Has (enumerate_from k xs) (k + i, x)
 has-numbered k [] i x e = absurd (cc)
 has-numbered k (y ∷ ys) zero x e =
     let at : k ≡ k + 0 = omega arith in

@@ -12,3 +12,8 @@ pub mod Covering
 pub mod SessionStates
 pub mod StatesTold
 pub mod Wanting
+pub mod Keyed
+pub mod NotesTold
+pub mod PlacesRise
+pub mod OnePlaceOneKey
+pub mod Telling

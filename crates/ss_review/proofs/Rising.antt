@@ -26,10 +26,10 @@ all_below P [] f = tt
 all_below P (y ∷ ys) f = (f y (inl refl), all_below P ys (λ x h. f x (inr h)))
 
 module _ {K : Type 0} {R : K → K → Ordering} (o : IsTotalOrder R) (exact : CmpEqualImpliesEq R) where
-  not_less_itself : (k : K) → R k k ≡ Less → ⊥
+  pub not_less_itself : (k : K) → R k k ≡ Less → ⊥
   not_less_itself k e = let t : R k k ≡ Equal = tied_itself o k in absurd (cc)
 
-  reversed : (x y : K) → R x y ≡ Greater → R y x ≡ Less
+  pub reversed : (x y : K) → R x y ≡ Greater → R y x ≡ Less
   reversed x y e = o.antisymm y x ∙ ap ordering_reverse e
 
   -- ---- one more member

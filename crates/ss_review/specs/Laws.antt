@@ -23,6 +23,12 @@ use Rattle.ss_review.specs.Accounts.{Account, HasAccount}
 abbrev pub IsAssigned : Answers → List Note → Key → ℕ → Type 0
 IsAssigned says ns k place = assigned (normals ns) (rows says (blocks ns)) k ≡ Some place
 
+-- a place is assigned to one key at most
+abbrev pub PlacesHaveOneKey : Type 0
+PlacesHaveOneKey =
+    (says : Answers) (log : List (List ℕ)) (k j : Key) (place : ℕ)
+    → IsAssigned says (notes log) k place → IsAssigned says (notes log) j place → k ≡ j
+
 -- every log has a report, and no other
 abbrev pub OneReport : Type 0
 OneReport =

@@ -1,5 +1,5 @@
 //! What holds of the reports of all logs, and of some.
-ghost use Rattle.ss_review.specs.Laws.{NotesSuffice, SpoiltEndsAddThemselves, StatesAreTheirs};
+ghost use Rattle.ss_review.specs.Laws.{NotesSuffice, PlacesHaveOneKey, SpoiltEndsAddThemselves, StatesAreTheirs};
 ghost use Rattle.ss_review.specs.Rows.{ReportsAreThese};
 
 /// Two logs with equal notes have equal reports.
@@ -15,6 +15,11 @@ pub fn spoilt_ends_add_themselves()
 /// The state of a session is the one that its certificate blocks state together, and no other.
 pub fn states_are_theirs()
     ensures { StatesAreTheirs }
+{}
+
+/// A place is assigned to one key at most.
+pub fn places_have_one_key()
+    ensures { PlacesHaveOneKey }
 {}
 
 /// The reports of small logs, computed.
