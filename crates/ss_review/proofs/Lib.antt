@@ -17,3 +17,4 @@ pub mod NotesTold
 pub mod PlacesRise
 pub mod OnePlaceOneKey
 pub mod Telling
+pub mod Listings

@@ -29,6 +29,18 @@ PlacesHaveOneKey =
     (says : Answers) (log : List (List ℕ)) (k j : Key) (place : ℕ)
     → IsAssigned says (notes log) k place → IsAssigned says (notes log) j place → k ≡ j
 
+-- what is listed is what is assigned
+abbrev pub ListedAreAssigned : Type 0
+ListedAreAssigned =
+    (says : Answers) (log : List (List ℕ)) (k : Key) (place : ℕ)
+    → IsListed (report says log) k place ↔ IsAssigned says (notes log) k place
+
+-- the gaps are the announced keys that are assigned no place
+abbrev pub GapsAreUnassigned : Type 0
+GapsAreUnassigned =
+    (says : Answers) (log : List (List ℕ)) (k : Key)
+    → ((why : Why) × IsGap (report says log) k why) ↔ (IsAnnounced says (blocks (notes log)) k × ((place : ℕ) → ¬ IsAssigned says (notes log) k place))
+
 -- every log has a report, and no other
 abbrev pub OneReport : Type 0
 OneReport =

@@ -1,5 +1,12 @@
 //! What holds of the reports of all logs, and of some.
-ghost use Rattle.ss_review.specs.Laws.{NotesSuffice, PlacesHaveOneKey, SpoiltEndsAddThemselves, StatesAreTheirs};
+ghost use Rattle.ss_review.specs.Laws.{
+  GapsAreUnassigned,
+  ListedAreAssigned,
+  NotesSuffice,
+  PlacesHaveOneKey,
+  SpoiltEndsAddThemselves,
+  StatesAreTheirs,
+};
 ghost use Rattle.ss_review.specs.Rows.{ReportsAreThese};
 
 /// Two logs with equal notes have equal reports.
@@ -20,6 +27,16 @@ pub fn states_are_theirs()
 /// A place is assigned to one key at most.
 pub fn places_have_one_key()
     ensures { PlacesHaveOneKey }
+{}
+
+/// What is listed is what is assigned.
+pub fn listed_are_assigned()
+    ensures { ListedAreAssigned }
+{}
+
+/// The gaps are the announced keys that are assigned no place.
+pub fn gaps_are_unassigned()
+    ensures { GapsAreUnassigned }
 {}
 
 /// The reports of small logs, computed.
