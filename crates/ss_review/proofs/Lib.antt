@@ -18,3 +18,4 @@ pub mod PlacesRise
 pub mod OnePlaceOneKey
 pub mod Telling
 pub mod Listings
+pub mod EntriesRise

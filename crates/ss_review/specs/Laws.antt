@@ -41,6 +41,10 @@ GapsAreUnassigned =
     (says : Answers) (log : List (List ℕ)) (k : Key)
     → ((why : Why) × IsGap (report says log) k why) ↔ (IsAnnounced says (blocks (notes log)) k × ((place : ℕ) → ¬ IsAssigned says (notes log) k place))
 
+-- what a report tells rises
+abbrev pub ReportsAreInOrder : Type 0
+ReportsAreInOrder = (says : Answers) (log : List (List ℕ)) → IsInOrder (report says log)
+
 -- every log has a report, and no other
 abbrev pub OneReport : Type 0
 OneReport =

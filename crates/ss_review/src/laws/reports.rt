@@ -4,6 +4,7 @@ ghost use Rattle.ss_review.specs.Laws.{
   ListedAreAssigned,
   NotesSuffice,
   PlacesHaveOneKey,
+  ReportsAreInOrder,
   SpoiltEndsAddThemselves,
   StatesAreTheirs,
 };
@@ -37,6 +38,11 @@ pub fn listed_are_assigned()
 /// The gaps are the announced keys that are assigned no place.
 pub fn gaps_are_unassigned()
     ensures { GapsAreUnassigned }
+{}
+
+/// What a report tells rises: its sessions, the groups of each, the entries of each group, and its places.
+pub fn reports_are_in_order()
+    ensures { ReportsAreInOrder }
 {}
 
 /// The reports of small logs, computed.
