@@ -19,3 +19,4 @@ pub mod OnePlaceOneKey
 pub mod Telling
 pub mod Listings
 pub mod EntriesRise
+pub mod Witnesses

@@ -12,7 +12,7 @@ use Rattle.ss_review.specs.declared.spoilt.SpoiltPlace.{SpoiltPlace}
 use Rattle.ss_review.specs.Notes.{Note, Normal, Block, Spoilt}
 use Rattle.ss_review.specs.Contents.{said_in, block_with, block_in, normal_at, block_at, spoilt_at}
 
-some_is : {X : Type 0} (x y : X) → Some x ≡ Some y → x ≡ y
+pub some_is : {X : Type 0} (x y : X) → Some x ≡ Some y → x ≡ y
 some_is x y e = cc
 
 -- ---- messages without a block

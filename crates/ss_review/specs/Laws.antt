@@ -35,6 +35,12 @@ ListedAreAssigned =
     (says : Answers) (log : List (List ℕ)) (k : Key) (place : ℕ)
     → IsListed (report says log) k place ↔ IsAssigned says (notes log) k place
 
+-- behind each listed message stands a stored block that announces it
+abbrev pub ListedAreWitnessed : Type 0
+ListedAreWitnessed =
+    (says : Answers) (log : List (List ℕ)) (k : Key) (place : ℕ)
+    → IsListed (report says log) k place → IsWitnessed says log k place
+
 -- the gaps are the announced keys that are assigned no place
 abbrev pub GapsAreUnassigned : Type 0
 GapsAreUnassigned =

@@ -2,13 +2,17 @@
 ghost use Rattle.ss_review.specs.Laws.{
   GapsAreUnassigned,
   ListedAreAssigned,
+  ListedAreWitnessed,
   NotesSuffice,
   PlacesHaveOneKey,
+  ReportsListWhatIsAnnounced,
   ReportsAreInOrder,
   SpoiltEndsAddThemselves,
   StatesAreTheirs,
 };
 ghost use Rattle.ss_review.specs.Rows.{ReportsAreThese};
+
+use ss_block::laws::readings::blocks_are_in_range;
 
 /// Two logs with equal notes have equal reports.
 pub fn notes_suffice()
@@ -44,6 +48,25 @@ pub fn gaps_are_unassigned()
 pub fn reports_are_in_order()
     ensures { ReportsAreInOrder }
 {}
+
+/// Behind each listed message stands a stored block that announces its hash, and that the scheme says yes to.
+pub fn listed_are_witnessed()
+    ensures { ListedAreWitnessed }
+{
+    blocks_are_in_range();
+}
+
+/// The listed messages are those assigned to announced numbers, each is witnessed, no number and no message is listed
+/// twice, the report rises, and the gaps are the numbers that are announced and unmatched.
+pub fn reports_list_what_is_announced()
+    ensures { ReportsListWhatIsAnnounced }
+{
+    listed_are_assigned();
+    listed_are_witnessed();
+    places_have_one_key();
+    reports_are_in_order();
+    gaps_are_unassigned();
+}
 
 /// The reports of small logs, computed.
 pub fn reports_are_these()
