@@ -1,6 +1,6 @@
 -- Behind each listed message stands a stored block that announces its hash.
-use Rattle.std.proofs.Common.{◌≡◌, ◌⊎◌, inl, inr, ℕ, zero, suc, ◌+◌, Bool, true, false, cond, List, [], ◌∷◌, map, find, refl, sym, ap, ◌∙◌, subst, arith}
-use Rattle.std.specs.Prelude.{Option, Some, None, Result, Ok, Err, option_map, slice_get}
+use Rattle.std.proofs.Common.{◌≡◌, inl, ℕ, zero, suc, Bool, true, false, cond, List, [], ◌∷◌, map, find, refl, sym, ap, ◌∙◌, subst, arith}
+use Rattle.std.specs.Prelude.{Option, Some, Result, Ok, Err, option_map, slice_get}
 use Rattle.std.specs.Ordering.{nat_cmp}
 use Rattle.std.specs.Str.{bytes_eq}
 use Rattle.std.specs.List.{enumerate_from}
@@ -22,13 +22,13 @@ use Rattle.ss_review.specs.declared.session_report.SessionState.{SessionState}
 use Rattle.ss_review.specs.declared.message.NormalMessage.{NormalMessage}
 use Rattle.ss_review.specs.declared.message.BlockMessage.{BlockMessage}
 use Rattle.ss_review.specs.declared.message.Said.{Said}
-use Rattle.ss_review.specs.declared.message.Said.TheVariants.{Hashes, Fragment}
+use Rattle.ss_review.specs.declared.message.Said.TheVariants.{Hashes}
 use Rattle.ss_review.specs.Orders.{pair, hash_of}
-use Rattle.ss_review.specs.Notes.{Note, Normal, Block, Spoilt, noted, note, notes}
+use Rattle.ss_review.specs.Notes.{Note, Normal, Block, noted, note, notes}
 use Rattle.ss_review.specs.Contents.{said_in, normal_at, block_at, normals, blocks}
 use Rattle.ss_review.specs.Sessions.{of_session}
 use Rattle.ss_review.specs.Verified.{Answers, joined, is_valid_in, is_verified, signature_of}
-use Rattle.ss_review.specs.Announced.{Key, Row, rows, hashes_for}
+use Rattle.ss_review.specs.Announced.{Key, rows, hashes_for}
 use Rattle.ss_review.specs.Assigned.{has_hash, pair_of_bearer, places_with, wanted_with, wanted, rank, assigned}
 use Rattle.ss_review.specs.Announcing.{Announces}
 use Rattle.ss_review.specs.Witness.{IsWitnessed}

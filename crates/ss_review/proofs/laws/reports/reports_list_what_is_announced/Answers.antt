@@ -1,5 +1,4 @@
-use Rattle.std.proofs.Common.{◌≡◌, sym, ◌∙◌}
-use Rattle.std.specs.Prelude.{Some}
+use Rattle.std.proofs.Common.{sym, ◌∙◌}
 use Rattle.ss_review.proofs.NotesTold.{some_is}
 use Rattle.ss_review.proofs.laws.reports.reports_list_what_is_announced.Goals as goal
 
