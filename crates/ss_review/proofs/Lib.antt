@@ -20,3 +20,4 @@ pub mod Telling
 pub mod Listings
 pub mod EntriesRise
 pub mod Witnesses
+pub mod Leftovers
