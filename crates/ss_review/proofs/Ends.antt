@@ -44,7 +44,7 @@ normals_stay ns cause = normals_push ns (Spoilt cause) ∙ append-nil (normals n
 blocks_stay : (ns : List Note) (cause : Spoil) → blocks (ns ++ Spoilt cause ∷ []) ≡ blocks ns
 blocks_stay ns cause = blocks_push ns (Spoilt cause) ∙ append-nil (blocks ns)
 
-count_more : (ns : List Note) (n : Note) → length (ns ++ n ∷ []) ≡ length ns + 1
+pub count_more : (ns : List Note) (n : Note) → length (ns ++ n ∷ []) ≡ length ns + 1
 count_more ns n = omega (arith, length-append ns (n ∷ []))
 
 report_stays : (says : Answers) (ns : List Note) (cause : Spoil) → report_of says (contents (ns ++ Spoilt cause ∷ [])) ≡ with_spoilt (report_of says (contents ns)) cause

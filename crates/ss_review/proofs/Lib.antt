@@ -6,6 +6,7 @@ pub mod Counting
 pub mod Tests
 pub mod Stating
 pub mod Ends
+pub mod Keeping
 pub mod Sections
 pub mod Announcements
 pub mod Covering

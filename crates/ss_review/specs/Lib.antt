@@ -23,3 +23,4 @@ pub mod Rows
 pub mod Assigning
 pub mod Stated
 pub mod Covering
+pub mod Keeping

@@ -1,6 +1,8 @@
 //! Places of messages in a log.
-ghost use Rattle.std.specs.Prelude.{◌≡◌};
+ghost use Rattle.std.specs.Prelude.{◌≡◌, ◌++◌, ◌∷◌, [], IfOk, is_ok, if◌then◌else◌};
 
+use ss_message::NoMemory;
+use std::alloc::Global;
 use std::marker::Model;
 
 /// Places of messages, each counted from 0. Contracts see the list alone.
@@ -23,6 +25,23 @@ impl Places {
         ensures { result ≡ places.items }
     {
         Places { places }
+    }
+
+    /// One place alone.
+    pub(crate) fn one(alloc: Global, place: u32) -> Result<Places, NoMemory>
+        ensures { IfOk result (λ p. p ≡ place ∷ []) }
+    {
+        let mut places = Vec::with_capacity(alloc, 1)?;
+        places.push(place)?;
+        Ok(Places { places })
+    }
+
+    /// Adds a place behind the others. Where memory runs out, they stay as they are.
+    pub(crate) fn push(&mut self, place: u32) -> Result<(), NoMemory>
+        ensures { self.new ≡ (if is_ok result then self.old ++ place ∷ [] else self.old) }
+    {
+        self.places.push(place)?;
+        Ok(())
     }
 
     /// The places.
