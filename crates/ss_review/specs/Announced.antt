@@ -10,7 +10,7 @@ use Rattle.ss_review.specs.Ordered.{in_order}
 use Rattle.ss_review.specs.declared.message.BlockMessage.{BlockMessage}
 use Rattle.ss_review.specs.declared.message.Said.{Said}
 use Rattle.ss_review.specs.declared.message.Said.TheVariants.{Hashes, Fragment}
-use Rattle.ss_review.specs.Orders.{session_cmp, group_cmp, hash_cmp}
+use Rattle.ss_block.specs.Order.{session_cmp, group_cmp, hash_cmp}
 use Rattle.ss_review.specs.Verified.{Answers, is_verified}
 
 -- a message number in its group and session

@@ -4,7 +4,7 @@ use Rattle.std.specs.BTreeMap as tree
 use Rattle.ss_block.specs.declared.hash.Hash.{Hash}
 use Rattle.ss_block.specs.declared.hash.HashPair.{HashPair}
 use Rattle.ss_review.specs.declared.message.NormalMessage.{NormalMessage}
-use Rattle.ss_review.specs.Orders.{pair_cmp}
+use Rattle.ss_block.specs.Order.{pair_cmp}
 use Rattle.ss_review.specs.Assigned.{pair_of_bearer, places_with, is_pair}
 
 -- the two hashes that a key wants which is announced with this hash, or with none that counts

@@ -8,7 +8,7 @@ use Rattle.ss_review.specs.declared.entry.Why.TheVariants as whys
 use Rattle.ss_review.specs.declared.entry.Entry.{Entry}
 use Rattle.ss_review.specs.declared.entry.Entry.TheVariants as entry
 use Rattle.ss_review.specs.declared.message.NormalMessage.{NormalMessage}
-use Rattle.ss_review.specs.Orders.{group_cmp}
+use Rattle.ss_block.specs.Order.{group_cmp}
 use Rattle.ss_review.specs.Sessions.{same_session}
 use Rattle.ss_review.specs.Announced.{Key, Row, keys, is_disputed_key}
 use Rattle.ss_review.specs.Assigned.{assigned}

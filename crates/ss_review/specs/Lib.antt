@@ -1,5 +1,4 @@
 pub mod Ordered
-pub mod Orders
 pub mod Notes
 pub mod Contents
 pub mod Sessions

@@ -13,7 +13,7 @@ use Rattle.ss_review.specs.declared.entry.Entry.TheVariants as entry
 use Rattle.ss_review.specs.declared.group_report.GroupReport.{GroupReport}
 use Rattle.ss_review.specs.declared.session_report.SessionReport.{SessionReport}
 use Rattle.ss_review.specs.declared.report.Report.{Report}
-use Rattle.ss_review.specs.Orders.{session_cmp, group_cmp}
+use Rattle.ss_block.specs.Order.{session_cmp, group_cmp}
 use Rattle.ss_review.specs.Contents.{Contents}
 use Rattle.ss_review.specs.Sessions.{of_session}
 use Rattle.ss_review.specs.Verified.{Answers, joined, state_in, is_verified}

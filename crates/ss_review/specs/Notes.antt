@@ -6,7 +6,7 @@ use Rattle.ss_block.specs.declared.spoil.Spoil.{Spoil}
 use Rattle.ss_block.specs.declared.reading.Reading.{Reading}
 use Rattle.ss_block.specs.declared.reading.Reading.TheVariants as readings
 use Rattle.ss_block.specs.Reading.{reading}
-use Rattle.ss_review.specs.Orders.{pair}
+use Rattle.ss_block.specs.Hashes.{pair}
 
 pub data Note : Type 0 where
   Normal : HashPair → Note

@@ -8,7 +8,7 @@ use Rattle.ss_review.specs.declared.report.Report.{Report}
 use Rattle.ss_review.specs.declared.message.NormalMessage.{NormalMessage}
 use Rattle.ss_review.specs.declared.message.BlockMessage.{BlockMessage}
 use Rattle.ss_review.specs.Ordered.{in_order}
-use Rattle.ss_review.specs.Orders.{group_cmp}
+use Rattle.ss_block.specs.Order.{group_cmp}
 use Rattle.ss_review.specs.Notes.{notes}
 use Rattle.ss_review.specs.Contents.{Contents, contents}
 use Rattle.ss_review.specs.Sessions.{sessions, of_session}

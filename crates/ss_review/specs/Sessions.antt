@@ -4,7 +4,7 @@ use Rattle.std.specs.Ordering.{is_eq}
 use Rattle.ss_block.specs.declared.session.Session.{Session}
 use Rattle.ss_review.specs.declared.message.BlockMessage.{BlockMessage}
 use Rattle.ss_review.specs.Ordered.{in_order}
-use Rattle.ss_review.specs.Orders.{session_cmp}
+use Rattle.ss_block.specs.Order.{session_cmp}
 
 abbrev pub same_session : Session → Session → Bool
 same_session a b = is_eq (session_cmp a b)

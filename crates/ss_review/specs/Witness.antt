@@ -5,7 +5,7 @@ use Rattle.ss_block.specs.Block as block
 use Rattle.ss_block.specs.Reading.{reading}
 use Rattle.ss_block.specs.Session.{session}
 use Rattle.ss_block.specs.Signed.{signed}
-use Rattle.ss_review.specs.Orders.{pair, hash_of}
+use Rattle.ss_block.specs.Hashes.{pair, hash_of}
 use Rattle.ss_review.specs.Notes.{Normal, note, notes}
 use Rattle.ss_review.specs.Contents.{blocks}
 use Rattle.ss_review.specs.Sessions.{of_session}

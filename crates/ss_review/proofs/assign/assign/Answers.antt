@@ -3,7 +3,7 @@ use Rattle.std.specs.Prelude.{None, unwrap_or, count_by}
 use Rattle.std.specs.BTreeMap.{is_at}
 use Rattle.std.specs.Map.{lookup}
 use Rattle.std.proofs.lemmas.List.{append_assoc}
-use Rattle.ss_review.specs.Orders.{pair_cmp}
+use Rattle.ss_block.specs.Order.{pair_cmp}
 use Rattle.ss_review.specs.Assigned.{is_pair}
 use Rattle.ss_review.specs.Assigning.{pairs_wanted, assigned_after, assigned_all}
 use Rattle.ss_review.proofs.Counting.{assigned_at, length-pairs_wanted}

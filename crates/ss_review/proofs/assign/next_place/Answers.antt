@@ -3,7 +3,7 @@ use Rattle.std.specs.Prelude.{Some, count_by}
 use Rattle.std.specs.Ordering.{is_eq}
 use Rattle.std.specs.BTreeMap as tree
 use Rattle.std.proofs.lemmas.List.Sums.{count_by-le-length}
-use Rattle.ss_review.specs.Orders.{pair_cmp}
+use Rattle.ss_block.specs.Order.{pair_cmp}
 use Rattle.ss_review.specs.Assigned.{is_pair}
 use Rattle.ss_review.specs.Assigning.{pair_wanted, count_of, Counts}
 use Rattle.ss_review.proofs.Counting.{counted}
