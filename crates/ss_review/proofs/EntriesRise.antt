@@ -18,7 +18,7 @@ use Rattle.ss_review.specs.declared.group_report.GroupReport.{GroupReport}
 use Rattle.ss_review.specs.declared.session_report.SessionReport.{SessionReport}
 use Rattle.ss_review.specs.declared.message.NormalMessage.{NormalMessage}
 use Rattle.ss_review.specs.declared.message.BlockMessage.{BlockMessage}
-use Rattle.ss_review.specs.Orders.{session_cmp, group_cmp}
+use Rattle.ss_block.specs.Order.{session_cmp, group_cmp}
 use Rattle.ss_review.specs.Notes.{Note}
 use Rattle.ss_review.specs.Contents.{normals, blocks, contents}
 use Rattle.ss_review.specs.Sessions.{same_session, sessions}
@@ -35,7 +35,7 @@ use Rattle.ss_review.proofs.Members.{Has, has-map, from_has-map, has-filter, has
 use Rattle.ss_review.proofs.PlacesRise.{normals_rise, blocks_rise, spoilts_rise}
 use Rattle.ss_review.proofs.Rising.{below_all, all_below, rises-in_order}
 use Rattle.ss_review.proofs.Telling.{given, from_has-group_keys}
-use Rattle.ss_review.proofs.TotalOrders.{session_cmp_total, session_cmp_exact, group_cmp_total, group_cmp_exact}
+use Rattle.ss_block.specs.OrderLaws.{session_cmp_total, session_cmp_exact, group_cmp_total, group_cmp_exact}
 
 -- ---- maps and joins
 

@@ -10,7 +10,7 @@ use Rattle.ss_block.specs.declared.spoil.Spoil.{Spoil}
 use Rattle.ss_review.specs.declared.message.NormalMessage.{NormalMessage}
 use Rattle.ss_review.specs.declared.reviewer.BlockText.{BlockText}
 use Rattle.ss_review.specs.declared.reviewer.Reviewer.{Reviewer}
-use Rattle.ss_review.specs.Orders.{pair_cmp}
+use Rattle.ss_block.specs.Order.{pair_cmp}
 use Rattle.ss_review.specs.Notes.{Note, Normal, Block, Spoilt}
 use Rattle.ss_review.specs.Contents.{normals, spoilts}
 use Rattle.ss_review.specs.Assigned.{same_pair, places_with}

@@ -18,7 +18,8 @@ use Rattle.ss_review.proofs.Keyed.{has-slice_get, one_index, one_of_key, keys_ri
 use Rattle.ss_review.proofs.Members.{Has, from_has-map, from_has-filter}
 use Rattle.ss_review.proofs.Rising.{reversed}
 use Rattle.ss_review.proofs.Tests.{and_true, both_true}
-use Rattle.ss_review.proofs.TotalOrders.{key_cmp_total, key_cmp_exact, pair_cmp_total}
+use Rattle.ss_block.specs.OrderLaws.{pair_cmp_total}
+use Rattle.ss_review.proofs.TotalOrders.{key_cmp_total, key_cmp_exact}
 
 -- ---- counts of a weaker test
 

@@ -10,7 +10,7 @@ use Rattle.ss_review.specs.declared.group_report.GroupReport.{GroupReport}
 use Rattle.ss_review.specs.declared.session_report.SessionReport.{SessionReport}
 use Rattle.ss_review.specs.declared.message.NormalMessage.{NormalMessage}
 use Rattle.ss_review.specs.declared.message.BlockMessage.{BlockMessage}
-use Rattle.ss_review.specs.Orders.{session_cmp, group_cmp}
+use Rattle.ss_block.specs.Order.{session_cmp, group_cmp}
 use Rattle.ss_review.specs.Contents.{Contents}
 use Rattle.ss_review.specs.Sessions.{same_session, sessions}
 use Rattle.ss_review.specs.Verified.{Answers}
@@ -21,7 +21,7 @@ use Rattle.ss_review.specs.Meaning.{Tells}
 use Rattle.ss_review.proofs.Announcements.{announced_key}
 use Rattle.ss_review.proofs.Members.{Has, has_from_contains, contains_from_has, has-map, from_has-map, has-filter, from_has-filter, has-flat_map, from_has-flat_map}
 use Rattle.ss_review.proofs.Rising.{has-in_order, from_has-in_order}
-use Rattle.ss_review.proofs.TotalOrders.{session_cmp_total, session_cmp_exact, group_cmp_total, group_cmp_exact}
+use Rattle.ss_block.specs.OrderLaws.{session_cmp_total, session_cmp_exact, group_cmp_total, group_cmp_exact}
 
 -- the entry of a key, behind the hole below it
 abbrev pub given : List NormalMessage → List Row → List Key → Key → List Entry

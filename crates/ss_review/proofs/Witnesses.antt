@@ -23,7 +23,7 @@ use Rattle.ss_review.specs.declared.message.NormalMessage.{NormalMessage}
 use Rattle.ss_review.specs.declared.message.BlockMessage.{BlockMessage}
 use Rattle.ss_review.specs.declared.message.Said.{Said}
 use Rattle.ss_review.specs.declared.message.Said.TheVariants.{Hashes}
-use Rattle.ss_review.specs.Orders.{pair, hash_of}
+use Rattle.ss_block.specs.Hashes.{pair, hash_of}
 use Rattle.ss_review.specs.Notes.{Note, Normal, Block, noted, note, notes}
 use Rattle.ss_review.specs.Contents.{said_in, normal_at, block_at, normals, blocks}
 use Rattle.ss_review.specs.Sessions.{of_session}

@@ -2,7 +2,7 @@
 ghost use Rattle.std.specs.Prelude.{◌≡◌, ◌++◌, ◌∷◌, [], Some, OnOk, OnErr};
 ghost use Rattle.std.specs.BTreeMap.{get, Updates};
 ghost use Rattle.ss_block.specs.declared.hash.HashPair.{HashPair};
-ghost use Rattle.ss_review.specs.Orders.{pair_cmp};
+ghost use Rattle.ss_block.specs.Order.{pair_cmp};
 ghost use Rattle.ss_review.specs.Keeping.{places_in};
 
 use crate::places::Places;

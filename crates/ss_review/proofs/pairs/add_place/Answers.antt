@@ -3,7 +3,7 @@ use Rattle.std.specs.Prelude.{Some, None}
 use Rattle.std.specs.BTreeMap.{get, get_key, ContainsKey, Updates}
 use Rattle.std.specs.BTreeMap.Entry.{MatchEntry, map_with_value, entry_key, entry_value}
 use Rattle.ss_block.specs.declared.hash.HashPair.{HashPair}
-use Rattle.ss_review.specs.Orders.{pair_cmp}
+use Rattle.ss_block.specs.Order.{pair_cmp}
 use Rattle.ss_review.specs.Keeping.{places_in}
 use Rattle.ss_review.proofs.Keeping.{put_back}
 use Rattle.ss_review.proofs.pairs.add_place.Goals as goal
