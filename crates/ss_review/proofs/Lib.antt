@@ -8,6 +8,7 @@ pub mod Stating
 pub mod Ends
 pub mod Keeping
 pub mod Sections
+pub mod BySession
 pub mod Announcements
 pub mod Covering
 pub mod SessionStates

@@ -172,15 +172,16 @@ module _ {X K : Type 0} (key : X → K) {R : K → K → Ordering} (o : IsTotalO
       ∙ ap (λ ys. ys ++ filter (same q) (back (key x) xs))
       (keeps_none (same q) (front (key x) xs) (all_below (λ y. same q y ≡ false) (front (key x) xs) (λ y h. other_key (key x) q y (below_all (λ z. same (key x) z ≡ true) (front (key x) xs) y (front_same (key x) xs) h) l)))
 
-  abbrev pub sections : List X → List (List X)
-  sections xs = map (λ k. filter (same k) xs) (in_order R (map key xs))
+  -- each key with its elements
+  abbrev pub sections : List X → List (K × List X)
+  sections xs = map (λ k. (k, filter (same k) xs)) (in_order R (map key xs))
 
-  pub sections_step : (x : X) (xs : List X) → KeysRise (x ∷ xs) → sections (x ∷ xs) ≡ (x ∷ front (key x) xs) ∷ sections (back (key x) xs)
+  pub sections_step : (x : X) (xs : List X) → KeysRise (x ∷ xs) → sections (x ∷ xs) ≡ (key x, x ∷ front (key x) xs) ∷ sections (back (key x) xs)
   sections_step x xs up =
-      ap (map (λ k. filter (same k) (x ∷ xs))) (keys_step x xs up)
-      ∙ (λ i. first_section x xs up i ∷ map_agree (λ k. filter (same k) (x ∷ xs)) (λ k. filter (same k) (back (key x) xs)) (in_order R (map key (back (key x) xs))) later i)
+      ap (map (λ k. (k, filter (same k) (x ∷ xs)))) (keys_step x xs up)
+      ∙ (λ i. (key x, first_section x xs up i) ∷ map_agree (λ k. (k, filter (same k) (x ∷ xs))) (λ k. (k, filter (same k) (back (key x) xs))) (in_order R (map key (back (key x) xs))) later i)
     where
-      later : (q : K) → Has (in_order R (map key (back (key x) xs))) q → filter (same q) (x ∷ xs) ≡ filter (same q) (back (key x) xs)
+      later : (q : K) → Has (in_order R (map key (back (key x) xs))) q → ◌≡◌ {A = K × List X} (q, filter (same q) (x ∷ xs)) (q, filter (same q) (back (key x) xs))
       later q h =
           let w : (y : X) × Has (back (key x) xs) y × (key y ≡ q) = from_has-map key (back (key x) xs) q (from_has-in_order o exact q (map key (back (key x) xs)) h) in
-          later_section x xs q (subst (λ p. R (key x) p ≡ Less) w.2 (below_all (λ z. R (key x) (key z) ≡ Less) (back (key x) xs) w.0 (back_above (key x) xs up.1 up.0) w.1))
+          ap (λ ys. (q, ys)) (later_section x xs q (subst (λ p. R (key x) p ≡ Less) w.2 (below_all (λ z. R (key x) (key z) ≡ Less) (back (key x) xs) w.0 (back_above (key x) xs up.1 up.0) w.1)))

@@ -2,6 +2,7 @@ pub mod Ordered
 pub mod Notes
 pub mod Contents
 pub mod Sessions
+pub mod Sectioned
 pub mod Payloads
 pub mod Verified
 pub mod Announced
