@@ -8,7 +8,7 @@
 #                                    with the ratios to it
 set -eu
 here=$(cd "$(dirname "$0")/.." && pwd)
-program=$here/crates/frame_bench/out/frame_bench
+program=$here/crates/timing/out/timing
 work=$(mktemp -d)
 trap 'rm -rf "$work"' EXIT
 
@@ -32,7 +32,7 @@ def best(args, path=None):
     return min(times)
 
 SHAPES = {"187 octets": b"m" * 187, "1 octet": b"m"}
-FORMS = {"frames": (lambda m: b"%d %s" % (len(m), m), []), "lines": (lambda m: m + b"\n", ["lines"])}
+FORMS = {"frames": (lambda m: b"%d %s" % (len(m), m), ["frames"]), "lines": (lambda m: m + b"\n", ["lines"])}
 for shape, message in SHAPES.items():
     for form, (unit, words) in FORMS.items():
         seconds = []

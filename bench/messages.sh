@@ -6,7 +6,7 @@
 #   bench/messages.sh [LOG]    LOG: a log of one message a line, which is timed too
 set -eu
 here=$(cd "$(dirname "$0")/.." && pwd)
-program=$here/crates/parse_bench/out/parse_bench
+program=$here/crates/timing/out/timing
 work=$(mktemp -d)
 trap 'rm -rf "$work"' EXIT
 
@@ -55,7 +55,7 @@ def best(args):
             subprocess.run([program] + args, stdin=f, check=True, stdout=subprocess.DEVNULL)
             times.append(time.perf_counter() - start)
     return min(times)
-print("%.3f" % (best([]) - best(["scan"])))
+print("%.3f" % (best(["messages"]) - best(["messages", "scan"])))
 P
 }
 

@@ -1,11 +1,12 @@
 -- The first cause of an element `ssign-cert` that is no block, from the causes before it.
-use Rattle.std.proofs.Common.{◌≡◌, Bool, true, false, [], ◌∷◌, refl, ◌∙◌}
+use Rattle.std.proofs.Common.{◌≡◌, Bool, true, false, [], ◌∷◌, refl, sym, ◌∙◌}
 use Rattle.std.specs.Prelude.{not, is_some}
 use Rattle.ss_message.specs.Message.{ElementValue}
 use Rattle.ss_block.specs.declared.spoil.Spoil.TheVariants as spoils
 use Rattle.ss_block.specs.declared.reading.Reading.{Reading}
 use Rattle.ss_block.specs.declared.reading.Reading.TheVariants.{Certificate, Spoilt}
-use Rattle.ss_block.specs.Encoded.{octets_in}
+use Rattle.ss_block.specs.Block as block
+use Rattle.ss_payload.specs.StrictBase64.{octets_in}
 use Rattle.ss_block.specs.Reading.{has_names, first_cause, is_version, certificate_names, certificate_texts, certificate_numbers, certificate_block, unless_spoilt, certificate_reading}
 use Rattle.ss_block.specs.Causes.{misfits}
 
@@ -73,3 +74,21 @@ pub is_block : (e : ElementValue) → has_names certificate_names e ≡ true →
 is_block e n v u s f =
     let t = certificate_texts e in
     reading_is e ∙ at_none (has_names certificate_names e) (is_version t.ver) (certificate_numbers t) (is_some (octets_in t.sign)) (misfits t) (Certificate (certificate_block t)) n v u s f
+
+-- ---- of a block
+
+apart : (n v u s f : Bool) (x b : block.Certificate) → told n v u s f (Certificate x) ≡ Certificate b → (n ≡ true) × (v ≡ true) × (u ≡ true) × (s ≡ true) × (f ≡ false) × (x ≡ b)
+apart true true true true false x b e = (refl, refl, refl, refl, refl, cc)
+apart true true true true true x b e = absurd cc
+apart true true true false f x b e = absurd cc
+apart true true false s f x b e = absurd cc
+apart true false u s f x b e = absurd cc
+apart false v u s f x b e = absurd cc
+
+-- no cause applies to what is read as a block
+pub of_block : (e : ElementValue) (b : block.Certificate) → certificate_reading e ≡ Certificate b
+    → (has_names certificate_names e ≡ true) × (is_version (certificate_texts e).ver ≡ true) × (certificate_numbers (certificate_texts e) ≡ true)
+    × (is_some (octets_in (certificate_texts e).sign) ≡ true) × (misfits (certificate_texts e) ≡ false) × (certificate_block (certificate_texts e) ≡ b)
+of_block e b h =
+    let t = certificate_texts e in
+    apart (has_names certificate_names e) (is_version t.ver) (certificate_numbers t) (is_some (octets_in t.sign)) (misfits t) (certificate_block t) b (sym (reading_is e) ∙ h)

@@ -5,7 +5,6 @@ use Rattle.std.specs.Str.{is_utf8}
 use Rattle.std.proofs.lemmas.Bool.{leb-true}
 use Rattle.std.proofs.lemmas.List.{length-append, length-drop, take_all}
 use Rattle.ss_message.specs.declared.fault.Part.TheVariants as parts
-use Rattle.ss_message.specs.declared.fault.Fault.TheVariants.{Bad}
 use Rattle.ss_message.specs.declared.span.Span.{Span}
 use Rattle.ss_message.specs.declared.message.Element.{Element}
 use Rattle.ss_message.specs.Octets.{is_at, part_of, has_mark}
@@ -13,7 +12,7 @@ use Rattle.ss_message.specs.Stamp.{Moment}
 use Rattle.ss_message.specs.Message.{MessageValue, header_text, structured_text, msg_text, text}
 use Rattle.ss_message.specs.Layout.{Layout, element_values, value_at}
 use Rattle.ss_message.specs.Places.{ElementsLie}
-use Rattle.ss_message.specs.Reading.{◌>>=◌, span, pri_at, version_at, timestamp_at, fields_at, structured_at, msg_at, layout_at}
+use Rattle.ss_message.specs.Reading.{◌>>=◌, span, pri_at, version_at, timestamp_at, fields_at, structured_at, msg_at, layout_at, bad}
 use Rattle.ss_message.proofs.Fronts.{at_inside}
 use Rattle.ss_message.proofs.Standing.{bind_ok, passes_not, ok_is}
 use Rattle.ss_message.proofs.ElementLaws.{fails_not, structured_takes}
@@ -29,7 +28,7 @@ unfolding msg_at
 msg_long t pos m le e = by_end t pos m le (leb (length t) pos) refl e
   where
     by_end : (t : List ℕ) (pos : ℕ) (m : Option Span) → pos ≤ length t → (b : Bool) → leb (length t) pos ≡ b
-        → cond b (Ok None) (cond (not (is_at 32 pos t)) (Err (Bad parts.Syntax pos)) (cond (has_mark (drop (pos + 1) t) && not (is_utf8 (drop (pos + 4) t))) (Err (Bad parts.Msg (pos + 1))) (Ok (Some (span (pos + 1) (length t)))))) ≡ Ok m
+        → cond b (Ok None) (cond (not (is_at 32 pos t)) (Err (bad parts.Syntax pos)) (cond (has_mark (drop (pos + 1) t) && not (is_utf8 (drop (pos + 4) t))) (Err (bad parts.Msg (pos + 1))) (Ok (Some (span (pos + 1) (length t)))))) ≡ Ok m
         → pos + length (msg_text (option_map (part_of t) m)) ≡ length t
     by_end t pos m le true ended e =
         let none : Option Span = None in
@@ -37,8 +36,8 @@ msg_long t pos m le e = by_end t pos m le (leb (length t) pos) refl e
         subst (λ (o : Option Span). pos + length (msg_text (option_map (part_of t) o)) ≡ length t) (ok_is none m e) (omega arith)
     by_end t pos m le false ended e =
         let some : Option Span = Some (span (pos + 1) (length t)) in
-        let g = passes_not (is_at 32 pos t) (cond (has_mark (drop (pos + 1) t) && not (is_utf8 (drop (pos + 4) t))) (Err (Bad parts.Msg (pos + 1))) (Ok some)) (Bad parts.Syntax pos) m e in
-        let h = fails_not (has_mark (drop (pos + 1) t) && not (is_utf8 (drop (pos + 4) t))) (Ok some) (Bad parts.Msg (pos + 1)) m g.1 in
+        let g = passes_not (is_at 32 pos t) (cond (has_mark (drop (pos + 1) t) && not (is_utf8 (drop (pos + 4) t))) (Err (bad parts.Msg (pos + 1))) (Ok some)) (bad parts.Syntax pos) m e in
+        let h = fails_not (has_mark (drop (pos + 1) t) && not (is_utf8 (drop (pos + 4) t))) (Ok some) (bad parts.Msg (pos + 1)) m g.1 in
         let lt = at_inside 32 pos t g.0 in
         let octets : part_of t (span (pos + 1) (length t)) ≡ drop (pos + 1) t = take_all (length t - (pos + 1)) (drop (pos + 1) t) (omega (arith, length-drop (pos + 1) t)) in
         subst (λ (o : Option Span). pos + length (msg_text (option_map (part_of t) o)) ≡ length t) (ok_is some m h.1) (omega (arith, ap (λ (x : List ℕ). length x) octets, length-drop (pos + 1) t))

@@ -1,17 +1,7 @@
-pub mod Adding
-pub mod JoiningLaws
-pub mod Placed
-pub mod Runs
-pub mod Standing
 pub mod Numbers
-pub mod Base64Text
 pub mod Filled
 pub mod HashTexts
-pub mod DecodedOctets
 pub mod Meanings
-pub mod CutLists
-pub mod StampEnds
-pub mod Payloads
 pub mod Lookups
 pub mod Plain
 pub mod Values
@@ -20,6 +10,8 @@ pub mod Refusals
 pub mod SignatureBlocks
 pub mod CertificateBlocks
 pub mod Readings
+pub mod ReadBlocks
+pub mod Standings
 pub mod CertificateCauses
 pub mod Placing
 pub mod Blocks
@@ -32,3 +24,4 @@ pub mod WrittenSignatures
 pub mod WrittenCertificates
 pub mod Written
 pub mod JoinedHashes
+pub mod Pieces

@@ -1,5 +1,5 @@
 -- The first cause of an element `ssign` that is no block, from the causes before it.
-use Rattle.std.proofs.Common.{◌≡◌, ◌+◌, Bool, true, false, [], ◌∷◌, length, Some, None, refl, ◌∙◌}
+use Rattle.std.proofs.Common.{◌≡◌, ◌+◌, Bool, true, false, [], ◌∷◌, length, Some, None, refl, sym, ◌∙◌}
 use Rattle.std.specs.Prelude.{not, nat_lt, ◌==◌, is_some}
 use Rattle.std.specs.List.{list_all}
 use Rattle.ss_message.specs.Message.{ElementValue}
@@ -7,7 +7,8 @@ use Rattle.ss_block.specs.declared.spoil.Spoil.{Spoil}
 use Rattle.ss_block.specs.declared.spoil.Spoil.TheVariants as spoils
 use Rattle.ss_block.specs.declared.reading.Reading.{Reading}
 use Rattle.ss_block.specs.declared.reading.Reading.TheVariants.{Signature, Spoilt}
-use Rattle.ss_block.specs.Encoded.{octets_in}
+use Rattle.ss_block.specs.Block as block
+use Rattle.ss_payload.specs.StrictBase64.{octets_in}
 use Rattle.ss_block.specs.Number.{number}
 use Rattle.ss_block.specs.Reading.{has_names, first_cause, is_version, alg_of, hash_in, pieces, signature_names, SignatureTexts, signature_texts, signature_numbers, signature_block, unless_spoilt, signature_reading}
 use Rattle.ss_block.specs.Causes.{hash_causes}
@@ -103,3 +104,25 @@ pub is_block : (e : ElementValue) → has_names signature_names e ≡ true → i
 is_block e n v u h s l =
     let t = signature_texts e in
     reading_is e ∙ at_none (has_names signature_names e) (is_version t.ver) (signature_numbers t) (counted t) (hashed t) (is_some (octets_in t.sign)) (late t) (Signature (signature_block t)) n v u (both (counted t) (hashed t) h) s l
+
+-- ---- of a block
+
+apart : (n v u c h s l : Bool) (x b : block.Signature) → told n v u c h s l (Signature x) ≡ Signature b
+    → (n ≡ true) × (v ≡ true) × (u ≡ true) × (first_cause ((not c, spoils.HashCount) ∷ (not h, spoils.Hash) ∷ []) ≡ None) × (s ≡ true) × (l ≡ false) × (x ≡ b)
+apart true true true true true true false x b e = (refl, refl, refl, refl, refl, refl, cc)
+apart true true true true true true true x b e = absurd cc
+apart true true true true true false l x b e = absurd cc
+apart true true true true false s l x b e = absurd cc
+apart true true true false h s l x b e = absurd cc
+apart true true false c h s l x b e = absurd cc
+apart true false u c h s l x b e = absurd cc
+apart false v u c h s l x b e = absurd cc
+
+-- no cause applies to what is read as a block
+pub of_block : (e : ElementValue) (b : block.Signature) → signature_reading e ≡ Signature b
+    → (has_names signature_names e ≡ true) × (is_version (signature_texts e).ver ≡ true) × (signature_numbers (signature_texts e) ≡ true)
+    × (first_cause (hash_causes (signature_texts e)) ≡ None) × (is_some (octets_in (signature_texts e).sign) ≡ true)
+    × (nat_lt 10000000000 (number (signature_texts e).fmn + number (signature_texts e).cnt) ≡ false) × (signature_block (signature_texts e) ≡ b)
+of_block e b h =
+    let t = signature_texts e in
+    apart (has_names signature_names e) (is_version t.ver) (signature_numbers t) (counted t) (hashed t) (is_some (octets_in t.sign)) (late t) (signature_block t) b (sym (reading_is e) ∙ h)

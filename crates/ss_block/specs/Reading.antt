@@ -4,8 +4,7 @@ use Rattle.std.specs.Prelude.{ℕ, ◌+◌, Bool, true, ◌&&◌, ◌||◌, not,
 use Rattle.std.specs.List.{list_all, slice_split}
 use Rattle.std.specs.Str.{bytes_eq}
 use Rattle.std.specs.Cmp.Lexicographic.{pointwise}
-use Rattle.ss_message.specs.declared.fault.Fault.{Fault}
-use Rattle.ss_message.specs.declared.fault.Fault.TheVariants.{Bad, Memory}
+use Rattle.ss_message.specs.declared.fault.BadPart.{BadPart}
 use Rattle.ss_message.specs.Raw.{meant}
 use Rattle.ss_message.specs.Message.{ParameterValue, ElementValue, MessageValue}
 use Rattle.ss_message.specs.Layout.{Layout, value_at}
@@ -19,7 +18,7 @@ use Rattle.ss_block.specs.declared.spoil.Spoil.TheVariants as spoils
 use Rattle.ss_block.specs.declared.reading.Reading.{Reading}
 use Rattle.ss_block.specs.declared.reading.Reading.TheVariants.{Plain, Unparsed, Signature, Certificate, Spoilt}
 use Rattle.ss_block.specs.Block as block
-use Rattle.ss_block.specs.Encoded.{octets_in}
+use Rattle.ss_payload.specs.StrictBase64.{octets_in}
 use Rattle.ss_block.specs.Number.{number, is_number}
 
 -- ---- the parameters of an element
@@ -206,12 +205,10 @@ reading_with (Some e) (Some f) = Spoilt spoils.BothBlocks
 abbrev pub value_reading : MessageValue → Reading
 value_reading v = reading_with (ssign v.elements) (ssign_cert v.elements)
 
-abbrev pub reading_from : List ℕ → Result Layout Fault → Reading
+abbrev pub reading_from : List ℕ → Result Layout BadPart → Reading
 reading_from t (Ok l) = value_reading (value_at t l)
-reading_from t (Err (Bad part pos)) = Unparsed part pos
-reading_from t (Err Memory) = Plain
+reading_from t (Err e) = Unparsed e.part e.pos
 
--- What a stored text is: that of its value, or the fault for which it is the text of no value. Want of memory is
--- never the fault of a text.
+-- What a stored text is: that of its value, or the fault for which it is the text of no value.
 unfoldable pub reading : List ℕ → Reading
 reading t = reading_from t (layout_at t)

@@ -1,6 +1,6 @@
 -- The session of a block message (RFC 5848, section 4.2): who sent it, by HOSTNAME, APP-NAME and PROCID, and RSID.
 use Rattle.std.specs.Prelude.{ℕ, List, Option, Some, None, Result, Ok, Err}
-use Rattle.ss_message.specs.declared.fault.Fault.{Fault}
+use Rattle.ss_message.specs.declared.fault.BadPart.{BadPart}
 use Rattle.ss_message.specs.declared.draft.Field.{Field}
 use Rattle.ss_message.specs.declared.draft.Field.TheVariants.{Nil, Text}
 use Rattle.ss_message.specs.Message.{MessageValue}
@@ -25,7 +25,7 @@ session_if_block Plain v = None
 session_if_block (Unparsed part pos) v = None
 session_if_block (Spoilt cause) v = None
 
-abbrev pub session_at : List ℕ → Result Layout Fault → Option Session
+abbrev pub session_at : List ℕ → Result Layout BadPart → Option Session
 session_at t (Ok l) = session_if_block (value_reading (value_at t l)) (value_at t l)
 session_at t (Err e) = None
 

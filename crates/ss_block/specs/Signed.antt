@@ -2,7 +2,7 @@
 -- parameter of its block element and the SP before it.
 use Rattle.std.specs.Prelude.{◌≡◌, ℕ, [], Bool, true, length, ◌∷◌, ◌++◌, List, take, map, flat_map, codes, Option, Some, None, Result, Ok, Err, if◌then◌else◌, ◌||◌}
 use Rattle.std.specs.Str.{bytes_eq}
-use Rattle.ss_message.specs.declared.fault.Fault.{Fault}
+use Rattle.ss_message.specs.declared.fault.BadPart.{BadPart}
 use Rattle.ss_message.specs.Message.{ParameterValue, ElementValue, MessageValue, IsMessage, text, header_text, element_text, parameter_text, msg_text}
 use Rattle.ss_message.specs.Layout.{Layout, value_at}
 use Rattle.ss_message.specs.Reading.{layout_at}
@@ -36,7 +36,7 @@ signed_if_block Plain v = None
 signed_if_block (Unparsed part pos) v = None
 signed_if_block (Spoilt cause) v = None
 
-abbrev pub signed_from : List ℕ → Result Layout Fault → Option (List ℕ)
+abbrev pub signed_from : List ℕ → Result Layout BadPart → Option (List ℕ)
 signed_from t (Ok l) = signed_if_block (value_reading (value_at t l)) (value_at t l)
 signed_from t (Err e) = None
 

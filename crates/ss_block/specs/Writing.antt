@@ -11,7 +11,7 @@ use Rattle.ss_block.specs.declared.hash.Hash.{Hash}
 use Rattle.ss_block.specs.declared.hash.Hash.TheVariants as hashes
 use Rattle.ss_block.specs.declared.session.Session.{Session}
 use Rattle.ss_block.specs.Block as block
-use Rattle.ss_block.specs.Encoded.{base64}
+use Rattle.ss_payload.specs.StrictBase64.{base64}
 use Rattle.ss_block.specs.Head.{HeadValue}
 use Rattle.ss_block.specs.Session.{field_from}
 

@@ -181,6 +181,14 @@ impl SigBlock {
         &self.signature
     }
 
+    /// The block with these octets as SIGN's, and all else as it is. Takes no memory.
+    pub fn with_signature(mut self, signature: Bytes) -> SigBlock
+        ensures { result ≡ record self { signature = signature } }
+    {
+        self.signature = signature;
+        self
+    }
+
     /// Every block is in the ranges that `new` asks for.
     pub fn in_range(&self)
         ensures { IsSignature self.now }
@@ -311,6 +319,14 @@ impl CertBlock {
         ensures { result.now ≡ self.now.signature }
     {
         &self.signature
+    }
+
+    /// The block with these octets as SIGN's, and all else as it is. Takes no memory.
+    pub fn with_signature(mut self, signature: Bytes) -> CertBlock
+        ensures { result ≡ record self { signature = signature } }
+    {
+        self.signature = signature;
+        self
     }
 
     /// Every block is in the ranges that `new` asks for.

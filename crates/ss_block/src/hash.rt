@@ -1,7 +1,6 @@
 //! Hashes of messages (RFC 5848, section 4.2.7).
 ghost use Rattle.std.specs.Prelude.{◌≡◌};
-ghost use Rattle.sha1.specs.Sha1.{sha1};
-ghost use Rattle.sha2.specs.Sha256.{sha256};
+ghost use Rattle.ss_block.specs.Hashes.{pair, pair_hash, hash_of};
 
 use sha1::Sha1;
 use sha2::{Digest, Sha256};
@@ -31,12 +30,36 @@ pub struct HashPair {
     pub sha256: [u8; 32],
 }
 
+impl HashPair {
+    /// The hash by this algorithm.
+    pub fn hash(&self, alg: Alg) -> Hash
+        ensures { result ≡ pair_hash self.now alg }
+    {
+        match alg {
+            Alg::Sha1 => Hash::Sha1(self.sha1),
+            Alg::Sha256 => Hash::Sha256(self.sha256),
+        }
+    }
+}
+
 /// Both hashes of the whole message, from `<` on, without framing.
+#[tactic(auto, unfolding(crate::specs::Hashes::pair))]
 pub fn pair_of(message: &[u8]) -> HashPair
-    ensures { result ≡ record { sha1 = sha1 message.now; sha256 = sha256 message.now } }
+    ensures { result ≡ pair message.now }
 {
     HashPair {
         sha1: Sha1::digest(message),
         sha256: Sha256::digest(message),
+    }
+}
+
+/// The hash of the whole message by this algorithm alone, from `<` on, without framing.
+#[tactic(auto, unfolding(crate::specs::Hashes::pair))]
+pub fn hash_of(alg: Alg, message: &[u8]) -> Hash
+    ensures { result ≡ hash_of alg message.now }
+{
+    match alg {
+        Alg::Sha1 => Hash::Sha1(Sha1::digest(message)),
+        Alg::Sha256 => Hash::Sha256(Sha256::digest(message)),
     }
 }

@@ -1,7 +1,7 @@
 //! The hashes of a signature block, as HB spells them (RFC 5848, section 4.2.7).
 ghost use Rattle.std.specs.Prelude.{◌≡◌, ◌≤◌, List, ℕ, length, Some, None, IfOk, IsTrue, is_some, if◌then◌else◌};
 ghost use Rattle.std.specs.List.{list_all};
-ghost use Rattle.ss_block.specs.Encoded.{octets_in};
+ghost use Rattle.ss_payload.specs.StrictBase64.{octets_in};
 ghost use Rattle.ss_block.specs.Reading.{hash_in, hashes_in, pieces};
 
 use crate::hash::{Alg, Hash};

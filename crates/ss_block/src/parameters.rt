@@ -3,12 +3,11 @@ ghost use Rattle.std.specs.Prelude.{◌≡◌, ◌<◌, ◌≤◌, Some, None, i
 ghost use Rattle.ss_message.specs.Layout.{element_value};
 ghost use Rattle.ss_block.specs.declared.spoil.Spoil.TheVariants as spoils;
 ghost use Rattle.ss_block.specs.Number.{number, is_number};
-ghost use Rattle.ss_block.specs.Encoded.{octets_in};
+ghost use Rattle.ss_payload.specs.StrictBase64.{octets_in};
 ghost use Rattle.ss_block.specs.Reading.{text_at, is_version, alg_of, or_none};
 ghost use Rattle.ss_block.specs.Meanings.{HasNine};
 ghost use Rattle.ss_block.specs.Causes.{Tests};
 
-use crate::encoded::octets_of;
 use crate::hash::Alg;
 use crate::number::number_of;
 use crate::refusal::Refusal;
@@ -16,6 +15,7 @@ use crate::spoil::Spoil;
 use crate::texts::text_at;
 use ss_frame::Bytes;
 use ss_message::Element;
+use ss_payload::strict_base64::decoded;
 use std::alloc::Global;
 
 fn alg_of(version: &[u8]) -> Option<Alg>
@@ -61,5 +61,5 @@ pub fn sign(alloc: Global, source: &[u8], element: &Element) -> Result<Bytes, Re
     ensures { Tests spoils.Sign (is_some (octets_in (text_at (element_value source.now element.now) 8))) (λ octets. octets ≡ or_none (octets_in (text_at (element_value source.now element.now) 8))) result }
 {
     let text = text_at(alloc, source, element, 8)?;
-    Ok(octets_of(alloc, text.as_slice())?.ok_or(Spoil::Sign)?)
+    Ok(decoded(alloc, text.as_slice())?.ok_or(Spoil::Sign)?)
 }

@@ -4,6 +4,7 @@ ghost use Rattle.std.specs.List.{All, list_all};
 ghost use Rattle.ss_message.specs.Message.{has_raws};
 ghost use Rattle.ss_message.specs.Layout.{value_of};
 ghost use Rattle.ss_message.specs.Places.{ElementIsWithin};
+ghost use Rattle.ss_block.specs.Parsed.{IsReadAs};
 ghost use Rattle.ss_block.specs.Reading.{value_reading, reading};
 
 use crate::block::{CertBlock, SigBlock};
@@ -44,6 +45,23 @@ pub(crate) fn message_reading(alloc: Global, message: &Message<'_>) -> Result<Re
     }
 }
 
+// What the text in `bytes` is, and the message that it spells, if it spells one: the one parse of each call that reads a text.
+pub(crate) fn read<'a>(
+    alloc: Global,
+    bytes: &'a [u8],
+) -> Result<(Reading, Option<Message<'a>>), NoMemory>
+    ensures { IfOk result (λ x. IsReadAs bytes.now x.0 x.1) }
+{
+    match parse(alloc, bytes) {
+        Ok(message) => {
+            let reading = message_reading(alloc, &message)?;
+            Ok((reading, Some(message)))
+        }
+        Err(Fault::Bad { part, pos }) => Ok((Reading::Unparsed { part, pos }, None)),
+        Err(Fault::Memory) => Err(NoMemory),
+    }
+}
+
 /// What the message in `bytes`, all of them, is: a block, an element that is no block with the first cause, a message
 /// without either element, or no message.
 ///
@@ -53,9 +71,6 @@ pub fn classify(alloc: Global, bytes: &[u8]) -> Result<Reading, NoMemory>
     // What a text is is told by what the message in it says, and by nothing else.
     ensures value { IfOk result (λ r. r ≡ reading bytes.now) }
 {
-    match parse(alloc, bytes) {
-        Ok(message) => message_reading(alloc, &message),
-        Err(Fault::Bad { part, pos }) => Ok(Reading::Unparsed { part, pos }),
-        Err(Fault::Memory) => Err(NoMemory),
-    }
+    let (reading, _) = read(alloc, bytes)?;
+    Ok(reading)
 }

@@ -4,10 +4,12 @@ ghost use Rattle.ss_message.specs.Layout.{field_of, value_of};
 ghost use Rattle.ss_block.specs.Parsed.{IsRead};
 ghost use Rattle.ss_block.specs.Reading.{reading};
 ghost use Rattle.ss_block.specs.Session.{field_from, session, session_if_block};
+ghost use Rattle.ss_block.specs.Writing.{head_session};
 
-use crate::reading::{Reading, message_reading};
-use ss_frame::Bytes;
-use ss_message::{Fault, Field, Message, NoMemory, parse};
+use crate::copies::{copy_of, copy_of_field};
+use crate::head::Head;
+use crate::reading::{Reading, read};
+use ss_message::{Field, Message, NoMemory};
 use std::alloc::Global;
 
 /// Who sent a block, and since which reboot: the header fields of its message and RSID (RFC 5848, section 4.2).
@@ -23,6 +25,34 @@ pub struct Session {
     pub rsid: u64,
 }
 
+impl Session {
+    /// The session of the blocks that are sent under this head since the reboot with this RSID.
+    ///
+    /// Errs only where memory runs out. It is taken for the three fields.
+    pub fn of_head(alloc: Global, head: &Head, rsid: u64) -> Result<Session, NoMemory>
+        ensures { IfOk result (λ s. s ≡ head_session head.now rsid) }
+    {
+        Ok(Session {
+            host: copy_of_field(alloc, head.hostname())?,
+            app: copy_of_field(alloc, head.app_name())?,
+            procid: copy_of_field(alloc, head.procid())?,
+            rsid,
+        })
+    }
+
+    /// The same session, in memory of its own. Errs only where memory runs out.
+    pub fn try_clone(&self, alloc: Global) -> Result<Session, NoMemory>
+        ensures { IfOk result (λ s. s ≡ self.now) }
+    {
+        Ok(Session {
+            host: copy_of_field(alloc, &self.host)?,
+            app: copy_of_field(alloc, &self.app)?,
+            procid: copy_of_field(alloc, &self.procid)?,
+            rsid: self.rsid,
+        })
+    }
+}
+
 // The field of the header that these octets spell; `-` is the absent one.
 fn field(alloc: Global, octets: &[u8]) -> Result<Field, NoMemory>
     ensures { IfOk result (λ f. f ≡ field_from (field_of octets.now)) }
@@ -30,12 +60,12 @@ fn field(alloc: Global, octets: &[u8]) -> Result<Field, NoMemory>
     if octets == b"-".as_slice() {
         return Ok(Field::Nil);
     }
-    Ok(Field::Text(Bytes::from_vec(Vec::from_slice(alloc, octets)?)))
+    Ok(Field::Text(copy_of(alloc, octets)?))
 }
 
 // The session of a message that was read as this; none unless that is a block.
 #[tactic(auto, unfolding(crate::specs::Session::session))]
-fn session_with(
+pub(crate) fn session_with(
     alloc: Global,
     message: &Message<'_>,
     reading: &Reading,
@@ -66,15 +96,12 @@ pub fn classify_with_session(
     ensures reading { IfOk result (λ x. x.0 ≡ reading bytes.now) }
     ensures session { IfOk result (λ x. x.1 ≡ session bytes.now) }
 {
-    match parse(alloc, bytes) {
-        Ok(message) => {
-            let reading = message_reading(alloc, &message)?;
-            let session = session_with(alloc, &message, &reading)?;
-            Ok((reading, session))
-        }
-        Err(Fault::Bad { part, pos }) => Ok((Reading::Unparsed { part, pos }, None)),
-        Err(Fault::Memory) => Err(NoMemory),
-    }
+    let (reading, message) = read(alloc, bytes)?;
+    let Some(message) = message else {
+        return Ok((reading, None));
+    };
+    let session = session_with(alloc, &message, &reading)?;
+    Ok((reading, session))
 }
 
 /// The session of a block message: its HOSTNAME, APP-NAME and PROCID, and RSID. None unless `bytes` are a message

@@ -5,10 +5,9 @@ ghost use Rattle.ss_message.specs.Message.{text};
 ghost use Rattle.ss_block.specs.SignPlace.{block_id, ninth_parameter};
 ghost use Rattle.ss_block.specs.Parsed.{IsRead};
 ghost use Rattle.ss_block.specs.Reading.{value_reading};
-ghost use Rattle.ss_block.specs.Signed.{signed, unsigned_value, IsWithoutSign};
+ghost use Rattle.ss_block.specs.Signed.{signed, signed_if_block, unsigned_value, IsWithoutSign};
 
-use crate::parsed::parsed;
-use crate::reading::{Reading, message_reading};
+use crate::reading::{Reading, read};
 use ss_frame::Bytes;
 use ss_message::{Message, NoMemory, Parameter};
 use std::alloc::Global;
@@ -49,6 +48,25 @@ fn without_sign(alloc: Global, message: &Message<'_>, id: &[u8]) -> Result<Optio
     Ok(Some(without(alloc, message.source, space, behind)?))
 }
 
+// What is signed of a message that was read as this; none unless that is a block.
+pub(crate) fn signed_with(
+    alloc: Global,
+    message: &Message<'_>,
+    reading: &Reading,
+) -> Result<Option<Bytes>, NoMemory>
+    requires read { IsRead message.now }
+    requires reading { reading.now ≡ value_reading (value_of message.now) }
+    ensures value { IfOk result (λ o. o ≡ signed_if_block reading.now (value_of message.now)) }
+    ensures split { IfOk result (λ o. IfSome o (λ octets. IsWithoutSign message.now.source.now octets)) }
+{
+    let id: &[u8] = match reading {
+        Reading::Signature(_) => b"ssign",
+        Reading::Certificate(_) => b"ssign-cert",
+        Reading::Plain | Reading::Unparsed { .. } | Reading::Spoilt(_) => return Ok(None),
+    };
+    without_sign(alloc, message, id)
+}
+
 /// The octets over which a block's signature is made: the whole message as it stands, but the SIGN parameter of its
 /// block element and the SP before it. None unless `bytes` are a message with a signature block or a certificate
 /// block, and not a spoilt one.
@@ -58,13 +76,9 @@ pub fn signed_bytes(alloc: Global, bytes: &[u8]) -> Result<Option<Bytes>, NoMemo
     ensures value { IfOk result (λ o. o ≡ signed bytes.now) }
     ensures split { IfOk result (λ o. IfSome o (λ octets. IsWithoutSign bytes.now octets)) }
 {
-    let Some(message) = parsed(alloc, bytes)? else {
+    let (reading, message) = read(alloc, bytes)?;
+    let Some(message) = message else {
         return Ok(None);
     };
-    let id: &[u8] = match message_reading(alloc, &message)? {
-        Reading::Signature(_) => b"ssign",
-        Reading::Certificate(_) => b"ssign-cert",
-        Reading::Plain | Reading::Unparsed { .. } | Reading::Spoilt(_) => return Ok(None),
-    };
-    without_sign(alloc, &message, id)
+    signed_with(alloc, &message, &reading)
 }

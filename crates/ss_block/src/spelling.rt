@@ -1,6 +1,6 @@
 //! The values of a block's parameters, spelled (RFC 5848, sections 4.2 and 5.3.2).
 ghost use Rattle.std.specs.Prelude.{◌≡◌, decimal, IfOk};
-ghost use Rattle.ss_block.specs.Encoded.{base64};
+ghost use Rattle.ss_payload.specs.StrictBase64.{base64};
 ghost use Rattle.ss_block.specs.Writing.{version_text, hash_octets, hashes_text};
 
 use crate::hash::{Alg, Hash};
@@ -30,7 +30,7 @@ pub fn number_text(alloc: Global, number: u64) -> Result<Bytes, NoMemory>
 }
 
 /// The octets in base64.
-#[tactic(auto, unfolding(crate::specs::Encoded::base64))]
+#[tactic(auto, unfolding(ss_payload::specs::StrictBase64::base64))]
 pub fn base64_text(alloc: Global, octets: &[u8]) -> Result<Bytes, NoMemory>
     ensures { IfOk result (λ b. b ≡ base64 octets.now) }
 {

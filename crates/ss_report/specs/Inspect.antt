@@ -1,6 +1,7 @@
 -- What an inspection of a log does, from octets to octets.
 use Rattle.std.specs.Prelude.{◌≡◌, ℕ, Bool, false, List, Option}
 use Rattle.ss_frame.specs.Limits.{Allowance}
+use Rattle.ss_frame.specs.Watched.{Source, Sink}
 use Rattle.ss_frame.specs.Output.{WritesWhole, WritesPrefix}
 use Rattle.ss_frame.specs.declared.step.Tail.{Tail}
 use Rattle.ss_frame.specs.declared.step.Tail.TheVariants as tails
@@ -17,32 +18,32 @@ end_verdict tails.Clean = verdicts.Clean
 end_verdict (tails.Torn pos) = verdicts.Findings
 
 -- the log was read to its end, and this is the text about it
-pub record TellsLog (limits : Allowance) (before after : Option (List ℕ)) (read_failed : Bool) (tail : Tail) (text : List ℕ) : Type 0 where
+pub record TellsLog (limits : Allowance) (before after : Source) (tail : Tail) (text : List ℕ) : Type 0 where
   pub messages : List (List ℕ)
   pub reading : ReadsLog limits before after messages (tail_end tail)
-  pub no_read_failed : read_failed ≡ false
+  pub no_read_failed : after.failed ≡ false
   pub text_is : text ≡ inspection messages tail
 
 -- an inspection that succeeds
-pub record Inspects (limits : Allowance) (before after : Option (List ℕ)) (read_failed : Bool) (was is : Option (List ℕ)) (write_failed : Bool) (verdict : Verdict) : Type 0 where
+pub record Inspects (limits : Allowance) (before after : Source) (was is : Sink) (verdict : Verdict) : Type 0 where
   pub messages : List (List ℕ)
   pub tail : Tail
   pub reading : ReadsLog limits before after messages (tail_end tail)
-  pub no_read_failed : read_failed ≡ false
-  pub written : WritesWhole was is write_failed (inspection messages tail)
+  pub no_read_failed : after.failed ≡ false
+  pub written : WritesWhole was is (inspection messages tail)
   pub verdict_is : verdict ≡ end_verdict tail
 
 -- an inspection whose output couldn't be written
-pub record FailsToWrite (limits : Allowance) (before after : Option (List ℕ)) (read_failed : Bool) (was is : Option (List ℕ)) (write_failed : Bool) : Type 0 where
+pub record FailsToWrite (limits : Allowance) (before after : Source) (was is : Sink) : Type 0 where
   pub messages : List (List ℕ)
   pub tail : Tail
   pub reading : ReadsLog limits before after messages (tail_end tail)
-  pub no_read_failed : read_failed ≡ false
-  pub written : WritesPrefix was is write_failed (inspection messages tail)
+  pub no_read_failed : after.failed ≡ false
+  pub written : WritesPrefix was is (inspection messages tail)
 
 -- why an inspection gave no text
-abbrev pub StopsInspection : Allowance → (before after : Option (List ℕ)) → (read_failed : Bool) → (was is : Option (List ℕ)) → (write_failed : Bool) → RunFault → Type 0
-StopsInspection limits before after read_failed was is write_failed (run.Frame fault) = StopsLog limits before after read_failed fault
-StopsInspection limits before after read_failed was is write_failed run.Write = FailsToWrite limits before after read_failed was is write_failed
-StopsInspection limits before after read_failed was is write_failed run.Memory = read_failed ≡ false
-StopsInspection limits before after read_failed was is write_failed run.NotYet = ⊥
+abbrev pub StopsInspection : Allowance → (before after : Source) → (was is : Sink) → RunFault → Type 0
+StopsInspection limits before after was is (run.Frame fault) = StopsLog limits before after fault
+StopsInspection limits before after was is run.Write = FailsToWrite limits before after was is
+StopsInspection limits before after was is run.Memory = after.failed ≡ false
+StopsInspection limits before after was is run.NotYet = ⊥

@@ -1,5 +1,6 @@
 //! What holds of every text: each law is a call that does nothing, and its clause is the law.
-ghost use Rattle.ss_block.specs.ReadingLaws.{ReadingsAreOfValues, UnparsedTextsFail};
+ghost use Rattle.ss_block.specs.ReadingLaws.{ReadingsAreOfValues, UnparsedTextsFail, BlocksAreInRange, BlocksAreSigned};
+ghost use Rattle.ss_block.specs.Stands.{ValuesStand};
 
 use ss_message::laws::{faults_are_of_no_message, faults_are_rows, one_text};
 
@@ -19,3 +20,20 @@ pub fn unparsed_texts_fail()
 {
     faults_are_rows();
 }
+
+/// A block that is read of a text is in the ranges that `SigBlock::new` and `CertBlock::new` ask for.
+pub fn blocks_are_in_range()
+    ensures { BlocksAreInRange }
+{
+    faults_are_of_no_message();
+}
+
+/// What is signed of a text, and its session, are there exactly where the text is that of a block.
+pub fn blocks_are_signed()
+    ensures { BlocksAreSigned }
+{}
+
+/// The value of a parameter stands for one text, which is the one that is read.
+pub fn values_stand()
+    ensures { ValuesStand }
+{}

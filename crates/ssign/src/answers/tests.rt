@@ -88,42 +88,58 @@ fn ask_closures(answers: &Answers, payload: &[u8], bytes: &[u8], signature: &[u8
     ask(&verifier, payload, bytes, signature)
 }
 
+/// A file, the most octets of it that are read, and why it is refused.
+const REFUSED: [(&[u8], u32, AnswerFault); 15] = [
+    (b"trust S0V\n", 9, AnswerFault::TooBig),
+    (b"trust S0V", 1000, AnswerFault::BadLine { line: 1 }),
+    (b"trust S0VZ\n\n", 1000, AnswerFault::BadLine { line: 2 }),
+    (b"\n", 1000, AnswerFault::BadLine { line: 1 }),
+    (b"trust  S0VZ\n", 1000, AnswerFault::BadLine { line: 1 }),
+    (b"trust S0VZ \n", 1000, AnswerFault::BadLine { line: 1 }),
+    (b"trust S0VZ\r\n", 1000, AnswerFault::BadLine { line: 1 }),
+    (b"trust \n", 1000, AnswerFault::BadLine { line: 1 }),
+    (b"trust QR==\n", 1000, AnswerFault::BadLine { line: 1 }),
+    (b"trust QQ\n", 1000, AnswerFault::BadLine { line: 1 }),
+    (b"trust S0V-\n", 1000, AnswerFault::BadLine { line: 1 }),
+    (b"yes S0VZ QQ==\n", 1000, AnswerFault::BadLine { line: 1 }),
+    (
+        b"seal S0VZ\nwant S0VZ\n",
+        1000,
+        AnswerFault::BadLine { line: 1 },
+    ),
+    (
+        b"trust S0VZ\nwant S0VZ\n",
+        1000,
+        AnswerFault::BadLine { line: 2 },
+    ),
+    (b"want S0VZ\n", 9, AnswerFault::TooBig),
+];
+
 #[test]
-fn reads_the_vectors(rt: HostRuntime) -> Result<(), Fail> {
-    assert!(rt; !read(&rt, b"", 1000)?.trusts(b"KEY"));
-    assert!(rt; read(&rt, b"trust S0VZ", 1000)?.trusts(b"KEY"));
-    for (text, max, fault) in [
-        (b"trust S0V\n".as_slice(), 9, AnswerFault::TooBig),
-        (b"trust S0V", 1000, AnswerFault::BadLine { line: 1 }),
-        (b"trust S0VZ\n\n", 1000, AnswerFault::BadLine { line: 2 }),
-        (b"\n", 1000, AnswerFault::BadLine { line: 1 }),
-        (b"trust  S0VZ\n", 1000, AnswerFault::BadLine { line: 1 }),
-        (b"trust S0VZ \n", 1000, AnswerFault::BadLine { line: 1 }),
-        (b"trust S0VZ\r\n", 1000, AnswerFault::BadLine { line: 1 }),
-        (b"trust \n", 1000, AnswerFault::BadLine { line: 1 }),
-        (b"trust QR==\n", 1000, AnswerFault::BadLine { line: 1 }),
-        (b"trust QQ\n", 1000, AnswerFault::BadLine { line: 1 }),
-        (b"trust S0V-\n", 1000, AnswerFault::BadLine { line: 1 }),
-        (b"yes S0VZ QQ==\n", 1000, AnswerFault::BadLine { line: 1 }),
-        (
-            b"seal S0VZ\nwant S0VZ\n",
-            1000,
-            AnswerFault::BadLine { line: 1 },
-        ),
-        (
-            b"trust S0VZ\nwant S0VZ\n",
-            1000,
-            AnswerFault::BadLine { line: 2 },
-        ),
-        (b"want S0VZ\n", 9, AnswerFault::TooBig),
-    ] {
-        assert_eq!(rt; read(&rt, text, max).err(), Some(fault));
+fn refuses(rt: HostRuntime) -> Result<(), Fail> {
+    for (text, max, fault) in &REFUSED {
+        assert_eq!(rt; read(&rt, text, *max).err(), Some(*fault), "{text:?}");
+    }
+    let mut reader = Watched::new(Endless);
+    let said = read_answers(rt.alloc(), &mut reader, 1000);
+    assert_eq!(rt; said.err(), Some(AnswerFault::TooBig));
+    assert!(rt; !reader.failed());
+    for kind in [ErrorKind::Interrupted, ErrorKind::Other] {
+        for left in 0..=LINES.len() {
+            let text = LINES;
+            let mut reader = Watched::new(Failing { text, left, kind });
+            let said = read_answers(rt.alloc(), &mut reader, 1000);
+            assert_eq!(rt; said.err(), Some(AnswerFault::Read), "{kind:?} {left}");
+            assert!(rt; reader.failed(), "{kind:?} {left}");
+        }
     }
     Ok(())
 }
 
 #[test]
 fn answers_by_the_lines(rt: HostRuntime) -> Result<(), Fail> {
+    assert!(rt; !read(&rt, b"", 1000)?.trusts(b"KEY"));
+    assert!(rt; read(&rt, b"trust S0VZ", 1000)?.trusts(b"KEY"));
     let answers = read(&rt, LINES, LINES.len() as u32)?;
     for (payload, bytes, signature, want) in [
         (
@@ -148,11 +164,6 @@ fn answers_by_the_lines(rt: HostRuntime) -> Result<(), Fail> {
         answers.seal(rt.alloc(), b"KEY").err(),
         Some(SealFault::Refused)
     );
-    Ok(())
-}
-
-#[test]
-fn seals_the_key(rt: HostRuntime) -> Result<(), Fail> {
     let answers = read(&rt, b"seal S0VZ AAAA", 1000)?;
     assert_eq!(rt;
         answers.seal(rt.alloc(), b"KEY")?.as_slice(),
@@ -162,28 +173,5 @@ fn seals_the_key(rt: HostRuntime) -> Result<(), Fail> {
         answers.seal(rt.alloc(), b"KEX").err(),
         Some(SealFault::Refused)
     );
-    Ok(())
-}
-
-#[test]
-fn stops_at_the_limit(rt: HostRuntime) -> Result<(), Fail> {
-    let mut reader = Watched::new(Endless);
-    let read = read_answers(rt.alloc(), &mut reader, 1000);
-    assert_eq!(rt; read.err(), Some(AnswerFault::TooBig));
-    assert!(rt; !reader.failed());
-    Ok(())
-}
-
-#[test]
-fn tells_a_failed_read(rt: HostRuntime) -> Result<(), Fail> {
-    for kind in [ErrorKind::Interrupted, ErrorKind::Other] {
-        for left in 0..=LINES.len() {
-            let text = LINES;
-            let mut reader = Watched::new(Failing { text, left, kind });
-            let read = read_answers(rt.alloc(), &mut reader, 1000);
-            assert_eq!(rt; read.err(), Some(AnswerFault::Read));
-            assert!(rt; reader.failed());
-        }
-    }
     Ok(())
 }

@@ -13,6 +13,7 @@ use std::alloc::Global;
 use std::io::{Read, Write};
 
 /// A scheme in which one payload is trusted, and two texts have one valid signature under one payload.
+#[derive(Clone, Copy)]
 pub struct Book<'b> {
     /// The payload that is trusted.
     pub trusted: &'b [u8],

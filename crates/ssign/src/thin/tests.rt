@@ -9,13 +9,20 @@ const SIGNATURE: &[u8] =
 const CERTIFICATE: &[u8] =
     b"<110>1 - h s - - [ssign-cert VER=\"0111\" RSID=\"1\" SG=\"0\" SPRI=\"0\" TPBL=\"27\" INDEX=\"1\" FLEN=\"27\" FRAG=\"2009-05-03T14:00:39Z K S0VZ\" SIGN=\"AAAA\"]";
 
+/// What is signed of the signature block: 147 octets.
+const SIGNATURE_SIGNED: &[u8] =
+    b"<110>1 - h s - - [ssign VER=\"0111\" RSID=\"1\" SG=\"0\" SPRI=\"0\" GBC=\"0\" FMN=\"1\" CNT=\"2\" HB=\"qZk+NkcGgWq6PiVxeFDCbJzQ2J0= hJg+RBw70m66rkqh+VEp5eVGcPE=\"]";
+
+/// What is signed of the certificate block: 130 octets.
+const CERTIFICATE_SIGNED: &[u8] =
+    b"<110>1 - h s - - [ssign-cert VER=\"0111\" RSID=\"1\" SG=\"0\" SPRI=\"0\" TPBL=\"27\" INDEX=\"1\" FLEN=\"27\" FRAG=\"2009-05-03T14:00:39Z K S0VZ\"]";
+
 #[test]
-fn reads_a_signature_block(rt: HostRuntime) -> Result<(), Fail> {
-    assert_eq!(rt; SIGNATURE.len(), 159);
+fn thin_blocks(rt: HostRuntime) -> Result<(), Fail> {
+    assert_eq!(rt; (SIGNATURE.len(), SIGNATURE_SIGNED.len()), (159, 147));
     match thin_of(rt.alloc(), SIGNATURE)? {
         Thin::Signature(block) => {
-            assert_eq!(rt; block.rsid, 1);
-            assert_eq!(rt; block.counter, 0);
+            assert_eq!(rt; (block.rsid, block.counter), (1, 0));
             let hashes = block.hashes.as_slice();
             assert_eq!(rt; hashes.len(), 2);
             assert_eq!(rt; hashes[0], Sha1::digest(b"abc"));
@@ -27,54 +34,36 @@ fn reads_a_signature_block(rt: HostRuntime) -> Result<(), Fail> {
         }
         other => panic!(rt; "{other:?}"),
     }
-    Ok(())
-}
-
-#[test]
-fn reads_a_certificate_block(rt: HostRuntime) -> Result<(), Fail> {
-    assert_eq!(rt; CERTIFICATE.len(), 142);
+    assert_eq!(rt; (CERTIFICATE.len(), CERTIFICATE_SIGNED.len()), (142, 130));
     match thin_of(rt.alloc(), CERTIFICATE)? {
         Thin::Certificate(block) => {
             assert_eq!(rt; block.rsid, 1);
-            assert_eq!(rt;
-                block.payload.as_slice(),
-                b"2009-05-03T14:00:39Z K S0VZ".as_slice()
-            );
+            let payload = b"2009-05-03T14:00:39Z K S0VZ".as_slice();
+            assert_eq!(rt; block.payload.as_slice(), payload);
             assert_eq!(rt; block.signature.as_slice(), [0, 0, 0].as_slice());
         }
         other => panic!(rt; "{other:?}"),
     }
-    Ok(())
-}
-
-#[test]
-fn leaves_the_signature_out_of_what_it_covers(rt: HostRuntime) -> Result<(), Fail> {
-    let signed = signed_octets(rt.alloc(), SIGNATURE)?.ok_or("no block")?;
-    assert_eq!(rt; signed.as_slice().len(), 147);
-    assert_eq!(rt;
-        signed.as_slice(),
-        b"<110>1 - h s - - [ssign VER=\"0111\" RSID=\"1\" SG=\"0\" SPRI=\"0\" GBC=\"0\" FMN=\"1\" CNT=\"2\" HB=\"qZk+NkcGgWq6PiVxeFDCbJzQ2J0= hJg+RBw70m66rkqh+VEp5eVGcPE=\"]".as_slice()
-    );
-    let signed = signed_octets(rt.alloc(), CERTIFICATE)?.ok_or("no block")?;
-    assert_eq!(rt; signed.as_slice().len(), 130);
-    assert_eq!(rt;
-        signed.as_slice(),
-        b"<110>1 - h s - - [ssign-cert VER=\"0111\" RSID=\"1\" SG=\"0\" SPRI=\"0\" TPBL=\"27\" INDEX=\"1\" FLEN=\"27\" FRAG=\"2009-05-03T14:00:39Z K S0VZ\"]".as_slice()
-    );
-    Ok(())
-}
-
-#[test]
-fn tells_other_messages_apart(rt: HostRuntime) -> Result<(), Fail> {
-    assert!(rt; matches!(&thin_of(rt.alloc(), b"")?, Thin::Normal));
-    assert!(rt;
-        matches!(
-            &thin_of(rt.alloc(), b"<13>1 - h s - - - an [ssig of SIGN=\"AAAA\"]")?,
-            Thin::Normal
-        )
-    );
-    assert!(rt; matches!(&thin_of(rt.alloc(), b"[ssign")?, Thin::Foreign));
-    assert!(rt; matches!(&thin_of(rt.alloc(), &SIGNATURE[1..])?, Thin::Foreign));
+    for (block, left) in [
+        (SIGNATURE, SIGNATURE_SIGNED),
+        (CERTIFICATE, CERTIFICATE_SIGNED),
+    ] {
+        let signed = signed_octets(rt.alloc(), block)?.ok_or("no block")?;
+        assert_eq!(rt; signed.as_slice(), left);
+    }
+    for (message, foreign) in [
+        (b"".as_slice(), false),
+        (b"<13>1 - h s - - - an [ssig of SIGN=\"AAAA\"]", false),
+        (b"[ssign", true),
+        (&SIGNATURE[1..], true),
+    ] {
+        let told = match thin_of(rt.alloc(), message)? {
+            Thin::Normal => Some(false),
+            Thin::Foreign => Some(true),
+            Thin::Signature(_) | Thin::Certificate(_) => None,
+        };
+        assert_eq!(rt; told, Some(foreign), "{message:?}");
+    }
     assert!(rt; signed_octets(rt.alloc(), b"[ssign")?.is_none());
     Ok(())
 }

@@ -6,12 +6,12 @@ use Rattle.ss_block.specs.declared.refusal.Refusal.{Refusal}
 use Rattle.ss_block.specs.declared.spoil.Spoil.TheVariants as spoils
 use Rattle.ss_block.specs.declared.reading.Reading.TheVariants.{Certificate}
 use Rattle.ss_block.specs.Block as block
-use Rattle.ss_block.specs.Encoded.{octets_in}
+use Rattle.ss_payload.specs.StrictBase64.{octets_in}
 use Rattle.ss_block.specs.Reading.{is_version, alg_of, or_none, certificate_texts, certificate_numbers, certificate_reading}
 use Rattle.ss_block.specs.Causes.{Reads, IsCertificateNumbers}
 use Rattle.ss_block.proofs.Refusals.{refused}
 use Rattle.ss_block.proofs.CertificateCauses.{spoilt_version, spoilt_number, spoilt_sign}
-use Rattle.ss_block.proofs.CertificateBlocks.{IsRead, is_short, is_answered}
+use Rattle.ss_block.proofs.CertificateBlocks.{IsTold, is_short, is_answered}
 use Rattle.ss_block.proofs.certificate_reading.named_block.Goals as goal
 
 pub returns-in_err-alg : goal.returns-in_err-alg
@@ -35,7 +35,7 @@ returns-in_err-signature c =
 pub returns-then-as_slice-numbers : goal.returns-then-as_slice-numbers
 returns-then-as_slice-numbers c =
     let e = element_value c.args.source.now c.args.element.now in
-    let read : IsRead e c.in_ok-alg.alg c.in_ok-numbers.numbers c.in_ok-signature.signature c.in_ok-fragment.fragment = record {
+    let read : IsTold e c.in_ok-alg.alg c.in_ok-numbers.numbers c.in_ok-signature.signature c.in_ok-fragment.fragment = record {
       raws = c.requires.raws;
       names = c.requires.names;
       version = c.in_ok-alg.ensures.0;
@@ -52,7 +52,7 @@ returns-then-as_slice-numbers c =
 pub returns : goal.returns
 returns c =
     let e = element_value c.args.source.now c.args.element.now in
-    let read : IsRead e c.in_ok-alg.alg c.in_ok-numbers.numbers c.in_ok-signature.signature c.in_ok-fragment.fragment = record {
+    let read : IsTold e c.in_ok-alg.alg c.in_ok-numbers.numbers c.in_ok-signature.signature c.in_ok-fragment.fragment = record {
       raws = c.requires.raws;
       names = c.requires.names;
       version = c.in_ok-alg.ensures.0;

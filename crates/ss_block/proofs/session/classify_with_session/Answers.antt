@@ -1,41 +1,14 @@
-use Rattle.std.proofs.Common.{Err, Ok, sym, ◌∙◌, ap, subst, List, ℕ}
-use Rattle.ss_message.specs.declared.fault.Fault.TheVariants.{Bad}
-use Rattle.ss_message.specs.Layout.{layout_of, value_at, value_of}
-use Rattle.ss_message.specs.Places.{PartsLie}
-use Rattle.ss_message.specs.Reading.{layout_at}
-use Rattle.ss_block.specs.declared.reading.Reading.{Reading}
-use Rattle.ss_block.specs.Parsed.{IsRead, IsFault}
-use Rattle.ss_block.specs.Reading.{value_reading}
-use Rattle.ss_block.specs.Session.{session_if_block}
-use Rattle.ss_block.proofs.Parses.{session_none, session_some}
-use Rattle.ss_block.proofs.Readings.{reading_is}
+use Rattle.std.proofs.Common.{Some, None, ◌∙◌}
+use Rattle.ss_block.specs.Parsed.{IsReadAs}
+use Rattle.ss_block.proofs.Parses.{session_none, session_read}
 use Rattle.ss_block.proofs.session.classify_with_session.Goals as goal
 
-pub returns-in_ok-session-in-Ok-clause-reading : goal.returns-in_ok-session-in-Ok-clause-reading
-returns-in_ok-session-in-Ok-clause-reading c =
-    let l = layout_of c.in-Ok.message in
-    c.in_ok-reading-in-Ok.ensures ∙ ap (λ (b : List ℕ). value_reading (value_at b l)) c.in-Ok.ensures.source ∙ sym (reading_is c.args.bytes.now (Ok l) c.in-Ok.ensures.fault)
+pub returns-in_default-clause-session : goal.returns-in_default-clause-session
+returns-in_default-clause-session c =
+    let read : IsReadAs c.args.bytes.now c.in_ok-reading.reading None = rw c.in_default.is at c.in_ok-reading.ensures in
+    session_none c.args.bytes.now read.parsed
 
-pub returns-in_ok-session-in-Ok-clause-session : goal.returns-in_ok-session-in-Ok-clause-session
-returns-in_ok-session-in-Ok-clause-session c =
-    let m = c.in-Ok.message in
-    let source = c.in-Ok.ensures.source in
-    let read : IsRead m =
-    record {
-      layout = ap layout_at source ∙ c.in-Ok.ensures.fault;
-      valid = c.in-Ok.ensures.found.0;
-      spelled = source ∙ c.in-Ok.ensures.found.1;
-      places = subst (λ (t : List ℕ). PartsLie t (layout_of m)) (sym source) c.in-Ok.ensures.places;
-    } in
-    c.in_ok-session-in-Ok.ensures ∙ ap (λ (r : Reading). session_if_block r (value_of m)) c.in_ok-reading-in-Ok.ensures ∙ sym (session_some c.args.bytes.now m (source, read))
-
-pub returns-in-Err-Bad-clause-reading : goal.returns-in-Err-Bad-clause-reading
-returns-in-Err-Bad-clause-reading c =
-    let a = rw c.in-Err-Bad.field-0-is at c.in-Err-Bad.ensures.fault in
-    let e = sym (reading_is c.args.bytes.now (Err (Bad c.in-Err-Bad.part c.in-Err-Bad.pos)) a) in
-    rw (c.in-Err-Bad.part-is, c.in-Err-Bad.pos-is) e
-
-pub returns-in-Err-Bad-clause-session : goal.returns-in-Err-Bad-clause-session
-returns-in-Err-Bad-clause-session c =
-    let a = rw c.in-Err-Bad.field-0-is at c.in-Err-Bad.ensures.fault in
-    session_none c.args.bytes.now (subst IsFault (sym a) tt)
+pub returns-clause-session : goal.returns-clause-session
+returns-clause-session c =
+    let read : IsReadAs c.args.bytes.now c.in_ok-reading.reading (Some c.in-Some.message) = rw c.in-Some.is at c.in_ok-reading.ensures in
+    c.in_ok-session.ensures ∙ session_read c.args.bytes.now c.in_ok-reading.reading c.in-Some.message read

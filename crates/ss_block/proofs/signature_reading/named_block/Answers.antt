@@ -7,12 +7,12 @@ use Rattle.ss_block.specs.declared.refusal.Refusal.{Refusal}
 use Rattle.ss_block.specs.declared.spoil.Spoil.TheVariants as spoils
 use Rattle.ss_block.specs.declared.reading.Reading.TheVariants.{Signature}
 use Rattle.ss_block.specs.Block as block
-use Rattle.ss_block.specs.Encoded.{octets_in}
+use Rattle.ss_payload.specs.StrictBase64.{octets_in}
 use Rattle.ss_block.specs.Reading.{is_version, alg_of, pieces, hashes_in, or_none, signature_texts, signature_numbers, signature_reading}
 use Rattle.ss_block.specs.Causes.{Reads, IsSignatureNumbers, hash_causes}
 use Rattle.ss_block.proofs.Refusals.{refused, refused_first}
 use Rattle.ss_block.proofs.SignatureCauses.{spoilt_version, spoilt_number, spoilt_hashes, spoilt_sign}
-use Rattle.ss_block.proofs.SignatureBlocks.{IsRead, is_answered}
+use Rattle.ss_block.proofs.SignatureBlocks.{IsTold, is_answered}
 use Rattle.ss_block.proofs.signature_reading.named_block.Goals as goal
 
 pub returns-in_err-alg : goal.returns-in_err-alg
@@ -42,7 +42,7 @@ returns-in_err-signature c =
 pub returns : goal.returns
 returns c =
     let e = element_value c.args.source.now c.args.element.now in
-    let read : IsRead e c.in_ok-alg.alg c.in_ok-numbers.numbers c.in_ok-hashes.hashes c.in_ok-signature.signature = record {
+    let read : IsTold e c.in_ok-alg.alg c.in_ok-numbers.numbers c.in_ok-hashes.hashes c.in_ok-signature.signature = record {
       names = c.requires.names;
       version = c.in_ok-alg.ensures.0;
       alg_is = c.in_ok-alg.ensures.1;

@@ -1,0 +1,152 @@
+//! Each cause of a spoilt block beside each other, and parameters that are put wrong.
+use crate::blocks::elements::{Block, Edit, HEAD, Kind, Named, kind_of, put};
+use ss_block::Spoil;
+use std::alloc::AllocError;
+use std::test::Fail;
+
+/// An edit for each cause of a signature block, in the order of their numbers.
+const SIGNATURE_CAUSES: [(Edit, Spoil); 7] = [
+    ((b"SG", None), Spoil::Names),
+    ((b"VER", Some(b"0211")), Spoil::Version),
+    ((b"RSID", Some(b"01")), Spoil::Number),
+    ((b"CNT", Some(b"3")), Spoil::HashCount),
+    (
+        (
+            b"HB",
+            Some(b"qZk+NkcGgWq6PiVxeFDCbJzQ2J0 hJg+RBw70m66rkqh+VEp5eVGcPE="),
+        ),
+        Spoil::Hash,
+    ),
+    ((b"SIGN", Some(b"")), Spoil::Sign),
+    ((b"FMN", Some(b"9999999999")), Spoil::LastNumber),
+];
+
+/// The same of a certificate block.
+const CERTIFICATE_CAUSES: [(Edit, Spoil); 5] = [
+    ((b"SG", None), Spoil::Names),
+    ((b"VER", Some(b"0211")), Spoil::Version),
+    ((b"RSID", Some(b"01")), Spoil::Number),
+    ((b"SIGN", Some(b"")), Spoil::Sign),
+    ((b"FRAG", Some(b"x")), Spoil::Fragment),
+];
+
+/// The causes of a block.
+const CAUSES: [(Block, &[(Edit, Spoil)]); 2] = [
+    (Block::Signature, &SIGNATURE_CAUSES),
+    (Block::Certificate, &CERTIFICATE_CAUSES),
+];
+
+/// The cause with the smaller number.
+fn first(a: Spoil, b: Spoil) -> Spoil {
+    if a < b { a } else { b }
+}
+
+#[test]
+fn each_cause_beside_each_other(rt: HostRuntime) -> Result<(), Fail> {
+    let alloc = rt.alloc();
+    for (block, causes) in &CAUSES {
+        for (edit, cause) in *causes {
+            for (other_edit, other) in *causes {
+                let text = block.with(alloc, &[*edit, *other_edit])?;
+                let kind = Kind::Spoilt(first(*cause, *other));
+                assert_eq!(rt;
+                    kind_of(alloc, &text),
+                    Some(kind),
+                    "for {cause:?} and {other:?}"
+                );
+            }
+        }
+    }
+    Ok(())
+}
+
+/// How the parameters of an element are put wrong at one of them.
+#[derive(Clone, Copy, Debug)]
+enum Wrong {
+    Missing,
+    Doubled,
+    BehindTheNext,
+    LongerName,
+    ShorterName,
+    OtherLetters,
+}
+
+const WRONGS: [Wrong; 6] = [
+    Wrong::Missing,
+    Wrong::Doubled,
+    Wrong::BehindTheNext,
+    Wrong::LongerName,
+    Wrong::ShorterName,
+    Wrong::OtherLetters,
+];
+
+/// A parameter under another name.
+fn put_renamed(text: &mut Vec<u8>, wrong: Wrong, parameter: Named) -> Result<(), AllocError> {
+    let (name, value) = parameter;
+    text.push(b' ')?;
+    for (i, octet) in name.iter().enumerate() {
+        match wrong {
+            Wrong::ShorterName if i == 0 => {}
+            Wrong::OtherLetters => text.push(octet.to_ascii_lowercase())?,
+            _ => text.push(*octet)?,
+        }
+    }
+    if matches!(wrong, Wrong::LongerName) {
+        text.push(b'2')?;
+    }
+    text.extend_from_slice(b"=\"")?;
+    text.extend_from_slice(value)?;
+    Ok(text.push(b'"')?)
+}
+
+/// The element with the parameters put wrong at number `at`.
+fn put_wrong(
+    text: &mut Vec<u8>,
+    id: &[u8],
+    parameters: &[Named],
+    wrong: Wrong,
+    at: usize,
+) -> Result<(), AllocError> {
+    let mut held = None;
+    text.push(b'[')?;
+    text.extend_from_slice(id)?;
+    for (i, parameter) in parameters.iter().enumerate() {
+        let after = held.take();
+        match wrong {
+            _ if i != at => put(text, *parameter)?,
+            Wrong::Missing => {}
+            Wrong::Doubled => {
+                put(text, *parameter)?;
+                put(text, *parameter)?;
+            }
+            Wrong::BehindTheNext => held = Some(*parameter),
+            _ => put_renamed(text, wrong, *parameter)?,
+        }
+        if let Some(parameter) = after {
+            put(text, parameter)?;
+        }
+    }
+    Ok(text.push(b']')?)
+}
+
+const BLOCKS: [Block; 2] = [Block::Signature, Block::Certificate];
+
+#[test]
+fn names_that_are_put_wrong(rt: HostRuntime) -> Result<(), Fail> {
+    let alloc = rt.alloc();
+    for wrong in &WRONGS {
+        for at in 0..9 {
+            for block in &BLOCKS {
+                let mut text = Vec::from_slice(alloc, HEAD)?;
+                put_wrong(&mut text, block.id(), block.parameters(), *wrong, at)?;
+                let kind = Some(Kind::Spoilt(Spoil::Names));
+                assert_eq!(rt;
+                    kind_of(alloc, &text),
+                    kind,
+                    "for {block:?}, {wrong:?} at {at}"
+                );
+            }
+        }
+    }
+    Ok(())
+}

@@ -1,0 +1,310 @@
+//! Heads, the messages of blocks, and what is signed of them.
+use crate::blocks::fields::{A, A2, B, CertificateFields, Fields, SignatureFields, bytes};
+use ss_block::{
+    Alg, CertBlock, Group, Hash, Head, SigBlock, unsigned_cert, unsigned_sig, write_cert, write_sig,
+};
+use ss_frame::Bytes;
+use ss_message::{Field, NoMemory, Stamp};
+use std::alloc::{AllocError, Global};
+use std::test::Fail;
+
+/// A signature block's message, and what is signed of it.
+const SIGNATURE: &[u8] =
+    b"<110>1 - h s - - [ssign VER=\"0111\" RSID=\"1\" SG=\"0\" SPRI=\"0\" GBC=\"0\" FMN=\"1\" CNT=\"2\" HB=\"qZk+NkcGgWq6PiVxeFDCbJzQ2J0= hJg+RBw70m66rkqh+VEp5eVGcPE=\" SIGN=\"AAAA\"]";
+
+const SIGNATURE_SIGNED: &[u8] =
+    b"<110>1 - h s - - [ssign VER=\"0111\" RSID=\"1\" SG=\"0\" SPRI=\"0\" GBC=\"0\" FMN=\"1\" CNT=\"2\" HB=\"qZk+NkcGgWq6PiVxeFDCbJzQ2J0= hJg+RBw70m66rkqh+VEp5eVGcPE=\"]";
+
+/// A certificate block's message, and what is signed of it.
+const CERTIFICATE: &[u8] =
+    b"<110>1 - h s - - [ssign-cert VER=\"0111\" RSID=\"1\" SG=\"0\" SPRI=\"0\" TPBL=\"27\" INDEX=\"1\" FLEN=\"27\" FRAG=\"2009-05-03T14:00:39Z K S0VZ\" SIGN=\"AAAA\"]";
+
+const CERTIFICATE_SIGNED: &[u8] =
+    b"<110>1 - h s - - [ssign-cert VER=\"0111\" RSID=\"1\" SG=\"0\" SPRI=\"0\" TPBL=\"27\" INDEX=\"1\" FLEN=\"27\" FRAG=\"2009-05-03T14:00:39Z K S0VZ\"]";
+
+/// What is signed of the signature block with a stamp and a MSGID.
+const STAMPED: &[u8] =
+    b"<110>1 2009-05-03T14:00:39Z h s - m [ssign VER=\"0111\" RSID=\"1\" SG=\"0\" SPRI=\"0\" GBC=\"0\" FMN=\"1\" CNT=\"2\" HB=\"qZk+NkcGgWq6PiVxeFDCbJzQ2J0= hJg+RBw70m66rkqh+VEp5eVGcPE=\"]";
+
+/// A signature block with one hash of SHA-256, and all numbers at their ends.
+const LAST_NUMBERS: &[u8] =
+    b"<0>1 - - - - - [ssign VER=\"0121\" RSID=\"9999999999\" SG=\"3\" SPRI=\"191\" GBC=\"9999999999\" FMN=\"9999999999\" CNT=\"1\" HB=\"ungWv48Bz+pBQUDeXa4iI7ADYaOWF3qctBD/YfIAFa0=\"]";
+
+/// What is signed of a certificate block whose fragment has octets to be escaped.
+const ESCAPED: &[u8] =
+    b"<110>1 - h s - - [ssign-cert VER=\"0121\" RSID=\"0\" SG=\"1\" SPRI=\"110\" TPBL=\"9\" INDEX=\"3\" FLEN=\"5\" FRAG=\"a\\\"\\\\\\]b\"]";
+
+/// PRI, and HOSTNAME, APP-NAME, PROCID and MSGID, which are absent where they have no octet.
+type HeadFields = (u8, [&'static [u8]; 4]);
+
+/// PRI 110, HOSTNAME `h` and APP-NAME `s`.
+const HEAD: HeadFields = (110, [b"h", b"s", b"", b""]);
+
+/// The block of two hashes.
+const TWO_HASHES: SignatureFields = SignatureFields {
+    alg: Alg::Sha1,
+    rsid: 1,
+    group: Group { sg: 0, spri: 0 },
+    gbc: 0,
+    first: 1,
+    hashes: &[Hash::Sha1(A), Hash::Sha1(B)],
+    signature: b"\0\0\0",
+};
+
+/// The block of a whole payload.
+const WHOLE: CertificateFields = CertificateFields {
+    alg: Alg::Sha1,
+    rsid: 1,
+    group: Group { sg: 0, spri: 0 },
+    total: 27,
+    index: 1,
+    fragment: b"2009-05-03T14:00:39Z K S0VZ",
+    signature: b"\0\0\0",
+};
+
+/// A block under a head, what is signed of it, and its message, which there is where the block has a signature.
+#[derive(Clone, Copy)]
+struct Row {
+    name: &'static str,
+    head: HeadFields,
+    /// None where it has no octet.
+    stamp: &'static [u8],
+    block: Fields,
+    signed: &'static [u8],
+    message: Option<&'static [u8]>,
+}
+
+// What is signed is the same whatever the signature, and needs none.
+const ROWS: [Row; 7] = [
+    Row {
+        name: "a signature block",
+        head: HEAD,
+        stamp: b"",
+        block: Fields::Signature(TWO_HASHES),
+        signed: SIGNATURE_SIGNED,
+        message: Some(SIGNATURE),
+    },
+    Row {
+        name: "a certificate block",
+        head: HEAD,
+        stamp: b"",
+        block: Fields::Certificate(WHOLE),
+        signed: CERTIFICATE_SIGNED,
+        message: Some(CERTIFICATE),
+    },
+    Row {
+        name: "a signature block without signature",
+        head: HEAD,
+        stamp: b"",
+        block: Fields::Signature(SignatureFields {
+            alg: Alg::Sha1,
+            rsid: 1,
+            group: Group { sg: 0, spri: 0 },
+            gbc: 0,
+            first: 1,
+            hashes: &[Hash::Sha1(A), Hash::Sha1(B)],
+            signature: b"",
+        }),
+        signed: SIGNATURE_SIGNED,
+        message: None,
+    },
+    Row {
+        name: "a certificate block without signature",
+        head: HEAD,
+        stamp: b"",
+        block: Fields::Certificate(CertificateFields {
+            alg: Alg::Sha1,
+            rsid: 1,
+            group: Group { sg: 0, spri: 0 },
+            total: 27,
+            index: 1,
+            fragment: b"2009-05-03T14:00:39Z K S0VZ",
+            signature: b"",
+        }),
+        signed: CERTIFICATE_SIGNED,
+        message: None,
+    },
+    Row {
+        name: "a stamp and a MSGID",
+        head: (110, [b"h", b"s", b"", b"m"]),
+        stamp: b"2009-05-03T14:00:39Z",
+        block: Fields::Signature(SignatureFields {
+            alg: Alg::Sha1,
+            rsid: 1,
+            group: Group { sg: 0, spri: 0 },
+            gbc: 0,
+            first: 1,
+            hashes: &[Hash::Sha1(A), Hash::Sha1(B)],
+            signature: b"",
+        }),
+        signed: STAMPED,
+        message: None,
+    },
+    Row {
+        name: "a fragment with octets to be escaped",
+        head: HEAD,
+        stamp: b"",
+        block: Fields::Certificate(CertificateFields {
+            alg: Alg::Sha256,
+            rsid: 0,
+            group: Group { sg: 1, spri: 110 },
+            total: 9,
+            index: 3,
+            fragment: b"a\"\\]b",
+            signature: b"",
+        }),
+        signed: ESCAPED,
+        message: None,
+    },
+    Row {
+        name: "the last numbers",
+        head: (0, [b"", b"", b"", b""]),
+        stamp: b"",
+        block: Fields::Signature(SignatureFields {
+            alg: Alg::Sha256,
+            rsid: 9_999_999_999,
+            group: Group { sg: 3, spri: 191 },
+            gbc: 9_999_999_999,
+            first: 9_999_999_999,
+            hashes: &[Hash::Sha256(A2)],
+            signature: b"",
+        }),
+        signed: LAST_NUMBERS,
+        message: None,
+    },
+];
+
+/// A field, absent for no octets.
+fn field(alloc: Global, octets: &[u8]) -> Result<Field, AllocError> {
+    if octets.is_empty() {
+        return Ok(Field::Nil);
+    }
+    Ok(Field::Text(bytes(alloc, octets)?))
+}
+
+fn head_of(alloc: Global, fields: &HeadFields) -> Result<Option<Head>, AllocError> {
+    let (pri, texts) = fields;
+    Ok(Head::new(
+        *pri,
+        field(alloc, texts[0])?,
+        field(alloc, texts[1])?,
+        field(alloc, texts[2])?,
+        field(alloc, texts[3])?,
+    ))
+}
+
+/// What is signed of a block, and its message where it has a signature.
+type Written = (Bytes, Option<Bytes>);
+
+fn signature_written(
+    alloc: Global,
+    head: &Head,
+    stamp: Option<Stamp>,
+    block: &SigBlock,
+) -> Result<Written, NoMemory> {
+    let signed = unsigned_sig(alloc, head, stamp, block)?;
+    if block.signature().as_slice().is_empty() {
+        return Ok((signed, None));
+    }
+    Ok((signed, Some(write_sig(alloc, head, stamp, block)?)))
+}
+
+fn certificate_written(
+    alloc: Global,
+    head: &Head,
+    stamp: Option<Stamp>,
+    block: &CertBlock,
+) -> Result<Written, NoMemory> {
+    let signed = unsigned_cert(alloc, head, stamp, block)?;
+    if block.signature().as_slice().is_empty() {
+        return Ok((signed, None));
+    }
+    Ok((signed, Some(write_cert(alloc, head, stamp, block)?)))
+}
+
+/// What is written of a row; none where it has no head or no block.
+fn written_of(alloc: Global, row: &Row) -> Result<Option<Written>, NoMemory> {
+    let Some(head) = head_of(alloc, &row.head)? else {
+        return Ok(None);
+    };
+    let stamp = Stamp::parse(row.stamp);
+    match &row.block {
+        Fields::Signature(fields) => match fields.block(alloc)? {
+            Some(block) => Ok(Some(signature_written(alloc, &head, stamp, &block)?)),
+            None => Ok(None),
+        },
+        Fields::Certificate(fields) => match fields.block(alloc)? {
+            Some(block) => Ok(Some(certificate_written(alloc, &head, stamp, &block)?)),
+            None => Ok(None),
+        },
+    }
+}
+
+/// The octets of a message, if there is one.
+fn octets(message: &Option<Bytes>) -> Option<&[u8]> {
+    match message {
+        Some(message) => Some(message.as_slice()),
+        None => None,
+    }
+}
+
+/// A text, and how many octets it has.
+const LENGTHS: [(&[u8], usize); 4] = [
+    (SIGNATURE, 159),
+    (SIGNATURE_SIGNED, 147),
+    (CERTIFICATE, 142),
+    (CERTIFICATE_SIGNED, 130),
+];
+
+#[test]
+fn written(rt: HostRuntime) -> Result<(), Fail> {
+    for row in &ROWS {
+        let (signed, message) = written_of(rt.alloc(), row)?.ok_or("a block under a head")?;
+        assert_eq!(rt; signed.as_slice(), row.signed, "{}", row.name);
+        assert_eq!(rt; octets(&message), row.message, "{}", row.name);
+    }
+    for (text, length) in &LENGTHS {
+        assert_eq!(rt; text.len(), *length, "of {text:?}");
+    }
+    Ok(())
+}
+
+/// Whether a head is made of this PRI and these four texts, which are there also where they have no octet.
+fn is_head(alloc: Global, pri: u8, texts: &[&[u8]; 4]) -> Result<bool, AllocError> {
+    let hostname = Field::Text(bytes(alloc, texts[0])?);
+    let app_name = Field::Text(bytes(alloc, texts[1])?);
+    let procid = Field::Text(bytes(alloc, texts[2])?);
+    let msgid = Field::Text(bytes(alloc, texts[3])?);
+    Ok(Head::new(pri, hostname, app_name, procid, msgid).is_some())
+}
+
+const LONG: &[u8] = &[b'x'; 256];
+
+#[test]
+fn heads(rt: HostRuntime) -> Result<(), Fail> {
+    let alloc = rt.alloc();
+    let rows: [(bool, u8, [&[u8]; 4]); 14] = [
+        (true, 0, [b"h", b"s", b"p", b"m"]),
+        (
+            true,
+            191,
+            [&LONG[..255], &LONG[..48], &LONG[..128], &LONG[..32]],
+        ),
+        (true, 110, [b"--", b"!", b"~", b"=\"]"]),
+        (false, 192, [b"h", b"s", b"p", b"m"]),
+        (false, 110, [b"-", b"s", b"p", b"m"]),
+        (false, 110, [b"h", b"-", b"p", b"m"]),
+        (false, 110, [b"h", b"s", b"-", b"m"]),
+        (false, 110, [b"h", b"s", b"p", b"-"]),
+        (false, 110, [LONG, b"s", b"p", b"m"]),
+        (false, 110, [b"h", &LONG[..49], b"p", b"m"]),
+        (false, 110, [b"h", b"s", &LONG[..129], b"m"]),
+        (false, 110, [b"h", b"s", b"p", &LONG[..33]]),
+        (false, 110, [b"", b"s", b"p", b"m"]),
+        (false, 110, [b"h h", b"s", b"p", b"\x7F"]),
+    ];
+    for (made, pri, texts) in &rows {
+        assert_eq!(rt; is_head(alloc, *pri, texts)?, *made, "{pri} {texts:?}");
+    }
+    Ok(())
+}

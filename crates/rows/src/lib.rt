@@ -1,0 +1,13 @@
+//! Tests of what the libraries promise, as tables. It holds nothing else.
+#![tactic(auto)]
+
+#[cfg(test)]
+mod blocks;
+#[cfg(test)]
+mod devices;
+#[cfg(test)]
+mod frames;
+#[cfg(test)]
+mod inspections;
+#[cfg(test)]
+mod messages;

@@ -1,0 +1,174 @@
+//! Drafts: what is written, and which part is refused.
+use ss_frame::Bytes;
+use ss_message::{
+    Draft, DraftElement, DraftElements, DraftFault, DraftParameter, DraftParameters, Field, Offset,
+    Part, Stamp, write_message,
+};
+use std::alloc::{AllocError, Global};
+use std::test::Fail;
+
+fn bytes(alloc: Global, octets: &[u8]) -> Result<Bytes, AllocError> {
+    Ok(Bytes::from_vec(Vec::from_slice(alloc, octets)?))
+}
+
+/// A draft of PRI 13 with all else absent.
+fn empty(alloc: Global) -> Draft {
+    Draft {
+        pri: 13,
+        stamp: None,
+        hostname: Field::Nil,
+        app_name: Field::Nil,
+        procid: Field::Nil,
+        msgid: Field::Nil,
+        elements: DraftElements::from_vec(Vec::new(alloc)),
+        msg: None,
+    }
+}
+
+/// An element with one parameter.
+fn element(
+    alloc: Global,
+    id: &[u8],
+    name: &[u8],
+    value: &[u8],
+) -> Result<DraftElement, AllocError> {
+    let mut parameters = Vec::new(alloc);
+    parameters.push(DraftParameter {
+        name: bytes(alloc, name)?,
+        value: bytes(alloc, value)?,
+    })?;
+    Ok(DraftElement {
+        id: bytes(alloc, id)?,
+        parameters: DraftParameters::from_vec(parameters),
+    })
+}
+
+/// What is written.
+fn text_of(alloc: Global, draft: &Draft) -> Result<Bytes, DraftFault> {
+    write_message(alloc, draft)
+}
+
+/// The part that is refused, or none.
+fn refused(alloc: Global, draft: &Draft) -> Option<DraftFault> {
+    match write_message(alloc, draft) {
+        Ok(_) => None,
+        Err(fault) => Some(fault),
+    }
+}
+
+fn bad(part: Part) -> Option<DraftFault> {
+    Some(DraftFault::Bad { part })
+}
+
+#[test]
+fn written(rt: HostRuntime) -> Result<(), Fail> {
+    let alloc = rt.alloc();
+    let draft = empty(alloc);
+    assert_eq!(rt;
+        text_of(alloc, &draft)?.as_slice(),
+        b"<13>1 - - - - - -".as_slice()
+    );
+
+    let mut elements = Vec::new(alloc);
+    elements.push(element(alloc, b"a@1", b"b", b"]\"\\")?)?;
+    elements.push(DraftElement {
+        id: bytes(alloc, b"c")?,
+        parameters: DraftParameters::from_vec(Vec::new(alloc)),
+    })?;
+    let draft = Draft {
+        pri: 191,
+        stamp: Stamp::new(2009, 5, 3, 14, 0, 39, 0, 0, Offset::Utc),
+        hostname: Field::Text(bytes(alloc, b"h")?),
+        app_name: Field::Text(bytes(alloc, b"s")?),
+        procid: Field::Text(bytes(alloc, b"--")?),
+        msgid: Field::Text(bytes(alloc, b"m")?),
+        elements: DraftElements::from_vec(elements),
+        msg: Some(bytes(alloc, b"")?),
+    };
+    let want = b"<191>1 2009-05-03T14:00:39Z h s -- m [a@1 b=\"\\]\\\"\\\\\"][c] ";
+    assert_eq!(rt; text_of(alloc, &draft)?.as_slice(), want.as_slice());
+    Ok(())
+}
+
+/// A field, absent for no octets.
+fn field(alloc: Global, text: &[u8]) -> Result<Field, AllocError> {
+    if text.is_empty() {
+        return Ok(Field::Nil);
+    }
+    Ok(Field::Text(bytes(alloc, text)?))
+}
+
+/// A PRI, the four fields, and the part that is refused.
+const HEADERS: [(u8, [&[u8]; 4], Part); 8] = [
+    (192, [b"-", b"", b"", b""], Part::Pri),
+    (255, [b"", b"", b"", b""], Part::Pri),
+    (191, [b"-", b"-", b"", b""], Part::Hostname),
+    (0, [b"a b", b"", b"", b""], Part::Hostname),
+    (13, [b"h", b"\x7F", b"-", b""], Part::AppName),
+    (13, [b"h", b"", b"-", b"-"], Part::ProcId),
+    (13, [b"h", b"s", b"p", b"-"], Part::MsgId),
+    (
+        13,
+        [b"", b"", b"", b"012345678901234567890123456789012"],
+        Part::MsgId,
+    ),
+];
+
+/// SD-ID, name and value of a parameter, a second SD-ID, a MSG, and the part that is refused.
+const BODIES: [([&[u8]; 5], Part); 8] = [
+    (
+        [b"a", b"b", b"\xFF", b"a", b"\xEF\xBB\xBF\xFF"],
+        Part::Value,
+    ),
+    ([b"a", b"", b"\xFF", b"a", b""], Part::Name),
+    ([b"a]", b"b", b"c", b"d", b""], Part::Name),
+    ([b"", b"b", b"c", b"d", b""], Part::Name),
+    ([b"a", b"b=", b"\xFF", b"a", b""], Part::Name),
+    (
+        [b"a", b"012345678901234567890123456789012", b"", b"d", b""],
+        Part::Name,
+    ),
+    (
+        [b"a", b"b", b"c", b"a", b"\xEF\xBB\xBF\xFF"],
+        Part::RepeatedId,
+    ),
+    ([b"a", b"b", b"c", b"d", b"\xEF\xBB\xBF\xFF"], Part::Msg),
+];
+
+fn header(alloc: Global, pri: u8, texts: &[&[u8]; 4]) -> Result<Draft, AllocError> {
+    let mut draft = empty(alloc);
+    draft.pri = pri;
+    draft.hostname = field(alloc, texts[0])?;
+    draft.app_name = field(alloc, texts[1])?;
+    draft.procid = field(alloc, texts[2])?;
+    draft.msgid = field(alloc, texts[3])?;
+    Ok(draft)
+}
+
+fn body(alloc: Global, texts: &[&[u8]; 5]) -> Result<Draft, AllocError> {
+    let mut elements = Vec::new(alloc);
+    elements.push(element(alloc, texts[0], texts[1], texts[2])?)?;
+    elements.push(element(alloc, texts[3], b"b", b"")?)?;
+    let mut draft = empty(alloc);
+    draft.elements = DraftElements::from_vec(elements);
+    draft.msg = Some(bytes(alloc, texts[4])?);
+    Ok(draft)
+}
+
+#[test]
+fn not_written(rt: HostRuntime) -> Result<(), Fail> {
+    let alloc = rt.alloc();
+    for (pri, texts, part) in &HEADERS {
+        let draft = header(alloc, *pri, texts)?;
+        assert_eq!(rt; refused(alloc, &draft), bad(*part), "{pri} {texts:?}");
+    }
+    for (texts, part) in &BODIES {
+        let draft = body(alloc, texts)?;
+        assert_eq!(rt; refused(alloc, &draft), bad(*part), "{texts:?}");
+    }
+    // A text without an octet is no text.
+    let mut draft = empty(alloc);
+    draft.hostname = Field::Text(bytes(alloc, b"")?);
+    assert_eq!(rt; refused(alloc, &draft), bad(Part::Hostname));
+    Ok(())
+}

@@ -1,0 +1,155 @@
+//! Stamps at the edges of their ranges.
+use ss_message::{Offset, Stamp, write_stamp};
+use std::test::Fail;
+
+const ACCEPTED: [&[u8]; 26] = [
+    b"2023-01-31T00:00:00Z",
+    b"2023-02-28T00:00:00Z",
+    b"2023-03-31T00:00:00Z",
+    b"2023-04-30T00:00:00Z",
+    b"2023-05-31T00:00:00Z",
+    b"2023-06-30T00:00:00Z",
+    b"2023-07-31T00:00:00Z",
+    b"2023-08-31T00:00:00Z",
+    b"2023-09-30T00:00:00Z",
+    b"2023-10-31T00:00:00Z",
+    b"2023-11-30T00:00:00Z",
+    b"2023-12-31T00:00:00Z",
+    b"0000-02-29T00:00:00Z",
+    b"0000-01-01T00:00:00Z",
+    b"2000-02-29T00:00:00Z",
+    b"2024-02-29T00:00:00Z",
+    b"9999-12-31T23:59:59Z",
+    b"1985-04-12T23:20:50.52Z",
+    b"1985-04-12T19:20:50.52-04:00",
+    b"2003-10-11T22:14:15.003Z",
+    b"2003-08-24T05:14:15.000003-07:00",
+    b"2009-05-03T14:00:39.0Z",
+    b"2009-05-03T14:00:39.999999Z",
+    b"2009-05-03T14:00:39+00:00",
+    b"2009-05-03T14:00:39-00:00",
+    b"2009-05-03T14:00:39+23:59",
+];
+
+const REFUSED: [&[u8]; 40] = [
+    b"",
+    b"-",
+    b"2023-01-32T00:00:00Z",
+    b"2023-02-29T00:00:00Z",
+    b"2023-02-30T00:00:00Z",
+    b"2024-02-30T00:00:00Z",
+    b"1900-02-29T00:00:00Z",
+    b"2100-02-29T00:00:00Z",
+    b"2023-04-31T00:00:00Z",
+    b"2023-06-31T00:00:00Z",
+    b"2023-09-31T00:00:00Z",
+    b"2023-11-31T00:00:00Z",
+    b"2023-12-32T00:00:00Z",
+    b"2023-00-01T00:00:00Z",
+    b"2023-13-01T00:00:00Z",
+    b"2023-01-00T00:00:00Z",
+    b"2023-01-01T24:00:00Z",
+    b"2023-01-01T23:60:00Z",
+    b"2023-01-01T23:59:60Z",
+    b"2023-01-01t00:00:00Z",
+    b"2023-01-01T00:00:00z",
+    b"2023-01-01 00:00:00Z",
+    b"2023-01-01T00:00:00",
+    b"2023-01-01T00:00:00.Z",
+    b"2023-01-01T00:00:00,5Z",
+    b"2023-01-01T00:00:00.1234567Z",
+    b"2023-01-01T00:00:00.5",
+    b"2023-01-01T00:00:00+24:00",
+    b"2023-01-01T00:00:00-24:00",
+    b"2023-01-01T00:00:00+00:60",
+    b"2023-01-01T00:00:00+0000",
+    b"2023-01-01T00:00:00+00",
+    b"2023-01-01T00:00:00ZZ",
+    b"2023-01-01T00:00:00Z ",
+    b" 2023-01-01T00:00:00Z",
+    b"23-01-01T00:00:00Z",
+    b"02023-01-01T00:00:00Z",
+    b"2023-1-01T00:00:00Z",
+    b"2023-01-01T0:00:00Z",
+    b"+023-01-01T00:00:00Z",
+];
+
+/// Texts of one moment that are different stamps.
+const DIFFERENT: [(&[u8], &[u8]); 3] = [
+    (b"2009-05-03T14:00:39.5Z", b"2009-05-03T14:00:39.50Z"),
+    (b"2009-05-03T14:00:39Z", b"2009-05-03T14:00:39+00:00"),
+    (b"2009-05-03T14:00:39+00:00", b"2009-05-03T14:00:39-00:00"),
+];
+
+// What is read is written again as it stood.
+#[test]
+fn texts(rt: HostRuntime) -> Result<(), Fail> {
+    for text in &ACCEPTED {
+        let stamp = Stamp::parse(text).ok_or("a stamp in the ranges is refused")?;
+        let written = write_stamp(rt.alloc(), &stamp)?;
+        assert_eq!(rt; written.as_slice(), *text);
+    }
+    for text in &REFUSED {
+        assert_eq!(rt; Stamp::parse(text), None, "in {text:?}");
+    }
+    for (text, other) in &DIFFERENT {
+        assert_ne!(rt; Stamp::parse(text), Stamp::parse(other), "{text:?}");
+    }
+    Ok(())
+}
+
+/// The year; month, day, hour, minute and second; how many digits a fraction has, and the number that they spell.
+type Numbers = (u16, [u8; 5], (u8, u32));
+
+/// What a stamp is made of, and its text where it is in the ranges.
+const MADE: [(Numbers, Offset, Option<&[u8]>); 10] = [
+    (
+        (2009, [5, 3, 14, 0, 39], (0, 0)),
+        Offset::Utc,
+        Some(b"2009-05-03T14:00:39Z"),
+    ),
+    (
+        (3, [1, 2, 4, 5, 6], (4, 7)),
+        Offset::Minus(8, 9),
+        Some(b"0003-01-02T04:05:06.0007-08:09"),
+    ),
+    ((10000, [5, 3, 14, 0, 39], (0, 0)), Offset::Utc, None),
+    ((2009, [5, 3, 14, 0, 39], (7, 0)), Offset::Utc, None),
+    ((2009, [5, 3, 14, 0, 39], (0, 1)), Offset::Utc, None),
+    ((2009, [5, 3, 14, 0, 39], (2, 100)), Offset::Utc, None),
+    (
+        (2009, [5, 3, 14, 0, 39], (2, 99)),
+        Offset::Utc,
+        Some(b"2009-05-03T14:00:39.99Z"),
+    ),
+    ((2009, [2, 30, 14, 0, 39], (0, 0)), Offset::Utc, None),
+    ((2009, [5, 3, 14, 0, 39], (0, 0)), Offset::Plus(24, 0), None),
+    (
+        (2009, [5, 3, 14, 0, 39], (0, 0)),
+        Offset::Minus(0, 60),
+        None,
+    ),
+];
+
+#[test]
+fn made(rt: HostRuntime) -> Result<(), Fail> {
+    for (numbers, offset, text) in &MADE {
+        let (year, [month, day, hour, minute, second], (digits, fraction)) = *numbers;
+        let stamp = Stamp::new(
+            year, month, day, hour, minute, second, digits, fraction, *offset,
+        );
+        let written = match &stamp {
+            Some(stamp) => Some(write_stamp(rt.alloc(), stamp)?),
+            None => None,
+        };
+        assert_eq!(rt;
+            written.as_ref().map(|text| text.as_slice()),
+            *text,
+            "{numbers:?} {offset:?}"
+        );
+        if let Some(stamp) = stamp {
+            stamp.in_range();
+        }
+    }
+    Ok(())
+}

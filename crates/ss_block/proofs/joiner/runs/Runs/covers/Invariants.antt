@@ -1,8 +1,0 @@
-use Rattle.std.proofs.Common.{◌+◌, ◌<◌, ℕ}
-use Rattle.std.specs.Prelude.{◌≢◌}
-use Rattle.ss_block.specs.declared.joiner.slot.Slot.TheVariants.{Empty}
-use Rattle.ss_block.specs.Slots.{slot_at}
-use Rattle.ss_block.proofs.joiner.runs.Runs.covers.Given as goal
-
-abbrev pub invariant-loop-before : goal.invariant-loop-before
-invariant-loop-before l = (k : ℕ) → k < l.before → slot_at l.self (k + 1) ≢ Empty

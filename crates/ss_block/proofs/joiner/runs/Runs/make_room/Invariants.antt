@@ -1,9 +1,0 @@
-use Rattle.std.proofs.Common.{◌≡◌, ◌/◌, ◌<◌, ◌≤◌, ℕ}
-use Rattle.ss_block.specs.Slots.{slot_at, HasRun}
-use Rattle.ss_block.proofs.joiner.runs.Runs.make_room.Given as goal
-
-abbrev pub invariant-loop-number : goal.invariant-loop-number
-invariant-loop-number l = record {
-  same : (i : ℕ) → slot_at l.self i ≡ slot_at l.initial.self i;
-  made : (n : ℕ) → l.index / 16 ≤ n → n < l.number → HasRun l.self n;
-}

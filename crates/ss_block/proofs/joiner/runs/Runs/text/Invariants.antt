@@ -1,6 +1,0 @@
-use Rattle.std.proofs.Common.{◌+◌, ◌<◌, ℕ}
-use Rattle.ss_block.specs.Slots.{slot_at, IsOne, IsTextOf}
-use Rattle.ss_block.proofs.joiner.runs.Runs.text.Given as goal
-
-abbrev pub invariant-loop-before : goal.invariant-loop-before
-invariant-loop-before l = ((k : ℕ) → k < l.total → IsOne (slot_at l.self (k + 1))) → IsTextOf l.self l.text.items l.before

@@ -1,5 +1,0 @@
-use Rattle.ss_block.proofs.JoiningLaws.{disputes_stay}
-use Rattle.ss_block.proofs.laws.joining.disputes_stay.Goals as goal
-
-pub returns : goal.returns
-returns c = disputes_stay

@@ -1,5 +1,0 @@
-use Rattle.ss_block.proofs.JoiningLaws.{one_payload}
-use Rattle.ss_block.proofs.laws.joining.one_payload.Goals as goal
-
-pub returns : goal.returns
-returns c = one_payload

@@ -1,5 +1,0 @@
-use Rattle.ss_block.proofs.JoiningLaws.{one_state}
-use Rattle.ss_block.proofs.laws.joining.one_state.Goals as goal
-
-pub returns : goal.returns
-returns c = one_state

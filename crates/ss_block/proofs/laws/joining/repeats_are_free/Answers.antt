@@ -1,5 +1,0 @@
-use Rattle.ss_block.proofs.JoiningLaws.{repeats_are_free}
-use Rattle.ss_block.proofs.laws.joining.repeats_are_free.Goals as goal
-
-pub returns : goal.returns
-returns c = repeats_are_free

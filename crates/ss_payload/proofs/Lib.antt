@@ -1,0 +1,14 @@
+pub mod Adding
+pub mod JoiningLaws
+pub mod Placed
+pub mod Runs
+pub mod Standing
+pub mod Base64Text
+pub mod DecodedOctets
+pub mod CutLists
+pub mod StampEnds
+pub mod Payloads
+pub mod FragmentLaws
+pub mod PlacedPieces
+pub mod SentPieces
+pub mod PayloadTexts

@@ -1,0 +1,7 @@
+use Rattle.std.proofs.Common.{◌+◌, ◌<◌, ℕ}
+use Rattle.std.specs.Prelude.{◌≢◌, slice_index_or}
+use Rattle.ss_payload.specs.declared.joiner.slot.Slot.TheVariants.{Empty}
+use Rattle.ss_payload.proofs.joiner.runs.are_said.Given as goal
+
+abbrev pub invariant-loop-j : goal.invariant-loop-j
+invariant-loop-j l = (j : ℕ) → j < l.j → slice_index_or l.run (l.at + j) Empty ≢ Empty

@@ -1,0 +1,14 @@
+pub mod StrictBase64
+pub mod Joiner
+pub mod Joining
+pub mod Fragments
+pub mod JoiningLaws
+pub mod Slots
+pub mod RunSlots
+pub mod Room
+pub mod Totals
+pub mod Cuts
+pub mod Payload
+pub mod PayloadReading
+pub mod PayloadLaws
+pub mod CuttingLaws

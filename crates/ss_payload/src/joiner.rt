@@ -1,0 +1,142 @@
+//! A payload joined from the fragments of certificate blocks (RFC 5848, section 5.3.2).
+ghost use Rattle.std.specs.Prelude.{◌≡◌, ◌+◌, ◌-◌, ◌≤◌, ◌↔◌, length, MatchResult, IfOk, MatchOption, IfSome, IfNone, false};
+ghost use Rattle.ss_payload.specs.declared.joiner.JoinState.TheVariants.{Whole};
+ghost use Rattle.ss_payload.specs.declared.joiner.Joined.TheVariants.{Disagrees};
+ghost use Rattle.ss_payload.specs.Joining.{Stated, nothing_stated, with_fragment, DisagreesWith, HasState, IsPayload};
+ghost use Rattle.ss_payload.specs.Joiner.{Stands, KeepsAll, LacksSome};
+ghost use Rattle.ss_payload.specs.Room.{HasNoRoom, GrowsFor};
+
+mod runs;
+mod slot;
+mod totals;
+
+use runs::Runs;
+use ss_frame::Bytes;
+use ss_message::NoMemory;
+use std::alloc::Global;
+use totals::Totals;
+
+/// What a fragment says against those before it.
+#[derive(Clone, Copy, Debug, PartialEq, Eq)]
+pub enum Joined {
+    /// Nothing: it states their total, and their octet wherever they stated one.
+    Agreed,
+    /// Another total was stated before, or another octet at one of its indexes.
+    Disagrees,
+}
+
+/// How far a payload is joined.
+#[derive(Clone, Copy, Debug, PartialEq, Eq)]
+pub enum JoinState {
+    /// Nothing disagrees, and no total was stated, or an index from 1 to the total has no octet yet.
+    Incomplete,
+    /// Two totals were stated, or two octets at one index. It stays so.
+    Disputed,
+    /// Nothing disagrees, and each index from 1 to the total has its octet.
+    Whole,
+}
+
+/// Joins the fragments of a payload, which may come in any order, overlap and come again. Nothing is reserved for a
+/// total that is stated: it keeps room for the octets that came, by sixteen indexes each. A fragment takes time by its
+/// octets, and for each sixteen of them by the logarithm of how many are kept.
+#[derive(Drop)]
+pub struct Joiner {
+    alloc: Global,
+    totals: Totals,
+    runs: Runs,
+    // Whether two octets were stated at some index.
+    marked: bool,
+}
+
+impl Joiner {
+    /// A joiner to which nothing was stated. It takes no memory, and keeps the allocator for later.
+    pub fn new(alloc: Global) -> Joiner
+        ensures stands { Stands result nothing_stated }
+        ensures room { HasNoRoom result }
+    {
+        Joiner {
+            alloc,
+            totals: Totals::Unstated,
+            runs: Runs::new(alloc),
+            marked: false,
+        }
+    }
+
+    /// Adds a fragment: the octets of a payload of `total` octets (TPBL, 1 to 99,999,999) from the index `index` on
+    /// (INDEX, 1 to 99,999,999), of which there are 1 to 9,999 (FLEN), the last within the total. Whether it disagrees
+    /// with a fragment that was added before; it is added then too.
+    ///
+    /// Where memory runs out, `NoMemory`, and the joiner stands for what it did before.
+    pub fn add(&mut self, total: u32, index: u32, fragment: &[u8]) -> Result<Joined, NoMemory>
+        requires total { (1 ≤ total) × (total ≤ 99999999) }
+        requires index { (1 ≤ index) × (index ≤ 99999999) }
+        requires length { (1 ≤ length fragment.now) × (length fragment.now ≤ 9999) }
+        requires within { index + length fragment.now - 1 ≤ total }
+        ensures joined { (stated : Stated)
+            → Stands self.old stated
+            → MatchResult result (λ joined. Stands self.new (with_fragment stated total index fragment.now)) (λ e. Stands self.new stated) }
+        ensures answer { (stated : Stated)
+            → Stands self.old stated
+            → IfOk result (λ joined. (joined ≡ Disagrees) ↔ DisagreesWith stated total index fragment.now) }
+        // It makes room for the octets of this fragment alone, also where memory runs out.
+        ensures room { GrowsFor self.old self.new index (length fragment.now) }
+    {
+        self.runs.make_room(index, fragment.len())?;
+        let other_total = self.totals.differs(total);
+        self.totals = self.totals.joined(total);
+        let other_octet = self.runs.put_all(index, fragment);
+        self.marked |= other_octet;
+        if other_total | other_octet {
+            Ok(Joined::Disagrees)
+        } else {
+            Ok(Joined::Agreed)
+        }
+    }
+
+    /// The total, where the payload is whole.
+    fn whole(&self) -> Option<u32>
+        ensures some { IfSome result (KeepsAll self.now) }
+        ensures none { IfNone result (self.now.marked ≡ false → LacksSome self.now.totals self.now.runs) }
+    {
+        match self.totals {
+            Totals::One(total) => {
+                if !self.marked && self.runs.covers(total) {
+                    Some(total)
+                } else {
+                    None
+                }
+            }
+            Totals::Unstated | Totals::Many => None,
+        }
+    }
+
+    /// How far the payload is joined. It takes no memory.
+    pub fn state(&self) -> JoinState
+        ensures { (stated : Stated) → Stands self.now stated → HasState stated result }
+    {
+        if self.marked {
+            return JoinState::Disputed;
+        }
+        if let Totals::Many = self.totals {
+            return JoinState::Disputed;
+        }
+        match self.whole() {
+            Some(_) => JoinState::Whole,
+            None => JoinState::Incomplete,
+        }
+    }
+
+    /// The payload, where the state is `Whole`, and otherwise none.
+    ///
+    /// Where memory runs out, `NoMemory`.
+    pub fn payload(&self) -> Result<Option<Bytes>, NoMemory>
+        ensures { (stated : Stated)
+            → Stands self.now stated
+            → IfOk result (λ text. MatchOption text (¬ HasState stated Whole) (λ t. HasState stated Whole × IsPayload stated t)) }
+    {
+        match self.whole() {
+            Some(total) => Ok(Some(self.runs.text(self.alloc, total)?)),
+            None => Ok(None),
+        }
+    }
+}

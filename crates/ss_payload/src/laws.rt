@@ -1,0 +1,5 @@
+//! Laws of the definitions that contracts cite. Each is the contract of a function that does nothing.
+
+pub mod cutting;
+pub mod joining;
+pub mod payloads;

@@ -1,0 +1,97 @@
+//! The payload block of a session (RFC 5848, section 5.2).
+ghost use Rattle.std.specs.Prelude.{◌≡◌, Some, IfOk, IfSome};
+ghost use Rattle.ss_payload.specs.Payload.{PayloadValue, IsPayload, Spells, if_suited, payload_text};
+ghost use Rattle.ss_payload.specs.PayloadReading.{payload_in};
+
+use crate::kind::Kind;
+use crate::payload_reading::{assure, payload_of};
+use crate::payload_writing::payload_text;
+use ss_frame::Bytes;
+use ss_message::{NoMemory, Stamp};
+use std::alloc::Global;
+use std::marker::Model;
+
+/// What an originator says of its key, once in a session: when, the type of the key blob, and the blob. Contracts see
+/// these, which are in their ranges: the blob is empty exactly for `Kind::N`.
+#[derive(Debug, Drop)]
+pub struct Payload {
+    stamp: Option<Stamp>,
+    kind: Kind,
+    blob: Bytes,
+}
+
+impl Model for Payload {
+    ghost use Rattle.ss_payload.specs.Payload.{PayloadValue, IsPayload};
+
+    ghost Value = { PayloadValue };
+
+    ghost view = { λ p. record { stamp = p.stamp; kind = p.kind; blob = p.blob } };
+
+    ghost invariant = { λ p. IsPayload (record { stamp = p.stamp; kind = p.kind; blob = p.blob }) };
+}
+
+impl Payload {
+    /// `None` where `Kind::N` comes with a blob, or another type with an empty one.
+    pub fn new(stamp: Option<Stamp>, kind: Kind, blob: Bytes) -> Option<Payload>
+        ensures value { result ≡ if_suited (record { stamp = stamp; kind = kind; blob = blob }) }
+        ensures in_range { IfSome result IsPayload }
+    {
+        assure(&stamp);
+        let octets = blob.as_slice();
+        if octets.is_empty() != (kind == Kind::N) {
+            return None;
+        }
+        Some(Payload { stamp, kind, blob })
+    }
+
+    /// TIMESTAMP, or none.
+    pub fn stamp(&self) -> Option<Stamp>
+        ensures { result ≡ self.now.stamp }
+    {
+        self.stamp
+    }
+
+    /// The type of the key blob.
+    pub fn kind(&self) -> Kind
+        ensures { result ≡ self.now.kind }
+    {
+        self.kind
+    }
+
+    /// The octets of the key blob.
+    pub fn blob(&self) -> &Bytes
+        ensures { result.now ≡ self.now.blob }
+    {
+        &self.blob
+    }
+
+    /// Every payload is in the ranges that `new` asks for.
+    pub fn in_range(&self)
+        ensures { IsPayload self.now }
+    {
+        let _kind = self.kind;
+    }
+
+    /// The payload that the octets spell, all of them; `None` where they spell none. Behind `N` one SP is let pass.
+    pub fn parse(alloc: Global, bytes: &[u8]) -> Result<Option<Payload>, NoMemory>
+        ensures value { IfOk result (λ o. o ≡ payload_in bytes.now) }
+        // What is read is spelled so.
+        ensures found { IfOk result (λ o. IfSome o (λ p. IsPayload p × Spells bytes.now p)) }
+        // What is spelled so is read.
+        ensures only { (p : PayloadValue) → IsPayload p → Spells bytes.now p → IfOk result (λ o. o ≡ Some p) }
+    {
+        payload_of(alloc, bytes)
+    }
+
+    /// The spelling of the payload, which `parse` reads as this payload again.
+    pub fn write(&self, alloc: Global) -> Result<Bytes, NoMemory>
+        ensures text { IfOk result (λ b. b ≡ payload_text self.now) }
+        ensures in_range { IsPayload self.now }
+        // The text is read as this payload.
+        ensures again { payload_in (payload_text self.now) ≡ Some self.now }
+        // No other payload has it.
+        ensures alone { (p : PayloadValue) → IsPayload p → payload_text p ≡ payload_text self.now → p ≡ self.now }
+    {
+        payload_text(alloc, &self.stamp, self.kind, self.blob.as_slice())
+    }
+}

@@ -1,0 +1,117 @@
+//! Payload blocks read from the left (RFC 5848, section 5.2).
+ghost use Rattle.std.specs.Prelude.{◌≡◌, ◌==◌, true, IfOk, IfSome, option_map};
+ghost use Rattle.std.specs.List.{position};
+ghost use Rattle.ss_message.specs.Message.{is_timestamp};
+ghost use Rattle.ss_message.specs.StampReading.{stamp_of};
+ghost use Rattle.ss_payload.specs.Payload.{IsPayload};
+ghost use Rattle.ss_payload.specs.PayloadReading.{parts_at_space, stamp_in, stamp_and_rest_in, no_blob_in, some_blob_in, blob_in, payload_in};
+
+use crate::kind::{Kind, kind_of};
+use crate::payload::Payload;
+use crate::strict_base64::decoded;
+use ss_frame::Bytes;
+use ss_message::{NoMemory, Stamp};
+use std::alloc::Global;
+
+fn place_of_space(text: &[u8]) -> Option<usize>
+    ensures { result ≡ position (λ octet. octet == 32) text.now }
+{
+    text.iter().position(|octet| *octet == b' ')
+}
+
+/// What stands before the first SP, and behind it.
+#[tactic(auto, unfolding(crate::specs::PayloadReading::parts_at_space))]
+fn parts_at_space(text: &[u8]) -> Option<(&[u8], &[u8])>
+    ensures { option_map (λ x. (x.0.now, x.1.now)) result ≡ parts_at_space text.now }
+{
+    let place = place_of_space(text)?;
+    Some((&text[..place], &text[place + 1..]))
+}
+
+/// A stamp is always in its ranges.
+pub fn assure(stamp: &Option<Stamp>)
+    ensures { is_timestamp stamp.now ≡ true }
+{
+    if let Some(stamp) = stamp {
+        stamp.in_range();
+    }
+}
+
+fn moment_of(text: &[u8]) -> Option<Stamp>
+    ensures { result ≡ stamp_of text.now }
+{
+    let stamp = Stamp::parse(text);
+    assure(&stamp);
+    stamp
+}
+
+/// The stamp that the octets spell, all of them, or none for `-`.
+#[tactic(auto, unfolding(crate::specs::PayloadReading::stamp_in))]
+fn stamp_of(text: &[u8]) -> Option<Option<Stamp>>
+    ensures { result ≡ stamp_in text.now }
+{
+    match text {
+        [b'-'] => Some(None),
+        _ => Some(Some(moment_of(text)?)),
+    }
+}
+
+fn no_blob_of(alloc: Global, text: &[u8]) -> Option<Bytes>
+    ensures { result ≡ no_blob_in text.now }
+{
+    match text {
+        [] | [b' '] => Some(Bytes::from_vec(Vec::new(alloc))),
+        _ => None,
+    }
+}
+
+fn some_blob_of(alloc: Global, text: &[u8]) -> Result<Option<Bytes>, NoMemory>
+    ensures { IfOk result (λ o. o ≡ some_blob_in text.now) }
+{
+    match text {
+        [b' ', blob @ ..] => decoded(alloc, blob),
+        _ => Ok(None),
+    }
+}
+
+/// The blob that stands behind the letter of its type.
+#[tactic(auto, unfolding(crate::specs::PayloadReading::blob_in))]
+fn blob_of(alloc: Global, kind: Kind, text: &[u8]) -> Result<Option<Bytes>, NoMemory>
+    ensures { IfOk result (λ o. o ≡ blob_in kind text.now) }
+{
+    match kind {
+        Kind::N => Ok(no_blob_of(alloc, text)),
+        Kind::C | Kind::P | Kind::K | Kind::U => some_blob_of(alloc, text),
+    }
+}
+
+/// The stamp before the first SP, and what follows that SP.
+#[tactic(auto, unfolding(crate::specs::PayloadReading::stamp_and_rest_in))]
+fn stamp_and_rest(text: &[u8]) -> Option<(Option<Stamp>, &[u8])>
+    ensures { option_map (λ x. (x.0, x.1.now)) result ≡ stamp_and_rest_in text.now }
+{
+    let (front, rest) = parts_at_space(text)?;
+    let stamp = stamp_of(front)?;
+    Some((stamp, rest))
+}
+
+/// What the text says, all of it; `None` where it is no payload block.
+#[tactic(auto, unfolding(crate::specs::PayloadReading::payload_in))]
+pub fn payload_of(alloc: Global, text: &[u8]) -> Result<Option<Payload>, NoMemory>
+    ensures value { IfOk result (λ o. o ≡ payload_in text.now) }
+    ensures in_range { IfOk result (λ o. IfSome o IsPayload) }
+{
+    let Some((stamp, rest)) = stamp_and_rest(text) else {
+        return Ok(None);
+    };
+    let [octet, rest @ ..] = rest else {
+        return Ok(None);
+    };
+    let Some(kind) = kind_of(*octet) else {
+        return Ok(None);
+    };
+    let Some(blob) = blob_of(alloc, kind, rest)? else {
+        return Ok(None);
+    };
+    Ok(Payload::new(stamp, kind, blob))
+}

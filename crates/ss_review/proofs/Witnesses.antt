@@ -1,0 +1,197 @@
+-- Behind each listed message stands a stored block that announces its hash.
+use Rattle.std.proofs.Common.{◌≡◌, inl, ℕ, zero, suc, Bool, true, false, cond, List, [], ◌∷◌, map, find, refl, sym, ap, ◌∙◌, subst, arith}
+use Rattle.std.specs.Prelude.{Option, Some, Result, Ok, Err, option_map, slice_get}
+use Rattle.std.specs.Ordering.{nat_cmp}
+use Rattle.std.specs.Str.{bytes_eq}
+use Rattle.std.specs.List.{enumerate_from}
+use Rattle.std.specs.Cmp.{Equal-is}
+use Rattle.std.specs.Cmp.Lexicographic.{slice_cmp}
+use Rattle.std.proofs.lemmas.Map.Lookups.{exact_bytes}
+use Rattle.std.proofs.lemmas.Map.Text.{is_eq-slice_cmp}
+use Rattle.ss_block.specs.declared.hash.Alg.{Alg}
+use Rattle.ss_block.specs.declared.hash.Alg.TheVariants as algs
+use Rattle.ss_block.specs.declared.hash.Hash.{Hash}
+use Rattle.ss_block.specs.declared.hash.Hash.TheVariants as hashes
+use Rattle.ss_block.specs.declared.hash.HashPair.{HashPair}
+use Rattle.ss_block.specs.declared.reading.Reading.{Reading}
+use Rattle.ss_block.specs.declared.reading.Reading.TheVariants as readings
+use Rattle.ss_block.specs.Block as block
+use Rattle.ss_block.specs.Reading.{reading}
+use Rattle.ss_block.specs.ReadingLaws.{BlocksAreInRange}
+use Rattle.ss_review.specs.declared.session_report.SessionState.{SessionState}
+use Rattle.ss_review.specs.declared.message.NormalMessage.{NormalMessage}
+use Rattle.ss_review.specs.declared.message.BlockMessage.{BlockMessage}
+use Rattle.ss_review.specs.declared.message.Said.{Said}
+use Rattle.ss_review.specs.declared.message.Said.TheVariants.{Hashes}
+use Rattle.ss_block.specs.Hashes.{pair, hash_of}
+use Rattle.ss_review.specs.Notes.{Note, Normal, Block, noted, note, notes}
+use Rattle.ss_review.specs.Contents.{said_in, normal_at, block_at, normals, blocks}
+use Rattle.ss_review.specs.Sessions.{of_session}
+use Rattle.ss_review.specs.Verified.{Answers, joined, is_valid_in, is_verified, signature_of}
+use Rattle.ss_review.specs.Announced.{Key, rows, hashes_for}
+use Rattle.ss_review.specs.Assigned.{has_hash, pair_of_bearer, places_with, wanted_with, wanted, rank, assigned}
+use Rattle.ss_review.specs.Announcing.{Announces}
+use Rattle.ss_review.specs.Witness.{IsWitnessed}
+use Rattle.ss_review.proofs.Announcements.{numbered_from, announced_row, from_has-hashes_for}
+use Rattle.ss_review.proofs.Keyed.{has-slice_get}
+use Rattle.ss_review.proofs.Members.{Has, has_from_contains, from_has-filter_map}
+use Rattle.ss_review.proofs.NotesTold.{IsBlockOf, normal_told, block_told}
+use Rattle.ss_review.proofs.OnePlaceOneKey.{assigned_cases, from_has-places_with}
+use Rattle.ss_review.proofs.Tests.{all_member}
+
+-- ---- what is stored
+
+pub got_map : {X Y : Type 0} (f : X → Y) (xs : List X) (i : ℕ) (y : Y) → slice_get (map f xs) i ≡ Some y → (x : X) × (slice_get xs i ≡ Some x) × (f x ≡ y)
+got_map f [] i y e = absurd (cc)
+got_map f (x ∷ xs) zero y e = let it : f x ≡ y = cc in (x, refl, it)
+got_map f (x ∷ xs) (suc i) y e = got_map f xs i y e
+
+-- a note that a log is told with is that of its message at the place
+pub stored_note : (log : List (List ℕ)) (n : ℕ × Note) → Has (enumerate_from 0 (notes log)) n → (text : List ℕ) × (slice_get log n.0 ≡ Some text) × (note text ≡ n.1)
+stored_note log n h =
+    let w = numbered_from 0 (notes log) n h in
+    let at : w.0 ≡ n.0 = omega (arith, w.1) in
+    let got = got_map note log w.0 n.1 w.2 in
+    (got.0, subst (λ i. slice_get log i ≡ Some got.0) at got.1, got.2)
+
+noted_normal : (text : List ℕ) (r : Reading) (p : HashPair) → noted text r ≡ Normal p → pair text ≡ p
+noted_normal text readings.Plain p e = cc
+noted_normal text (readings.Unparsed part pos) p e = cc
+noted_normal text (readings.Signature b) p e = absurd (cc)
+noted_normal text (readings.Certificate b) p e = absurd (cc)
+noted_normal text (readings.Spoilt cause) p e = absurd (cc)
+
+noted_block : (text : List ℕ) (r : Reading) (t : List ℕ) → noted text r ≡ Block t → text ≡ t
+noted_block text readings.Plain t e = absurd (cc)
+noted_block text (readings.Unparsed part pos) t e = absurd (cc)
+noted_block text (readings.Signature b) t e = cc
+noted_block text (readings.Certificate b) t e = cc
+noted_block text (readings.Spoilt cause) t e = absurd (cc)
+
+pub note_normal : (text : List ℕ) (p : HashPair) → note text ≡ Normal p → pair text ≡ p
+unfolding note
+note_normal text p e = noted_normal text (reading text) p e
+
+pub note_block : (text t : List ℕ) → note text ≡ Block t → text ≡ t
+unfolding note
+note_block text t e = noted_block text (reading text) t e
+
+-- a message without a block is stored at its place
+pub stored_normal : (log : List (List ℕ)) (m : NormalMessage) → Has (normals (notes log)) m → (text : List ℕ) × (slice_get log m.place ≡ Some text) × (note text ≡ Normal (pair text)) × (pair text ≡ m.pair)
+unfolding normals
+stored_normal log m h =
+    let w : (n : ℕ × Note) × Has (enumerate_from 0 (notes log)) n × (normal_at n.0 n.1 ≡ Some m)
+    = from_has-filter_map (λ (n : ℕ × Note). normal_at n.0 n.1) (enumerate_from 0 (notes log)) m h in
+    let told = normal_told w.0.0 w.0.1 m w.2 in
+    let got = stored_note log w.0 w.1 in
+    let both : pair got.0 ≡ m.pair = note_normal got.0 m.pair (got.2 ∙ told.0) in (
+      got.0,
+      subst (λ i. slice_get log i ≡ Some got.0) (sym told.1) got.1,
+      got.2 ∙ told.0 ∙ ap (λ (p : HashPair). Normal p) (sym both),
+      both,
+    )
+
+-- and a block
+pub stored_block : (log : List (List ℕ)) (b : BlockMessage) → Has (blocks (notes log)) b → (text : List ℕ) × (slice_get log b.place ≡ Some text) × IsBlockOf b.place text b
+unfolding blocks
+stored_block log b h =
+    let w : (n : ℕ × Note) × Has (enumerate_from 0 (notes log)) n × (block_at n.0 n.1 ≡ Some b)
+    = from_has-filter_map (λ (n : ℕ × Note). block_at n.0 n.1) (enumerate_from 0 (notes log)) b h in
+    let told : (text : List ℕ) × (w.0.1 ≡ Block text) × IsBlockOf w.0.0 text b = block_told w.0.0 w.0.1 b w.2 in
+    let got = stored_note log w.0 w.1 in
+    let one : got.0 ≡ told.0 = note_block got.0 told.0 (got.2 ∙ told.1) in
+    let at : w.0.0 ≡ b.place = sym told.2.place_is in (
+      told.0,
+      subst (λ i. slice_get log i ≡ Some told.0) at (got.1 ∙ ap (λ (t : List ℕ). Some t) one),
+      subst (λ i. IsBlockOf i told.0 b) at told.2,
+    )
+
+-- what says hashes is a signature block
+pub said_signature : (r : Reading) (b : block.Signature) → said_in r ≡ Some (Hashes b) → r ≡ readings.Signature b
+said_signature readings.Plain b e = absurd (cc)
+said_signature (readings.Unparsed part pos) b e = absurd (cc)
+said_signature (readings.Signature d) b e = let same : d ≡ b = cc in ap (λ (x : block.Signature). readings.Signature x) same
+said_signature (readings.Certificate d) b e = absurd (cc)
+said_signature (readings.Spoilt cause) b e = absurd (cc)
+
+-- ---- the hash that a key wants
+
+-- a key that wants something has one hash, and its bearer's hashes
+one_hash : (ms : List NormalMessage) (hs : List Hash) (p : HashPair) → wanted_with ms hs ≡ Some p → (h : Hash) × Has hs h × (pair_of_bearer ms h ≡ Some p)
+one_hash ms [] p e = absurd (cc)
+one_hash ms (h ∷ []) p e = (h, inl refl, e)
+one_hash ms (h ∷ g ∷ hs) p e = absurd (cc)
+
+bearer_cases : (h : Hash) (b : Bool) (m : NormalMessage) (rest : Option NormalMessage) (p : HashPair) → has_hash h m.pair ≡ b → (option_map (λ (n : NormalMessage). n.pair) rest ≡ Some p → has_hash h p ≡ true) → option_map (λ (n : NormalMessage). n.pair) (cond b (Some m) rest) ≡ Some p → has_hash h p ≡ true
+bearer_cases h true m rest p t f e = let it : m.pair ≡ p = cc in ap (has_hash h) (sym it) ∙ t
+bearer_cases h false m rest p t f e = f e
+
+pub bearer_has : (ms : List NormalMessage) (h : Hash) (p : HashPair) → pair_of_bearer ms h ≡ Some p → has_hash h p ≡ true
+unfolding pair_of_bearer
+bearer_has [] h p e = absurd (cc)
+bearer_has (m ∷ ms) h p e = bearer_cases h (has_hash h m.pair) m (find (λ (n : NormalMessage). has_hash h n.pair) ms) p refl (bearer_has ms h p) e
+
+same_octets : (a b : List ℕ) → bytes_eq a b ≡ true → a ≡ b
+same_octets a b e = exact_bytes a b ((Equal-is (slice_cmp nat_cmp a b)).0 (is_eq-slice_cmp a b ∙ e))
+
+-- a hash of an algorithm that a message has is the message's by that algorithm
+pub hash_is : (alg : Alg) (h : Hash) (message : List ℕ) → block.is_of alg h ≡ true → has_hash h (pair message) ≡ true → h ≡ hash_of alg message
+hash_is algs.Sha1 (hashes.Sha1 octets) message o e = ap hashes.Sha1 (sym (same_octets _ octets e))
+hash_is algs.Sha1 (hashes.Sha256 octets) message o e = absurd (cc)
+hash_is algs.Sha256 (hashes.Sha1 octets) message o e = absurd (cc)
+hash_is algs.Sha256 (hashes.Sha256 octets) message o e = ap hashes.Sha256 (sym (same_octets _ octets e))
+
+-- ---- verified blocks
+
+valid_cases : (says : Answers) (j : Result (List ℕ) SessionState) (b : BlockMessage) → is_valid_in says j b ≡ true → (payload : List ℕ) × (j ≡ Ok payload) × (says.valid payload b.signed (signature_of b.said) ≡ true)
+valid_cases says (Ok payload) b e = (payload, refl, e)
+valid_cases says (Err state) b e = absurd (cc)
+
+pub verified_cases : (says : Answers) (bs : List BlockMessage) (b : BlockMessage) → is_verified says bs b ≡ true → (payload : List ℕ) × (joined says (of_session bs b.session) ≡ Ok payload) × (says.valid payload b.signed (signature_of b.said) ≡ true)
+unfolding is_verified
+verified_cases says bs b e = valid_cases says (joined says (of_session bs b.session)) b e
+
+-- ---- the witness
+
+pub wanted_hash_of : (says : Answers) (ns : List Note) (k : Key) (p : HashPair) → wanted (normals ns) (rows says (blocks ns)) k ≡ Some p → (h : Hash) × Announces says (blocks ns) k h × (pair_of_bearer (normals ns) h ≡ Some p)
+unfolding wanted
+wanted_hash_of says ns k p e =
+    let w = one_hash (normals ns) (hashes_for (rows says (blocks ns)) k) p e in
+    (w.0, announced_row says (blocks ns) (record { key = k; hash = w.0 }) (from_has-hashes_for (rows says (blocks ns)) k w.0 w.1), w.2)
+
+pub witnessed : BlocksAreInRange → (says : Answers) (log : List (List ℕ)) (k : Key) (place : ℕ) → assigned (normals (notes log)) (rows says (blocks (notes log))) k ≡ Some place → IsWitnessed says log k place
+witnessed range says log k place e =
+    let ns = notes log in
+    let ms = normals ns in
+    let rs = rows says (blocks ns) in
+    let a = assigned_cases ms rs k place e in
+    let m = from_has-places_with ms rs a.0 place (has-slice_get (places_with ms a.0) (rank ms rs k a.0) place a.2) in
+    let t = stored_normal log m.0 m.1 in
+    let w = wanted_hash_of says ns k a.0 a.1 in
+    let n = w.1 in
+    let b = n.message in
+    let s = stored_block log b (has_from_contains (blocks ns) b n.stored) in
+    let read : reading s.0 ≡ readings.Signature n.said = said_signature (reading s.0) n.said (s.2.said_is ∙ ap (λ (x : Said). Some x) n.says_so) in
+    let of_alg : block.is_of n.said.alg w.0 ≡ true = all_member (block.is_of n.said.alg) n.said.hashes (range.0 s.0 n.said read).hashes w.0 (has-slice_get n.said.hashes n.index w.0 n.hash) in
+    let has : has_hash w.0 (pair t.0) ≡ true = ap (has_hash w.0) (t.3 ∙ m.2) ∙ bearer_has ms w.0 a.0 w.2 in
+    let v = verified_cases says (blocks ns) b n.verified in
+    record {
+      message = t.0;
+      stored = subst (λ i. slice_get log i ≡ Some t.0) m.3 t.1;
+      no_block = t.2;
+      block_place = b.place;
+      text = s.0;
+      block_stored = s.1;
+      said = n.said;
+      read = read;
+      session_is = s.2.session_is ∙ ap (λ x. Some x) n.session_is;
+      group_is = n.group_is;
+      index = n.index;
+      number = n.number;
+      hash = n.hash ∙ ap (λ (x : Hash). Some x) (hash_is n.said.alg w.0 t.0 of_alg has);
+      payload = v.0;
+      payload_joined = ap (λ x. joined says (of_session (blocks ns) x)) (sym n.session_is) ∙ v.1;
+      octets = b.signed;
+      octets_signed = s.2.signed_is;
+      said_yes = ap (λ x. says.valid v.0 b.signed (signature_of x)) (sym n.says_so) ∙ v.2;
+    }

@@ -1,0 +1,6 @@
+use Rattle.ss_review.specs.Notes.{notes}
+use Rattle.ss_review.proofs.EntriesRise.{in_order_report}
+use Rattle.ss_review.proofs.laws.reports.reports_are_in_order.Goals as goal
+
+pub returns : goal.returns
+returns c = λ says log. in_order_report says (notes log)

@@ -1,0 +1,5 @@
+use Rattle.ss_review.proofs.Ends.{spoilt_ends}
+use Rattle.ss_review.proofs.laws.reports.spoilt_ends_add_themselves.Goals as goal
+
+pub returns : goal.returns
+returns c = spoilt_ends

@@ -1,0 +1,18 @@
+-- What a review asks of a scheme.
+use Rattle.std.specs.Prelude.{ℕ, List, [], ◌∷◌, map, flat_map, Result, Ok, Err}
+use Rattle.ss_review.specs.declared.session_report.SessionState.{SessionState}
+use Rattle.ss_review.specs.declared.question.Question.{Question}
+use Rattle.ss_review.specs.declared.question.Question.TheVariants as question
+use Rattle.ss_review.specs.declared.message.BlockMessage.{BlockMessage}
+use Rattle.ss_review.specs.Sessions.{sessions, of_session}
+use Rattle.ss_review.specs.Payloads.{certificates, stated_payload}
+use Rattle.ss_review.specs.Verified.{signature_of}
+
+abbrev pub asked : List BlockMessage → Result (List ℕ) SessionState → List Question
+asked bs (Err state) = []
+asked bs (Ok payload) = question.Trust payload ∷ map (λ b. question.Yes payload b.signed (signature_of b.said)) bs
+
+-- what is asked of a scheme: of each session that states a payload, whether the payload is trusted, and whether each block
+-- is valid under it, in order of place
+unfoldable pub questions : List BlockMessage → List Question
+questions bs = flat_map (λ s. asked (of_session bs s) (stated_payload (certificates (of_session bs s)))) (sessions bs)

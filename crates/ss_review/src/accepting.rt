@@ -1,0 +1,120 @@
+//! Whether the payload of a session is trusted, and accepted by valid certificate blocks (RFC 5848, section 7).
+ghost use Rattle.std.specs.Prelude.{◌≡◌, map, filter, Ok, IfOk};
+ghost use Rattle.ss_review.specs.Payloads.{certificates};
+ghost use Rattle.ss_review.specs.Verified.{answers, signature_of, is_valid, is_accepted, judged, joined};
+ghost use Rattle.ss_review.specs.Covering.{spans_of, accepted_span};
+
+use crate::joining::stated_payload;
+use crate::message::{BlockMessage, Said};
+use crate::session_report::SessionState;
+use crate::span::{Span, cover, span_of};
+use crate::verifier::Judge;
+use ss_frame::Bytes;
+use ss_message::NoMemory;
+use std::alloc::Global;
+
+/// The signature of a block.
+fn signature_of(said: &Said) -> &Bytes
+    ensures { result.now ≡ signature_of said.now }
+{
+    match said {
+        Said::Hashes(block) => block.signature(),
+        Said::Fragment(block) => block.signature(),
+    }
+}
+
+/// Whether the block's signature is valid under the payload.
+pub(crate) fn is_valid<J: Judge>(judge: &J, payload: &[u8], message: &BlockMessage) -> bool
+    requires { J.sound judge.now }
+    ensures { result ≡ is_valid (answers J.trusted J.valid judge.now) payload.now message.now }
+{
+    let signature = signature_of(&message.said);
+    judge.accepts(payload, message.signed.as_slice(), signature.as_slice())
+}
+
+/// The indexes of a certificate block that is valid under the payload.
+fn accepted_span<J: Judge>(judge: &J, payload: &[u8], message: &BlockMessage) -> Option<Span>
+    requires { J.sound judge.now }
+    ensures { result ≡ accepted_span (answers J.trusted J.valid judge.now) payload.now message.now }
+{
+    if !is_valid(judge, payload, message) {
+        return None;
+    }
+    match &message.said {
+        Said::Hashes(_) => None,
+        Said::Fragment(block) => Some(span_of(block)),
+    }
+}
+
+/// The indexes of the certificate blocks, among these blocks, that are valid under the payload.
+fn accepted_spans<J: Judge>(
+    alloc: Global,
+    judge: &J,
+    payload: &[u8],
+    blocks: &[&BlockMessage],
+) -> Result<Vec<Span>, NoMemory>
+    requires { J.sound judge.now }
+    ensures { IfOk result (λ v. v.items
+        ≡ spans_of (certificates (filter (is_valid (answers J.trusted J.valid judge.now) payload.now) (map (λ b. b.now) blocks.now)))) }
+{
+    let mut spans = Vec::new(alloc);
+    for message in blocks {
+        match accepted_span(judge, payload, message) {
+            Some(span) => spans.push(span)?,
+            None => {}
+        }
+    }
+    Ok(spans)
+}
+
+/// Whether the certificate blocks, among these blocks, that are valid under the payload cover it.
+fn is_accepted<J: Judge>(
+    alloc: Global,
+    judge: &J,
+    payload: &[u8],
+    blocks: &[&BlockMessage],
+) -> Result<bool, NoMemory>
+    requires { J.sound judge.now }
+    ensures { IfOk result (λ b. b
+        ≡ is_accepted (answers J.trusted J.valid judge.now) (map (λ b. b.now) blocks.now) payload.now) }
+{
+    let mut spans = accepted_spans(alloc, judge, payload, blocks)?;
+    Ok(cover(spans.as_mut_slice(), payload.len() as u64))
+}
+
+/// The payload, if it is trusted, and the certificate blocks that are valid under it cover it.
+fn judged<J: Judge>(
+    alloc: Global,
+    judge: &J,
+    blocks: &[&BlockMessage],
+    payload: Bytes,
+) -> Result<Result<Bytes, SessionState>, NoMemory>
+    requires { J.sound judge.now }
+    ensures { IfOk result (λ r. r
+        ≡ judged (answers J.trusted J.valid judge.now) (map (λ b. b.now) blocks.now) (Ok payload)) }
+{
+    if !judge.trusts(payload.as_slice()) {
+        return Ok(Err(SessionState::Untrusted));
+    }
+    if is_accepted(alloc, judge, payload.as_slice(), blocks)? {
+        Ok(Ok(payload))
+    } else {
+        Ok(Err(SessionState::Unaccepted))
+    }
+}
+
+/// The payload of a session, whose blocks these are, if it is joined, and else the session's state.
+pub(crate) fn joined<J: Judge>(
+    alloc: Global,
+    judge: &J,
+    blocks: &[&BlockMessage],
+) -> Result<Result<Bytes, SessionState>, NoMemory>
+    requires { J.sound judge.now }
+    ensures { IfOk result (λ r. r
+        ≡ joined (answers J.trusted J.valid judge.now) (map (λ b. b.now) blocks.now)) }
+{
+    match stated_payload(alloc, blocks)? {
+        Ok(payload) => judged(alloc, judge, blocks, payload),
+        Err(state) => Ok(Err(state)),
+    }
+}

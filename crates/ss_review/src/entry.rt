@@ -1,0 +1,55 @@
+//! What a review says of the numbers of a group.
+ghost use Rattle.std.specs.Prelude.{◌≡◌};
+
+use std::marker::Model;
+
+/// Why no message is listed for an announced number.
+#[derive(Clone, Copy, Debug, PartialEq, Eq)]
+pub enum Why {
+    /// No stored message is left for the hash that was announced.
+    Lost,
+    /// Two different hashes were announced.
+    Disputed,
+}
+
+/// What a review says of a message number, or of several. Numbers are 1 to 9,999,999,999.
+#[derive(Clone, Copy, Debug, PartialEq, Eq)]
+pub enum Entry {
+    /// The number is announced, and the message at `place`, counted from 0, is its message.
+    Listed { number: u64, place: u32 },
+    /// The number is announced, and no message is listed for it.
+    Gap { number: u64, why: Why },
+    /// None of the numbers from `first` to `last` is announced, though a greater one is.
+    Hole { first: u64, last: u64 },
+}
+
+/// What a review says of the numbers of a group, in their order. Contracts see the list alone.
+#[derive(Debug, Drop)]
+pub struct Entries {
+    entries: Vec<Entry>,
+}
+
+impl Model for Entries {
+    ghost use Rattle.std.specs.Prelude.{List};
+    ghost use Rattle.ss_review.specs.declared.entry.Entry.{Entry};
+
+    ghost Value = { List Entry };
+
+    ghost view = { λ l. l.entries.items };
+}
+
+impl Entries {
+    /// Keeps the entries of `entries`, and takes no memory.
+    pub fn from_vec(entries: Vec<Entry>) -> Entries
+        ensures { result ≡ entries.items }
+    {
+        Entries { entries }
+    }
+
+    /// The entries.
+    pub fn as_slice(&self) -> &[Entry]
+        ensures { result.now ≡ self.now }
+    {
+        self.entries.as_slice()
+    }
+}

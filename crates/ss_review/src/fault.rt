@@ -1,0 +1,42 @@
+//! Why a reviewer gives no answer.
+ghost use Rattle.std.specs.Prelude.{◌≡◌};
+ghost use Rattle.ss_review.specs.declared.fault.ReviewFault.TheVariants.{Memory};
+
+use ss_message::NoMemory;
+use std::alloc::{AllocError, AllocFailed};
+use thiserror::Error;
+
+/// Why a reviewer gives no answer. It is unchanged then.
+#[derive(Clone, Copy, Debug, PartialEq, Eq, Error)]
+pub enum ReviewFault {
+    /// V1: want of memory.
+    #[error("V1")]
+    Memory,
+    /// V2: as many messages were fed as the reviewer takes.
+    #[error("V2")]
+    TooManyMessages,
+}
+
+impl From<NoMemory> for ReviewFault {
+    ghost from_gives = { λ _ e. e ≡ Memory };
+
+    fn from(_e: NoMemory) -> ReviewFault {
+        ReviewFault::Memory
+    }
+}
+
+impl From<AllocError> for ReviewFault {
+    ghost from_gives = { λ _ e. e ≡ Memory };
+
+    fn from(_e: AllocError) -> ReviewFault {
+        ReviewFault::Memory
+    }
+}
+
+impl<T: Drop> From<AllocFailed<T>> for ReviewFault {
+    ghost from_gives = { λ _ e. e ≡ Memory };
+
+    fn from(_e: AllocFailed<T>) -> ReviewFault {
+        ReviewFault::Memory
+    }
+}

@@ -1,0 +1,26 @@
+//! What finds a message without a block by its hashes.
+ghost use Rattle.std.specs.Prelude.{◌≡◌, List, map, slice_get};
+ghost use Rattle.ss_review.specs.declared.message.NormalMessage.{NormalMessage};
+ghost use Rattle.ss_review.specs.Assigned.{pair_of_bearer, places_with};
+
+use ss_block::{Hash, HashPair};
+
+/// The messages of a log without a block, by their hashes.
+pub(crate) trait Index {
+    /// It has these messages, by rising place, and no others.
+    ghost has: { Self → List NormalMessage → Type 0 };
+
+    /// The places of the messages, which rise.
+    fn places(&self) -> &[u32]
+        ensures { (ms : List NormalMessage) → has self.now ms → result.now ≡ map (λ m. m.place) ms };
+
+    /// Both hashes of the first message that has this one.
+    fn pair_of_bearer(&self, hash: &Hash) -> Option<HashPair>
+        ensures { (ms : List NormalMessage) → has self.now ms → result ≡ pair_of_bearer ms hash.now };
+
+    /// Of the places of the messages with these hashes, the one with this number, from 0.
+    fn place(&self, pair: &HashPair, number: usize) -> Option<u32>
+        ensures { (ms : List NormalMessage)
+            → has self.now ms
+            → result ≡ slice_get (places_with ms pair.now) number };
+}

@@ -1,0 +1,74 @@
+//! What holds of the reports of all logs, and of some.
+ghost use Rattle.ss_review.specs.Laws.{
+  GapsAreUnassigned,
+  ListedAreAssigned,
+  ListedAreWitnessed,
+  NotesSuffice,
+  PlacesHaveOneKey,
+  ReportsListWhatIsAnnounced,
+  ReportsAreInOrder,
+  SpoiltEndsAddThemselves,
+  StatesAreTheirs,
+};
+ghost use Rattle.ss_review.specs.Rows.{ReportsAreThese};
+
+use ss_block::laws::readings::blocks_are_in_range;
+
+/// Two logs with equal notes have equal reports.
+pub fn notes_suffice()
+    ensures { NotesSuffice }
+{}
+
+/// A spoilt block at the end of a log adds itself and one to the count, and changes nothing else.
+pub fn spoilt_ends_add_themselves()
+    ensures { SpoiltEndsAddThemselves }
+{}
+
+/// The state of a session is the one that its certificate blocks state together, and no other.
+pub fn states_are_theirs()
+    ensures { StatesAreTheirs }
+{}
+
+/// A place is assigned to one key at most.
+pub fn places_have_one_key()
+    ensures { PlacesHaveOneKey }
+{}
+
+/// What is listed is what is assigned.
+pub fn listed_are_assigned()
+    ensures { ListedAreAssigned }
+{}
+
+/// The gaps are the announced keys that are assigned no place.
+pub fn gaps_are_unassigned()
+    ensures { GapsAreUnassigned }
+{}
+
+/// What a report tells rises: its sessions, the groups of each, the entries of each group, and its places.
+pub fn reports_are_in_order()
+    ensures { ReportsAreInOrder }
+{}
+
+/// Behind each listed message stands a stored block that announces its hash, and that the scheme says yes to.
+pub fn listed_are_witnessed()
+    ensures { ListedAreWitnessed }
+{
+    blocks_are_in_range();
+}
+
+/// The listed messages are those assigned to announced numbers, each is witnessed, no number and no message is listed
+/// twice, the report rises, and the gaps are the numbers that are announced and unmatched.
+pub fn reports_list_what_is_announced()
+    ensures { ReportsListWhatIsAnnounced }
+{
+    listed_are_assigned();
+    listed_are_witnessed();
+    places_have_one_key();
+    reports_are_in_order();
+    gaps_are_unassigned();
+}
+
+/// The reports of small logs, computed.
+pub fn reports_are_these()
+    ensures { ReportsAreThese }
+{}

@@ -1,0 +1,35 @@
+//! The review of a stored log (RFC 5848, section 7): which messages its signature blocks announce, which of them are
+//! stored, and what is missing, disputed or in vain.
+#![tactic(auto)]
+
+mod accepting;
+mod assign;
+mod entry;
+mod fault;
+mod group_report;
+mod index;
+mod joining;
+pub mod laws;
+mod message;
+mod pairs;
+mod places;
+mod plain;
+mod question;
+mod reading;
+mod report;
+mod reviewer;
+mod scan;
+mod session_report;
+mod span;
+mod spoilt;
+mod verifier;
+
+pub use entry::{Entries, Entry, Why};
+pub use fault::ReviewFault;
+pub use group_report::{GroupReport, GroupReports};
+pub use places::Places;
+pub use question::{Question, Questions};
+pub use report::Report;
+pub use session_report::{SessionReport, SessionReports, SessionState};
+pub use spoilt::{SpoiltPlace, SpoiltPlaces};
+pub use verifier::{Judge, Verifier};

@@ -1,0 +1,76 @@
+//! Who answers a review's questions about signatures.
+ghost use Rattle.std.specs.Prelude.{◌≡◌, List, ℕ, Bool};
+
+use ss_block::Scheme;
+
+/// Whoever answers for a signature scheme: which payloads it trusts, and which signatures of which octets are valid
+/// under a payload.
+pub trait Judge {
+    /// It may be asked anything, and its answers are those of `trusted` and `valid`.
+    ghost sound: { Self → Type 0 };
+
+    /// What it answers of a payload.
+    ghost trusted: { Self → List ℕ → Bool };
+
+    /// What it answers of a signature: of a payload, the octets that are signed, and the signature.
+    ghost valid: { Self → List ℕ → List ℕ → List ℕ → Bool };
+
+    /// Whether the payload is trusted.
+    fn trusts(&self, payload: &[u8]) -> bool
+        requires { sound self.now }
+        ensures { result ≡ trusted self.now payload.now };
+
+    /// Whether, under the payload, the octets have this signature.
+    fn accepts(&self, payload: &[u8], octets: &[u8], signature: &[u8]) -> bool
+        requires { sound self.now }
+        ensures { result ≡ valid self.now payload.now octets.now signature.now };
+}
+
+/// Answers for a scheme by two closures: `trust` says whether a payload is trusted, and `check` whether, under a
+/// payload, octets have a signature. A review asks that they may be called on any octets, and answer exactly what the
+/// scheme says.
+#[derive(Drop)]
+pub struct Verifier<'s, S, T, C> {
+    scheme: &'s S,
+    trust: T,
+    check: C,
+}
+
+impl<'s, S: Scheme, T: Fn(&[u8]) -> bool, C: Fn(&[u8], &[u8], &[u8]) -> bool> Verifier<
+    's,
+    S,
+    T,
+    C,
+> {
+    /// Keeps the closures beside the scheme that they answer for. Takes no memory.
+    pub fn new(scheme: &'s S, trust: T, check: C) -> Verifier<'s, S, T, C>
+        ensures scheme { result.scheme ≡ scheme.entry }
+        ensures trust { result.trust ≡ trust }
+        ensures check { result.check ≡ check }
+    {
+        Verifier {
+            scheme,
+            trust,
+            check,
+        }
+    }
+}
+
+impl<'s, S: Scheme, T: Fn(&[u8]) -> bool, C: Fn(&[u8], &[u8], &[u8]) -> bool> Judge
+    for Verifier<'s, S, T, C> {
+    ghost sound = { λ v. T.IsAlwaysCallable v.trust × C.IsAlwaysCallable v.check
+        × ((p : _) (b : Bool) → T.post v.trust p b → b ≡ S.trusted v.scheme.now p.now)
+        × ((p x s : _) (b : Bool) → C.post v.check p x s b → b ≡ S.valid v.scheme.now p.now x.now s.now) };
+
+    ghost trusted = { λ v p. S.trusted v.scheme.now p };
+
+    ghost valid = { λ v p x s. S.valid v.scheme.now p x s };
+
+    fn trusts(&self, payload: &[u8]) -> bool {
+        (self.trust)(payload)
+    }
+
+    fn accepts(&self, payload: &[u8], octets: &[u8], signature: &[u8]) -> bool {
+        (self.check)(payload, octets, signature)
+    }
+}

@@ -1,0 +1,48 @@
+#!/usr/bin/env bash
+# The examples of README.md and docs/guide.md: a block that is one line with `./ssign` is a command, the block behind it
+# is what the program prints, and between the two stands `status N`.
+# shellcheck source=tests/lib.sh
+. "$(dirname -- "$0")/lib.sh"
+need_program
+cd -- "$root" || exit 1
+# the last command of a pipeline runs in this shell, so that `run` keeps its status here
+shopt -s lastpipe
+
+# example FILE COMMAND TEXT OUTPUT: one check, of a command, the text behind it, and the output that is shown.
+example() {
+    local file=$1 command=$2 text=$3 output=$4
+    if ! [[ $text =~ status\ ([0-2]) ]]; then
+        tell "$file: $command" '    no status stands between the command and its output'
+        return
+    fi
+    local wanted=${BASH_REMATCH[1]}
+    eval "${command/.\/ssign /run }"
+    expect "$file: $command" "$wanted" "$output" ''
+}
+
+# examples FILE: one check for each of its examples.
+examples() {
+    local file=$1 line block='' command='' text=''
+    # the line that is added ends the last block
+    while IFS= read -r line; do
+        if [[ $line == '    '[^\ ]* ]]; then
+            block+=${block:+$'\n'}${line:4}
+            continue
+        fi
+        if [[ $block == *./ssign\ * && $block != *$'\n'* ]]; then
+            [[ -z $command ]] || tell "$file: $command" '    its output is not shown'
+            command=$block
+            text=''
+        elif [[ $block && $command ]]; then
+            example "$file" "$command" "$text" "$block"
+            command=''
+        fi
+        block=''
+        text+=$line$'\n'
+    done < <(cat -- "$file" && echo)
+    [[ -z $command ]] || tell "$file: $command" '    its output is not shown'
+}
+
+examples README.md
+examples docs/guide.md
+finish
