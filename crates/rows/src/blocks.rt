@@ -6,6 +6,7 @@ mod joining;
 mod orders;
 mod payloads;
 mod readings;
+mod room;
 mod signing;
 mod values;
 mod writing;
