@@ -6,12 +6,7 @@ use Rattle.ss_review.specs.declared.message.NormalMessage.{NormalMessage}
 use Rattle.ss_review.specs.Announced.{Key, Row, hashes_for}
 use Rattle.ss_review.specs.Assigned.{wanted_with, wanted}
 use Rattle.ss_review.specs.Assigning.{pair_wanted}
-
--- the one hash of a list that has no other
-abbrev pub only_hash : List Hash → Option Hash
-only_hash [] = None
-only_hash (h ∷ []) = Some h
-only_hash (h ∷ g ∷ hs) = None
+use Rattle.ss_review.specs.Numbered.{only_hash}
 
 only_wanted : (ms : List NormalMessage) (hs : List Hash) → pair_wanted ms (only_hash hs) ≡ wanted_with ms hs
 only_wanted ms [] = refl
