@@ -7,6 +7,7 @@ pub mod Tests
 pub mod Stating
 pub mod Ends
 pub mod Keeping
+pub mod Bounds
 pub mod Sections
 pub mod BySession
 pub mod Announcements
