@@ -8,6 +8,8 @@ pub mod Stating
 pub mod Ends
 pub mod Keeping
 pub mod Bounds
+pub mod Searching
+pub mod Bearings
 pub mod Sections
 pub mod BySession
 pub mod Announcements

@@ -25,3 +25,4 @@ pub mod Numbered
 pub mod Stated
 pub mod Covering
 pub mod Keeping
+pub mod Bearing

@@ -4,6 +4,7 @@
 
 mod accepting;
 mod assign;
+mod bearers;
 mod entry;
 mod fault;
 mod group_report;
