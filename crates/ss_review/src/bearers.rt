@@ -1,5 +1,6 @@
 //! The bearers of announced hashes: for each hash, the first message that has it.
-ghost use Rattle.std.specs.Prelude.{◌≡◌, ℕ, ◌++◌, ◌∷◌, [], List, map, Option, Some, Contains, IfOk, option_map, if◌then◌else◌};
+ghost use Rattle.std.specs.Prelude.{◌≡◌, ℕ, ◌++◌, ◌∷◌, [], List, map, Option, Some, Contains, IfOk, OnOk, option_map, if◌then◌else◌};
+ghost use Rattle.std.specs.List.{cons_option};
 ghost use Rattle.std.specs.List.Sorted.{IsStrictlySortedBy};
 ghost use Rattle.std.specs.Ordering.{is_eq};
 ghost use Rattle.ss_block.specs.declared.hash.Hash.{Hash};
@@ -9,6 +10,7 @@ ghost use Rattle.ss_review.specs.declared.message.NormalMessage.{NormalMessage};
 ghost use Rattle.ss_review.specs.Bearing.{earlier, bearer_among};
 
 use crate::message::NormalMessage;
+use crate::ordered::put_in_order;
 use crate::places::Places;
 use ss_block::laws::orders::hashes_rise_by_algorithm;
 use ss_block::{Hash, HashPair};
@@ -104,6 +106,19 @@ fn nothing_found(
     Ok(found)
 }
 
+/// Adds a hash that may be there.
+fn push_some(announced: &mut Vec<Hash>, hash: Option<Hash>) -> Result<(), NoMemory>
+    ensures { OnOk result (announced.new.items ≡ announced.old.items ++ cons_option hash []) }
+{
+    match hash {
+        Some(hash) => {
+            announced.push(hash)?;
+            Ok(())
+        }
+        None => Ok(()),
+    }
+}
+
 /// The announced hashes, each once, in their order.
 fn distinct(alloc: Global, hashes: &[Option<Hash>]) -> Result<Vec<Hash>, NoMemory>
     ensures rising { IfOk result (λ v. IsStrictlySortedBy hash_cmp v.items) }
@@ -111,13 +126,10 @@ fn distinct(alloc: Global, hashes: &[Option<Hash>]) -> Result<Vec<Hash>, NoMemor
 {
     let mut announced = Vec::with_capacity(alloc, hashes.len())?;
     for hash in hashes {
-        if let Some(hash) = hash {
-            announced.push(*hash)?;
-        }
+        push_some(&mut announced, *hash)?;
     }
     hashes_rise_by_algorithm();
-    announced.sort_unstable();
-    announced.dedup();
+    put_in_order(&mut announced);
     Ok(announced)
 }
 

@@ -1,6 +1,6 @@
-use Rattle.std.proofs.Common.{◌≡◌, ◌++◌, ◌∷◌, [], map, refl, sym, ap, ◌∙◌}
+use Rattle.std.proofs.Common.{◌≡◌, ◌++◌, ◌∷◌, [], map, length, refl, rules, sym, ap, ◌∙◌, arith}
 use Rattle.std.specs.Map.Iter.{deref_pair}
-use Rattle.std.proofs.lemmas.List.{map-append}
+use Rattle.std.proofs.lemmas.List.{map-append, length-map, with_items_is}
 use Rattle.std.proofs.lemmas.Map.Iter.{iter_end}
 use Rattle.ss_review.specs.Bearing.{bearer_among}
 use Rattle.ss_review.proofs.bearers.all_bearers.Goals as goal
@@ -11,9 +11,13 @@ loop-pair-init c = c.in_ok-found.ensures
 pub loop-pair-preserved : goal.loop-pair-preserved
 loop-pair-preserved c =
     let es = map deref_pair c.loop-pair.yielded in
-    c.tell_pair.ensures es (c.as_mut_slice.ensures.value ∙ c.loop-pair.invariant)
-    ∙ ap (λ places. map (bearer_among (es ++ (c.in-Some.pair.now, places) ∷ [])) c.args.announced.now) c.as_slice.ensures
-    ∙ ap (λ all. map (bearer_among all) c.args.announced.now) (sym (map-append deref_pair c.loop-pair.yielded ((c.in-Some.pair, c.in-Some.places) ∷ [])))
+    let hs = c.args.announced.now in
+    let told = c.tell_pair.ensures es (c.as_mut_slice.ensures.value ∙ c.loop-pair.invariant) in
+    with_items_is c.loop-pair.found c.tell_pair.new.found
+    (omega (arith, ap length told, ap length c.loop-pair.invariant, length-map hs (bearer_among (es ++ (c.in-Some.pair.now, c.as_slice.result.now) ∷ [])), length-map hs (bearer_among es), c.as_mut_slice.ensures.len, ap length c.as_mut_slice.ensures.value))
+    ∙ told
+    ∙ ap (λ places. map (bearer_among (es ++ (c.in-Some.pair.now, places) ∷ [])) hs) c.as_slice.ensures
+    ∙ ap (λ all. map (bearer_among all) hs) (sym (map-append deref_pair c.loop-pair.yielded ((c.in-Some.pair, c.in-Some.places) ∷ [])))
 
 pub returns : goal.returns
 returns c =
