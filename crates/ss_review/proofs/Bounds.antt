@@ -63,7 +63,7 @@ unfolding places_with
 some_with [] p some = absurd (some refl)
 some_with (m ∷ ms) p some = some_at (same_pair m.pair p) ms (filter (λ (n : NormalMessage). same_pair n.pair p) ms) m p refl some (some_with ms p)
 
-with_itself : (ms : List NormalMessage) (m : NormalMessage) → Has ms m → Has (places_with ms m.pair) m.place
+pub with_itself : (ms : List NormalMessage) (m : NormalMessage) → Has ms m → Has (places_with ms m.pair) m.place
 unfolding places_with
 with_itself ms m h = has-map (λ (n : NormalMessage). n.place) (filter (λ (n : NormalMessage). same_pair n.pair m.pair) ms) m (has-filter (λ (n : NormalMessage). same_pair n.pair m.pair) ms m h (same_as_itself m.pair))
 

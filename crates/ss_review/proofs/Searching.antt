@@ -13,7 +13,7 @@ use Rattle.ss_review.proofs.Members.{Has}
 use Rattle.ss_review.proofs.Sections.{map_agree}
 use Rattle.ss_review.proofs.Rising.{below_all, not_less_itself, reversed}
 
-has_at : {X : Type 0} (xs : List X) (i : ℕ) (d : X) → i < length xs → Has xs (get_or xs i d)
+pub has_at : {X : Type 0} (xs : List X) (i : ℕ) (d : X) → i < length xs → Has xs (get_or xs i d)
 has_at [] i d below = absurd (omega arith)
 has_at (x ∷ xs) zero d below = inl refl
 has_at (x ∷ xs) (suc i) d below = inr (has_at xs i d (omega arith))

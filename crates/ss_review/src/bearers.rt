@@ -1,13 +1,14 @@
 //! The bearers of announced hashes: for each hash, the first message that has it.
-ghost use Rattle.std.specs.Prelude.{◌≡◌, ℕ, ◌++◌, ◌∷◌, [], List, map, Option, Some, Contains, IfOk, OnOk, option_map, if◌then◌else◌};
+ghost use Rattle.std.specs.Prelude.{◌≡◌, ℕ, ◌++◌, ◌∷◌, [], List, map, Option, Some, Contains, IfOk, OnOk, option_map, option_and_then, if◌then◌else◌};
 ghost use Rattle.std.specs.List.{cons_option};
 ghost use Rattle.std.specs.List.Sorted.{IsStrictlySortedBy};
 ghost use Rattle.std.specs.Ordering.{is_eq};
 ghost use Rattle.ss_block.specs.declared.hash.Hash.{Hash};
 ghost use Rattle.ss_block.specs.declared.hash.HashPair.{HashPair};
-ghost use Rattle.ss_block.specs.Order.{hash_cmp};
+ghost use Rattle.std.specs.BTreeMap.{IsOrdered};
+ghost use Rattle.ss_block.specs.Order.{hash_cmp, pair_cmp};
 ghost use Rattle.ss_review.specs.declared.message.NormalMessage.{NormalMessage};
-ghost use Rattle.ss_review.specs.Bearing.{earlier, bearer_among};
+ghost use Rattle.ss_review.specs.Bearing.{earlier, bearer_among, pairs_among};
 
 use crate::message::NormalMessage;
 use crate::ordered::put_in_order;
@@ -166,4 +167,42 @@ fn bearer(
         }
         Err(_) => None,
     }
+}
+
+/// Both hashes of the bearer of a hash that may be there.
+fn wanted(
+    announced: &[Hash],
+    found: &[Option<NormalMessage>],
+    hash: Option<Hash>,
+) -> Option<HashPair>
+    requires { IsStrictlySortedBy hash_cmp announced.now }
+    ensures { (f : Hash → Option NormalMessage)
+        → found.now ≡ map f announced.now
+        → ((h : Hash) → hash ≡ Some h → Contains announced.now h)
+        → result ≡ option_and_then (λ h. option_map (λ m. m.pair) (f h)) hash }
+{
+    match hash {
+        Some(hash) => bearer(announced, found, &hash),
+        None => None,
+    }
+}
+
+/// For each hash that is there, both hashes of its bearer, from the places under each two hashes, which stand in order.
+pub(crate) fn bearers(
+    alloc: Global,
+    pairs: &BTreeMap<HashPair, Places>,
+    hashes: &[Option<Hash>],
+) -> Result<Vec<Option<HashPair>>, NoMemory>
+    ensures bearers { IfOk result (λ v. v.items ≡ pairs_among pairs.now.entries hashes.now) }
+    ensures ordered { IsOrdered pair_cmp pairs.now }
+{
+    let _count = pairs.len();
+    let announced = distinct(alloc, hashes)?;
+    let found = all_bearers(alloc, announced.as_slice(), pairs)?;
+    let mut wanted_pairs = Vec::with_capacity(alloc, hashes.len())?;
+    for hash in hashes {
+        let pair = wanted(announced.as_slice(), found.as_slice(), *hash);
+        wanted_pairs.push(pair)?;
+    }
+    Ok(wanted_pairs)
 }

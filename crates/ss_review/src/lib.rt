@@ -5,6 +5,7 @@
 mod accepting;
 mod assign;
 mod bearers;
+mod by_hash;
 mod entry;
 mod fault;
 mod group_report;
