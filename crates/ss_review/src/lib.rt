@@ -20,6 +20,7 @@ mod question;
 mod reading;
 mod report;
 mod reviewer;
+mod row;
 mod scan;
 mod session_report;
 mod span;
