@@ -13,6 +13,7 @@ mod joining;
 pub mod laws;
 mod message;
 mod message_number;
+mod ordered;
 mod pairs;
 mod places;
 mod plain;
