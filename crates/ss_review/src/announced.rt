@@ -1,11 +1,13 @@
 //! Which hashes the verified signature blocks announce, and for which message numbers.
 ghost use Rattle.std.specs.Prelude.{◌≡◌, ◌++◌, map, flat_map, IfOk, OnOk};
 ghost use Rattle.std.specs.List.{items_where_true};
+ghost use Rattle.std.specs.List.Sorted.{IsStrictlySortedBy};
 ghost use Rattle.ss_review.specs.declared.message.Said.TheVariants.{Hashes};
 ghost use Rattle.ss_review.specs.Verified.{Answers, is_verified};
-ghost use Rattle.ss_review.specs.Announced.{rows_said, rows};
-ghost use Rattle.ss_review.specs.Numbered.{row_of};
+ghost use Rattle.ss_review.specs.Announced.{row_cmp, rows_said, rows, keys};
+ghost use Rattle.ss_review.specs.Numbered.{key_of, row_of, only_hashes};
 
+use crate::by_number::{Announced, by_number};
 use crate::message::{BlockMessage, Said};
 use crate::message_number::MessageNumber;
 use crate::ordered::put_in_order;
@@ -75,11 +77,29 @@ fn rows<'a>(
     blocks: &'a [BlockMessage],
     verified: &[bool],
 ) -> Result<Vec<Row<'a>>, NoMemory>
-    ensures { (says : Answers)
+    ensures rise { IfOk result (λ v. IsStrictlySortedBy row_cmp (map row_of v.items)) }
+    ensures rows { (says : Answers)
         → verified.now ≡ map (is_verified says blocks.now) blocks.now
         → IfOk result (λ v. map row_of v.items ≡ rows says blocks.now) }
 {
     let mut rows = marked_rows(alloc, blocks, verified)?;
     put_in_order(&mut rows);
     Ok(rows)
+}
+
+/// The numbers that the verified blocks announce, in order, and the only hash of each.
+pub(crate) fn announced<'a>(
+    alloc: Global,
+    blocks: &'a [BlockMessage],
+    verified: &[bool],
+) -> Result<Announced<'a>, NoMemory>
+    ensures numbers { (says : Answers)
+        → verified.now ≡ map (is_verified says blocks.now) blocks.now
+        → IfOk result (λ a. map key_of a.numbers.items ≡ keys (rows says blocks.now)) }
+    ensures hashes { (says : Answers)
+        → verified.now ≡ map (is_verified says blocks.now) blocks.now
+        → IfOk result (λ a. a.hashes.items ≡ only_hashes (rows says blocks.now)) }
+{
+    let rows = rows(alloc, blocks, verified)?;
+    by_number(alloc, rows.as_slice())
 }

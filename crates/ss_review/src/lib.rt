@@ -5,6 +5,7 @@
 mod accepting;
 mod announced;
 mod assign;
+mod by_number;
 mod entry;
 mod fault;
 mod group_report;
