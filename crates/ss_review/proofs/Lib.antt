@@ -26,3 +26,5 @@ pub mod Listings
 pub mod EntriesRise
 pub mod Witnesses
 pub mod Leftovers
+pub mod RowsTold
+pub mod ByNumber

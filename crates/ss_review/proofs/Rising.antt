@@ -31,10 +31,14 @@ all_keys : {X K : Type 0} (key : X → K) (P : K → Type 0) (xs : List X) → A
 all_keys key P [] a = tt
 all_keys key P (x ∷ xs) a = (a.0, all_keys key P xs a.1)
 
-keys_rise : {X K : Type 0} (key : X → K) (R : K → K → Ordering) (xs : List X) → IsStrictlySortedBy (λ x y. R (key x) (key y)) xs → IsStrictlySortedBy R (map key xs)
+rise_by : {X K : Type 0} (key : X → K) (R : K → K → Ordering) (xs : List X) → IsStrictlySortedBy (λ x y. R (key x) (key y)) xs → IsStrictlySortedBy R (map key xs)
 unfolding IsStrictlySortedBy
-keys_rise key R [] up = tt
-keys_rise key R (x ∷ xs) up = (all_keys key (λ k. R (key x) k ≡ Less) xs up.0, keys_rise key R xs up.1)
+rise_by key R [] up = tt
+rise_by key R (x ∷ xs) up = (all_keys key (λ k. R (key x) k ≡ Less) xs up.0, rise_by key R xs up.1)
+
+-- the keys of a list that rises by them rise
+pub keys_rise : {X K : Type 0} (key : X → K) (R : K → K → Ordering) (Q : X → X → Ordering) → ((x y : X) → Q x y ≡ R (key x) (key y)) → (xs : List X) → IsStrictlySortedBy Q xs → IsStrictlySortedBy R (map key xs)
+keys_rise {X} key R Q by xs up = rise_by key R xs (subst (λ (S : X → X → Ordering). IsStrictlySortedBy S xs) (λ i x y. by x y i) up)
 
 module _ {K : Type 0} {R : K → K → Ordering} (o : IsTotalOrder R) (exact : CmpEqualImpliesEq R) where
   pub not_less_itself : (k : K) → R k k ≡ Less → ⊥
@@ -151,7 +155,7 @@ module _ {K : Type 0} {R : K → K → Ordering} (o : IsTotalOrder R) (exact : C
       → ((x : X) → Contains ys x → Contains xs x)
       → map key ys ≡ in_order R (map key xs)
   in_order_by {X} key Q by xs ys up keeps adds_none =
-      in_order_is (map key ys) (map key xs) (keys_rise key R ys (subst (λ (S : X → X → Ordering). IsStrictlySortedBy S ys) (λ i x y. by x y i) up)) there back
+      in_order_is (map key ys) (map key xs) (keys_rise key R Q by ys up) there back
     where
       there : (q : K) → Has (map key ys) q → Has (map key xs) q
       there q h =

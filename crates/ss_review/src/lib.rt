@@ -3,9 +3,11 @@
 #![tactic(auto)]
 
 mod accepting;
+mod announced;
 mod assign;
 mod bearers;
 mod by_hash;
+mod by_number;
 mod entry;
 mod fault;
 mod group_report;
@@ -23,6 +25,7 @@ mod question;
 mod reading;
 mod report;
 mod reviewer;
+mod row;
 mod scan;
 mod session_report;
 mod span;
