@@ -24,6 +24,7 @@ mod scan;
 mod session_report;
 mod span;
 mod spoilt;
+mod unlisted;
 mod verifier;
 
 pub use entry::{Entries, Entry, Why};
