@@ -23,4 +23,5 @@ pub mod Listings
 pub mod EntriesRise
 pub mod Witnesses
 pub mod Leftovers
+pub mod EntriesTold
 pub mod NotTaken

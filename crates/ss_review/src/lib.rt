@@ -4,6 +4,7 @@
 
 mod accepting;
 mod assign;
+mod entries;
 mod entry;
 mod fault;
 mod group_report;
@@ -13,6 +14,7 @@ mod joining;
 pub mod laws;
 mod message;
 mod message_number;
+mod numbered;
 mod pairs;
 mod places;
 mod plain;
