@@ -24,4 +24,6 @@ pub mod EntriesRise
 pub mod Witnesses
 pub mod Leftovers
 pub mod EntriesTold
+pub mod SessionRange
+pub mod GroupsTold
 pub mod NotTaken

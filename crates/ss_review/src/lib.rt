@@ -8,6 +8,7 @@ mod entries;
 mod entry;
 mod fault;
 mod group_report;
+mod grouping;
 mod index;
 mod joined_session;
 mod joining;
