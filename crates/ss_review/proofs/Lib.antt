@@ -28,3 +28,7 @@ pub mod Witnesses
 pub mod Leftovers
 pub mod RowsTold
 pub mod ByNumber
+pub mod EntriesTold
+pub mod SessionRange
+pub mod GroupsTold
+pub mod NotTaken

@@ -22,6 +22,7 @@ pub mod Laws
 pub mod Rows
 pub mod Assigning
 pub mod Numbered
+pub mod Grouped
 pub mod Stated
 pub mod Covering
 pub mod Keeping
