@@ -23,3 +23,4 @@ pub mod Listings
 pub mod EntriesRise
 pub mod Witnesses
 pub mod Leftovers
+pub mod PlacesTold

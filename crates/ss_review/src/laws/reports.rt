@@ -1,5 +1,6 @@
 //! What holds of the reports of all logs, and of some.
 ghost use Rattle.ss_review.specs.Laws.{
+  EveryPlaceIsTold,
   GapsAreUnassigned,
   ListedAreAssigned,
   ListedAreWitnessed,
@@ -12,7 +13,7 @@ ghost use Rattle.ss_review.specs.Laws.{
 };
 ghost use Rattle.ss_review.specs.Rows.{ReportsAreThese};
 
-use ss_block::laws::readings::blocks_are_in_range;
+use ss_block::laws::readings::{blocks_are_in_range, blocks_are_signed};
 
 /// Two logs with equal notes have equal reports.
 pub fn notes_suffice()
@@ -66,6 +67,13 @@ pub fn reports_list_what_is_announced()
     places_have_one_key();
     reports_are_in_order();
     gaps_are_unassigned();
+}
+
+/// Each place of a log is exactly one of listed, unlisted, a verified block, refused and spoilt, and no other place is any.
+pub fn every_place_is_told()
+    ensures { EveryPlaceIsTold }
+{
+    blocks_are_signed();
 }
 
 /// The reports of small logs, computed.
