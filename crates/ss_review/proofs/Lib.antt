@@ -24,3 +24,4 @@ pub mod EntriesRise
 pub mod Witnesses
 pub mod Leftovers
 pub mod PlacesTold
+pub mod Dues

@@ -1,5 +1,6 @@
 //! What holds of the reports of all logs, and of some.
 ghost use Rattle.ss_review.specs.Laws.{
+  AssignedWhereDue,
   EveryPlaceIsTold,
   GapsAreUnassigned,
   ListedAreAssigned,
@@ -75,6 +76,12 @@ pub fn every_place_is_told()
 {
     blocks_are_signed();
 }
+
+/// A key is assigned a place exactly where it isn't disputed, the message there has the hashes of the first message with the
+/// announced hash, and as many smaller keys want these hashes as messages with them stand before the place.
+pub fn assigned_where_due()
+    ensures { AssignedWhereDue }
+{}
 
 /// The reports of small logs, computed.
 pub fn reports_are_these()
