@@ -6,6 +6,7 @@ ghost use Rattle.ss_review.specs.Laws.{
   ListedAreAssigned,
   ListedAreWitnessed,
   NotesSuffice,
+  OneReport,
   PlacesHaveOneKey,
   ReportsListWhatIsAnnounced,
   ReportsAreInOrder,
@@ -81,6 +82,11 @@ pub fn every_place_is_told()
 /// announced hash, and as many smaller keys want these hashes as messages with them stand before the place.
 pub fn assigned_where_due()
     ensures { AssignedWhereDue }
+{}
+
+/// Every log has a report that says what there is, each once and in order, and nothing else; and it has no other.
+pub fn one_report()
+    ensures { OneReport }
 {}
 
 /// The reports of small logs, computed.
