@@ -25,6 +25,6 @@ pub mod Witnesses
 pub mod Leftovers
 pub mod PlacesTold
 pub mod Dues
-pub mod EntriesTold
+pub mod EntriesMeant
 pub mod SameReports
 pub mod OneReport

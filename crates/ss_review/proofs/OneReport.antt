@@ -18,7 +18,7 @@ use Rattle.ss_review.specs.Entries.{group_keys, entry_of, greatest_below, hole_b
 use Rattle.ss_review.specs.Report.{groups, group_report, session_report, report_of}
 use Rattle.ss_review.specs.Meaning.{IsReport}
 use Rattle.ss_review.proofs.EntriesRise.{all_map, in_order_report}
-use Rattle.ss_review.proofs.EntriesTold.{entry_told, entry_tells}
+use Rattle.ss_review.proofs.EntriesMeant.{entry_told, entry_tells}
 use Rattle.ss_review.proofs.Leftovers.{unlisted_are, refused_are}
 use Rattle.ss_review.proofs.Members.{Has, has_from_contains, contains_from_has, has-map, from_has-map, has-append_right, has-flat_map}
 use Rattle.ss_review.proofs.Rising.{all_below, has-in_order, from_has-in_order}
