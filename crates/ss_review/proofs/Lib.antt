@@ -32,3 +32,8 @@ pub mod EntriesTold
 pub mod SessionRange
 pub mod GroupsTold
 pub mod NotTaken
+pub mod PlacesTold
+pub mod Dues
+pub mod EntriesMeant
+pub mod SameReports
+pub mod OneReport
