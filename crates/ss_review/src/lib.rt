@@ -21,6 +21,7 @@ mod reading;
 mod report;
 mod reviewer;
 mod scan;
+mod sectioning;
 mod session_report;
 mod span;
 mod spoilt;
