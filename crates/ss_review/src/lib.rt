@@ -23,6 +23,7 @@ mod reviewer;
 mod scan;
 mod sectioning;
 mod session_report;
+mod session_states;
 mod span;
 mod spoilt;
 mod verifier;
