@@ -8,6 +8,7 @@ pub mod Stating
 pub mod Ends
 pub mod Keeping
 pub mod Bounds
+pub mod TextsTold
 pub mod Searching
 pub mod Bearings
 pub mod Sections

@@ -1,6 +1,5 @@
 //! The bearers of announced hashes: for each hash, the first message that has it.
-ghost use Rattle.std.specs.Prelude.{◌≡◌, ℕ, ◌++◌, ◌∷◌, [], List, map, Option, Some, Contains, IfOk, OnOk, option_map, option_and_then, if◌then◌else◌};
-ghost use Rattle.std.specs.List.{cons_option};
+ghost use Rattle.std.specs.Prelude.{◌≡◌, ℕ, ◌++◌, ◌∷◌, [], List, map, Option, Some, Contains, IfOk, option_map, option_and_then, if◌then◌else◌};
 ghost use Rattle.std.specs.List.Sorted.{IsStrictlySortedBy};
 ghost use Rattle.std.specs.Ordering.{is_eq};
 ghost use Rattle.ss_block.specs.declared.hash.Hash.{Hash};
@@ -13,6 +12,7 @@ ghost use Rattle.ss_review.specs.Bearing.{earlier, bearer_among, pairs_among};
 use crate::message::NormalMessage;
 use crate::ordered::put_in_order;
 use crate::places::Places;
+use crate::pushing::push_some;
 use ss_block::laws::orders::hashes_rise_by_algorithm;
 use ss_block::{Hash, HashPair};
 use ss_message::NoMemory;
@@ -105,19 +105,6 @@ fn nothing_found(
         found.push(None)?;
     }
     Ok(found)
-}
-
-/// Adds a hash that may be there.
-fn push_some(announced: &mut Vec<Hash>, hash: Option<Hash>) -> Result<(), NoMemory>
-    ensures { OnOk result (announced.new.items ≡ announced.old.items ++ cons_option hash []) }
-{
-    match hash {
-        Some(hash) => {
-            announced.push(hash)?;
-            Ok(())
-        }
-        None => Ok(()),
-    }
 }
 
 /// The announced hashes, each once, in their order.
