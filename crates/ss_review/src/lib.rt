@@ -26,6 +26,7 @@ mod session_report;
 mod session_states;
 mod span;
 mod spoilt;
+mod verified;
 mod verifier;
 
 pub use entry::{Entries, Entry, Why};
