@@ -36,6 +36,7 @@ mod session_states;
 mod span;
 mod spoilt;
 mod unlisted;
+mod verified;
 mod verifier;
 
 pub use entry::{Entries, Entry, Why};
