@@ -15,6 +15,11 @@ use Rattle.ss_block.specs.OrderLaws.{session_cmp_total, session_cmp_exact}
 use Rattle.ss_review.specs.declared.message.BlockMessage.{BlockMessage}
 use Rattle.ss_review.specs.Ordered.{in_order}
 use Rattle.ss_review.specs.Sessions.{same_session, sessions, of_session}
+use Rattle.std.specs.List.{flat_map}
+use Rattle.std.proofs.lemmas.List.Folds.{flat_map-map}
+use Rattle.ss_review.specs.declared.question.Question.{Question}
+use Rattle.ss_review.specs.Payloads.{certificates, stated_payload}
+use Rattle.ss_review.specs.Questions.{asked, questions}
 use Rattle.ss_review.specs.Verified.{Answers, joined}
 use Rattle.ss_review.specs.Numbered.{sessions_joined}
 use Rattle.ss_review.specs.declared.session_report.SessionState.{SessionState}
@@ -146,6 +151,18 @@ section_joined says section = (section.0, joined says section.1)
 
 pub sections_joined : (says : Answers) (bs : List BlockMessage) → map (section_joined says) (sections bs) ≡ sessions_joined says bs
 sections_joined says bs = map-map (section_joined says) (λ s. (s, of_session bs s)) (sessions bs)
+
+abbrev pub section_asked : Session × List BlockMessage → List Question
+section_asked section = asked section.1 (stated_payload (certificates section.1))
+
+pub questions_asked : (bs : List BlockMessage) → flat_map section_asked (sections bs) ≡ questions bs
+unfolding questions
+questions_asked bs = flat_map-map section_asked (λ s. (s, of_session bs s)) (sessions bs)
+
+-- one of the blocks
+pub some_of : (bs : List (Bor BlockMessage)) (start : ℕ) → start < length bs → Bor BlockMessage
+some_of [] start below = absurd (omega (arith, below))
+some_of (b ∷ bs) start below = b
 
 pub no_sections : (bs : List (Bor BlockMessage)) (start : ℕ) → length bs ≤ start → sections (referred (drop start bs)) ≡ []
 unfolding in_order

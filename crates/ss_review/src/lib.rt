@@ -3,6 +3,7 @@
 #![tactic(auto)]
 
 mod accepting;
+mod asking;
 mod assign;
 mod entry;
 mod fault;
