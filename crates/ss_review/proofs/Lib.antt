@@ -9,6 +9,7 @@ pub mod Ends
 pub mod Keeping
 pub mod Sections
 pub mod BySession
+pub mod SectionsTold
 pub mod Verifying
 pub mod Announcements
 pub mod Covering

@@ -2,7 +2,7 @@ use Rattle.std.proofs.Common.{◌++◌, drop, sym, ap, ◌∙◌}
 use Rattle.std.specs.Prelude.{flat_map}
 use Rattle.std.proofs.lemmas.List.{append-nil, append_assoc}
 use Rattle.ss_review.specs.Sectioned.{sections, referred}
-use Rattle.ss_review.proofs.BySession.{section_asked, questions_asked, some_of, no_sections}
+use Rattle.ss_review.proofs.SectionsTold.{section_asked, questions_asked, some_of, no_sections}
 use Rattle.ss_review.proofs.asking.asked_in_turn.Goals as goal
 
 pub loop-start-init : goal.loop-start-init

@@ -3,7 +3,7 @@ use Rattle.std.proofs.Common.{◌≡◌, ◌++◌, ◌-◌, length, drop}
 use Rattle.std.specs.Prelude.{flat_map}
 use Rattle.ss_review.specs.Questions.{questions}
 use Rattle.ss_review.specs.Sectioned.{sections, referred}
-use Rattle.ss_review.proofs.BySession.{section_asked}
+use Rattle.ss_review.proofs.SectionsTold.{section_asked}
 use Rattle.ss_review.proofs.asking.asked_in_turn.Given as goal
 
 abbrev pub invariant-loop-start : goal.invariant-loop-start

@@ -2,7 +2,7 @@ use Rattle.std.proofs.Common.{sym, ap, ◌∙◌}
 use Rattle.std.specs.Prelude.{flat_map}
 use Rattle.ss_review.specs.Questions.{questions}
 use Rattle.ss_review.specs.Sectioned.{referred}
-use Rattle.ss_review.proofs.BySession.{section_asked, questions_asked}
+use Rattle.ss_review.proofs.SectionsTold.{section_asked, questions_asked}
 use Rattle.ss_review.proofs.asking.questions.Goals as goal
 
 pub returns : goal.returns
