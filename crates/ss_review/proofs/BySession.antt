@@ -6,20 +6,14 @@ use Rattle.std.specs.Ordering.{is_eq, is_lt, is_gt, ordering_reverse}
 use Rattle.std.specs.List.{AllByRecursion, take-map}
 use Rattle.std.specs.List.Sorted.{IsSortedByKey, IsStableBy, IsPermutation, ties}
 use Rattle.std.proofs.lemmas.Cmp.{tied_itself}
-use Rattle.std.proofs.lemmas.List.{at_drop_all, get_or_default, append_assoc, map-append, drop_more, drop-drop, drop-map}
+use Rattle.std.proofs.lemmas.List.{get_or_default, drop_more, drop-drop, drop-map}
 use Rattle.std.proofs.lemmas.List.Sorted.{sorted_far, ranks_by, Contains-permutation, IsPermutation-sym, IsPermutation-map}
 use Rattle.std.proofs.Math.Seq.{take-append_seam, drop-append_seam}
 use Rattle.ss_block.specs.declared.session.Session.{Session}
 use Rattle.ss_block.specs.Order.{session_cmp}
 use Rattle.ss_block.specs.OrderLaws.{session_cmp_total, session_cmp_exact}
 use Rattle.ss_review.specs.declared.message.BlockMessage.{BlockMessage}
-use Rattle.ss_review.specs.Ordered.{in_order}
 use Rattle.ss_review.specs.Sessions.{same_session, sessions, of_session}
-use Rattle.ss_review.specs.Verified.{Answers, joined}
-use Rattle.ss_review.specs.Numbered.{sessions_joined}
-use Rattle.ss_review.specs.declared.session_report.SessionState.{SessionState}
-use Rattle.std.specs.Prelude.{Result}
-use Rattle.std.proofs.lemmas.Simd.{map-map}
 use Rattle.ss_review.specs.Sectioned.{sections, referred, front, SessionsRise, EndsSection}
 use Rattle.ss_review.proofs.Members.{Has, has_from_contains, contains_from_has, from_has-map}
 use Rattle.ss_review.proofs.Rising.{in_order_same, from_has-in_order}
@@ -138,26 +132,6 @@ ends_section bs start count d up below long within =
           ∙ section_of x rest count (subst (λ ys. SessionsRise (referred ys)) here (sessions_rise-drop start bs up)) count_is
           ∙ (λ i. ((get_or_default bs start d e below i).now.session, referred (take (sym ends i) (sym here i))) ∷ sections (referred ((ap (drop count) (sym here) ∙ drop-drop count start bs) i)));
     }
-
--- ---- what is made of each section
-
-abbrev pub section_joined : Answers → Session × List BlockMessage → Session × Result (List ℕ) SessionState
-section_joined says section = (section.0, joined says section.1)
-
-pub sections_joined : (says : Answers) (bs : List BlockMessage) → map (section_joined says) (sections bs) ≡ sessions_joined says bs
-sections_joined says bs = map-map (section_joined says) (λ s. (s, of_session bs s)) (sessions bs)
-
-pub no_sections : (bs : List (Bor BlockMessage)) (start : ℕ) → length bs ≤ start → sections (referred (drop start bs)) ≡ []
-unfolding in_order
-no_sections bs start over = at_drop_all (λ xs. sections (referred xs)) bs start over
-
--- one of those that are left more
-pub one_more : {S X Y : Type 0} (f : X → Y) (h : S → Y) (done : List X) (x : X) (s : S) (left later : List S) → left ≡ s ∷ later → f x ≡ h s → map f (done ++ x ∷ []) ++ map h later ≡ map f done ++ map h left
-one_more f h done x s left later e told =
-    ap (λ ys. ys ++ map h later) (map-append f done (x ∷ []))
-    ∙ append_assoc (map f done) (f x ∷ []) (map h later)
-    ∙ (λ i. map f done ++ told i ∷ map h later)
-    ∙ ap (λ ss. map f done ++ map h ss) (sym e)
 
 -- ---- a stable sort keeps the sections
 

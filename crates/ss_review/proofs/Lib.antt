@@ -13,6 +13,7 @@ pub mod Searching
 pub mod Bearings
 pub mod Sections
 pub mod BySession
+pub mod SectionsTold
 pub mod Verifying
 pub mod Announcements
 pub mod Covering

@@ -4,6 +4,7 @@
 
 mod accepting;
 mod announced;
+mod asking;
 mod assign;
 mod bearers;
 mod by_hash;

@@ -3,7 +3,7 @@ use Rattle.std.proofs.lemmas.List.{append-nil}
 use Rattle.ss_review.specs.Sectioned.{sections, referred}
 use Rattle.ss_review.specs.Verified.{answers}
 use Rattle.ss_review.specs.Numbered.{session_with_joined}
-use Rattle.ss_review.proofs.BySession.{section_joined, sections_joined, one_more, no_sections}
+use Rattle.ss_review.proofs.SectionsTold.{section_joined, sections_joined, one_more, no_sections}
 use Rattle.ss_review.proofs.session_states.joined_sections.Goals as goal
 
 pub loop-start-init : goal.loop-start-init

@@ -3,7 +3,7 @@ use Rattle.std.proofs.Common.{◌≡◌, ◌++◌, ◌-◌, length, drop, map}
 use Rattle.ss_review.specs.Sectioned.{sections, referred}
 use Rattle.ss_review.specs.Verified.{answers}
 use Rattle.ss_review.specs.Numbered.{session_with_joined, sessions_joined}
-use Rattle.ss_review.proofs.BySession.{section_joined}
+use Rattle.ss_review.proofs.SectionsTold.{section_joined}
 use Rattle.ss_review.proofs.session_states.joined_sections.Given as goal
 
 abbrev pub invariant-loop-start : goal.invariant-loop-start

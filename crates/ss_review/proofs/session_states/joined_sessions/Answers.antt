@@ -3,7 +3,7 @@ use Rattle.std.specs.Prelude.{IfOk}
 use Rattle.ss_review.specs.Sectioned.{referred}
 use Rattle.ss_review.specs.Verified.{answers}
 use Rattle.ss_review.specs.Numbered.{session_with_joined, sessions_joined}
-use Rattle.ss_review.proofs.BySession.{section_joined, sections_joined}
+use Rattle.ss_review.proofs.SectionsTold.{section_joined, sections_joined}
 use Rattle.ss_review.proofs.session_states.joined_sessions.Goals as goal
 
 pub returns : goal.returns
