@@ -48,6 +48,7 @@ pub use group_report::{GroupReport, GroupReports};
 pub use places::Places;
 pub use question::{Question, Questions};
 pub use report::Report;
+pub use reviewer::Reviewer;
 pub use session_report::{SessionReport, SessionReports, SessionState};
 pub use spoilt::{SpoiltPlace, SpoiltPlaces};
 pub use verifier::{Judge, Verifier};
