@@ -37,6 +37,11 @@ PAYLOADS = [b"2009-05-03T14:00:39Z K S0VZ", b"- N", b"- N ", b"- U AA==", b"2000
 NO_PAYLOADS = [b"x", b"- n", b"- N  ", b"- K", b"- K ", b"- K S0V", b"2009-05-03T24:00:00Z N", b" N", b"- X AAAA", b"- N AAAA", b"-  N"]
 SIGNS = [b"AAAA", b"AAAA", b"AA==", b"AQ==", b"/+8="]
 LAST = 9999999999
+ONE, LONG = base64.b64encode(bytes(20)), base64.b64encode(bytes(32))
+WRONG_NUMBERS = {
+    b"RSID": [b"10000000000", b"", b"01"], b"SG": [b"4", b"00", b"-1"], b"SPRI": [b"192", b" 1"], b"GBC": [b"10000000000", b"x"],
+    b"FMN": [b"0", b"10000000000", b"01"], b"CNT": [b"0", b"100", b"02", b"\xd9\xa2"], b"TPBL": [b"0", b"100000000", b"+3"],
+    b"INDEX": [b"0", b"100000000"], b"FLEN": [b"0", b"10000", b"3 "]}
 
 
 def escaped(octets):
@@ -154,46 +159,52 @@ class Maker:
     # ---- what is no block
 
     def spoilt(self, session, texts):
-        """A block of which something was changed, most often so that it is none."""
+        """A block of which something was changed, or two things, most often so that it is none."""
         chance = self.chance
-        text = self.signature(session, chance.choice(GROUPS), 1, [chance.choice(texts), chance.choice(texts)]).text
-        whole = self.certificate(session, 3, 1, b"- N").text
-        one = base64.b64encode(bytes(20))
-        long = base64.b64encode(bytes(32))
-        cause = chance.randint(1, 9)
-        if cause == 1:
-            end = whole.index(b"[ssign-cert ")
-            return whole[:end] + b"[ssign]" + whole[end:]
-        if cause == 2:
-            changed = chance.choice([text.replace(b" GBC=", b" gbc="), text.replace(b" CNT=", b' CNT="2" CNT='), whole.replace(b" TPBL=", b" LBPT="),
-                                     text.replace(b' SIGN="', b' a="" SIGN="', 1), text.replace(b"[ssign ", b"[ssign-cert "),
-                                     whole.replace(b' FLEN="3"', b"")])
-        elif cause == 3:
-            changed = chance.choice([text, whole]).replace(b'VER="01', chance.choice([b'VER="02', b'VER="1', b'VER="', b'VER="001']))
-        elif cause == 4:
-            name, values = chance.choice([
-                (b"RSID", [b"10000000000", b"", b"01"]), (b"SG", [b"4", b"00", b"-1"]), (b"SPRI", [b"192", b" 1"]),
-                (b"GBC", [b"10000000000", b"x"]), (b"FMN", [b"0", b"10000000000", b"01"]), (b"CNT", [b"0", b"100", b"02", b"\xd9\xa2"]),
-                (b"TPBL", [b"0", b"100000000", b"+3"]), (b"INDEX", [b"0", b"100000000"]), (b"FLEN", [b"0", b"10000", b"3 "])])
-            front, _, back = (text if b" %s=" % name in text else whole).partition(b' %s="' % name)
-            changed = front + b' %s="' % name + chance.choice(values) + back[back.index(b'"'):]
-        elif cause == 5:
-            changed = text.replace(b'CNT="2"', chance.choice([b'CNT="1"', b'CNT="3"', b'CNT="99"']))
-        elif cause == 6:
-            front, _, back = text.partition(b' HB="')
-            pieces = chance.choice([one + b" " + long, one[:-1] + b" " + one, one[:-2] + b"B= " + one, b"AAAA " + one, b" " + one, one + b" ",
-                                    long + b" " + one, b"AA " + long])
-            changed = front + b' HB="' + pieces + back[back.index(b'"'):]
-        elif cause == 7:
-            front, _, back = chance.choice([text, whole]).rpartition(b' SIGN="')
-            sign = chance.choice([b"", b"AAA", b"AAAA ", b"AB==", b"A===", b"AAAA====", b"_-==", b"AA==AAAA"])
-            changed = front + b' SIGN="' + sign + back[back.index(b'"'):]
-        elif cause == 8:
-            changed = chance.choice([whole.replace(b'INDEX="1"', b'INDEX="2"'), whole.replace(b'FLEN="3"', b'FLEN="2"'),
-                                     whole.replace(b'FRAG="- N"', b'FRAG=""'), whole.replace(b'TPBL="3"', b'TPBL="2"')])
+        if chance.random() < 0.6:
+            text = self.signature(session, chance.choice(GROUPS), 1, [chance.choice(texts), chance.choice(texts)]).text
+            causes = [1, 2, 3, 4, 5, 6, 7, 9]
         else:
-            changed = text.replace(b'FMN="1"', b'FMN="9999999999"')
-        return changed
+            text = self.certificate(session, 3, 1, b"- N").text
+            causes = [1, 2, 3, 4, 7, 8]
+        for cause in chance.sample(causes, chance.choice([1, 1, 2])):
+            text = self.spoil(text, cause)
+        return text
+
+    def spoil(self, text, cause):
+        chance = self.chance
+        start = max(text.find(b"[ssign "), text.find(b"[ssign-cert "))
+        front, block = text[:start], text[start:]
+        if cause == 1:
+            return front + (b"[ssign-cert]" if block.startswith(b"[ssign ") else b"[ssign]") + block
+        if cause == 2:
+            return front + chance.choice([
+                block.replace(b" RSID=", b" rsid=", 1), block.replace(b" SG=", b' SG="0" SG=', 1), block.replace(b" SPRI=", b" SIGN=", 1),
+                block.replace(b' SIGN="', b' a="" SIGN="', 1), block.replace(b" CNT=", b" TNC=", 1), block.replace(b' FLEN="3"', b"", 1),
+                block.replace(b"[ssign ", b"[ssign-cert ", 1)])
+        if cause == 3:
+            return front + self.put(block, b"VER", [b"0211", b"111", b"", b"00111", b"0112", b"0131"])
+        if cause == 4:
+            names = [name for name in WRONG_NUMBERS if b" %s=" % name in block]
+            name = chance.choice(names or [b"RSID"])
+            return front + self.put(block, name, WRONG_NUMBERS[name])
+        if cause == 5:
+            return front + self.put(block, b"CNT", [b"1", b"3", b"99"])
+        if cause == 6:
+            return front + self.put(block, b"HB", [
+                ONE + b" " + LONG, ONE[:-1] + b" " + ONE, ONE[:-2] + b"B= " + ONE, b"AAAA " + ONE, b" " + ONE, ONE + b" ", LONG + b" " + ONE,
+                b"AA " + LONG, b""])
+        if cause == 7:
+            return front + self.put(block, b"SIGN", [b"", b"AAA", b"AAAA ", b"AB==", b"A===", b"AAAA====", b"_-==", b"AA==AAAA"])
+        if cause == 8:
+            name, values = chance.choice([(b"INDEX", [b"2", b"99999999"]), (b"FLEN", [b"2", b"4"]), (b"FRAG", [b"", b"- "]), (b"TPBL", [b"2"])])
+            return front + self.put(block, name, values)
+        return front + self.put(block, b"FMN", [b"9999999999"])
+
+    def put(self, block, name, values):
+        """The element with another value of a parameter, if it has that."""
+        before, mark, behind = block.partition(b' %s="' % name)
+        return before + mark + self.chance.choice(values) + behind[behind.index(b'"'):] if mark else block
 
     def unread(self, text):
         """A block message that is no message of RFC 5424 any more, or still is."""
