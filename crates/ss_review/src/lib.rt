@@ -36,6 +36,7 @@ mod scan;
 mod sectioning;
 mod session_report;
 mod session_states;
+mod sorted;
 mod span;
 mod spoilt;
 mod unlisted;
