@@ -24,7 +24,7 @@ mod ordered;
 mod numbered;
 mod pairs;
 mod places;
-mod plain;
+pub mod plain;
 mod pushing;
 mod question;
 mod reading;
