@@ -40,3 +40,4 @@ pub mod Dues
 pub mod EntriesMeant
 pub mod SameReports
 pub mod OneReport
+pub mod Sorting

@@ -13,8 +13,8 @@ use std::alloc::Global;
 /// are messages.
 #[derive(Clone, Copy)]
 pub(crate) struct Scan<'a> {
-    messages: &'a [NormalMessage],
-    places: &'a [u32],
+    pub(crate) messages: &'a [NormalMessage],
+    pub(crate) places: &'a [u32],
 }
 
 /// Whether one of the two hashes is this one.
