@@ -13,3 +13,5 @@ mod full_readings;
 mod inspections;
 #[cfg(test)]
 mod messages;
+#[cfg(test)]
+mod reviews;
