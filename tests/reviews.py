@@ -16,7 +16,7 @@ from review_logs import make
 from review_model import Block, Log, questions, reading, review
 
 # what the program heads the words of a reviewer with
-REVIEWERS = {"pairs": "Reviewer"}
+REVIEWERS = {"pairs": "Reviewer", "whole": "plain::Reviewer"}
 LOGS = 10_000
 AT_ONCE = 2_500
 # how many differences are made small and shown

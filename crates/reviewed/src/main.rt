@@ -7,8 +7,8 @@
 //!   and octets stay for the next signature.
 //! - `.`: the end of a log; the next frame begins another one.
 //!
-//! For each log a line `pairs` and what `Reviewer` says: the report and the questions. Octets are hexadecimal, and an absent
-//! field is `-`.
+//! For each log a line `pairs` and what `Reviewer` says, and a line `whole` and what `plain::Reviewer` says: the report and
+//! the questions. Octets are hexadecimal, and an absent field is `-`.
 #![tactic(auto)]
 
 mod answers;
@@ -18,7 +18,7 @@ mod told;
 
 use case::Case;
 use frames::split_frame;
-use ss_review::{Questions, Report, ReviewFault, Reviewer};
+use ss_review::{Questions, Report, ReviewFault, Reviewer, plain};
 use std::io;
 use std::io::Read;
 use told::{print_questions, print_report};
@@ -31,6 +31,14 @@ type Said = Result<(Report, Questions), ReviewFault>;
 
 fn said_of_pairs<R: AllocGlobal>(rt: &R, case: &Case<'_>) -> Said {
     let mut reviewer = Reviewer::new(rt.alloc(), MAX_MESSAGES);
+    for message in case.messages.as_slice() {
+        reviewer.feed(message)?;
+    }
+    Ok((reviewer.finish(&case.answers)?, reviewer.questions()?))
+}
+
+fn said_of_whole<R: AllocGlobal>(rt: &R, case: &Case<'_>) -> Said {
+    let mut reviewer = plain::Reviewer::new(rt.alloc(), MAX_MESSAGES);
     for message in case.messages.as_slice() {
         reviewer.feed(message)?;
     }
@@ -53,7 +61,9 @@ fn print_said<R: Print + AllocGlobal>(rt: &R, said: &Said) -> io::Result<()> {
 /// Reviews a log.
 fn review<R: Print + AllocGlobal>(rt: &R, case: &Case<'_>) -> io::Result<()> {
     println!(rt; "pairs")?;
-    print_said(rt, &said_of_pairs(rt, case))
+    print_said(rt, &said_of_pairs(rt, case))?;
+    println!(rt; "whole")?;
+    print_said(rt, &said_of_whole(rt, case))
 }
 
 /// Reviews each log of the input.
