@@ -197,8 +197,7 @@ module _ (places : List ℕ) (pairs : tree.BTreeMap HashPair (List ℕ)) (ms : L
   from_candidate c i =
       let w : (e : HashPair × List ℕ) × Has pairs.entries e × (candidate h e ≡ Some c) = from_has-filter_map (candidate h) pairs.entries c i in
       let t = candidate_at h w.0.0 w.0.1 c (has_hash h w.0.0) refl w.2 in
-      let told : w.0.1 ≡ places_with ms w.0.0 = sym (ap places_in (got w.0 w.1)) ∙ k.pairs_are w.0.0 in
-      (
+      let told : w.0.1 ≡ places_with ms w.0.0 = sym (ap places_in (got w.0 w.1)) ∙ k.pairs_are w.0.0 in (
         subst (Has ms) (sym (message_is c c.place w.0.0 refl t.1)) (placed_with ms w.0.0 c.place (subst (λ ns. Has ns c.place) told t.2)),
         ap (has_hash h) t.1 ∙ t.0,
       )

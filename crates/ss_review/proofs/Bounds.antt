@@ -98,8 +98,12 @@ octets_from : (i : ℕ) (ns : List Note)
 octets_from i [] = refl
 octets_from i (Normal pair ∷ ns) = omega (arith, octets_from (i + 1) ns, sum_by-cons note_octets (Normal pair) ns)
 octets_from i (Block text ∷ ns) =
-    omega (arith, octets_from (i + 1) ns, sum_by-cons note_octets (Block text) ns,
-    sum_by-cons (λ (t : ℕ × List ℕ). length t.1) (i, text) (filter_map (λ (n : ℕ × Note). text_at n.0 n.1) (enumerate_from (i + 1) ns)))
+    omega (
+      arith,
+      octets_from (i + 1) ns,
+      sum_by-cons note_octets (Block text) ns,
+      sum_by-cons (λ (t : ℕ × List ℕ). length t.1) (i, text) (filter_map (λ (n : ℕ × Note). text_at n.0 n.1) (enumerate_from (i + 1) ns)),
+    )
 octets_from i (Spoilt cause ∷ ns) = omega (arith, octets_from (i + 1) ns, sum_by-cons note_octets (Spoilt cause) ns)
 
 pub octets_are : (ns : List Note) → octets_noted ns ≡ 52 * length (normals ns) + sum_by (λ (t : ℕ × List ℕ). length t.1) (texts ns)

@@ -94,10 +94,7 @@ fn all_bearers(
 }
 
 /// No message for each announced hash.
-fn nothing_found(
-    alloc: Global,
-    announced: &[Hash],
-) -> Result<Vec<Option<NormalMessage>>, NoMemory>
+fn nothing_found(alloc: Global, announced: &[Hash]) -> Result<Vec<Option<NormalMessage>>, NoMemory>
     ensures { IfOk result (λ v. v.items ≡ map (bearer_among []) announced.now) }
 {
     let mut found = Vec::with_capacity(alloc, announced.len())?;
@@ -132,11 +129,7 @@ fn pair_in(message: Option<NormalMessage>) -> Option<HashPair>
 }
 
 /// Both hashes of the message that was found for an announced hash.
-fn bearer(
-    announced: &[Hash],
-    found: &[Option<NormalMessage>],
-    hash: &Hash,
-) -> Option<HashPair>
+fn bearer(announced: &[Hash], found: &[Option<NormalMessage>], hash: &Hash) -> Option<HashPair>
     requires { IsStrictlySortedBy hash_cmp announced.now }
     ensures { (f : Hash → Option NormalMessage)
         → found.now ≡ map f announced.now

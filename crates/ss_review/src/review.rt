@@ -43,7 +43,13 @@ pub(crate) fn review<J: Judge, I: Index>(
     let places = assign(alloc, index, hashes)?;
     let numbers = announced.numbers.as_slice();
     Ok(Report {
-        sessions: session_reports(alloc, sessions.as_slice(), numbers, hashes, places.as_slice())?,
+        sessions: session_reports(
+            alloc,
+            sessions.as_slice(),
+            numbers,
+            hashes,
+            places.as_slice(),
+        )?,
         unlisted: unlisted(alloc, index.places(), places.as_slice())?,
         refused: refused(alloc, blocks, verified.as_slice())?,
         spoilt: SpoiltPlaces::from_vec(Vec::from_slice(alloc, spoilt)?),

@@ -17,8 +17,8 @@ loop-hash-preserved c =
     = c.as_slice-in-loop-hash-2.ensures.value ∙ c.in_ok-found.ensures ∙ ap (map (bearer_among es)) (c.as_slice.ensures.value ∙ sym c.as_slice-in-loop-hash.ensures.value) in
     let here : (h : Hash) → get_or hs i None ≡ Some h → Contains c.as_slice-in-loop-hash.result.now h
     = λ h e.
-        subst (λ xs. Contains xs h) (sym c.as_slice-in-loop-hash.ensures.value)
-        (c.in_ok-announced.ensures.all h (contains_from_has hs (Some h) (subst (Has hs) e (has_at hs i None c.loop-hash-test.true)))) in
+    subst (λ xs. Contains xs h) (sym c.as_slice-in-loop-hash.ensures.value)
+    (c.in_ok-announced.ensures.all h (contains_from_has hs (Some h) (subst (Has hs) e (has_at hs i None c.loop-hash-test.true)))) in
     c.in_ok-push.ensures.items
     ∙ ap (λ p. c.loop-hash.wanted_pairs.items ++ p ∷ []) (c.wanted-pair.ensures (bearer_among es) found here)
     ∙ ap (λ ps. ps ++ option_and_then (λ g. option_map (λ (m : NormalMessage). m.pair) (bearer_among es g)) (get_or hs i None) ∷ []) c.loop-hash.invariant

@@ -26,8 +26,8 @@ pub returns-clause-all : goal.returns-clause-all
 returns-clause-all c = λ h here.
     let all = c.loop-hash.announced.items in
     let member : Contains all h = contains_from_has all h
-        (subst (λ xs. Has xs h) (sym (c.loop-hash.invariant ∙ ap (filter_map (λ g. g)) (take_all c.loop-hash.hash-index c.args.hashes.now c.loop-hash-test.false)))
-        (has-filter_map (λ g. g) c.args.hashes.now (Some h) h (has_from_contains c.args.hashes.now (Some h) here) refl)) in
+    (subst (λ xs. Has xs h) (sym (c.loop-hash.invariant ∙ ap (filter_map (λ g. g)) (take_all c.loop-hash.hash-index c.args.hashes.now c.loop-hash-test.false)))
+    (has-filter_map (λ g. g) c.args.hashes.now (Some h) h (has_from_contains c.args.hashes.now (Some h) here) refl)) in
     let w = c.put_in_order.ensures.keeps h member in
     let same : w.1 ≡ h = sym (hash_cmp_exact h w.1 (sym (c.hashes_rise_by_algorithm.ensures h w.1) ∙ w.4)) in
     (w.0, w.2, subst (λ x. get_or c.put_in_order.new.items.items w.0 x ≡ x) same w.3)
