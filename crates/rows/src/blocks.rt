@@ -1,11 +1,12 @@
 //! Blocks (RFC 5848, sections 4 and 5): what a message is read as, what is signed of it, payloads, and fragments joined.
 mod causes;
-mod elements;
+pub mod elements;
 mod fields;
 mod joining;
 mod orders;
 mod payloads;
 mod readings;
+mod room;
 mod signing;
 mod values;
 mod writing;

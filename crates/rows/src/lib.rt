@@ -8,6 +8,10 @@ mod devices;
 #[cfg(test)]
 mod frames;
 #[cfg(test)]
+mod full_readings;
+#[cfg(test)]
 mod inspections;
 #[cfg(test)]
 mod messages;
+#[cfg(test)]
+mod reviews;

@@ -12,7 +12,7 @@ use Rattle.ss_block.specs.declared.spoil.Spoil.TheVariants as spoils
 use Rattle.ss_block.specs.declared.reading.Reading.TheVariants.{Signature, Certificate}
 use Rattle.ss_block.specs.Block as block
 use Rattle.ss_block.specs.SignPlace.{block_id}
-use Rattle.ss_block.specs.Reading.{has_names, signature_names, certificate_names, first_cause, signature_texts, signature_causes, signature_block, certificate_texts, certificate_causes, certificate_block, unless_spoilt, signature_reading, certificate_reading, element_with, reading_with, value_reading}
+use Rattle.ss_block.specs.Reading.{has_parameters, signature_names, certificate_names, first_cause, signature_texts, signature_causes, signature_block, certificate_texts, certificate_causes, certificate_block, unless_spoilt, signature_reading, certificate_reading, element_with, reading_with, value_reading}
 use Rattle.ss_block.specs.Signed.{unsigned_element}
 
 -- ---- the element with an SD-ID
@@ -123,7 +123,7 @@ abbrev with_id : List ℕ → List ParameterValue → ElementValue
 with_id id ps = record { id = id; parameters = ps }
 
 block_made : (es : List ElementValue) (id other : List ℕ) (names : List (List ℕ)) (e : ElementValue) → are_new [] es ≡ true → element_with id es ≡ Some e → element_with other es ≡ None
-    → has_names (names ++ codes "SIGN" ∷ []) e ≡ true → length names ≡ 8
+    → has_parameters (names ++ codes "SIGN" ∷ []) e ≡ true → length names ≡ 8
     → ((xs : List ElementValue) → element_with id xs ≡ None → element_with other xs ≡ None → map unsigned_element xs ≡ xs)
     → ((ps : List ParameterValue) → unsigned_element (with_id id ps) ≡ with_id id (take 8 ps))
     → BlockElement es id
@@ -153,18 +153,18 @@ block_made es id other names e new has lacks named eight same cut =
           ∙ ap (λ (xs : List ElementValue). s.before ++ with_id id n.front ∷ xs) (same s.after behind others.1);
     }
 
-signature_named : (e : ElementValue) (id : List ℕ) → block_id (signature_reading e) ≡ Some id → (has_names signature_names e ≡ true) × (id ≡ codes "ssign")
+signature_named : (e : ElementValue) (id : List ℕ) → block_id (signature_reading e) ≡ Some id → (has_parameters signature_names e ≡ true) × (id ≡ codes "ssign")
 unfolding signature_reading
-signature_named e id h = by_causes id (has_names signature_names e) (first_cause (drop 1 (signature_causes true (signature_texts e)))) (signature_block (signature_texts e)) h
+signature_named e id h = by_causes id (has_parameters signature_names e) (first_cause (drop 1 (signature_causes true (signature_texts e)))) (signature_block (signature_texts e)) h
   where
     by_causes : (id : List ℕ) (named : Bool) (others : Option Spoil) (b : block.Signature) → block_id (unless_spoilt (cond (not named) (Some spoils.Names) others) (Signature b)) ≡ Some id → (named ≡ true) × (id ≡ codes "ssign")
     by_causes id true None b h = (refl, cc)
     by_causes id true (Some cause) b h = absurd cc
     by_causes id false others b h = absurd cc
 
-certificate_named : (e : ElementValue) (id : List ℕ) → block_id (certificate_reading e) ≡ Some id → (has_names certificate_names e ≡ true) × (id ≡ codes "ssign-cert")
+certificate_named : (e : ElementValue) (id : List ℕ) → block_id (certificate_reading e) ≡ Some id → (has_parameters certificate_names e ≡ true) × (id ≡ codes "ssign-cert")
 unfolding certificate_reading
-certificate_named e id h = by_causes id (has_names certificate_names e) (first_cause (drop 1 (certificate_causes true (certificate_texts e)))) (certificate_block (certificate_texts e)) h
+certificate_named e id h = by_causes id (has_parameters certificate_names e) (first_cause (drop 1 (certificate_causes true (certificate_texts e)))) (certificate_block (certificate_texts e)) h
   where
     by_causes : (id : List ℕ) (named : Bool) (others : Option Spoil) (b : block.Certificate) → block_id (unless_spoilt (cond (not named) (Some spoils.Names) others) (Certificate b)) ≡ Some id → (named ≡ true) × (id ≡ codes "ssign-cert")
     by_causes id true None b h = (refl, cc)

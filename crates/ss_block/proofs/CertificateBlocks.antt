@@ -13,7 +13,7 @@ use Rattle.ss_block.specs.Block as block
 use Rattle.ss_block.specs.Block.{IsCertificate}
 use Rattle.ss_payload.specs.StrictBase64.{octets_in}
 use Rattle.ss_block.specs.Number.{number, is_number}
-use Rattle.ss_block.specs.Reading.{has_names, is_version, alg_of, or_none, certificate_names, CertificateTexts, certificate_texts, certificate_numbers, certificate_block, certificate_reading}
+use Rattle.ss_block.specs.Reading.{has_parameters, is_version, alg_of, or_none, certificate_names, CertificateTexts, certificate_texts, certificate_numbers, certificate_block, certificate_reading}
 use Rattle.ss_block.specs.Causes.{Reads, IsCertificateNumbers, misfits}
 use Rattle.ss_block.proofs.Values.{text_is_utf8}
 use Rattle.ss_block.proofs.Numbers.{is_spelled}
@@ -22,7 +22,7 @@ use Rattle.ss_block.proofs.CertificateCauses.{of_block, spoilt_fragment, is_bloc
 -- what the calls before told of the element
 pub record IsTold (e : ElementValue) (alg : Alg) (n : CertificateNumbers) (sign fragment : List ℕ) : Type 0 where
   pub raws : has_raws e ≡ true
-  pub names : has_names certificate_names e ≡ true
+  pub names : has_parameters certificate_names e ≡ true
   pub version : is_version (certificate_texts e).ver ≡ true
   pub alg_is : alg ≡ alg_of (certificate_texts e).ver
   pub numbers : certificate_numbers (certificate_texts e) ≡ true

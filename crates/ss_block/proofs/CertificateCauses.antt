@@ -7,7 +7,7 @@ use Rattle.ss_block.specs.declared.reading.Reading.{Reading}
 use Rattle.ss_block.specs.declared.reading.Reading.TheVariants.{Certificate, Spoilt}
 use Rattle.ss_block.specs.Block as block
 use Rattle.ss_payload.specs.StrictBase64.{octets_in}
-use Rattle.ss_block.specs.Reading.{has_names, first_cause, is_version, certificate_names, certificate_texts, certificate_numbers, certificate_block, unless_spoilt, certificate_reading}
+use Rattle.ss_block.specs.Reading.{has_parameters, first_cause, is_version, certificate_names, certificate_texts, certificate_numbers, certificate_block, unless_spoilt, certificate_reading}
 use Rattle.ss_block.specs.Causes.{misfits}
 
 abbrev told : Bool → Bool → Bool → Bool → Bool → Reading → Reading
@@ -16,7 +16,7 @@ told n v u s f x = unless_spoilt (first_cause ((not n, spoils.Names) ∷ (not v,
 abbrev whole : ElementValue → Reading
 whole e =
     let t = certificate_texts e in
-    told (has_names certificate_names e) (is_version t.ver) (certificate_numbers t) (is_some (octets_in t.sign)) (misfits t) (Certificate (certificate_block t))
+    told (has_parameters certificate_names e) (is_version t.ver) (certificate_numbers t) (is_some (octets_in t.sign)) (misfits t) (Certificate (certificate_block t))
 
 reading_is : (e : ElementValue) → certificate_reading e ≡ whole e
 unfolding certificate_reading
@@ -42,38 +42,38 @@ at_none n v u s f x e g h i j = rw (e, g, h, i, j) refl
 
 -- ---- of an element
 
-pub spoilt_names : (e : ElementValue) → has_names certificate_names e ≡ false → certificate_reading e ≡ Spoilt spoils.Names
+pub spoilt_names : (e : ElementValue) → has_parameters certificate_names e ≡ false → certificate_reading e ≡ Spoilt spoils.Names
 spoilt_names e n =
     let t = certificate_texts e in
-    reading_is e ∙ at_names (has_names certificate_names e) (is_version t.ver) (certificate_numbers t) (is_some (octets_in t.sign)) (misfits t) (Certificate (certificate_block t)) n
+    reading_is e ∙ at_names (has_parameters certificate_names e) (is_version t.ver) (certificate_numbers t) (is_some (octets_in t.sign)) (misfits t) (Certificate (certificate_block t)) n
 
-pub spoilt_version : (e : ElementValue) → has_names certificate_names e ≡ true → is_version (certificate_texts e).ver ≡ false → certificate_reading e ≡ Spoilt spoils.Version
+pub spoilt_version : (e : ElementValue) → has_parameters certificate_names e ≡ true → is_version (certificate_texts e).ver ≡ false → certificate_reading e ≡ Spoilt spoils.Version
 spoilt_version e n v =
     let t = certificate_texts e in
-    reading_is e ∙ at_version (has_names certificate_names e) (is_version t.ver) (certificate_numbers t) (is_some (octets_in t.sign)) (misfits t) (Certificate (certificate_block t)) n v
+    reading_is e ∙ at_version (has_parameters certificate_names e) (is_version t.ver) (certificate_numbers t) (is_some (octets_in t.sign)) (misfits t) (Certificate (certificate_block t)) n v
 
-pub spoilt_number : (e : ElementValue) → has_names certificate_names e ≡ true → is_version (certificate_texts e).ver ≡ true → certificate_numbers (certificate_texts e) ≡ false → certificate_reading e ≡ Spoilt spoils.Number
+pub spoilt_number : (e : ElementValue) → has_parameters certificate_names e ≡ true → is_version (certificate_texts e).ver ≡ true → certificate_numbers (certificate_texts e) ≡ false → certificate_reading e ≡ Spoilt spoils.Number
 spoilt_number e n v u =
     let t = certificate_texts e in
-    reading_is e ∙ at_numbers (has_names certificate_names e) (is_version t.ver) (certificate_numbers t) (is_some (octets_in t.sign)) (misfits t) (Certificate (certificate_block t)) n v u
+    reading_is e ∙ at_numbers (has_parameters certificate_names e) (is_version t.ver) (certificate_numbers t) (is_some (octets_in t.sign)) (misfits t) (Certificate (certificate_block t)) n v u
 
-pub spoilt_sign : (e : ElementValue) → has_names certificate_names e ≡ true → is_version (certificate_texts e).ver ≡ true → certificate_numbers (certificate_texts e) ≡ true
+pub spoilt_sign : (e : ElementValue) → has_parameters certificate_names e ≡ true → is_version (certificate_texts e).ver ≡ true → certificate_numbers (certificate_texts e) ≡ true
     → is_some (octets_in (certificate_texts e).sign) ≡ false → certificate_reading e ≡ Spoilt spoils.Sign
 spoilt_sign e n v u s =
     let t = certificate_texts e in
-    reading_is e ∙ at_sign (has_names certificate_names e) (is_version t.ver) (certificate_numbers t) (is_some (octets_in t.sign)) (misfits t) (Certificate (certificate_block t)) n v u s
+    reading_is e ∙ at_sign (has_parameters certificate_names e) (is_version t.ver) (certificate_numbers t) (is_some (octets_in t.sign)) (misfits t) (Certificate (certificate_block t)) n v u s
 
-pub spoilt_fragment : (e : ElementValue) → has_names certificate_names e ≡ true → is_version (certificate_texts e).ver ≡ true → certificate_numbers (certificate_texts e) ≡ true
+pub spoilt_fragment : (e : ElementValue) → has_parameters certificate_names e ≡ true → is_version (certificate_texts e).ver ≡ true → certificate_numbers (certificate_texts e) ≡ true
     → is_some (octets_in (certificate_texts e).sign) ≡ true → misfits (certificate_texts e) ≡ true → certificate_reading e ≡ Spoilt spoils.Fragment
 spoilt_fragment e n v u s f =
     let t = certificate_texts e in
-    reading_is e ∙ at_fragment (has_names certificate_names e) (is_version t.ver) (certificate_numbers t) (is_some (octets_in t.sign)) (misfits t) (Certificate (certificate_block t)) n v u s f
+    reading_is e ∙ at_fragment (has_parameters certificate_names e) (is_version t.ver) (certificate_numbers t) (is_some (octets_in t.sign)) (misfits t) (Certificate (certificate_block t)) n v u s f
 
-pub is_block : (e : ElementValue) → has_names certificate_names e ≡ true → is_version (certificate_texts e).ver ≡ true → certificate_numbers (certificate_texts e) ≡ true
+pub is_block : (e : ElementValue) → has_parameters certificate_names e ≡ true → is_version (certificate_texts e).ver ≡ true → certificate_numbers (certificate_texts e) ≡ true
     → is_some (octets_in (certificate_texts e).sign) ≡ true → misfits (certificate_texts e) ≡ false → certificate_reading e ≡ Certificate (certificate_block (certificate_texts e))
 is_block e n v u s f =
     let t = certificate_texts e in
-    reading_is e ∙ at_none (has_names certificate_names e) (is_version t.ver) (certificate_numbers t) (is_some (octets_in t.sign)) (misfits t) (Certificate (certificate_block t)) n v u s f
+    reading_is e ∙ at_none (has_parameters certificate_names e) (is_version t.ver) (certificate_numbers t) (is_some (octets_in t.sign)) (misfits t) (Certificate (certificate_block t)) n v u s f
 
 -- ---- of a block
 
@@ -87,8 +87,8 @@ apart false v u s f x b e = absurd cc
 
 -- no cause applies to what is read as a block
 pub of_block : (e : ElementValue) (b : block.Certificate) → certificate_reading e ≡ Certificate b
-    → (has_names certificate_names e ≡ true) × (is_version (certificate_texts e).ver ≡ true) × (certificate_numbers (certificate_texts e) ≡ true)
+    → (has_parameters certificate_names e ≡ true) × (is_version (certificate_texts e).ver ≡ true) × (certificate_numbers (certificate_texts e) ≡ true)
     × (is_some (octets_in (certificate_texts e).sign) ≡ true) × (misfits (certificate_texts e) ≡ false) × (certificate_block (certificate_texts e) ≡ b)
 of_block e b h =
     let t = certificate_texts e in
-    apart (has_names certificate_names e) (is_version t.ver) (certificate_numbers t) (is_some (octets_in t.sign)) (misfits t) (certificate_block t) b (sym (reading_is e) ∙ h)
+    apart (has_parameters certificate_names e) (is_version t.ver) (certificate_numbers t) (is_some (octets_in t.sign)) (misfits t) (certificate_block t) b (sym (reading_is e) ∙ h)

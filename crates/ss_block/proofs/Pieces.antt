@@ -1,5 +1,5 @@
 -- Why a piece of an ASCII text is the fragment of a certificate block.
-use Rattle.std.proofs.Common.{ℕ, ◌+◌, ◌-◌, ◌≤◌, List, length, drop, arith}
+use Rattle.std.proofs.Common.{ℕ, ◌-◌, ◌≤◌, List, length, drop, arith}
 use Rattle.std.specs.List.{Contains}
 use Rattle.std.specs.Str.{IsAscii}
 use Rattle.std.proofs.lemmas.Str.{IsAscii-take, IsAscii-drop, IsUtf8-from_ascii, is_utf8-from_IsUtf8}

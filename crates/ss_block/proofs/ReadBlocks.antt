@@ -12,7 +12,7 @@ use Rattle.ss_block.specs.declared.reading.Reading.{Reading}
 use Rattle.ss_block.specs.declared.reading.Reading.TheVariants.{Plain, Unparsed, Signature, Certificate, Spoilt}
 use Rattle.ss_block.specs.Block as block
 use Rattle.ss_block.specs.Block.{IsSignature, IsCertificate}
-use Rattle.ss_block.specs.Reading.{has_names, first_cause, signature_names, signature_texts, signature_causes, signature_block, signature_reading, certificate_names, certificate_texts, certificate_causes, certificate_block, certificate_reading, unless_spoilt, element_with, reading_with, reading_from, reading}
+use Rattle.ss_block.specs.Reading.{has_parameters, first_cause, signature_names, signature_texts, signature_causes, signature_block, signature_reading, certificate_names, certificate_texts, certificate_causes, certificate_block, certificate_reading, unless_spoilt, element_with, reading_with, reading_from, reading}
 use Rattle.ss_block.specs.ReadingLaws.{is_block}
 use Rattle.ss_block.specs.Session.{session, session_at, session_if_block}
 use Rattle.ss_block.specs.Signed.{signed, signed_from, signed_if_block}
@@ -25,7 +25,7 @@ use Rattle.ss_block.proofs.CertificateBlocks as certificates
 
 no_signature : (e : ElementValue) (b : block.Signature) → certificate_reading e ≡ Signature b → ⊥
 unfolding certificate_reading
-no_signature e b h = by_cause (first_cause (certificate_causes (has_names certificate_names e) (certificate_texts e))) (certificate_block (certificate_texts e)) b h
+no_signature e b h = by_cause (first_cause (certificate_causes (has_parameters certificate_names e) (certificate_texts e))) (certificate_block (certificate_texts e)) b h
   where
     by_cause : (cause : Option Spoil) (x : block.Certificate) (b : block.Signature) → unless_spoilt cause (Certificate x) ≡ Signature b → ⊥
     by_cause None x b h = absurd cc
@@ -33,7 +33,7 @@ no_signature e b h = by_cause (first_cause (certificate_causes (has_names certif
 
 no_certificate : (e : ElementValue) (b : block.Certificate) → signature_reading e ≡ Certificate b → ⊥
 unfolding signature_reading
-no_certificate e b h = by_cause (first_cause (signature_causes (has_names signature_names e) (signature_texts e))) (signature_block (signature_texts e)) b h
+no_certificate e b h = by_cause (first_cause (signature_causes (has_parameters signature_names e) (signature_texts e))) (signature_block (signature_texts e)) b h
   where
     by_cause : (cause : Option Spoil) (x : block.Signature) (b : block.Certificate) → unless_spoilt cause (Signature x) ≡ Certificate b → ⊥
     by_cause None x b h = absurd cc

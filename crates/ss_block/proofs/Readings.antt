@@ -10,7 +10,7 @@ use Rattle.ss_message.specs.Laws.{OneText, FaultsAreOfNoMessage, FaultsAreRows}
 use Rattle.ss_block.specs.declared.spoil.Spoil.{Spoil}
 use Rattle.ss_block.specs.declared.reading.Reading.{Reading}
 use Rattle.ss_block.specs.declared.reading.Reading.TheVariants.{Unparsed, Signature, Certificate}
-use Rattle.ss_block.specs.Reading.{has_names, first_cause, signature_names, signature_texts, signature_causes, signature_block, signature_reading, certificate_names, certificate_texts, certificate_causes, certificate_block, certificate_reading, unless_spoilt, ssign, ssign_cert, reading_with, value_reading, reading_from, reading}
+use Rattle.ss_block.specs.Reading.{has_parameters, first_cause, signature_names, signature_texts, signature_causes, signature_block, signature_reading, certificate_names, certificate_texts, certificate_causes, certificate_block, certificate_reading, unless_spoilt, ssign, ssign_cert, reading_with, value_reading, reading_from, reading}
 
 pub reading_is : (t : List ℕ) (r : Result Layout BadPart) → layout_at t ≡ r → reading t ≡ reading_from t r
 unfolding reading
@@ -25,12 +25,12 @@ spoilt_parsed (Some cause) r part pos parsed e = absurd cc
 signature_parsed : (v : ElementValue) (part : Part) (pos : ℕ) → signature_reading v ≡ Unparsed part pos → ⊥
 unfolding signature_reading
 signature_parsed v part pos e =
-    spoilt_parsed (first_cause (signature_causes (has_names signature_names v) (signature_texts v))) (Signature (signature_block (signature_texts v))) part pos (λ h. absurd cc) e
+    spoilt_parsed (first_cause (signature_causes (has_parameters signature_names v) (signature_texts v))) (Signature (signature_block (signature_texts v))) part pos (λ h. absurd cc) e
 
 certificate_parsed : (v : ElementValue) (part : Part) (pos : ℕ) → certificate_reading v ≡ Unparsed part pos → ⊥
 unfolding certificate_reading
 certificate_parsed v part pos e =
-    spoilt_parsed (first_cause (certificate_causes (has_names certificate_names v) (certificate_texts v))) (Certificate (certificate_block (certificate_texts v))) part pos (λ h. absurd cc) e
+    spoilt_parsed (first_cause (certificate_causes (has_parameters certificate_names v) (certificate_texts v))) (Certificate (certificate_block (certificate_texts v))) part pos (λ h. absurd cc) e
 
 element_parsed : (s c : Option ElementValue) (part : Part) (pos : ℕ) → reading_with s c ≡ Unparsed part pos → ⊥
 element_parsed None None part pos e = absurd cc

@@ -1,5 +1,5 @@
 -- The SIGN parameter of a block in its text, and what is left without it.
-use Rattle.std.proofs.Common.{◌≡◌, ℕ, true, ◌+◌, ◌-◌, ◌<◌, ◌≤◌, List, [], ◌∷◌, ◌++◌, length, take, drop, Some, None, Ok, refl, sym, ap, subst, ◌∙◌, append_assoc, arith}
+use Rattle.std.proofs.Common.{◌≡◌, ℕ, true, ◌+◌, ◌-◌, ◌<◌, ◌≤◌, List, [], ◌∷◌, ◌++◌, length, take, drop, Some, None, refl, sym, ap, subst, ◌∙◌, append_assoc, arith}
 use Rattle.std.specs.Prelude.{codes}
 use Rattle.std.specs.List.{flat_map, slice_get}
 use Rattle.std.proofs.lemmas.List.{length-append, append-nil, take_at, drop_at}
@@ -10,7 +10,7 @@ use Rattle.ss_message.specs.declared.message.Message.{Message}
 use Rattle.ss_message.specs.Message.{ParameterValue, ElementValue, MessageValue, IsMessage, header_text, structured_text, element_text, parameter_text, msg_text, text}
 use Rattle.ss_message.specs.Layout.{Layout, layout_of, value_of, parameter_value, parameter_values, element_values, value_at}
 use Rattle.ss_message.specs.Elements.{element_from}
-use Rattle.ss_message.specs.Reading.{layout_at}
+use Rattle.ss_message.specs.Places.{PartsLie}
 use Rattle.ss_block.specs.SignPlace.{block_id, ninth_parameter}
 use Rattle.ss_block.specs.Parsed.{IsRead}
 use Rattle.ss_block.specs.Reading.{value_reading}
@@ -111,12 +111,12 @@ elements_some t (x ∷ es) before e after is = omega arith
 same_long : (p q : ParameterValue) → p ≡ q → length (parameter_text p) ≡ length (parameter_text q)
 same_long p q same = ap (λ (x : ParameterValue). length (parameter_text x)) same
 
-sign_placed : (t : List ℕ) (l : Layout) (id : List ℕ) → layout_at t ≡ Ok l → IsMessage (value_at t l) → t ≡ text (value_at t l) → block_id (value_reading (value_at t l)) ≡ Some id → SignPlaced t l id
-sign_placed t l id layout valid spelled is_block =
+sign_placed : (t : List ℕ) (l : Layout) (id : List ℕ) → PartsLie t l → IsMessage (value_at t l) → t ≡ text (value_at t l) → block_id (value_reading (value_at t l)) ≡ Some id → SignPlaced t l id
+sign_placed t l id places valid spelled is_block =
     let v : MessageValue = value_at t l in
     let b = with_block v id valid.ids is_block in
     let r = rounds v id b in
-    let f = follows t l layout spelled (elements_some t l.elements b.before _ b.after b.is) in
+    let f = follows t l places (elements_some t l.elements b.before _ b.after b.is) in
     let e = element_placed t id 0 (l.msgid.end + 1) l.elements f.end b.before _ b.after f.inside f.lie b.is b.first refl in
     let ps : parameter_values t e.at.parameters ≡ b.parameters ++ sign_of b.raw ∷ [] = ap (λ (x : ElementValue). x.parameters) e.says in
     let p = parameter_placed t e.at.id.end e.at.parameters e.lies.close b.parameters (sign_of b.raw) [] e.lies.parameters ps in
@@ -177,7 +177,7 @@ never_none t l id s none =
 -- ---- in a message as it was read
 
 placed : (m : Message) (id : List ℕ) → IsRead m → block_id (value_reading (value_of m)) ≡ Some id → SignPlaced m.source.now (layout_of m) id
-placed m id r is_block = sign_placed m.source.now (layout_of m) id r.layout r.valid r.spelled is_block
+placed m id r is_block = sign_placed m.source.now (layout_of m) id r.places r.valid r.spelled is_block
 
 pub message_cut : (m : Message) (id : List ℕ) (sign : Parameter) → IsRead m → block_id (value_reading (value_of m)) ≡ Some id → Some sign ≡ ninth_parameter m.source.now id m.elements → SignCut m.source.now (layout_of m) sign
 message_cut m id sign r is_block found = sign_cut m.source.now (layout_of m) id sign (placed m id r is_block) found

@@ -13,7 +13,7 @@ use Rattle.ss_block.specs.Block as block
 use Rattle.ss_block.specs.Block.{is_of, IsSignature}
 use Rattle.ss_payload.specs.StrictBase64.{octets_in}
 use Rattle.ss_block.specs.Number.{number, is_number}
-use Rattle.ss_block.specs.Reading.{has_names, first_cause, is_version, alg_of, pieces, hashes_in, or_none, signature_names, SignatureTexts, signature_texts, signature_numbers, signature_block, signature_reading}
+use Rattle.ss_block.specs.Reading.{has_parameters, first_cause, is_version, alg_of, pieces, hashes_in, or_none, signature_names, SignatureTexts, signature_texts, signature_numbers, signature_block, signature_reading}
 use Rattle.ss_block.specs.declared.refusal.Refusal.TheVariants as refusals
 use Rattle.ss_block.specs.Causes.{Reads, hash_causes, IsSignatureNumbers}
 use Rattle.ss_block.proofs.HashTexts.{length-hashes_in, all_of}
@@ -22,7 +22,7 @@ use Rattle.ss_block.proofs.SignatureCauses.{of_block, spoilt_last, is_block, cou
 
 -- what the calls before told of the element
 pub record IsTold (e : ElementValue) (alg : Alg) (n : SignatureNumbers) (hashes : List Hash) (sign : List ℕ) : Type 0 where
-  pub names : has_names signature_names e ≡ true
+  pub names : has_parameters signature_names e ≡ true
   pub version : is_version (signature_texts e).ver ≡ true
   pub alg_is : alg ≡ alg_of (signature_texts e).ver
   pub numbers : signature_numbers (signature_texts e) ≡ true

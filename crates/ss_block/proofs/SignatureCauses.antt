@@ -10,7 +10,7 @@ use Rattle.ss_block.specs.declared.reading.Reading.TheVariants.{Signature, Spoil
 use Rattle.ss_block.specs.Block as block
 use Rattle.ss_payload.specs.StrictBase64.{octets_in}
 use Rattle.ss_block.specs.Number.{number}
-use Rattle.ss_block.specs.Reading.{has_names, first_cause, is_version, alg_of, hash_in, pieces, signature_names, SignatureTexts, signature_texts, signature_numbers, signature_block, unless_spoilt, signature_reading}
+use Rattle.ss_block.specs.Reading.{has_parameters, first_cause, is_version, alg_of, hash_in, pieces, signature_names, SignatureTexts, signature_texts, signature_numbers, signature_block, unless_spoilt, signature_reading}
 use Rattle.ss_block.specs.Causes.{hash_causes}
 
 abbrev pub counted : SignatureTexts → Bool
@@ -28,7 +28,7 @@ told n v u c h s l x = unless_spoilt (first_cause ((not n, spoils.Names) ∷ (no
 abbrev whole : ElementValue → Reading
 whole e =
     let t = signature_texts e in
-    told (has_names signature_names e) (is_version t.ver) (signature_numbers t) (counted t) (hashed t) (is_some (octets_in t.sign)) (late t) (Signature (signature_block t))
+    told (has_parameters signature_names e) (is_version t.ver) (signature_numbers t) (counted t) (hashed t) (is_some (octets_in t.sign)) (late t) (Signature (signature_block t))
 
 reading_is : (e : ElementValue) → signature_reading e ≡ whole e
 unfolding signature_reading
@@ -64,46 +64,46 @@ at_none n v u c h s l x e f g k i j = rw (e, f, g, k.0, k.1, i, j) refl
 
 -- ---- of an element
 
-pub spoilt_names : (e : ElementValue) → has_names signature_names e ≡ false → signature_reading e ≡ Spoilt spoils.Names
+pub spoilt_names : (e : ElementValue) → has_parameters signature_names e ≡ false → signature_reading e ≡ Spoilt spoils.Names
 spoilt_names e n =
     let t = signature_texts e in
-    reading_is e ∙ at_names (has_names signature_names e) (is_version t.ver) (signature_numbers t) (counted t) (hashed t) (is_some (octets_in t.sign)) (late t) (Signature (signature_block t)) n
+    reading_is e ∙ at_names (has_parameters signature_names e) (is_version t.ver) (signature_numbers t) (counted t) (hashed t) (is_some (octets_in t.sign)) (late t) (Signature (signature_block t)) n
 
-pub spoilt_version : (e : ElementValue) → has_names signature_names e ≡ true → is_version (signature_texts e).ver ≡ false → signature_reading e ≡ Spoilt spoils.Version
+pub spoilt_version : (e : ElementValue) → has_parameters signature_names e ≡ true → is_version (signature_texts e).ver ≡ false → signature_reading e ≡ Spoilt spoils.Version
 spoilt_version e n v =
     let t = signature_texts e in
-    reading_is e ∙ at_version (has_names signature_names e) (is_version t.ver) (signature_numbers t) (counted t) (hashed t) (is_some (octets_in t.sign)) (late t) (Signature (signature_block t)) n v
+    reading_is e ∙ at_version (has_parameters signature_names e) (is_version t.ver) (signature_numbers t) (counted t) (hashed t) (is_some (octets_in t.sign)) (late t) (Signature (signature_block t)) n v
 
-pub spoilt_number : (e : ElementValue) → has_names signature_names e ≡ true → is_version (signature_texts e).ver ≡ true → signature_numbers (signature_texts e) ≡ false → signature_reading e ≡ Spoilt spoils.Number
+pub spoilt_number : (e : ElementValue) → has_parameters signature_names e ≡ true → is_version (signature_texts e).ver ≡ true → signature_numbers (signature_texts e) ≡ false → signature_reading e ≡ Spoilt spoils.Number
 spoilt_number e n v u =
     let t = signature_texts e in
-    reading_is e ∙ at_numbers (has_names signature_names e) (is_version t.ver) (signature_numbers t) (counted t) (hashed t) (is_some (octets_in t.sign)) (late t) (Signature (signature_block t)) n v u
+    reading_is e ∙ at_numbers (has_parameters signature_names e) (is_version t.ver) (signature_numbers t) (counted t) (hashed t) (is_some (octets_in t.sign)) (late t) (Signature (signature_block t)) n v u
 
-pub spoilt_hashes : (e : ElementValue) (cause : Spoil) → has_names signature_names e ≡ true → is_version (signature_texts e).ver ≡ true → signature_numbers (signature_texts e) ≡ true
+pub spoilt_hashes : (e : ElementValue) (cause : Spoil) → has_parameters signature_names e ≡ true → is_version (signature_texts e).ver ≡ true → signature_numbers (signature_texts e) ≡ true
     → first_cause (hash_causes (signature_texts e)) ≡ Some cause → signature_reading e ≡ Spoilt cause
 spoilt_hashes e cause n v u h =
     let t = signature_texts e in
-    reading_is e ∙ at_hashes (has_names signature_names e) (is_version t.ver) (signature_numbers t) (counted t) (hashed t) (is_some (octets_in t.sign)) (late t) (Signature (signature_block t)) cause n v u h
+    reading_is e ∙ at_hashes (has_parameters signature_names e) (is_version t.ver) (signature_numbers t) (counted t) (hashed t) (is_some (octets_in t.sign)) (late t) (Signature (signature_block t)) cause n v u h
 
-pub spoilt_sign : (e : ElementValue) → has_names signature_names e ≡ true → is_version (signature_texts e).ver ≡ true → signature_numbers (signature_texts e) ≡ true
+pub spoilt_sign : (e : ElementValue) → has_parameters signature_names e ≡ true → is_version (signature_texts e).ver ≡ true → signature_numbers (signature_texts e) ≡ true
     → first_cause (hash_causes (signature_texts e)) ≡ None → is_some (octets_in (signature_texts e).sign) ≡ false → signature_reading e ≡ Spoilt spoils.Sign
 spoilt_sign e n v u h s =
     let t = signature_texts e in
-    reading_is e ∙ at_sign (has_names signature_names e) (is_version t.ver) (signature_numbers t) (counted t) (hashed t) (is_some (octets_in t.sign)) (late t) (Signature (signature_block t)) n v u (both (counted t) (hashed t) h) s
+    reading_is e ∙ at_sign (has_parameters signature_names e) (is_version t.ver) (signature_numbers t) (counted t) (hashed t) (is_some (octets_in t.sign)) (late t) (Signature (signature_block t)) n v u (both (counted t) (hashed t) h) s
 
-pub spoilt_last : (e : ElementValue) → has_names signature_names e ≡ true → is_version (signature_texts e).ver ≡ true → signature_numbers (signature_texts e) ≡ true
+pub spoilt_last : (e : ElementValue) → has_parameters signature_names e ≡ true → is_version (signature_texts e).ver ≡ true → signature_numbers (signature_texts e) ≡ true
     → first_cause (hash_causes (signature_texts e)) ≡ None → is_some (octets_in (signature_texts e).sign) ≡ true
     → nat_lt 10000000000 (number (signature_texts e).fmn + number (signature_texts e).cnt) ≡ true → signature_reading e ≡ Spoilt spoils.LastNumber
 spoilt_last e n v u h s l =
     let t = signature_texts e in
-    reading_is e ∙ at_last (has_names signature_names e) (is_version t.ver) (signature_numbers t) (counted t) (hashed t) (is_some (octets_in t.sign)) (late t) (Signature (signature_block t)) n v u (both (counted t) (hashed t) h) s l
+    reading_is e ∙ at_last (has_parameters signature_names e) (is_version t.ver) (signature_numbers t) (counted t) (hashed t) (is_some (octets_in t.sign)) (late t) (Signature (signature_block t)) n v u (both (counted t) (hashed t) h) s l
 
-pub is_block : (e : ElementValue) → has_names signature_names e ≡ true → is_version (signature_texts e).ver ≡ true → signature_numbers (signature_texts e) ≡ true
+pub is_block : (e : ElementValue) → has_parameters signature_names e ≡ true → is_version (signature_texts e).ver ≡ true → signature_numbers (signature_texts e) ≡ true
     → first_cause (hash_causes (signature_texts e)) ≡ None → is_some (octets_in (signature_texts e).sign) ≡ true
     → nat_lt 10000000000 (number (signature_texts e).fmn + number (signature_texts e).cnt) ≡ false → signature_reading e ≡ Signature (signature_block (signature_texts e))
 is_block e n v u h s l =
     let t = signature_texts e in
-    reading_is e ∙ at_none (has_names signature_names e) (is_version t.ver) (signature_numbers t) (counted t) (hashed t) (is_some (octets_in t.sign)) (late t) (Signature (signature_block t)) n v u (both (counted t) (hashed t) h) s l
+    reading_is e ∙ at_none (has_parameters signature_names e) (is_version t.ver) (signature_numbers t) (counted t) (hashed t) (is_some (octets_in t.sign)) (late t) (Signature (signature_block t)) n v u (both (counted t) (hashed t) h) s l
 
 -- ---- of a block
 
@@ -120,9 +120,9 @@ apart false v u c h s l x b e = absurd cc
 
 -- no cause applies to what is read as a block
 pub of_block : (e : ElementValue) (b : block.Signature) → signature_reading e ≡ Signature b
-    → (has_names signature_names e ≡ true) × (is_version (signature_texts e).ver ≡ true) × (signature_numbers (signature_texts e) ≡ true)
+    → (has_parameters signature_names e ≡ true) × (is_version (signature_texts e).ver ≡ true) × (signature_numbers (signature_texts e) ≡ true)
     × (first_cause (hash_causes (signature_texts e)) ≡ None) × (is_some (octets_in (signature_texts e).sign) ≡ true)
     × (nat_lt 10000000000 (number (signature_texts e).fmn + number (signature_texts e).cnt) ≡ false) × (signature_block (signature_texts e) ≡ b)
 of_block e b h =
     let t = signature_texts e in
-    apart (has_names signature_names e) (is_version t.ver) (signature_numbers t) (counted t) (hashed t) (is_some (octets_in t.sign)) (late t) (signature_block t) b (sym (reading_is e) ∙ h)
+    apart (has_parameters signature_names e) (is_version t.ver) (signature_numbers t) (counted t) (hashed t) (is_some (octets_in t.sign)) (late t) (signature_block t) b (sym (reading_is e) ∙ h)

@@ -108,7 +108,7 @@ fits_not tpbl index flen octets = nat_lt (tpbl + 1) (index + flen) || not (octet
 
 abbrev read_of : Certificate → CertificateTexts → Reading
 read_of b t =
-    told (spec.has_names certificate_names (signed_element b)) (is_version t.ver) (certificate_numbers t) (is_some (octets_in t.sign))
+    told (spec.has_parameters certificate_names (signed_element b)) (is_version t.ver) (certificate_numbers t) (is_some (octets_in t.sign))
     (fits_not (number t.tpbl) (number t.index) (number t.flen) (length t.frag)) (readings.Certificate (certificate_block t))
 
 reading_is : (b : Certificate) → certificate_reading (signed_element b) ≡ read_of b (certificate_texts (signed_element b))

@@ -119,7 +119,7 @@ told_none n v u c h s l x y a b d e f g i same = rw (a, b, d, e, f, g, i) same
 
 abbrev read_of : Signature → SignatureTexts → Reading
 read_of b t =
-    told (spec.has_names signature_names (signed_element b)) (is_version t.ver) (signature_numbers t) (length (pieces t.hb) == number t.cnt)
+    told (spec.has_parameters signature_names (signed_element b)) (is_version t.ver) (signature_numbers t) (length (pieces t.hb) == number t.cnt)
     (list_all (λ piece. is_some (hash_in (alg_of t.ver) piece)) (pieces t.hb)) (is_some (octets_in t.sign)) (nat_lt 10000000000 (number t.fmn + number t.cnt))
     (readings.Signature (signature_block t))
 

@@ -26,8 +26,8 @@ use Rattle.ss_block.specs.Number.{number, is_number}
 abbrev pub names_of : ElementValue → List (List ℕ)
 names_of e = map (λ p. p.name) e.parameters
 
-abbrev pub has_names : List (List ℕ) → ElementValue → Bool
-has_names names e = pointwise bytes_eq (names_of e) names
+abbrev pub has_parameters : List (List ℕ) → ElementValue → Bool
+has_parameters names e = pointwise bytes_eq (names_of e) names
 
 abbrev pub first_text : List ParameterValue → List ℕ
 first_text [] = []
@@ -133,7 +133,7 @@ unless_spoilt (Some cause) r = Spoilt cause
 
 -- the block, or the first cause that applies
 unfoldable pub signature_reading : ElementValue → Reading
-signature_reading e = unless_spoilt (first_cause (signature_causes (has_names signature_names e) (signature_texts e))) (Signature (signature_block (signature_texts e)))
+signature_reading e = unless_spoilt (first_cause (signature_causes (has_parameters signature_names e) (signature_texts e))) (Signature (signature_block (signature_texts e)))
 
 -- ---- the element `ssign-cert` (RFC 5848, section 5.3.2)
 
@@ -180,7 +180,7 @@ certificate_block t = record {
 }
 
 unfoldable pub certificate_reading : ElementValue → Reading
-certificate_reading e = unless_spoilt (first_cause (certificate_causes (has_names certificate_names e) (certificate_texts e))) (Certificate (certificate_block (certificate_texts e)))
+certificate_reading e = unless_spoilt (first_cause (certificate_causes (has_parameters certificate_names e) (certificate_texts e))) (Certificate (certificate_block (certificate_texts e)))
 
 -- ---- a whole message
 

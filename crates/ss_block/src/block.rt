@@ -1,12 +1,12 @@
 //! Signature blocks and certificate blocks (RFC 5848, sections 4.2 and 5.3.2).
 ghost use Rattle.std.specs.Prelude.{◌≡◌, ◌↔◌, IsSome, IfSome, IsTrue};
 ghost use Rattle.std.specs.List.{list_all};
-ghost use Rattle.std.specs.Str.{is_utf8};
 ghost use Rattle.ss_block.specs.Block.{IsGroup, IsSignature, IsCertificate, is_of};
 
 use crate::hash::{Alg, Hash};
 use crate::hashes::Hashes;
 use ss_frame::Bytes;
+use ss_message::is_utf8;
 use std::marker::Model;
 
 /// The group of messages that a block speaks of (RFC 5848, section 4.2.3).
@@ -47,13 +47,6 @@ fn are_of(alg: Alg, hashes: &[Hash]) -> bool
         }
     }
     true
-}
-
-/// Whether the octets are UTF-8.
-fn is_utf8(octets: &[u8]) -> bool
-    ensures { result ≡ is_utf8 octets.now }
-{
-    simdutf8::basic::from_utf8(octets).is_ok()
 }
 
 /// A signature block: hashes of messages that are numbered one after another in their group. Contracts see its

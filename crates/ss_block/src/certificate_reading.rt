@@ -5,7 +5,7 @@ ghost use Rattle.ss_message.specs.Layout.{element_value};
 ghost use Rattle.ss_message.specs.Places.{ElementIsWithin};
 ghost use Rattle.ss_block.specs.declared.spoil.Spoil.TheVariants as spoils;
 ghost use Rattle.ss_block.specs.declared.reading.Reading.TheVariants.{Certificate};
-ghost use Rattle.ss_block.specs.Reading.{has_names, certificate_names, certificate_texts, certificate_numbers, certificate_reading};
+ghost use Rattle.ss_block.specs.Reading.{has_parameters, certificate_names, certificate_texts, certificate_numbers, certificate_reading};
 ghost use Rattle.ss_block.specs.Meanings.{HasNine};
 ghost use Rattle.ss_block.specs.Causes.{Tests, Reads, IsCertificateNumbers};
 
@@ -14,7 +14,7 @@ use crate::parameters::{number_at, sign, version};
 use crate::reading::Reading;
 use crate::refusal::Refusal;
 use crate::spoil::Spoil;
-use crate::texts::{has_names, octets_at};
+use crate::texts::{has_parameters, text_at};
 use ss_message::{Element, NoMemory};
 use std::alloc::Global;
 
@@ -53,13 +53,13 @@ fn numbers(alloc: Global, source: &[u8], element: &Element) -> Result<Certificat
 fn named_block(alloc: Global, source: &[u8], element: &Element) -> Result<CertBlock, Refusal>
     requires nine { HasNine source.now element.now }
     requires raws { has_raws (element_value source.now element.now) ≡ true }
-    requires names { has_names certificate_names (element_value source.now element.now) ≡ true }
+    requires names { has_parameters certificate_names (element_value source.now element.now) ≡ true }
     ensures { Reads Certificate result (certificate_reading (element_value source.now element.now)) }
 {
     let alg = version(alloc, source, element)?;
     let numbers = numbers(alloc, source, element)?;
     let signature = sign(alloc, source, element)?;
-    let fragment = octets_at(alloc, source, element, 7)?;
+    let fragment = text_at(alloc, source, element, 7)?.into_bytes(alloc)?;
     if fragment.as_slice().len() as u64 != numbers.octets as u64 {
         return Err(Refusal::Spoilt(Spoil::Fragment));
     }
@@ -84,7 +84,7 @@ fn certificate_block(alloc: Global, source: &[u8], element: &Element) -> Result<
     let names: [&[u8]; 9] = [
         b"VER", b"RSID", b"SG", b"SPRI", b"TPBL", b"INDEX", b"FLEN", b"FRAG", b"SIGN",
     ];
-    if !has_names(source, element, &names) {
+    if !has_parameters(source, element, &names) {
         return Err(Refusal::Spoilt(Spoil::Names));
     }
     named_block(alloc, source, element)

@@ -24,7 +24,7 @@ fn fills(text: &[u8], octets: &mut [u8]) -> bool
 }
 
 /// The hash of this algorithm that `text` spells; `None` where it spells none, or octets of another length.
-pub fn hash_of(alg: Alg, text: &[u8]) -> Option<Hash>
+fn hash_in(alg: Alg, text: &[u8]) -> Option<Hash>
     ensures { result ≡ hash_in alg text.now }
 {
     match alg {
@@ -65,13 +65,13 @@ pub fn hashes_of(alloc: Global, alg: Alg, text: &[u8]) -> Result<Option<Hashes>,
     let mut hashes = Vec::new(alloc);
     let mut rest = text;
     while let Some((piece, after)) = split_first(rest, b' ') {
-        let Some(hash) = hash_of(alg, piece) else {
+        let Some(hash) = hash_in(alg, piece) else {
             return Ok(None);
         };
         hashes.push(hash)?;
         rest = after;
     }
-    let Some(last) = hash_of(alg, rest) else {
+    let Some(last) = hash_in(alg, rest) else {
         return Ok(None);
     };
     hashes.push(last)?;

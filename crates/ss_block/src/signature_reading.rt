@@ -5,7 +5,7 @@ ghost use Rattle.ss_message.specs.Places.{ElementIsWithin};
 ghost use Rattle.ss_block.specs.declared.spoil.Spoil.TheVariants as spoils;
 ghost use Rattle.ss_block.specs.declared.reading.Reading.TheVariants.{Signature};
 ghost use Rattle.ss_block.specs.Number.{number};
-ghost use Rattle.ss_block.specs.Reading.{has_names, text_at, alg_of, pieces, hashes_in, signature_names, signature_texts, signature_numbers, signature_reading};
+ghost use Rattle.ss_block.specs.Reading.{has_parameters, text_at, alg_of, pieces, hashes_in, signature_names, signature_texts, signature_numbers, signature_reading};
 ghost use Rattle.ss_block.specs.Meanings.{HasNine};
 ghost use Rattle.ss_block.specs.Causes.{Tests, Spoils, hash_causes, Reads, IsSignatureNumbers};
 
@@ -17,7 +17,7 @@ use crate::parameters::{number_at, sign, version};
 use crate::reading::Reading;
 use crate::refusal::Refusal;
 use crate::spoil::Spoil;
-use crate::texts::{has_names, text_at};
+use crate::texts::{has_parameters, text_at};
 use ss_message::{Element, NoMemory};
 use std::alloc::Global;
 
@@ -76,7 +76,7 @@ fn hashes(
 // The block of an element with the nine names.
 fn named_block(alloc: Global, source: &[u8], element: &Element) -> Result<SigBlock, Refusal>
     requires nine { HasNine source.now element.now }
-    requires names { has_names signature_names (element_value source.now element.now) ≡ true }
+    requires names { has_parameters signature_names (element_value source.now element.now) ≡ true }
     ensures { Reads Signature result (signature_reading (element_value source.now element.now)) }
 {
     let alg = version(alloc, source, element)?;
@@ -103,7 +103,7 @@ fn signature_block(alloc: Global, source: &[u8], element: &Element) -> Result<Si
     let names: [&[u8]; 9] = [
         b"VER", b"RSID", b"SG", b"SPRI", b"GBC", b"FMN", b"CNT", b"HB", b"SIGN",
     ];
-    if !has_names(source, element, &names) {
+    if !has_parameters(source, element, &names) {
         return Err(Refusal::Spoilt(Spoil::Names));
     }
     named_block(alloc, source, element)

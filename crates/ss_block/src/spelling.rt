@@ -5,8 +5,7 @@ ghost use Rattle.ss_block.specs.Writing.{version_text, hash_octets, hashes_text}
 
 use crate::hash::{Alg, Hash};
 use base64::engine::general_purpose::STANDARD;
-use itoa::Buffer;
-use ss_frame::Bytes;
+use ss_frame::{Bytes, put_number};
 use ss_message::NoMemory;
 use std::alloc::Global;
 
@@ -24,8 +23,8 @@ pub fn version_text(alg: Alg) -> &'static [u8]
 pub fn number_text(alloc: Global, number: u64) -> Result<Bytes, NoMemory>
     ensures { IfOk result (λ b. b ≡ decimal number) }
 {
-    let mut buffer = Buffer::new();
-    let digits = Vec::from_slice(alloc, buffer.format(number).as_bytes())?;
+    let mut digits = Vec::new(alloc);
+    put_number(&mut digits, number)?;
     Ok(Bytes::from_vec(digits))
 }
 

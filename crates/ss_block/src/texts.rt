@@ -1,16 +1,17 @@
 //! The parameters of a block element: their names, and what their values stand for.
-ghost use Rattle.std.specs.Prelude.{◌≡◌, ◌<◌, ◌≤◌, map, length, IfOk};
+ghost use Rattle.std.specs.Prelude.{◌≡◌, ◌<◌, map, length, IfOk};
 ghost use Rattle.std.specs.List.{All};
 ghost use Rattle.std.specs.Str.{bytes_eq};
 ghost use Rattle.ss_message.specs.Octets.{part_of};
 ghost use Rattle.ss_message.specs.Raw.{meant};
 ghost use Rattle.ss_message.specs.Layout.{element_value};
-ghost use Rattle.ss_message.specs.Places.{IsWithin, ParameterIsWithin, ElementIsWithin};
+ghost use Rattle.ss_message.specs.Places.{ParameterIsWithin, ElementIsWithin};
 ghost use Rattle.ss_block.specs.Meanings.{octets_of, are_named};
-ghost use Rattle.ss_block.specs.Reading.{has_names, text_at};
+ghost use Rattle.ss_block.specs.Reading.{has_parameters, text_at};
 
+use crate::copies::copy_of;
 use ss_frame::Bytes;
-use ss_message::{Element, NoMemory, Parameter, Span, value};
+use ss_message::{Element, NoMemory, Parameter, value};
 use std::alloc::Global;
 
 /// What a value stands for.
@@ -32,6 +33,16 @@ impl<'a> Meant<'a> {
             Meant::Unescaped(octets) => octets.as_slice(),
         }
     }
+
+    /// The octets, in memory of their own.
+    pub fn into_bytes(self, alloc: Global) -> Result<Bytes, NoMemory>
+        ensures { IfOk result (λ b. b ≡ octets_of self.entry) }
+    {
+        match self {
+            Meant::Raw(octets) => copy_of(alloc, octets),
+            Meant::Unescaped(octets) => Ok(octets),
+        }
+    }
 }
 
 /// What a value of a parameter stands for; it takes memory only where a `\` stands there.
@@ -44,19 +55,11 @@ pub fn meaning<'a>(alloc: Global, raw: &'a [u8]) -> Result<Meant<'a>, NoMemory>
     Ok(Meant::Unescaped(value(alloc, raw)?))
 }
 
-// The octets of a span.
-fn part<'a>(source: &'a [u8], span: Span) -> &'a [u8]
-    requires { IsWithin source.now span }
-    ensures { result.now ≡ part_of source.now span }
-{
-    &source[span.start..span.end]
-}
-
 fn is_named(source: &[u8], parameter: &Parameter, name: &[u8]) -> bool
     requires { ParameterIsWithin source.now parameter.now }
     ensures { result ≡ bytes_eq (part_of source.now parameter.now.name) name.now }
 {
-    part(source, parameter.name) == name
+    parameter.name.of(source) == name
 }
 
 fn are_named(source: &[u8], parameters: &[Parameter], names: &[&[u8]]) -> bool
@@ -75,9 +78,9 @@ fn are_named(source: &[u8], parameters: &[Parameter], names: &[&[u8]]) -> bool
 }
 
 /// Whether the names of the parameters are these, in this order, and no others.
-pub fn has_names(source: &[u8], element: &Element, names: &[&[u8]]) -> bool
+pub fn has_parameters(source: &[u8], element: &Element, names: &[&[u8]]) -> bool
     requires { ElementIsWithin source.now element.now }
-    ensures { result ≡ has_names (map (λ n. n.now) names.now) (element_value source.now element.now) }
+    ensures { result ≡ has_parameters (map (λ n. n.now) names.now) (element_value source.now element.now) }
 {
     are_named(source, element.parameters.as_slice(), names)
 }
@@ -94,20 +97,5 @@ pub fn text_at<'a>(
     ensures { IfOk result (λ m. octets_of m ≡ text_at (element_value source.now element.now) i) }
 {
     let parameter = element.parameters.as_slice()[i];
-    meaning(alloc, part(source, parameter.value))
-}
-
-/// The same, in octets of its own.
-pub fn octets_at(
-    alloc: Global,
-    source: &[u8],
-    element: &Element,
-    i: usize,
-) -> Result<Bytes, NoMemory>
-    requires within { ElementIsWithin source.now element.now }
-    requires place { i < length element.now.parameters }
-    ensures { IfOk result (λ octets. octets ≡ text_at (element_value source.now element.now) i) }
-{
-    let parameter = element.parameters.as_slice()[i];
-    value(alloc, part(source, parameter.value))
+    meaning(alloc, parameter.value.of(source))
 }

@@ -1,4 +1,4 @@
--- Octets and their base64 tell each other, and base64 has no SP in it.
+-- Octets and their base64 tell each other, and base64 has none but its own octets in it.
 use Rattle.std.proofs.Common.{◌≡◌, ℕ, zero, suc, ◌/◌, ◌%◌, ◌*◌, ◌+◌, ◌≤◌, length, arith, ◌&&◌, Bool, true, false, not, eqb, List, [], ◌∷◌, ◌++◌, Some, Result, Ok, Err, ap, subst, ◌∙◌, replicate, slice_index, refl}
 use Rattle.std.specs.List.{All, AllByRecursion, list_all}
 use Rattle.std.proofs.lemmas.List.Elements.{All-from_recursion}
@@ -34,12 +34,13 @@ is_base64 text b bytes e =
     let d = decoded_some (decode_of standard text) b e in
     record { spelled = decode_of_strict standard text b (refl, refl) bytes d.0; some = d.1 }
 
--- ---- no SP
+-- ---- what no base64 has in it
 
-abbrev Clear : ℕ → List ℕ → Type 0
+-- the octet stands nowhere in the text
+abbrev pub Clear : ℕ → List ℕ → Type 0
 Clear c text = AllByRecursion (λ x. eqb x c ≡ false) text
 
-Clear-append : (c : ℕ) (a b : List ℕ) → Clear c a → Clear c b → Clear c (a ++ b)
+pub Clear-append : (c : ℕ) (a b : List ℕ) → Clear c a → Clear c b → Clear c (a ++ b)
 Clear-append c [] b h k = k
 Clear-append c (x ∷ a) b h k = (h.0, Clear-append c a b h.1 k)
 
@@ -65,9 +66,12 @@ Clear-encode_symbols c t (a ∷ b ∷ []) h = (h (a / 4), (h (a % 4 * 16 + b / 1
 Clear-encode_symbols c t (a ∷ b ∷ d ∷ rest) h =
     (h (a / 4), (h (a % 4 * 16 + b / 16), (h (b % 16 * 4 + d / 64), (h (d % 64), Clear-encode_symbols c t rest h))))
 
+-- an octet that is no symbol, no `=` and not 0 stands in no base64
+pub Clear-base64 : (c : ℕ) (octets : List ℕ) → list_all (λ x. not (eqb x c)) (engine_symbols standard) ≡ true → eqb 0 c ≡ false → eqb 61 c ≡ false → Clear c (base64 octets)
+unfolding base64
+Clear-base64 c octets none default pad =
+    Clear-append c _ _ (Clear-encode_symbols c (engine_symbols standard) octets (clear_at c (engine_symbols standard) none default)) (Clear-replicate c 61 _ pad)
+
 -- no SP in base64
 pub no_space : (octets : List ℕ) → All (λ x. eqb x 32 ≡ false) (base64 octets)
-unfolding base64
-no_space octets =
-    All-from_recursion (λ x. eqb x 32 ≡ false) _
-    (Clear-append 32 _ _ (Clear-encode_symbols 32 (engine_symbols standard) octets (clear_at 32 (engine_symbols standard) refl refl)) (Clear-replicate 32 61 _ refl))
+no_space octets = All-from_recursion (λ x. eqb x 32 ≡ false) _ (Clear-base64 32 octets refl refl refl)

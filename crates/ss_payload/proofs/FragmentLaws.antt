@@ -1,6 +1,6 @@
 -- Why what fragments state is what some fragment states.
-use Rattle.std.proofs.Common.{◌≡◌, ◌∙◌, ℕ, suc, zero, ◌+◌, ◌-◌, ◌<◌, ◌≤◌, ◌⊎◌, inl, inr, List, [], ◌∷◌, length, slice_index, slice_index_or, arith, refl, sym, ap, subst}
-use Rattle.std.specs.Prelude.{◌↔◌, Bool, true, false, ◌||◌, eqb, fold}
+use Rattle.std.proofs.Common.{◌≡◌, ◌∙◌, ℕ, suc, zero, ◌+◌, ◌<◌, ◌≤◌, ◌⊎◌, inl, inr, List, [], ◌∷◌, length, slice_index, slice_index_or, arith, refl, sym, subst}
+use Rattle.std.specs.Prelude.{◌↔◌, true, eqb, fold}
 use Rattle.std.specs.List.{Any}
 use Rattle.std.specs.FinSet as set
 use Rattle.std.specs.FinSet.{contains-empty}

@@ -4,7 +4,6 @@ pub mod Placed
 pub mod Runs
 pub mod Standing
 pub mod Base64Text
-pub mod DecodedOctets
 pub mod CutLists
 pub mod StampEnds
 pub mod Payloads

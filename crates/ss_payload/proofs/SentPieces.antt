@@ -1,9 +1,8 @@
 -- Why the pieces of a text, sent in any order and as often as one likes, are a whole payload.
-use Rattle.std.proofs.Common.{◌≡◌, ◌∙◌, ℕ, suc, zero, ◌+◌, ◌-◌, ◌<◌, ◌≤◌, ◌⊎◌, inl, inr, List, [], ◌∷◌, length, length-append, take, drop, map, slice_index, slice_index_or, arith, refl, sym, ap, subst}
-use Rattle.std.specs.Prelude.{◌↔◌, ◌≢◌}
+use Rattle.std.proofs.Common.{◌≡◌, ◌∙◌, ℕ, ◌+◌, ◌-◌, ◌<◌, ◌≤◌, List, [], ◌∷◌, length, drop, map, slice_index, slice_index_or, arith, refl, sym, ap, subst}
+use Rattle.std.specs.Prelude.{◌↔◌}
 use Rattle.std.specs.List.{Any, Contains}
 use Rattle.std.proofs.Math.Logic.{⊎_elim}
-use Rattle.std.proofs.lemmas.Bool.{cases_lt}
 use Rattle.std.proofs.lemmas.List.{get_or-take, get_or-drop, length-take, length-drop}
 use Rattle.ss_payload.specs.declared.cuts.Cut.{Cut}
 use Rattle.ss_payload.specs.declared.joiner.JoinState.TheVariants.{Whole}

@@ -1,5 +1,5 @@
 -- The room that a joiner has. It has room for sixteen indexes at a time, the first of them a multiple of 16.
-use Rattle.std.specs.Prelude.{◌≡◌, ℕ, ◌+◌, ◌/◌, ◌<◌, ◌⊎◌}
+use Rattle.std.specs.Prelude.{ℕ, ◌⊎◌}
 use Rattle.ss_payload.specs.declared.joiner.Joiner.{Joiner}
 use Rattle.ss_payload.specs.Slots.{HasRun}
 use Rattle.ss_payload.specs.RunSlots.{BelongsTo}

@@ -1,7 +1,7 @@
 -- The sixteen places of a run, and which fragments belong to it.
 use Rattle.std.specs.Prelude.{◌≡◌, ℕ, ◌+◌, ◌/◌, ◌<◌, ◌≤◌, true, false, List, length, slice_index, slice_index_or}
 use Rattle.ss_payload.specs.declared.joiner.slot.Slot.{Slot}
-use Rattle.ss_payload.specs.declared.joiner.slot.Slot.TheVariants.{Empty, One, Many}
+use Rattle.ss_payload.specs.declared.joiner.slot.Slot.TheVariants.{Empty, One}
 use Rattle.ss_payload.specs.Slots.{joined_slot, slot_differs}
 
 -- the first `count` octets of a piece were said at the places from `at` on, and nothing at others

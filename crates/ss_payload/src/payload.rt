@@ -4,10 +4,10 @@ ghost use Rattle.ss_payload.specs.Payload.{PayloadValue, IsPayload, Spells, if_s
 ghost use Rattle.ss_payload.specs.PayloadReading.{payload_in};
 
 use crate::kind::Kind;
-use crate::payload_reading::{assure, payload_of};
+use crate::payload_reading::payload_of;
 use crate::payload_writing::payload_text;
 use ss_frame::Bytes;
-use ss_message::{NoMemory, Stamp};
+use ss_message::{NoMemory, Stamp, timestamp_in_range};
 use std::alloc::Global;
 use std::marker::Model;
 
@@ -36,7 +36,7 @@ impl Payload {
         ensures value { result ≡ if_suited (record { stamp = stamp; kind = kind; blob = blob }) }
         ensures in_range { IfSome result IsPayload }
     {
-        assure(&stamp);
+        timestamp_in_range(&stamp);
         let octets = blob.as_slice();
         if octets.is_empty() != (kind == Kind::N) {
             return None;

@@ -1,7 +1,6 @@
 //! Payload blocks read from the left (RFC 5848, section 5.2).
-ghost use Rattle.std.specs.Prelude.{◌≡◌, ◌==◌, true, IfOk, IfSome, option_map};
+ghost use Rattle.std.specs.Prelude.{◌≡◌, ◌==◌, IfOk, IfSome, option_map};
 ghost use Rattle.std.specs.List.{position};
-ghost use Rattle.ss_message.specs.Message.{is_timestamp};
 ghost use Rattle.ss_message.specs.StampReading.{stamp_of};
 ghost use Rattle.ss_payload.specs.Payload.{IsPayload};
 ghost use Rattle.ss_payload.specs.PayloadReading.{parts_at_space, stamp_in, stamp_and_rest_in, no_blob_in, some_blob_in, blob_in, payload_in};
@@ -10,7 +9,7 @@ use crate::kind::{Kind, kind_of};
 use crate::payload::Payload;
 use crate::strict_base64::decoded;
 use ss_frame::Bytes;
-use ss_message::{NoMemory, Stamp};
+use ss_message::{NoMemory, Stamp, timestamp_in_range};
 use std::alloc::Global;
 
 fn place_of_space(text: &[u8]) -> Option<usize>
@@ -28,20 +27,11 @@ fn parts_at_space(text: &[u8]) -> Option<(&[u8], &[u8])>
     Some((&text[..place], &text[place + 1..]))
 }
 
-/// A stamp is always in its ranges.
-pub fn assure(stamp: &Option<Stamp>)
-    ensures { is_timestamp stamp.now ≡ true }
-{
-    if let Some(stamp) = stamp {
-        stamp.in_range();
-    }
-}
-
 fn moment_of(text: &[u8]) -> Option<Stamp>
     ensures { result ≡ stamp_of text.now }
 {
     let stamp = Stamp::parse(text);
-    assure(&stamp);
+    timestamp_in_range(&stamp);
     stamp
 }
 

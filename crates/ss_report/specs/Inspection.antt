@@ -82,6 +82,10 @@ abbrev pub torn_line : Tail → List ℕ
 torn_line tails.Clean = []
 torn_line (tails.Torn pos) = codes "torn" ++ spaced pos ++ codes "\n"
 
--- the whole text; its last line is end COUNT
+-- the last lines of a text about a log: the torn end, and end COUNT
+abbrev pub end_lines : Tail → ℕ → List ℕ
+end_lines tail count = torn_line tail ++ codes "end" ++ spaced count ++ codes "\n"
+
+-- the whole text
 unfoldable pub inspection : List (List ℕ) → Tail → List ℕ
-inspection messages tail = message_lines 0 messages ++ torn_line tail ++ codes "end" ++ spaced (length messages) ++ codes "\n"
+inspection messages tail = message_lines 0 messages ++ end_lines tail (length messages)

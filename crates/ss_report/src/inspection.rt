@@ -1,9 +1,9 @@
 //! The line that says what a stored message is.
-ghost use Rattle.std.specs.Prelude.{◌≡◌, ◌++◌, None, length, decimal, codes, OnOk};
+ghost use Rattle.std.specs.Prelude.{◌≡◌, ◌++◌, None, length, codes, OnOk};
 ghost use Rattle.ss_report.specs.Inspection.{part_number, cause_number, field_word, spaced, session_words, group_words, line_of, message_line};
 
-use itoa::Buffer;
 use ss_block::{CertBlock, Group, Reading, Session, SigBlock, Spoil, classify_with_session};
+use ss_frame::put_number;
 use ss_message::{Field, NoMemory, Part};
 use std::alloc::{AllocError, Global};
 
@@ -160,13 +160,6 @@ pub(crate) fn put_spaced(text: &mut Vec<u8>, number: u64) -> Result<(), AllocErr
 {
     text.extend_from_slice(b" ")?;
     put_number(text, number)
-}
-
-fn put_number(text: &mut Vec<u8>, number: u64) -> Result<(), AllocError>
-    ensures { OnOk result (text.new.items ≡ text.old.items ++ decimal number) }
-{
-    let mut buffer = Buffer::new();
-    text.extend_from_slice(buffer.format(number).as_bytes())
 }
 
 /// The number of the part at fault, 1 to 12.

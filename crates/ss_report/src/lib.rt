@@ -2,6 +2,7 @@
 //! inspection, which says what each message is.
 #![tactic(auto)]
 
+mod ending;
 mod fault;
 mod inspect;
 mod inspection;
@@ -9,6 +10,7 @@ mod log;
 mod output;
 mod verdict;
 
+pub use ending::put_end;
 pub use fault::RunFault;
 pub use inspect::run_inspect;
 pub use log::{Log, read_log};

@@ -1,32 +1,27 @@
 -- Blocks that stand by session, and their sections.
-use Rattle.std.proofs.Common.{◌≡◌, ℕ, zero, suc, ◌+◌, ◌-◌, ◌<◌, ◌≤◌, Bool, true, false, cond, not, ◌&&◌, List, [], ◌∷◌, ◌++◌, length, get_or, take, drop, map, filter, Bor, refl, sym, ap, ◌∙◌, subst, arith}
-use Rattle.std.specs.Prelude.{Contains}
+use Rattle.std.proofs.Common.{◌≡◌, ℕ, zero, suc, ◌+◌, ◌<◌, ◌≤◌, Bool, true, false, cond, not, ◌&&◌, List, [], ◌∷◌, ◌++◌, length, get_or, take, drop, map, filter, Bor, refl, sym, ap, ◌∙◌, subst, ◌-◌, length-drop, arith}
 use Rattle.std.specs.declared.cmp.Ordering.{Ordering}
 use Rattle.std.specs.declared.cmp.Ordering.TheVariants.{Less, Equal, Greater}
 use Rattle.std.specs.Ordering.{is_eq, is_lt, is_gt, ordering_reverse}
 use Rattle.std.specs.List.{AllByRecursion, take-map}
 use Rattle.std.specs.List.Sorted.{IsSortedByKey, IsStableBy, IsPermutation, ties}
 use Rattle.std.proofs.lemmas.Cmp.{tied_itself}
-use Rattle.std.proofs.lemmas.List.{drop_more, drop-drop, drop-map}
+use Rattle.std.proofs.lemmas.List.{get_or_default, drop_more, drop-drop, drop-map}
 use Rattle.std.proofs.lemmas.List.Sorted.{sorted_far, ranks_by, Contains-permutation, IsPermutation-sym, IsPermutation-map}
 use Rattle.std.proofs.Math.Seq.{take-append_seam, drop-append_seam}
 use Rattle.ss_block.specs.declared.session.Session.{Session}
 use Rattle.ss_block.specs.Order.{session_cmp}
 use Rattle.ss_block.specs.OrderLaws.{session_cmp_total, session_cmp_exact}
 use Rattle.ss_review.specs.declared.message.BlockMessage.{BlockMessage}
-use Rattle.ss_review.specs.Ordered.{in_order}
 use Rattle.ss_review.specs.Sessions.{same_session, sessions, of_session}
-use Rattle.ss_review.specs.Sectioned.{sections, referred, front}
-use Rattle.ss_review.proofs.Members.{Has, has_from_contains, contains_from_has, has-map, from_has-map}
+use Rattle.ss_review.specs.Sectioned.{sections, referred, front, SessionsRise, EndsSection}
+use Rattle.ss_review.proofs.Members.{Has, has_from_contains, contains_from_has, from_has-map}
 use Rattle.ss_review.proofs.Rising.{in_order_same, from_has-in_order}
 use Rattle.ss_review.proofs.Sections as sectioned
 use Rattle.ss_review.proofs.Sections.{map_agree}
 
 abbrev session_of : BlockMessage → Session
 session_of b = b.session
-
-abbrev pub SessionsRise : List BlockMessage → Type 0
-SessionsRise bs = sectioned.KeysRise session_of session_cmp_total session_cmp_exact bs
 
 abbrev back : Session → List BlockMessage → List BlockMessage
 back s bs = sectioned.back session_of session_cmp_total session_cmp_exact s bs
@@ -61,6 +56,10 @@ sessions_rise-drop zero xs up = up
 sessions_rise-drop (suc n) [] up = tt
 sessions_rise-drop (suc n) (x ∷ xs) up = sessions_rise-drop n xs up.1
 
+keys_rise : (bs : List BlockMessage) → SessionsRise bs → sectioned.KeysRise session_of session_cmp_total session_cmp_exact bs
+keys_rise [] up = tt
+keys_rise (b ∷ bs) up = (up.0, keys_rise bs up.1)
+
 -- ---- the first that are of a session
 
 front_is : (s : Session) (bs : List BlockMessage) → sectioned.front session_of session_cmp_total session_cmp_exact s bs ≡ front s bs
@@ -81,39 +80,33 @@ pub front_over : (s : Session) (xs : List (Bor BlockMessage)) (i : ℕ) (x : Bor
 front_over s xs i x below e other =
     ap length (front_here s xs i x below e ∙ ap (λ b. cond b (x.now ∷ front s (referred (drop (i + 1) xs))) []) other)
 
-no_more : {X : Type 0} (xs : List X) (i : ℕ) → length xs ≤ i → drop i xs ≡ []
-no_more [] zero over = refl
-no_more [] (suc i) over = refl
-no_more (x ∷ xs) zero over = absurd (omega (arith, over))
-no_more (x ∷ xs) (suc i) over = no_more xs i (omega (arith, over))
-
-pub front_at_end : (s : Session) (xs : List (Bor BlockMessage)) (i : ℕ) → length xs ≤ i → length (front s (referred (drop i xs))) ≡ 0
-front_at_end s xs i over = ap (λ ys. length (front s (referred ys))) (no_more xs i over)
-
 -- ---- one section more
+
+mine : (s : Session) → same_session s s ≡ true
+mine s = ap is_eq (tied_itself session_cmp_total s)
 
 section_first : (x : Bor BlockMessage) (xs : List (Bor BlockMessage)) → SessionsRise (referred (x ∷ xs)) → sections (referred (x ∷ xs)) ≡ (x.now.session, front x.now.session (referred (x ∷ xs))) ∷ sections (back x.now.session (referred (x ∷ xs)))
 section_first x xs up =
-    sectioned.sections_step session_of session_cmp_total session_cmp_exact x.now (referred xs) up
+    sectioned.sections_step session_of session_cmp_total session_cmp_exact x.now (referred xs) (keys_rise (referred (x ∷ xs)) up)
     ∙ (λ i. (x.now.session, sym starts i) ∷ sections (sym ends i))
   where
-    mine : same_session x.now.session x.now.session ≡ true
-    mine = ap is_eq (tied_itself session_cmp_total x.now.session)
-
     starts : front x.now.session (referred (x ∷ xs)) ≡ x.now ∷ sectioned.front session_of session_cmp_total session_cmp_exact x.now.session (referred xs)
-    starts = ap (λ b. cond b (x.now ∷ front x.now.session (referred xs)) []) mine ∙ ap (λ fs. x.now ∷ fs) (sym (front_is x.now.session (referred xs)))
+    starts = ap (λ b. cond b (x.now ∷ front x.now.session (referred xs)) []) (mine x.now.session) ∙ ap (λ fs. x.now ∷ fs) (sym (front_is x.now.session (referred xs)))
 
     ends : back x.now.session (referred (x ∷ xs)) ≡ back x.now.session (referred xs)
-    ends = ap (λ b. cond b (back x.now.session (referred xs)) (x.now ∷ referred xs)) mine
+    ends = ap (λ b. cond b (back x.now.session (referred xs)) (x.now ∷ referred xs)) (mine x.now.session)
+
+all_of : (s : Session) (xs : List (Bor BlockMessage)) → front s (referred xs) ++ back s (referred xs) ≡ referred xs
+all_of s xs =
+    ap (λ fs. fs ++ back s (referred xs)) (sym (front_is s (referred xs)))
+    ∙ sectioned.split_is session_of session_cmp_total session_cmp_exact s (referred xs)
 
 -- the front and the back as parts of the list
 parts : (s : Session) (xs : List (Bor BlockMessage)) → (front s (referred xs) ≡ referred (take (length (front s (referred xs))) xs)) × (back s (referred xs) ≡ referred (drop (length (front s (referred xs))) xs))
 parts s xs =
-    let n = length (front s (referred xs)) in
-    let all : front s (referred xs) ++ back s (referred xs) ≡ referred xs
-    = ap (λ fs. fs ++ back s (referred xs)) (sym (front_is s (referred xs))) ∙ sectioned.split_is session_of session_cmp_total session_cmp_exact s (referred xs) in (
-      sym (take-append_seam (front s (referred xs)) (back s (referred xs))) ∙ ap (take n) all ∙ take-map (λ (b : Bor BlockMessage). b.now) n xs,
-      sym (drop-append_seam (front s (referred xs)) (back s (referred xs))) ∙ ap (drop n) all ∙ drop-map (λ (b : Bor BlockMessage). b.now) n xs,
+    let n = length (front s (referred xs)) in (
+      sym (take-append_seam (front s (referred xs)) (back s (referred xs))) ∙ ap (take n) (all_of s xs) ∙ take-map (λ (b : Bor BlockMessage). b.now) n xs,
+      sym (drop-append_seam (front s (referred xs)) (back s (referred xs))) ∙ ap (drop n) (all_of s xs) ∙ drop-map (λ (b : Bor BlockMessage). b.now) n xs,
     )
 
 section_of : (x : Bor BlockMessage) (xs : List (Bor BlockMessage)) (n : ℕ) → SessionsRise (referred (x ∷ xs)) → n ≡ length (front x.now.session (referred (x ∷ xs))) → sections (referred (x ∷ xs)) ≡ (x.now.session, referred (take n (x ∷ xs))) ∷ sections (referred (drop n (x ∷ xs)))
@@ -123,17 +116,22 @@ section_of x xs n up e =
     ∙ (λ i. (x.now.session, p.0 i) ∷ sections (p.1 i))
     ∙ ap (λ k. (x.now.session, referred (take k (x ∷ xs))) ∷ sections (referred (drop k (x ∷ xs)))) (sym e)
 
-pub section_at : (bs : List (Bor BlockMessage)) (start end : ℕ) (x : Bor BlockMessage) → SessionsRise (referred bs) → start < length bs → x ≡ get_or bs start x → end ≡ start + length (front x.now.session (referred (drop start bs)))
-    → sections (referred (drop start bs)) ≡ (x.now.session, referred (take (end - start) (drop start bs))) ∷ sections (referred (drop end bs))
-section_at bs start end x up below e ends =
-    let here : drop start bs ≡ x ∷ drop (start + 1) bs = drop_more bs start x below ∙ ap (λ y. y ∷ drop (start + 1) bs) (sym e) in
-    let count : end - start ≡ length (front x.now.session (referred (x ∷ drop (start + 1) bs)))
-    = omega (arith, ends, ap (λ ys. length (front x.now.session (referred ys))) here) in
-    let rest : start + (end - start) ≡ end = omega (arith, ends) in
-    ap (λ ys. sections (referred ys)) here
-    ∙ section_of x (drop (start + 1) bs) (end - start) (subst (λ ys. SessionsRise (referred ys)) here (sessions_rise-drop start bs up)) count
-    ∙ ap (λ ys. (x.now.session, referred (take (end - start) ys)) ∷ sections (referred (drop (end - start) ys))) (sym here)
-    ∙ ap (λ ys. (x.now.session, referred (take (end - start) (drop start bs))) ∷ sections (referred ys)) (drop-drop (end - start) start bs ∙ ap (λ k. drop k bs) rest)
+pub ends_section : (bs : List (Bor BlockMessage)) (start count : ℕ) (d : Bor BlockMessage) → SessionsRise (referred bs) → start < length bs → count ≡ length (front (get_or bs start d).now.session (referred (drop start bs))) → count ≤ length (drop start bs)
+    → EndsSection bs start (start + count)
+ends_section bs start count d up below long within =
+    let x = get_or bs start d in
+    let rest = drop (start + 1) bs in
+    let here : drop start bs ≡ x ∷ rest = drop_more bs start d below in
+    let count_is : count ≡ length (front x.now.session (referred (x ∷ rest))) = long ∙ ap (λ ys. length (front x.now.session (referred ys))) here in
+    let ends : start + count - start ≡ count = omega arith in
+    record {
+      some = omega (arith, count_is, ap (λ b. length (cond b (x.now ∷ front x.now.session (referred rest)) [])) (mine x.now.session));
+      within = omega (arith, within, below, length-drop start bs);
+      sectioned = λ e.
+          ap (λ ys. sections (referred ys)) here
+          ∙ section_of x rest count (subst (λ ys. SessionsRise (referred ys)) here (sessions_rise-drop start bs up)) count_is
+          ∙ (λ i. ((get_or_default bs start d e below i).now.session, referred (take (sym ends i) (sym here i))) ∷ sections (referred ((ap (drop count) (sym here) ∙ drop-drop count start bs) i)));
+    }
 
 -- ---- a stable sort keeps the sections
 

@@ -11,7 +11,7 @@ use Rattle.std.specs.List.{AllByRecursion}
 use Rattle.std.specs.List.Sorted.{IsStrictlySortedBy}
 use Rattle.std.specs.BTreeMap as tree
 use Rattle.std.proofs.lemmas.Cmp.{tied_itself}
-use Rattle.std.proofs.lemmas.List.{map-append, map_more, append_assoc, at_drop_more, length-map, length-take-le}
+use Rattle.std.proofs.lemmas.List.{map-append, append_assoc, at_drop_more, take_more}
 use Rattle.std.proofs.lemmas.List.Sums.{sum_by-append}
 use Rattle.std.proofs.lemmas.Map.Text.{is_eq-slice_cmp}
 use Rattle.ss_block.specs.declared.hash.Hash.{Hash}
@@ -143,18 +143,8 @@ all_assigned ms rs hs e = ap (assigned_after ms []) e ∙ assigned_in_turn ms rs
 
 -- ---- a list of hashes from the front on
 
-pub assigned_at : (ms : List NormalMessage) (hs : List (Option Hash)) (i : ℕ) (d : Option Hash) → i < length hs
-    → (assigned_after ms (pairs_wanted ms (take i hs)) (pairs_wanted ms (drop i hs))
-    ≡ place_after ms (pairs_wanted ms (take i hs)) (pair_wanted ms (get_or hs i d)) ∷ assigned_after ms (pairs_wanted ms (take (i + 1) hs)) (pairs_wanted ms (drop (i + 1) hs)))
-    × (pairs_wanted ms (take (i + 1) hs) ≡ pairs_wanted ms (take i hs) ++ pair_wanted ms (get_or hs i d) ∷ [])
-assigned_at ms hs i d below =
-    let front : pairs_wanted ms (take (i + 1) hs) ≡ pairs_wanted ms (take i hs) ++ pair_wanted ms (get_or hs i d) ∷ []
-    = map_more (pair_wanted ms) hs i d below in (
-      at_drop_more (λ ks. assigned_after ms (pairs_wanted ms (take i hs)) (pairs_wanted ms ks)) hs i d below
-          ∙ ap (λ b. place_after ms (pairs_wanted ms (take i hs)) (pair_wanted ms (get_or hs i d)) ∷ assigned_after ms b (pairs_wanted ms (drop (i + 1) hs))) (sym front),
-      front,
-    )
-
--- there are no more pairs than hashes
-pub length-pairs_wanted : (ms : List NormalMessage) (hs : List (Option Hash)) (i : ℕ) → i < length hs → length (pairs_wanted ms (take i hs)) ≡ i
-length-pairs_wanted ms hs i below = length-map (take i hs) (pair_wanted ms) ∙ length-take-le i hs (omega arith)
+pub assigned_at : (ms : List NormalMessage) (ps : List (Option HashPair)) (i : ℕ) (d : Option HashPair) → i < length ps
+    → assigned_after ms (take i ps) (drop i ps) ≡ place_after ms (take i ps) (get_or ps i d) ∷ assigned_after ms (take (i + 1) ps) (drop (i + 1) ps)
+assigned_at ms ps i d below =
+    at_drop_more (λ qs. assigned_after ms (take i ps) qs) ps i d below
+    ∙ ap (λ b. place_after ms (take i ps) (get_or ps i d) ∷ assigned_after ms b (drop (i + 1) ps)) (sym (take_more ps i d below))

@@ -82,7 +82,7 @@ gap_why : (rs : List Row) (k : Key) (n : ℕ) (why : Why) (o : Option ℕ) → o
 gap_why rs k n why None e i = ap why_in i
 gap_why rs k n why (Some place) e i = absurd (cc)
 
-key_of : (k : Key) (s : Session) (g : Group) (n : ℕ) → k.session ≡ s → k.group ≡ g → n ≡ k.number → k ≡ record { session = s; group = g; number = n }
+pub key_of : (k : Key) (s : Session) (g : Group) (n : ℕ) → k.session ≡ s → k.group ≡ g → n ≡ k.number → k ≡ record { session = s; group = g; number = n }
 key_of k s g n p q r = λ i. record { session = p i; group = q i; number = sym r i }
 
 module _ (says : Answers) (log : Contents) where

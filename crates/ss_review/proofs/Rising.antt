@@ -1,10 +1,10 @@
 -- Lists that rise, and the members of a list in their order.
-use Rattle.std.proofs.Common.{◌≡◌, ◌⊎◌, inl, inr, List, [], ◌∷◌, ◌++◌, fold, refl, sym, ap, ◌∙◌, subst}
+use Rattle.std.proofs.Common.{◌≡◌, ◌⊎◌, inl, inr, List, [], ◌∷◌, ◌++◌, map, fold, refl, sym, ap, ◌∙◌, subst}
 use Rattle.std.specs.declared.cmp.Ordering.{Ordering}
 use Rattle.std.specs.declared.cmp.Ordering.TheVariants.{Less, Equal, Greater}
 use Rattle.std.specs.Ordering.{match_ordering, ordering_reverse}
 use Rattle.std.specs.Cmp.{IsTotalOrder}
-use Rattle.std.specs.List.{AllByRecursion}
+use Rattle.std.specs.List.{AllByRecursion, Any, Contains}
 use Rattle.std.specs.List.Sorted.{IsStrictlySortedBy}
 use Rattle.std.specs.BTreeMap.{insert_entry}
 use Rattle.std.specs.Map.{keys_of}
@@ -12,7 +12,7 @@ use Rattle.std.proofs.lemmas.Cmp.{tied_itself}
 use Rattle.std.proofs.lemmas.List.Sums.{fold-append}
 use Rattle.std.proofs.lemmas.Map.Lookups.{CmpEqualImpliesEq}
 use Rattle.ss_review.specs.Ordered.{with_member, in_order}
-use Rattle.ss_review.proofs.Members.{Has}
+use Rattle.ss_review.proofs.Members.{Has, has_from_contains, contains_from_has, has-map, from_has-map}
 
 -- ---- what stands behind a member
 
@@ -24,6 +24,21 @@ below_all P (y ∷ ys) x a (inr h) = below_all P ys x a.1 h
 pub all_below : {X : Type 0} (P : X → Type 0) (xs : List X) → ((x : X) → Has xs x → P x) → AllByRecursion P xs
 all_below P [] f = tt
 all_below P (y ∷ ys) f = (f y (inl refl), all_below P ys (λ x h. f x (inr h)))
+
+-- ---- keys
+
+all_keys : {X K : Type 0} (key : X → K) (P : K → Type 0) (xs : List X) → AllByRecursion (λ x. P (key x)) xs → AllByRecursion P (map key xs)
+all_keys key P [] a = tt
+all_keys key P (x ∷ xs) a = (a.0, all_keys key P xs a.1)
+
+rise_by : {X K : Type 0} (key : X → K) (R : K → K → Ordering) (xs : List X) → IsStrictlySortedBy (λ x y. R (key x) (key y)) xs → IsStrictlySortedBy R (map key xs)
+unfolding IsStrictlySortedBy
+rise_by key R [] up = tt
+rise_by key R (x ∷ xs) up = (all_keys key (λ k. R (key x) k ≡ Less) xs up.0, rise_by key R xs up.1)
+
+-- the keys of a list that rises by them rise
+pub keys_rise : {X K : Type 0} (key : X → K) (R : K → K → Ordering) (Q : X → X → Ordering) → ((x y : X) → Q x y ≡ R (key x) (key y)) → (xs : List X) → IsStrictlySortedBy Q xs → IsStrictlySortedBy R (map key xs)
+keys_rise {X} key R Q by xs up = rise_by key R xs (subst (λ (S : X → X → Ordering). IsStrictlySortedBy S xs) (λ i x y. by x y i) up)
 
 module _ {K : Type 0} {R : K → K → Ordering} (o : IsTotalOrder R) (exact : CmpEqualImpliesEq R) where
   pub not_less_itself : (k : K) → R k k ≡ Less → ⊥
@@ -132,6 +147,26 @@ module _ {K : Type 0} {R : K → K → Ordering} (o : IsTotalOrder R) (exact : C
   pub in_order_is : (xs ks : List K) → IsStrictlySortedBy R xs → ((q : K) → Has xs q → Has ks q) → ((q : K) → Has ks q → Has xs q) → xs ≡ in_order R ks
   in_order_is xs ks up f g =
       same_members xs (in_order R ks) up (rises-in_order ks) (λ q h. has-in_order q ks (f q h)) (λ q h. g q (from_has-in_order q ks h))
+
+  -- a list that rises by its keys and has the keys of another has those in order
+  pub in_order_by : {X : Type 0} (key : X → K) (Q : X → X → Ordering) → ((x y : X) → Q x y ≡ R (key x) (key y)) → (xs ys : List X)
+      → IsStrictlySortedBy Q ys
+      → ((x : X) → Contains xs x → Any (λ y. Q x y ≡ Equal) ys)
+      → ((x : X) → Contains ys x → Contains xs x)
+      → map key ys ≡ in_order R (map key xs)
+  in_order_by {X} key Q by xs ys up keeps adds_none =
+      in_order_is (map key ys) (map key xs) (keys_rise key R Q by ys up) there back
+    where
+      there : (q : K) → Has (map key ys) q → Has (map key xs) q
+      there q h =
+          let w : (y : X) × Has ys y × (key y ≡ q) = from_has-map key ys q h in
+          subst (Has (map key xs)) w.2 (has-map key xs w.0 (has_from_contains xs w.0 (adds_none w.0 (contains_from_has ys w.0 w.1))))
+
+      back : (q : K) → Has (map key xs) q → Has (map key ys) q
+      back q h =
+          let w : (x : X) × Has xs x × (key x ≡ q) = from_has-map key xs q h in
+          let k = keeps w.0 (contains_from_has xs w.0 w.1) in
+          subst (Has (map key ys)) (sym (exact (key w.0) (key k.1) (sym (by w.0 k.1) ∙ k.4)) ∙ w.2) (has-map key ys k.1 (has_from_contains ys k.1 (k.0, k.2, k.3)))
 
   -- lists with the same members are equal in order
   pub in_order_same : (ks js : List K) → ((q : K) → Has ks q → Has js q) → ((q : K) → Has js q → Has ks q) → in_order R ks ≡ in_order R js

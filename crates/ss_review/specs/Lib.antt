@@ -21,6 +21,9 @@ pub mod Accounts
 pub mod Laws
 pub mod Rows
 pub mod Assigning
+pub mod Numbered
+pub mod Grouped
 pub mod Stated
 pub mod Covering
 pub mod Keeping
+pub mod Bearing

@@ -8,9 +8,13 @@ use Rattle.ss_review.specs.Sessions.{sessions, of_session}
 use Rattle.ss_review.specs.Payloads.{certificates, stated_payload}
 use Rattle.ss_review.specs.Verified.{signature_of}
 
+-- whether the block is valid under the payload
+abbrev pub question_about : List ℕ → BlockMessage → Question
+question_about payload b = question.Yes payload b.signed (signature_of b.said)
+
 abbrev pub asked : List BlockMessage → Result (List ℕ) SessionState → List Question
 asked bs (Err state) = []
-asked bs (Ok payload) = question.Trust payload ∷ map (λ b. question.Yes payload b.signed (signature_of b.said)) bs
+asked bs (Ok payload) = question.Trust payload ∷ map (question_about payload) bs
 
 -- what is asked of a scheme: of each session that states a payload, whether the payload is trusted, and whether each block
 -- is valid under it, in order of place

@@ -14,7 +14,7 @@ use ss_message::NoMemory;
 use std::alloc::Global;
 
 /// The signature of a block.
-fn signature_of(said: &Said) -> &Bytes
+pub(crate) fn signature_of(said: &Said) -> &Bytes
     ensures { result.now ≡ signature_of said.now }
 {
     match said {

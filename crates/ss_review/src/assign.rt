@@ -2,7 +2,7 @@
 ghost use Rattle.std.specs.Prelude.{◌≡◌, ◌+◌, ◌<◌, ◌^◌, ◌++◌, ◌∷◌, [], List, Option, length, IfOk, OnOk};
 ghost use Rattle.ss_block.specs.declared.hash.HashPair.{HashPair};
 ghost use Rattle.ss_review.specs.declared.message.NormalMessage.{NormalMessage};
-ghost use Rattle.ss_review.specs.Assigning.{pair_wanted, place_after, assigned_all, count_of, Counts};
+ghost use Rattle.ss_review.specs.Assigning.{place_after, assigned_all, count_of, Counts};
 
 use crate::index::Index;
 use ss_block::{Hash, HashPair};
@@ -17,27 +17,24 @@ fn count_of(taken: &BTreeMap<HashPair, u64>, pair: &HashPair) -> u64
     taken.get(pair).copied().unwrap_or(0)
 }
 
-/// The place of the next key, which is announced with one hash, or with none that counts. `taken` has how often each
-/// pair was wanted before, which is less often than there are keys, and has it with this key after the call.
+/// The place of the next key, which wants these two hashes, or none. `taken` has how often each pair was wanted before,
+/// which is less often than there are keys, and has it with this key after the call.
 fn next_place<I: Index>(
     index: &I,
     taken: &mut BTreeMap<HashPair, u64>,
-    hash: Option<Hash>,
+    wanted: Option<HashPair>,
 ) -> Result<Option<u32>, NoMemory>
     ensures place { (ms : List NormalMessage) (before : List (Option HashPair))
         → I.has index.now ms
         → Counts taken.old before
-        → IfOk result (λ place. place ≡ place_after ms before (pair_wanted ms hash)) }
+        → IfOk result (λ place. place ≡ place_after ms before wanted) }
     ensures counts { (ms : List NormalMessage) (before : List (Option HashPair))
         → I.has index.now ms
         → Counts taken.old before
         → length before + 1 < 2 ^ 64
-        → OnOk result (Counts taken.new (before ++ pair_wanted ms hash ∷ [])) }
+        → OnOk result (Counts taken.new (before ++ wanted ∷ [])) }
 {
-    let Some(hash) = hash else {
-        return Ok(None);
-    };
-    let Some(pair) = index.pair_of_bearer(&hash) else {
+    let Some(pair) = wanted else {
         return Ok(None);
     };
     let number = count_of(taken, &pair);
@@ -56,10 +53,11 @@ pub(crate) fn assign<I: Index>(
         → I.has index.now ms
         → IfOk result (λ places. places.items ≡ assigned_all ms hashes.now) }
 {
+    let wanted = index.bearers(alloc, hashes)?;
     let mut taken = BTreeMap::new(alloc);
     let mut places = Vec::with_capacity(alloc, hashes.len())?;
-    for hash in hashes {
-        let place = next_place(index, &mut taken, *hash)?;
+    for pair in wanted.as_slice() {
+        let place = next_place(index, &mut taken, *pair)?;
         places.push(place)?;
     }
     Ok(places)

@@ -1,17 +1,20 @@
 //! An index that looks through all messages, one after the other.
-ghost use Rattle.std.specs.Prelude.{◌≡◌, map, slice_get, find, filter};
+ghost use Rattle.std.specs.Prelude.{◌≡◌, map, slice_get, find, filter, IfOk};
 ghost use Rattle.ss_review.specs.Assigned.{has_hash, same_pair, pair_of_bearer, places_with};
+ghost use Rattle.ss_review.specs.Assigning.{pairs_wanted};
 
 use crate::index::Index;
 use crate::message::NormalMessage;
 use ss_block::{Hash, HashPair};
+use ss_message::NoMemory;
+use std::alloc::Global;
 
 /// The messages of a log without a block, and their places, by rising place. It finds one in as many steps as there
 /// are messages.
 #[derive(Clone, Copy)]
 pub(crate) struct Scan<'a> {
-    messages: &'a [NormalMessage],
-    places: &'a [u32],
+    pub(crate) messages: &'a [NormalMessage],
+    pub(crate) places: &'a [u32],
 }
 
 /// Whether one of the two hashes is this one.
@@ -59,6 +62,24 @@ fn place(messages: &[NormalMessage], pair: &HashPair, number: usize) -> Option<u
     None
 }
 
+/// For each of these hashes, both hashes of the first message that has it.
+fn bearers(
+    alloc: Global,
+    messages: &[NormalMessage],
+    hashes: &[Option<Hash>],
+) -> Result<Vec<Option<HashPair>>, NoMemory>
+    ensures { IfOk result (λ pairs. pairs.items ≡ pairs_wanted messages.now hashes.now) }
+{
+    let mut pairs = Vec::with_capacity(alloc, hashes.len())?;
+    for hash in hashes {
+        pairs.push(match hash {
+            Some(hash) => pair_of_bearer(messages, hash),
+            None => None,
+        })?;
+    }
+    Ok(pairs)
+}
+
 impl<'a> Index for Scan<'a> {
     ghost use Rattle.ss_review.specs.declared.scan.Scan.{Scan};
 
@@ -68,8 +89,12 @@ impl<'a> Index for Scan<'a> {
         self.places
     }
 
-    fn pair_of_bearer(&self, hash: &Hash) -> Option<HashPair> {
-        pair_of_bearer(self.messages, hash)
+    fn bearers(
+        &self,
+        alloc: Global,
+        hashes: &[Option<Hash>],
+    ) -> Result<Vec<Option<HashPair>>, NoMemory> {
+        bearers(alloc, self.messages, hashes)
     }
 
     fn place(&self, pair: &HashPair, number: usize) -> Option<u32> {

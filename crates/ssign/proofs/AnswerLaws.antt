@@ -3,7 +3,8 @@ use Rattle.std.proofs.Common.{◌≡◌, ℕ, ◌<◌, false, cond, eqb, List, [
 use Rattle.std.specs.List.{AllByRecursion}
 use Rattle.std.proofs.lemmas.List.{append_assoc}
 use Rattle.std.proofs.lemmas.List.Elements.{All-from_recursion}
-use Rattle.ssign.specs.Answers.{Answer, Trust, Yes, Seal, HasFields, HasFirstBadLine, HasLines, LinesAreDetermined, IsNoLine, Lacks, LinesAreDetermined, NoTextIsGoodAndBad, BadLineIsDetermined, base64, ended, first_line, line_feed, line_text, space}
+use Rattle.ss_payload.specs.StrictBase64.{base64}
+use Rattle.ssign.specs.Answers.{Answer, Trust, Yes, Seal, HasFields, HasFirstBadLine, HasLines, LinesAreDetermined, IsNoLine, Lacks, LinesAreDetermined, NoTextIsGoodAndBad, BadLineIsDetermined, ended, first_line, line_feed, line_text, space}
 use Rattle.ssign.proofs.AnswerLines.{cut_once}
 use Rattle.ssign.proofs.Base64Text.{Clear, Clear-append, Clear-base64, Lacks-space, base64-injective}
 use Rattle.ssign.proofs.ReadLines.{first_clear}

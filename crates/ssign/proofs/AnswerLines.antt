@@ -2,7 +2,8 @@
 use Rattle.std.proofs.Common.{◌≡◌, ℕ, eqb, false, List, [], ◌∷◌, ◌++◌, sym, refl, ◌∙◌}
 use Rattle.std.proofs.lemmas.List.Elements.{recursion_from_All}
 use Rattle.std.proofs.lemmas.Bool.{eqb-false}
-use Rattle.ssign.specs.Answers.{IsNoField, IsNoPair, IsNoTriple, Lacks, base64, space}
+use Rattle.ss_payload.specs.StrictBase64.{base64}
+use Rattle.ssign.specs.Answers.{IsNoField, IsNoPair, IsNoTriple, Lacks, space}
 use Rattle.ssign.proofs.Base64Text.{Clear, Lacks-space}
 use Rattle.ssign.specs.declared.answers.line.LineFault.{LineFault}
 use Rattle.ssign.specs.declared.answers.line.LineFault.TheVariants as faults

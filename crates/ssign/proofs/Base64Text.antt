@@ -6,7 +6,8 @@ use Rattle.base64.specs.Rfc4648.{encode_symbols, padding_len}
 use Rattle.base64.specs.Engines.{standard}
 use Rattle.base64.specs.GeneralPurpose.{IsBytes, decode_of, encode_of, engine_symbols}
 use Rattle.base64.proofs.EngineFacts.{decode_of-encode_of}
-use Rattle.ssign.specs.Answers.{Lacks, base64, line_feed, space}
+use Rattle.ss_payload.specs.StrictBase64.{base64}
+use Rattle.ssign.specs.Answers.{Lacks, line_feed, space}
 
 -- the octet stands nowhere in the text
 abbrev pub Clear : ℕ → List ℕ → Type 0

@@ -4,7 +4,8 @@ use Rattle.std.specs.List.{AllByRecursion}
 use Rattle.std.proofs.lemmas.List.{append-nil, append_assoc}
 use Rattle.std.proofs.lemmas.List.Elements.{recursion_from_All}
 use Rattle.ssign.specs.declared.answers.place.Place.{Place}
-use Rattle.ssign.specs.Answers.{Answer, Seal, Trust, Yes, base64, space, HasFields, Lacks, ended, first_line, line_feed, line_text}
+use Rattle.ss_payload.specs.StrictBase64.{base64}
+use Rattle.ssign.specs.Answers.{Answer, Seal, Trust, Yes, space, HasFields, Lacks, ended, first_line, line_feed, line_text}
 use Rattle.ssign.specs.AnswerInput.{IsCutAfterLine, IsReadUpTo}
 use Rattle.ssign.specs.AnswerLine.{answers_at, size_of}
 use Rattle.ssign.proofs.Base64Text.{Clear, length-base64}

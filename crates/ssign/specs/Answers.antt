@@ -3,8 +3,8 @@
 use Rattle.std.specs.Prelude.{◌≡◌, ℕ, ◌+◌, ◌<◌, ◌==◌, Bool, false, if◌then◌else◌, ◌&&◌, ◌⊎◌, List, [], ◌∷◌, ◌++◌, length, codes, Option, Some, None, option_and_then}
 use Rattle.std.specs.List.{All, AllByRecursion, find, flat_map, list_any}
 use Rattle.std.specs.Str.{bytes_eq}
-use Rattle.base64.specs.Engines.{standard}
-use Rattle.base64.specs.GeneralPurpose.{IsBytes, encode_of}
+use Rattle.base64.specs.GeneralPurpose.{IsBytes}
+use Rattle.ss_payload.specs.StrictBase64.{base64}
 
 -- what a line says: a payload is trusted; under a payload, octets have this valid signature; octets are to be
 -- given this signature
@@ -18,10 +18,6 @@ line_feed = 10
 
 abbrev pub space : ℕ
 space = 32
-
--- the base64 of octets, with its padding (RFC 4648, section 4)
-unfoldable pub base64 : List ℕ → List ℕ
-base64 octets = encode_of standard octets
 
 -- the one spelling of a line, without its line feed
 abbrev pub line_text : Answer → List ℕ

@@ -1,7 +1,7 @@
 -- The text of a report: a line for each thing that it says, each ended by LF, with one SP between two fields.
 use Rattle.std.specs.Prelude.{ℕ, List, [], ◌++◌, codes, decimal, flat_map, Option, Some, None}
 use Rattle.ss_frame.specs.declared.step.Tail.{Tail}
-use Rattle.ss_frame.specs.declared.step.Tail.TheVariants as tails
+use Rattle.ss_report.specs.Inspection.{end_lines}
 use Rattle.ssign.specs.declared.report.SessionState.{SessionState}
 use Rattle.ssign.specs.declared.report.SessionState.TheVariants as states
 use Rattle.ssign.specs.declared.report.Entry.{Entry}
@@ -39,12 +39,7 @@ sessions_lines (Some s) = session_lines s
 unfoldable pub place_line : List ℕ → ℕ → List ℕ
 place_line word place = word ++ decimal place ++ codes "\n"
 
--- torn POS, where the log has a torn end
-unfoldable pub tail_lines : Tail → List ℕ
-tail_lines tails.Clean = []
-tail_lines (tails.Torn pos) = codes "torn " ++ decimal pos ++ codes "\n"
-
 -- the whole text
 unfoldable pub lines : Report → Tail → List ℕ
 lines report tail = sessions_lines report.session ++ flat_map (place_line (codes "unlisted ")) report.unlisted.items
-    ++ flat_map (place_line (codes "refused ")) report.refused.items ++ tail_lines tail ++ (codes "end " ++ decimal report.count ++ codes "\n")
+    ++ flat_map (place_line (codes "refused ")) report.refused.items ++ end_lines tail report.count

@@ -1,5 +1,6 @@
 //! The program: its command line, its streams and its exit statuses.
-ghost use Rattle.std.specs.Prelude.{◌≡◌, ◌≤◌, map};
+ghost use Rattle.std.specs.Prelude.{◌≡◌, ◌≤◌, false, map, IfOk};
+ghost use Rattle.ss_frame.specs.Watched.{has_failed};
 ghost use Rattle.ssign.specs.CommandLine.{AreMistaken, status_of};
 
 use crate::answers::open_answers;
@@ -13,7 +14,7 @@ use ss_frame::{Buffered, Limits, Watched};
 use ss_report::{RunFault, Verdict, run_inspect};
 use std::alloc::AllocError;
 use std::fmt::Display;
-use std::io::BufWriter;
+use std::io::{BufWriter, Printer};
 use std::rt::{Env, Files};
 use std::{env, io};
 
@@ -98,7 +99,7 @@ fn review_command<R: Input + Print + Eprint + Files + AllocGlobal>(
     end(rt, reviewed)
 }
 
-/// Reviews standard input onto standard output, each through a buffer.
+/// Reviews standard input onto standard output.
 fn review_streams<R: Input + Print + AllocGlobal, J: Judge>(
     rt: &R,
     judge: &J,
@@ -106,14 +107,8 @@ fn review_streams<R: Input + Print + AllocGlobal, J: Judge>(
 ) -> Result<Verdict, RunFault>
     requires { J.sound judge.now }
 {
-    let Ok(input) = Buffered::new(rt.alloc(), rt.reader()) else {
-        return Err(RunFault::Memory);
-    };
-    let Ok(output) = BufWriter::with_capacity(rt.alloc(), BUFFER_SIZE, io::writer(rt)) else {
-        return Err(RunFault::Memory);
-    };
-    let mut reader = Watched::new(input);
-    let mut writer = Watched::new(output);
+    let mut reader = standard_input(rt)?;
+    let mut writer = standard_output(rt)?;
     run_review(rt.alloc(), &mut reader, &mut writer, judge, limits)
 }
 
@@ -126,20 +121,36 @@ fn inspect_command<R: Input + Print + Eprint + AllocGlobal>(rt: &R, options: &Ar
     end(rt, inspect_streams(rt, limits))
 }
 
-/// Inspects standard input onto standard output, each through a buffer.
+/// Inspects standard input onto standard output.
 fn inspect_streams<R: Input + Print + AllocGlobal>(
     rt: &R,
     limits: Limits,
 ) -> Result<Verdict, RunFault> {
+    let mut reader = standard_input(rt)?;
+    let mut writer = standard_output(rt)?;
+    run_inspect(rt.alloc(), &mut reader, &mut writer, limits)
+}
+
+/// Standard input, through a buffer.
+fn standard_input<R: Input + AllocGlobal>(rt: &R) -> Result<Watched<Buffered<R::Reader>>, RunFault>
+    ensures { IfOk result (λ reader. has_failed reader ≡ false) }
+{
     let Ok(input) = Buffered::new(rt.alloc(), rt.reader()) else {
         return Err(RunFault::Memory);
     };
+    Ok(Watched::new(input))
+}
+
+/// Standard output, through a buffer.
+fn standard_output<R: Print + AllocGlobal>(
+    rt: &R,
+) -> Result<Watched<BufWriter<Printer<'_, R>>>, RunFault>
+    ensures { IfOk result (λ writer. has_failed writer ≡ false) }
+{
     let Ok(output) = BufWriter::with_capacity(rt.alloc(), BUFFER_SIZE, io::writer(rt)) else {
         return Err(RunFault::Memory);
     };
-    let mut reader = Watched::new(input);
-    let mut writer = Watched::new(output);
-    run_inspect(rt.alloc(), &mut reader, &mut writer, limits)
+    Ok(Watched::new(output))
 }
 
 /// The exit status of a run that ended so.

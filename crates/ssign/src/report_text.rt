@@ -1,10 +1,10 @@
 //! The text of a report.
-ghost use Rattle.std.specs.Prelude.{◌≡◌, ◌++◌, decimal, codes, flat_map, IfOk, OnOk};
-ghost use Rattle.ssign.specs.ReportText.{session_text, session_line, session_lines, sessions_lines, entry_line, place_line, tail_lines, lines};
+ghost use Rattle.std.specs.Prelude.{◌≡◌, ◌++◌, codes, flat_map, IfOk, OnOk};
+ghost use Rattle.ssign.specs.ReportText.{session_text, session_line, session_lines, sessions_lines, entry_line, place_line, lines};
 
 use crate::report::{Entry, Report, SessionReport, SessionState};
-use itoa::Buffer;
-use ss_frame::{Bytes, Tail};
+use ss_frame::{Bytes, Tail, put_number};
+use ss_report::put_end;
 use std::alloc::{AllocError, Global};
 
 /// The text of a report on a log with this end: lines ended by LF.
@@ -16,18 +16,8 @@ pub fn report_text(alloc: Global, report: &Report, tail: Tail) -> Result<Bytes, 
     put_sessions(&mut text, &report.session)?;
     put_places(&mut text, b"unlisted ", &report.unlisted)?;
     put_places(&mut text, b"refused ", &report.refused)?;
-    put_tail(&mut text, tail)?;
-    text.extend_from_slice(b"end ")?;
-    put_number(&mut text, u64::from(report.count))?;
-    text.extend_from_slice(b"\n")?;
+    put_end(&mut text, tail, u64::from(report.count))?;
     Ok(Bytes::from_vec(text))
-}
-
-fn put_number(text: &mut Vec<u8>, number: u64) -> Result<(), AllocError>
-    ensures { OnOk result (text.new.items ≡ text.old.items ++ decimal number) }
-{
-    let mut buffer = Buffer::new();
-    text.extend_from_slice(buffer.format(number).as_bytes())
 }
 
 fn put_session_text(text: &mut Vec<u8>, rsid: u64) -> Result<(), AllocError>
@@ -118,18 +108,4 @@ fn put_place(text: &mut Vec<u8>, word: &[u8], place: u32) -> Result<(), AllocErr
     text.extend_from_slice(word)?;
     put_number(text, u64::from(place))?;
     text.extend_from_slice(b"\n")
-}
-
-#[tactic(auto, unfolding(crate::specs::ReportText::tail_lines))]
-fn put_tail(text: &mut Vec<u8>, tail: Tail) -> Result<(), AllocError>
-    ensures { OnOk result (text.new.items ≡ text.old.items ++ tail_lines tail) }
-{
-    match tail {
-        Tail::Clean => Ok(()),
-        Tail::Torn { pos } => {
-            text.extend_from_slice(b"torn ")?;
-            put_number(text, pos)?;
-            text.extend_from_slice(b"\n")
-        }
-    }
 }

@@ -5,6 +5,8 @@
 //! - `messages`: reads each line of standard input as a message; with the word `scan` it finds the lines alone.
 //! - `joining ORDER COUNT`: joins so many fragments of one octet each, in the order `rising`, `falling`, `shuffled`, `whole`
 //!   or `joiners` (`joining.rt`).
+//! - `review`: reviews the frames of standard input under a scheme that says yes to everything; with the word `feed` it
+//!   feeds them to the reviewer alone.
 //!
 //! Without a word it does a little of each, the frames from standard input.
 #![tactic(auto)]
@@ -12,6 +14,7 @@
 mod frames;
 mod joining;
 mod messages;
+mod reviewing;
 
 use joining::Order;
 use ss_frame::Limits;
@@ -43,6 +46,7 @@ fn main(rt: HostRuntime) -> io::Result<()> {
         "frames" => frames::run(&rt, Limits::standard()),
         "lines" => frames::run(&rt, Limits::standard().lines()),
         "messages" => messages::run(&rt, detail == "scan"),
+        "review" => reviewing::run(&rt, Limits::standard(), detail != "feed"),
         "joining" => {
             let count = word(&words, 3).parse::<u32>().unwrap_or(1_000);
             joining::run(&rt, Order::named(detail), count)

@@ -5,6 +5,7 @@ use ss_message::{
     Part, Stamp, write_message,
 };
 use std::alloc::{AllocError, Global};
+use std::process::Abort;
 use std::test::Fail;
 
 fn bytes(alloc: Global, octets: &[u8]) -> Result<Bytes, AllocError> {
@@ -43,50 +44,46 @@ fn element(
     })
 }
 
-/// What is written.
-fn text_of(alloc: Global, draft: &Draft) -> Result<Bytes, DraftFault> {
-    write_message(alloc, draft)
+/// Sees that the draft is written so.
+fn sees(rt: &(impl Abort + AllocGlobal), draft: &Draft, want: &[u8]) -> Result<(), DraftFault> {
+    let text = write_message(rt.alloc(), draft)?;
+    assert_eq!(rt; text.as_slice(), want);
+    Ok(())
 }
 
-/// The part that is refused, or none.
-fn refused(alloc: Global, draft: &Draft) -> Option<DraftFault> {
-    match write_message(alloc, draft) {
-        Ok(_) => None,
-        Err(fault) => Some(fault),
-    }
+/// Sees that this part of the draft is refused.
+fn sees_refused(rt: &(impl Abort + AllocGlobal), draft: &Draft, part: Part) {
+    let fault = write_message(rt.alloc(), draft).err();
+    assert_eq!(rt; fault, Some(DraftFault::Bad { part }));
 }
 
-fn bad(part: Part) -> Option<DraftFault> {
-    Some(DraftFault::Bad { part })
-}
-
-#[test]
-fn written(rt: HostRuntime) -> Result<(), Fail> {
-    let alloc = rt.alloc();
-    let draft = empty(alloc);
-    assert_eq!(rt;
-        text_of(alloc, &draft)?.as_slice(),
-        b"<13>1 - - - - - -".as_slice()
-    );
-
+/// An element with a parameter whose value is escaped, and one with none.
+fn two_elements(alloc: Global) -> Result<DraftElements, AllocError> {
     let mut elements = Vec::new(alloc);
     elements.push(element(alloc, b"a@1", b"b", b"]\"\\")?)?;
     elements.push(DraftElement {
         id: bytes(alloc, b"c")?,
         parameters: DraftParameters::from_vec(Vec::new(alloc)),
     })?;
-    let draft = Draft {
-        pri: 191,
-        stamp: Stamp::new(2009, 5, 3, 14, 0, 39, 0, 0, Offset::Utc),
-        hostname: Field::Text(bytes(alloc, b"h")?),
-        app_name: Field::Text(bytes(alloc, b"s")?),
-        procid: Field::Text(bytes(alloc, b"--")?),
-        msgid: Field::Text(bytes(alloc, b"m")?),
-        elements: DraftElements::from_vec(elements),
-        msg: Some(bytes(alloc, b"")?),
-    };
+    Ok(DraftElements::from_vec(elements))
+}
+
+/// A draft with nothing absent.
+fn full(alloc: Global) -> Result<Draft, AllocError> {
+    let mut draft = header(alloc, 191, &[b"h", b"s", b"--", b"m"])?;
+    draft.stamp = Stamp::new(2009, 5, 3, 14, 0, 39, 0, 0, Offset::Utc);
+    draft.elements = two_elements(alloc)?;
+    draft.msg = Some(bytes(alloc, b"")?);
+    Ok(draft)
+}
+
+#[test]
+fn written(rt: HostRuntime) -> Result<(), Fail> {
+    let draft = empty(rt.alloc());
+    sees(&rt, &draft, b"<13>1 - - - - - -")?;
+    let draft = full(rt.alloc())?;
     let want = b"<191>1 2009-05-03T14:00:39Z h s -- m [a@1 b=\"\\]\\\"\\\\\"][c] ";
-    assert_eq!(rt; text_of(alloc, &draft)?.as_slice(), want.as_slice());
+    sees(&rt, &draft, want)?;
     Ok(())
 }
 
@@ -157,18 +154,17 @@ fn body(alloc: Global, texts: &[&[u8]; 5]) -> Result<Draft, AllocError> {
 
 #[test]
 fn not_written(rt: HostRuntime) -> Result<(), Fail> {
-    let alloc = rt.alloc();
     for (pri, texts, part) in &HEADERS {
-        let draft = header(alloc, *pri, texts)?;
-        assert_eq!(rt; refused(alloc, &draft), bad(*part), "{pri} {texts:?}");
+        let draft = header(rt.alloc(), *pri, texts)?;
+        sees_refused(&rt, &draft, *part);
     }
     for (texts, part) in &BODIES {
-        let draft = body(alloc, texts)?;
-        assert_eq!(rt; refused(alloc, &draft), bad(*part), "{texts:?}");
+        let draft = body(rt.alloc(), texts)?;
+        sees_refused(&rt, &draft, *part);
     }
     // A text without an octet is no text.
-    let mut draft = empty(alloc);
-    draft.hostname = Field::Text(bytes(alloc, b"")?);
-    assert_eq!(rt; refused(alloc, &draft), bad(Part::Hostname));
+    let mut draft = empty(rt.alloc());
+    draft.hostname = Field::Text(bytes(rt.alloc(), b"")?);
+    sees_refused(&rt, &draft, Part::Hostname);
     Ok(())
 }

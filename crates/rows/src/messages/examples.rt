@@ -1,7 +1,8 @@
 //! The examples of RFC 5424, section 6.5, and the values of parameters.
 use ss_frame::Bytes;
-use ss_message::{Message, NoMemory, Span, Stamp, escape, parse, value, write_stamp};
+use ss_message::{Message, NoMemory, Parameter, Span, Stamp, escape, parse, value, write_stamp};
 use std::alloc::Global;
+use std::process::Abort;
 use std::test::Fail;
 
 const FIRST: &[u8] =
@@ -140,32 +141,41 @@ fn elements(rt: HostRuntime) -> Result<(), Fail> {
     Ok(())
 }
 
-// A parameter lies between its SP and its closing quote.
-#[test]
-fn places(rt: HostRuntime) -> Result<(), Fail> {
-    let m = read(rt.alloc(), BLOCK)?;
+/// What a message says of itself: its length, its elements by name, and its host.
+fn sees_names(rt: &impl Abort, m: &Message<'_>) {
     assert_eq!(rt; m.source.len(), 177);
     assert_eq!(rt; m.element(b"ssign"), Some(1));
     assert_eq!(rt; m.element(b"z"), None);
     let host = m.hostname;
     assert!(rt; host.start <= host.end && host.end <= m.source.len());
     assert_eq!(rt; m.part(host), b"h".as_slice());
+}
+
+/// A parameter lies between its SP and its closing quote.
+fn sees_edges(rt: &impl Abort, source: &[u8], sign: &Parameter) {
+    assert_eq!(rt; text_of(source, sign.name), Some(b"SIGN".as_slice()));
+    let before = sign.name.start.saturating_sub(1);
+    let behind = sign.value.end.saturating_add(1);
+    assert_eq!(rt; (before, behind), (134, 146));
+    let whole = Some(b" SIGN=\"AAAA\"".as_slice());
+    assert_eq!(rt; source.get(before..behind), whole);
+    let rest = Some(b"][y@1 a=\"\\]\"] hello SIGN=\"AAAA\"".as_slice());
+    assert_eq!(rt; source.get(behind..), rest);
+}
+
+fn sees_value(rt: &impl Abort, m: &Message<'_>, value: Span) {
+    assert!(rt; value.start <= value.end && value.end <= m.source.len());
+    assert_eq!(rt; m.part(value), b"AAAA".as_slice());
+}
+
+#[test]
+fn places(rt: HostRuntime) -> Result<(), Fail> {
+    let m = read(rt.alloc(), BLOCK)?;
+    sees_names(&rt, &m);
     let element = m.elements.as_slice().get(1).ok_or("an element")?;
     let sign = element.parameters.as_slice().last().ok_or("a parameter")?;
-    assert_eq!(rt; text_of(m.source, sign.name), Some(b"SIGN".as_slice()));
-    let before = sign.name.start.checked_sub(1).ok_or("a SP")?;
-    let behind = sign.value.end.checked_add(1).ok_or("a quote")?;
-    assert_eq!(rt;
-        m.source.get(before..behind),
-        Some(b" SIGN=\"AAAA\"".as_slice())
-    );
-    assert_eq!(rt; (before, behind), (134, 146));
-    assert_eq!(rt;
-        m.source.get(behind..),
-        Some(b"][y@1 a=\"\\]\"] hello SIGN=\"AAAA\"".as_slice())
-    );
-    assert!(rt; sign.value.start <= sign.value.end && sign.value.end <= m.source.len());
-    assert_eq!(rt; m.part(sign.value), b"AAAA".as_slice());
+    sees_edges(&rt, m.source, sign);
+    sees_value(&rt, &m, sign.value);
     Ok(())
 }
 

@@ -1,9 +1,12 @@
 //! What holds of the reports of all logs, and of some.
 ghost use Rattle.ss_review.specs.Laws.{
+  AssignedWhereDue,
+  EveryPlaceIsTold,
   GapsAreUnassigned,
   ListedAreAssigned,
   ListedAreWitnessed,
   NotesSuffice,
+  OneReport,
   PlacesHaveOneKey,
   ReportsListWhatIsAnnounced,
   ReportsAreInOrder,
@@ -12,7 +15,7 @@ ghost use Rattle.ss_review.specs.Laws.{
 };
 ghost use Rattle.ss_review.specs.Rows.{ReportsAreThese};
 
-use ss_block::laws::readings::blocks_are_in_range;
+use ss_block::laws::readings::{blocks_are_in_range, blocks_are_signed};
 
 /// Two logs with equal notes have equal reports.
 pub fn notes_suffice()
@@ -67,6 +70,24 @@ pub fn reports_list_what_is_announced()
     reports_are_in_order();
     gaps_are_unassigned();
 }
+
+/// Each place of a log is exactly one of listed, unlisted, a verified block, refused and spoilt, and no other place is any.
+pub fn every_place_is_told()
+    ensures { EveryPlaceIsTold }
+{
+    blocks_are_signed();
+}
+
+/// A key is assigned a place exactly where it isn't disputed, the message there has the hashes of the first message with the
+/// announced hash, and as many smaller keys want these hashes as messages with them stand before the place.
+pub fn assigned_where_due()
+    ensures { AssignedWhereDue }
+{}
+
+/// Every log has a report that says what there is, each once and in order, and nothing else; and it has no other.
+pub fn one_report()
+    ensures { OneReport }
+{}
 
 /// The reports of small logs, computed.
 pub fn reports_are_these()

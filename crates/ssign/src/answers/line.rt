@@ -1,6 +1,7 @@
 //! One line of an answer file.
 ghost use Rattle.std.specs.Prelude.{◌≡◌, ◌++◌, ◌∷◌, List, ℕ, IfOk, IfErr, MatchOption};
-ghost use Rattle.ssign.specs.Answers.{IsField, IsNoField, IsPair, IsNoPair, IsTriple, IsNoTriple, IsNoLine, HasFields, base64, line_text, space, Lacks};
+ghost use Rattle.ss_payload.specs.StrictBase64.{base64};
+ghost use Rattle.ssign.specs.Answers.{IsField, IsNoField, IsPair, IsNoPair, IsTriple, IsNoTriple, IsNoLine, HasFields, line_text, space, Lacks};
 ghost use Rattle.ssign.specs.AnswerLine.{answer_of, IfBad};
 
 use base64::DecodeAllocError;

@@ -7,6 +7,7 @@ use crate::judge::{Judge, Verifier};
 use ss_frame::Watched;
 use std::io;
 use std::io::{ErrorKind, Read};
+use std::process::Abort;
 use std::test::Fail;
 
 /// Gives `9` forever.
@@ -50,7 +51,7 @@ impl Read for Failing<'_> {
 const LINES: &[u8] =
     b"trust S0VZ\nyes S0VZ QQ== AAAA\nseal QQ== AAAA\nseal QQ== BBBB\ntrust S0VZ\n";
 
-fn read(rt: &HostRuntime, text: &[u8], max: u32) -> Result<Answers, AnswerFault> {
+fn read(rt: &impl AllocGlobal, text: &[u8], max: u32) -> Result<Answers, AnswerFault> {
     let mut reader = Watched::new(text);
     read_answers(rt.alloc(), &mut reader, max)
 }
@@ -115,25 +116,64 @@ const REFUSED: [(&[u8], u32, AnswerFault); 15] = [
     (b"want S0VZ\n", 9, AnswerFault::TooBig),
 ];
 
-#[test]
-fn refuses(rt: HostRuntime) -> Result<(), Fail> {
-    for (text, max, fault) in &REFUSED {
-        assert_eq!(rt; read(&rt, text, *max).err(), Some(*fault), "{text:?}");
-    }
+/// A reader that fails at the read behind so many octets.
+fn sees_a_failed_read(rt: &(impl Abort + AllocGlobal), left: usize, kind: ErrorKind) {
+    let text = LINES;
+    let mut reader = Watched::new(Failing { text, left, kind });
+    let said = read_answers(rt.alloc(), &mut reader, 1000);
+    assert_eq!(rt; said.err(), Some(AnswerFault::Read), "{kind:?} {left}");
+    assert!(rt; reader.failed(), "{kind:?} {left}");
+}
+
+/// A reader that never ends, of which one octet more than the most is taken.
+fn sees_no_end(rt: &(impl Abort + AllocGlobal)) {
     let mut reader = Watched::new(Endless);
     let said = read_answers(rt.alloc(), &mut reader, 1000);
     assert_eq!(rt; said.err(), Some(AnswerFault::TooBig));
     assert!(rt; !reader.failed());
+}
+
+#[test]
+fn refuses(rt: HostRuntime) {
+    for (text, max, fault) in &REFUSED {
+        assert_eq!(rt; read(&rt, text, *max).err(), Some(*fault), "{text:?}");
+    }
+    sees_no_end(&rt);
     for kind in [ErrorKind::Interrupted, ErrorKind::Other] {
         for left in 0..=LINES.len() {
-            let text = LINES;
-            let mut reader = Watched::new(Failing { text, left, kind });
-            let said = read_answers(rt.alloc(), &mut reader, 1000);
-            assert_eq!(rt; said.err(), Some(AnswerFault::Read), "{kind:?} {left}");
-            assert!(rt; reader.failed(), "{kind:?} {left}");
+            sees_a_failed_read(&rt, left, kind);
         }
     }
+}
+
+/// What both judges say of these octets.
+fn sees(
+    rt: &impl Abort,
+    answers: &Answers,
+    payload: &[u8],
+    bytes: &[u8],
+    signature: &[u8],
+    want: (bool, bool),
+) {
+    assert_eq!(rt; ask_answers(answers, payload, bytes, signature), want);
+    assert_eq!(rt; ask_closures(answers, payload, bytes, signature), want);
+}
+
+/// The octets have the signature of three zeros.
+fn sees_seal(
+    rt: &(impl Abort + AllocGlobal),
+    answers: &Answers,
+    octets: &[u8],
+) -> Result<(), SealFault> {
+    let signature = answers.seal(rt.alloc(), octets)?;
+    assert_eq!(rt; signature.as_slice(), b"\0\0\0".as_slice());
     Ok(())
+}
+
+/// The octets have no signature.
+fn sees_no_seal(rt: &(impl Abort + AllocGlobal), answers: &Answers, octets: &[u8]) {
+    let fault = answers.seal(rt.alloc(), octets).err();
+    assert_eq!(rt; fault, Some(SealFault::Refused));
 }
 
 #[test]
@@ -141,37 +181,15 @@ fn answers_by_the_lines(rt: HostRuntime) -> Result<(), Fail> {
     assert!(rt; !read(&rt, b"", 1000)?.trusts(b"KEY"));
     assert!(rt; read(&rt, b"trust S0VZ", 1000)?.trusts(b"KEY"));
     let answers = read(&rt, LINES, LINES.len() as u32)?;
-    for (payload, bytes, signature, want) in [
-        (
-            b"KEY".as_slice(),
-            b"A".as_slice(),
-            b"\0\0\0".as_slice(),
-            (true, true),
-        ),
-        (b"KEY", b"A", b"\x04\x10\x41", (true, false)),
-        (b"KEY", b"B", b"\0\0\0", (true, false)),
-        (b"KE", b"A", b"\0\0\0", (false, false)),
-        (b"A", b"A", b"\0\0\0", (false, false)),
-    ] {
-        assert_eq!(rt; ask_answers(&answers, payload, bytes, signature), want);
-        assert_eq!(rt; ask_closures(&answers, payload, bytes, signature), want);
-    }
-    assert_eq!(rt;
-        answers.seal(rt.alloc(), b"A")?.as_slice(),
-        b"\0\0\0".as_slice()
-    );
-    assert_eq!(rt;
-        answers.seal(rt.alloc(), b"KEY").err(),
-        Some(SealFault::Refused)
-    );
+    sees(&rt, &answers, b"KEY", b"A", b"\0\0\0", (true, true));
+    sees(&rt, &answers, b"KEY", b"A", b"\x04\x10\x41", (true, false));
+    sees(&rt, &answers, b"KEY", b"B", b"\0\0\0", (true, false));
+    sees(&rt, &answers, b"KE", b"A", b"\0\0\0", (false, false));
+    sees(&rt, &answers, b"A", b"A", b"\0\0\0", (false, false));
+    sees_seal(&rt, &answers, b"A")?;
+    sees_no_seal(&rt, &answers, b"KEY");
     let answers = read(&rt, b"seal S0VZ AAAA", 1000)?;
-    assert_eq!(rt;
-        answers.seal(rt.alloc(), b"KEY")?.as_slice(),
-        b"\0\0\0".as_slice()
-    );
-    assert_eq!(rt;
-        answers.seal(rt.alloc(), b"KEX").err(),
-        Some(SealFault::Refused)
-    );
+    sees_seal(&rt, &answers, b"KEY")?;
+    sees_no_seal(&rt, &answers, b"KEX");
     Ok(())
 }

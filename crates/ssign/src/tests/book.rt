@@ -32,37 +32,37 @@ impl<'b> Scheme for Book<'b> {
         && (bytes_eq x b.signed.0.now || bytes_eq x b.signed.1.now) };
 }
 
-/// Says yes to the blocks of the logs, and to nothing else.
-pub const ALL: Book<'static> = Book {
-    trusted: PAYLOAD,
-    payload: PAYLOAD,
-    signed: (SIGNED_CERTIFICATE, SIGNED_SIGNATURE),
-    sign: SIGN,
-};
+/// A book, by its name in a table.
+#[derive(Clone, Copy)]
+pub enum Who {
+    /// Says yes to the blocks of the logs, and to nothing else.
+    All,
+    /// Trusts no payload, though the blocks are valid.
+    NoTrust,
+    /// Trusts the payload, under which no block is valid.
+    NoSignature,
+    /// Trusts the payload, under which the certificate block alone is valid.
+    CertificateAlone,
+}
 
-/// Trusts no payload, though the blocks are valid.
-pub const NO_TRUST: Book<'static> = Book {
-    trusted: b"",
-    payload: PAYLOAD,
-    signed: (SIGNED_CERTIFICATE, SIGNED_SIGNATURE),
-    sign: SIGN,
-};
-
-/// Trusts the payload, under which no block is valid.
-pub const NO_SIGNATURE: Book<'static> = Book {
-    trusted: PAYLOAD,
-    payload: PAYLOAD,
-    signed: (b"", b""),
-    sign: SIGN,
-};
-
-/// Trusts the payload, under which the certificate block alone is valid.
-pub const CERTIFICATE_ALONE: Book<'static> = Book {
-    trusted: PAYLOAD,
-    payload: PAYLOAD,
-    signed: (SIGNED_CERTIFICATE, b""),
-    sign: SIGN,
-};
+/// The book of that name.
+pub fn book_of(who: Who) -> Book<'static> {
+    let trusted = match who {
+        Who::NoTrust => b"".as_slice(),
+        _ => PAYLOAD,
+    };
+    let signed = match who {
+        Who::NoSignature => (b"".as_slice(), b"".as_slice()),
+        Who::CertificateAlone => (SIGNED_CERTIFICATE, b"".as_slice()),
+        _ => (SIGNED_CERTIFICATE, SIGNED_SIGNATURE),
+    };
+    Book {
+        trusted,
+        payload: PAYLOAD,
+        signed,
+        sign: SIGN,
+    }
+}
 
 impl<'b> Book<'b> {
     fn trusts(&self, payload: &[u8]) -> bool

@@ -1,7 +1,7 @@
 //! A review that stops for its limits, for a device or for memory: nothing is written then but by a write that failed.
-use crate::tests::book::{ALL, review_by};
+use crate::tests::book::{Who, book_of, review_by};
 use crate::tests::devices::{Failure, Sink, Source};
-use crate::tests::logs::{CERTIFICATE, LONG, SHORT, SIGNATURE, log_of};
+use crate::tests::logs::{Frame, log_of};
 use ss_frame::{FrameFault, Limits, Watched};
 use ss_report::{RunFault, Verdict};
 use std::alloc::{AllocError, Global};
@@ -14,7 +14,13 @@ const REPORT: &[u8] = b"session h s - 1 joined\nok h s - 1 0 0 1 0\nok h s - 1 0
 
 /// Two messages and their blocks, 373 octets.
 fn whole_log(alloc: Global) -> Result<Vec<u8>, AllocError> {
-    log_of(alloc, &[SHORT, LONG, CERTIFICATE, SIGNATURE])
+    let frames = [
+        Frame::Short,
+        Frame::Long,
+        Frame::Certificate,
+        Frame::Signature,
+    ];
+    log_of(alloc, &frames)
 }
 
 const FAILURES: [Failure; 3] = [
@@ -23,65 +29,91 @@ const FAILURES: [Failure; 3] = [
     Failure::Nothing,
 ];
 
+/// The read of that number, from 1, fails.
+fn stops_at_read(rt: &(impl Abort + AllocGlobal), log: &[u8], read: u32, kind: ErrorKind) {
+    let book = book_of(Who::All);
+    let mut reader = Watched::new(Source::new(log, Some((read, kind))));
+    let mut writer = Watched::new(Sink::new(None));
+    let limits = Limits::standard();
+    let said = review_by(rt.alloc(), &mut reader, &mut writer, &book, limits);
+    assert_eq!(rt; said, Err(RunFault::Frame(FrameFault::Read)), "at {read}");
+    assert!(rt; reader.failed() && !writer.failed(), "at {read}");
+    assert_eq!(rt; reader.into_inner().reads, read);
+    assert_eq!(rt; writer.into_inner().writes, 0, "at {read}");
+}
+
+/// The write of that number, from 1, fails, behind so many octets.
+fn stops_at_write(
+    rt: &(impl Abort + AllocGlobal),
+    log: &[u8],
+    write: u32,
+    before: &[u8],
+    failure: Failure,
+) {
+    let book = book_of(Who::All);
+    let mut reader = Watched::new(log);
+    let mut writer = Watched::new(Sink::new(Some((write, failure))));
+    let limits = Limits::standard();
+    let said = review_by(rt.alloc(), &mut reader, &mut writer, &book, limits);
+    assert_eq!(rt; said, Err(RunFault::Write), "at {write}");
+    assert!(rt; writer.failed() && !reader.failed(), "at {write}");
+    let sink = writer.into_inner();
+    assert_eq!(rt; sink.written(), before);
+    assert_eq!(rt; sink.writes, write);
+}
+
+/// The whole report is written, and then the flush fails.
+fn stops_at_flush(rt: &(impl Abort + AllocGlobal), log: &[u8]) {
+    let book = book_of(Who::All);
+    let mut reader = Watched::new(log);
+    let mut writer = Watched::new(Sink::failing_at_flush());
+    let limits = Limits::standard();
+    let said = review_by(rt.alloc(), &mut reader, &mut writer, &book, limits);
+    assert_eq!(rt; said, Err(RunFault::Write));
+    assert!(rt; writer.failed() && !reader.failed());
+    assert_eq!(rt; writer.into_inner().written(), REPORT);
+}
+
+/// The given limits are those that are kept.
+fn stops_at_limit(rt: &(impl Abort + AllocGlobal), limits: Limits) {
+    let book = book_of(Who::All);
+    let many = RunFault::Frame(FrameFault::TooManyMessages { pos: 15 });
+    let mut reader = Watched::new(b"1 a1 a1 a1 a1 a1 a".as_slice());
+    let mut writer = Watched::new(Sink::new(None));
+    let said = review_by(rt.alloc(), &mut reader, &mut writer, &book, limits);
+    assert_eq!(rt; said, Err(many));
+    assert!(rt; !reader.failed() && !writer.failed());
+    assert_eq!(rt; writer.into_inner().writes, 0);
+}
+
 /// Octet by octet, each read and each write fails in turn, the read of the log's end among them, and then the flush.
 #[test]
 fn stops_at_a_limit_and_where_a_device_fails(rt: HostRuntime) -> Result<(), Fail> {
     let log = whole_log(rt.alloc())?;
     assert_eq!(rt; (log.len(), REPORT.len()), (373, 67));
-    let limits = Limits::standard();
     for kind in [ErrorKind::BrokenPipe, ErrorKind::Interrupted] {
         for read in 1..375 {
-            let mut reader = Watched::new(Source::new(&log, Some((read, kind))));
-            let mut writer = Watched::new(Sink::new(None));
-            let said = review_by(rt.alloc(), &mut reader, &mut writer, &ALL, limits);
-            assert_eq!(rt; said, Err(RunFault::Frame(FrameFault::Read)), "at {read}");
-            assert!(rt; reader.failed() && !writer.failed(), "at {read}");
-            assert_eq!(rt; reader.into_inner().reads, read);
-            assert_eq!(rt; writer.into_inner().writes, 0, "at {read}");
+            stops_at_read(&rt, &log, read, kind);
         }
     }
     for failure in FAILURES {
         for before in 0..REPORT.len() {
             let write = (before as u32).saturating_add(1);
-            let mut reader = Watched::new(log.as_slice());
-            let mut writer = Watched::new(Sink::new(Some((write, failure))));
-            let said = review_by(rt.alloc(), &mut reader, &mut writer, &ALL, limits);
-            assert_eq!(rt; said, Err(RunFault::Write), "at {write}");
-            assert!(rt; writer.failed() && !reader.failed(), "at {write}");
-            let sink = writer.into_inner();
-            assert_eq!(rt; sink.written(), &REPORT[..before]);
-            assert_eq!(rt; sink.writes, write);
+            stops_at_write(&rt, &log, write, &REPORT[..before], failure);
         }
     }
-    let mut reader = Watched::new(log.as_slice());
-    let mut writer = Watched::new(Sink::failing_at_flush());
-    let said = review_by(rt.alloc(), &mut reader, &mut writer, &ALL, limits);
-    assert_eq!(rt; said, Err(RunFault::Write));
-    assert!(rt; writer.failed() && !reader.failed());
-    assert_eq!(rt; writer.into_inner().written(), REPORT);
-
-    let limits = Limits::new(3, 5).ok_or("no limits")?;
-    let many = RunFault::Frame(FrameFault::TooManyMessages { pos: 15 });
-    let mut reader = Watched::new(b"1 a1 a1 a1 a1 a1 a".as_slice());
-    let mut writer = Watched::new(Sink::new(None));
-    let said = review_by(rt.alloc(), &mut reader, &mut writer, &ALL, limits);
-    assert_eq!(rt; said, Err(many));
-    assert!(rt; !reader.failed() && !writer.failed());
-    assert_eq!(rt; writer.into_inner().writes, 0);
+    stops_at_flush(&rt, &log);
+    stops_at_limit(&rt, Limits::new(3, 5).ok_or("no limits")?);
     Ok(())
 }
 
 /// Reviews the log octet by octet. Want of memory is answered before anything is written, and by no device.
 fn review_once(rt: &(impl Abort + AllocGlobal), log: &[u8]) -> Result<Verdict, RunFault> {
+    let book = book_of(Who::All);
     let mut reader = Watched::new(Source::new(log, None));
     let mut writer = Watched::new(Sink::new(None));
-    let said = review_by(
-        rt.alloc(),
-        &mut reader,
-        &mut writer,
-        &ALL,
-        Limits::standard(),
-    );
+    let limits = Limits::standard();
+    let said = review_by(rt.alloc(), &mut reader, &mut writer, &book, limits);
     assert!(rt; !reader.failed() && !writer.failed(), "{said:?}");
     let sink = writer.into_inner();
     match said {

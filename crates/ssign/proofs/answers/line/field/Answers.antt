@@ -3,7 +3,7 @@ use Rattle.std.proofs.Common.{◌<◌}
 use Rattle.std.proofs.lemmas.Bool.Decides.{nat_tests}
 use Rattle.base64.specs.Engines.{standard}
 use Rattle.base64.specs.GeneralPurpose.{IsStrict, decode_of}
-use Rattle.ssign.specs.Answers.{base64}
+use Rattle.ss_payload.specs.StrictBase64.{base64}
 use Rattle.ssign.proofs.answers.line.field.Goals as goal
 
 is_strict : IsStrict standard

@@ -1,5 +1,6 @@
 use Rattle.std.proofs.lemmas.Result.{err_from_is_err_and}
-use Rattle.ssign.specs.Answers.{base64, space}
+use Rattle.ss_payload.specs.StrictBase64.{base64}
+use Rattle.ssign.specs.Answers.{space}
 use Rattle.ssign.proofs.AnswerLines.{IfBad-weaker, IsNoPair-from_first, IsNoPair-from_second, nowhere}
 use Rattle.ssign.proofs.answers.line.pair.Goals as goal
 

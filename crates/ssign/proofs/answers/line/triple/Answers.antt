@@ -1,6 +1,7 @@
 use Rattle.std.proofs.Common.{◌++◌, ◌∷◌}
 use Rattle.std.proofs.lemmas.Result.{err_from_is_err_and}
-use Rattle.ssign.specs.Answers.{base64, space}
+use Rattle.ss_payload.specs.StrictBase64.{base64}
+use Rattle.ssign.specs.Answers.{space}
 use Rattle.ssign.proofs.AnswerLines.{IfBad-weaker, IsNoTriple-from_first, IsNoTriple-from_rest, nowhere}
 use Rattle.ssign.proofs.answers.line.triple.Goals as goal
 

@@ -1,4 +1,4 @@
-use Rattle.std.proofs.Common.{◌≡◌, ◌+◌, ℕ, arith, sym, subst, add-zero}
+use Rattle.std.proofs.Common.{◌≡◌, ◌+◌, arith, sym, subst}
 use Rattle.ss_payload.specs.Slots.{IsTextOf}
 use Rattle.ss_payload.proofs.Runs.{more_text, all_in_run, none_in_none}
 use Rattle.ss_payload.proofs.joiner.runs.Runs.push_part.Goals as goal

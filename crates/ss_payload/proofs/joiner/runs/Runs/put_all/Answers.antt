@@ -1,6 +1,6 @@
 use Rattle.std.proofs.Common.{◌≡◌, ◌≤◌, ◌+◌, ◌-◌, ℕ, List, length, take, drop, arith, subst}
 use Rattle.std.proofs.lemmas.List.{length-take, length-drop}
-use Rattle.std.proofs.lemmas.Bool.{false≢true, true≢false}
+use Rattle.std.proofs.lemmas.Bool.{true≢false}
 use Rattle.ss_payload.specs.Slots.{IsPut, NoneDiffers}
 use Rattle.ss_payload.proofs.Runs.{more_put, more_differ, more_agree, part_is}
 use Rattle.ss_payload.proofs.joiner.runs.Runs.put_all.Goals as goal

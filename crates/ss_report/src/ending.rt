@@ -1,0 +1,23 @@
+//! The last lines of a text about a log.
+ghost use Rattle.std.specs.Prelude.{◌≡◌, ◌++◌, OnOk};
+ghost use Rattle.ss_report.specs.Inspection.{end_lines};
+
+use crate::inspection::put_spaced;
+use ss_frame::Tail;
+use std::alloc::AllocError;
+
+/// Puts `torn POS`, where the log has a torn end, and `end COUNT` behind the text, each ended by LF.
+///
+/// For want of memory some of it may have been put.
+pub fn put_end(text: &mut Vec<u8>, tail: Tail, count: u64) -> Result<(), AllocError>
+    ensures { OnOk result (text.new.items ≡ text.old.items ++ end_lines tail count) }
+{
+    if let Tail::Torn { pos } = tail {
+        text.extend_from_slice(b"torn")?;
+        put_spaced(text, pos)?;
+        text.extend_from_slice(b"\n")?;
+    }
+    text.extend_from_slice(b"end")?;
+    put_spaced(text, count)?;
+    text.extend_from_slice(b"\n")
+}

@@ -1,0 +1,25 @@
+use Rattle.std.proofs.Common.{◌≡◌, ◌<◌, ◌++◌, ◌∷◌, [], get_or, length, map, take, sym, ap, ◌∙◌, subst}
+use Rattle.std.specs.Prelude.{None, Some, Contains, option_map, option_and_then}
+use Rattle.std.proofs.lemmas.List.{map_more}
+use Rattle.ss_block.specs.declared.hash.Hash.{Hash}
+use Rattle.ss_review.specs.declared.message.NormalMessage.{NormalMessage}
+use Rattle.ss_review.specs.Bearing.{bearer_among, pairs_among}
+use Rattle.ss_review.proofs.Members.{Has, contains_from_has}
+use Rattle.ss_review.proofs.Searching.{has_at}
+use Rattle.ss_review.proofs.bearers.bearers.Goals as goal
+
+pub loop-hash-preserved : goal.loop-hash-preserved
+loop-hash-preserved c =
+    let es = c.args.pairs.now.entries in
+    let hs = c.args.hashes.now in
+    let i = c.loop-hash.hash-index in
+    let found : c.as_slice-in-loop-hash-2.result.now ≡ map (bearer_among es) c.as_slice-in-loop-hash.result.now
+    = c.as_slice-in-loop-hash-2.ensures.value ∙ c.in_ok-found.ensures ∙ ap (map (bearer_among es)) (c.as_slice.ensures.value ∙ sym c.as_slice-in-loop-hash.ensures.value) in
+    let here : (h : Hash) → get_or hs i None ≡ Some h → Contains c.as_slice-in-loop-hash.result.now h
+    = λ h e.
+    subst (λ xs. Contains xs h) (sym c.as_slice-in-loop-hash.ensures.value)
+    (c.in_ok-announced.ensures.all h (contains_from_has hs (Some h) (subst (Has hs) e (has_at hs i None c.loop-hash-test.true)))) in
+    c.in_ok-push.ensures.items
+    ∙ ap (λ p. c.loop-hash.wanted_pairs.items ++ p ∷ []) (c.wanted-pair.ensures (bearer_among es) found here)
+    ∙ ap (λ ps. ps ++ option_and_then (λ g. option_map (λ (m : NormalMessage). m.pair) (bearer_among es g)) (get_or hs i None) ∷ []) c.loop-hash.invariant
+    ∙ sym (map_more (option_and_then (λ g. option_map (λ (m : NormalMessage). m.pair) (bearer_among es g))) hs i None c.loop-hash-test.true)

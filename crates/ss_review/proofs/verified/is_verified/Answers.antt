@@ -1,0 +1,18 @@
+use Rattle.std.proofs.Common.{rules, ◌∙◌}
+use Rattle.std.proofs.lemmas.Fn.{always_returns_same}
+use Rattle.ss_block.specs.Order.{session_cmp}
+use Rattle.ss_review.specs.declared.joined_session.JoinedSession.{JoinedSession}
+use Rattle.ss_review.specs.Verified.{answers}
+use Rattle.ss_review.proofs.Verifying.{found, not_found}
+use Rattle.ss_review.proofs.verified.is_verified.Goals as goal
+
+pub returns-in-Ok : goal.returns-in-Ok
+returns-in-Ok g c = λ bs told.
+    let tie = c.in-Ok.ensures.position (λ (x : JoinedSession). session_cmp x.session.now c.args.block.now.session) (always_returns_same _ _ _ (λ a r q k. search rules)) c.index-sessions-index.result in
+    c.is_valid_in.ensures
+    ∙ found (answers g.J.Judge.trusted g.J.Judge.valid c.args.judge.now) bs c.args.block.now c.args.sessions.now told c.in-Ok.index c.index-sessions-index.result c.in-Ok.ensures.bound tie
+
+pub returns-in-Err : goal.returns-in-Err
+returns-in-Err g c = λ bs told.
+    not_found (answers g.J.Judge.trusted g.J.Judge.valid c.args.judge.now) bs c.args.block.now c.args.sessions.now told c.in-Err.field-0
+    (c.in-Err.ensures.position (λ (x : JoinedSession). session_cmp x.session.now c.args.block.now.session) (always_returns_same _ _ _ (λ a r q k. search rules)))

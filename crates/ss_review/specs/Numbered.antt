@@ -1,0 +1,45 @@
+-- Announced numbers and sessions, as a review keeps them on its way to a report.
+use Rattle.std.specs.Prelude.{ℕ, Bool, false, List, [], ◌∷◌, map, Option, Some, None, Result, if◌then◌else◌}
+use Rattle.ss_block.specs.declared.hash.Hash.{Hash}
+use Rattle.ss_block.specs.declared.session.Session.{Session}
+use Rattle.ss_review.specs.declared.session_report.SessionState.{SessionState}
+use Rattle.ss_review.specs.declared.message.BlockMessage.{BlockMessage}
+use Rattle.ss_review.specs.declared.message_number.MessageNumber.{MessageNumber}
+use Rattle.ss_review.specs.declared.row.Row as row
+use Rattle.ss_review.specs.declared.joined_session.JoinedSession.{JoinedSession}
+use Rattle.ss_review.specs.Sessions.{sessions, of_session}
+use Rattle.ss_review.specs.Verified.{Answers, joined}
+use Rattle.ss_review.specs.Announced.{Key, Row, same_key, keys, hashes_for}
+
+abbrev pub key_of : MessageNumber → Key
+key_of n = record { session = n.session.now; group = n.group; number = n.number }
+
+abbrev pub row_of : row.Row → Row
+row_of r = record { key = key_of r.number; hash = r.hash }
+
+-- the one hash of a list that has no other
+abbrev pub only_hash : List Hash → Option Hash
+only_hash [] = None
+only_hash (h ∷ []) = Some h
+only_hash (h ∷ g ∷ hs) = None
+
+-- what each key is announced with, or none where it is disputed
+abbrev pub only_hashes : List Row → List (Option Hash)
+only_hashes rs = map (λ k. only_hash (hashes_for rs k)) (keys rs)
+
+-- the row is of the key of this one, if there is one
+abbrev pub is_more_of : Option Row → Row → Bool
+is_more_of None r = false
+is_more_of (Some first) r = same_key r.key first.key
+
+-- a row's hash, unless the row behind it is of its key too
+abbrev pub hash_before : Row → Option Row → Option Hash
+hash_before r None = Some r.hash
+hash_before r (Some next) = if same_key next.key r.key then None else Some r.hash
+
+abbrev pub session_with_joined : JoinedSession → Session × Result (List ℕ) SessionState
+session_with_joined s = (s.session.now, s.joined)
+
+-- each session, in order, with its joined payload or its state
+abbrev pub sessions_joined : Answers → List BlockMessage → List (Session × Result (List ℕ) SessionState)
+sessions_joined says bs = map (λ s. (s, joined says (of_session bs s))) (sessions bs)

@@ -1,0 +1,58 @@
+//! The review of a log, whatever finds its messages by their hashes.
+ghost use Rattle.std.specs.Prelude.{◌≡◌, IfOk};
+ghost use Rattle.ss_review.specs.Contents.{Contents};
+ghost use Rattle.ss_review.specs.Verified.{answers};
+ghost use Rattle.ss_review.specs.Report.{report_of};
+
+use crate::announced::announced;
+use crate::assign::assign;
+use crate::grouping::session_reports;
+use crate::index::Index;
+use crate::message::BlockMessage;
+use crate::report::Report;
+use crate::session_states::joined_sessions;
+use crate::spoilt::{SpoiltPlace, SpoiltPlaces};
+use crate::unlisted::unlisted;
+use crate::verified::{refused, verified};
+use crate::verifier::Judge;
+use ss_message::NoMemory;
+use std::alloc::Global;
+
+/// What a review says of a log: of its messages without a block, which the index has, of its blocks, of its spoilt
+/// blocks, and of how many messages it has.
+pub(crate) fn review<J: Judge, I: Index>(
+    alloc: Global,
+    judge: &J,
+    index: &I,
+    blocks: &[BlockMessage],
+    spoilt: &[SpoiltPlace],
+    count: u32,
+) -> Result<Report, NoMemory>
+    requires { J.sound judge.now }
+    ensures { (log : Contents)
+        → I.has index.now log.normal
+        → blocks.now ≡ log.blocks
+        → spoilt.now ≡ log.spoilt
+        → count ≡ log.count
+        → IfOk result (λ r. r ≡ report_of (answers J.trusted J.valid judge.now) log) }
+{
+    let sessions = joined_sessions(alloc, judge, blocks)?;
+    let verified = verified(alloc, judge, sessions.as_slice(), blocks)?;
+    let announced = announced(alloc, blocks, verified.as_slice())?;
+    let hashes = announced.hashes.as_slice();
+    let places = assign(alloc, index, hashes)?;
+    let numbers = announced.numbers.as_slice();
+    Ok(Report {
+        sessions: session_reports(
+            alloc,
+            sessions.as_slice(),
+            numbers,
+            hashes,
+            places.as_slice(),
+        )?,
+        unlisted: unlisted(alloc, index.places(), places.as_slice())?,
+        refused: refused(alloc, blocks, verified.as_slice())?,
+        spoilt: SpoiltPlaces::from_vec(Vec::from_slice(alloc, spoilt)?),
+        count,
+    })
+}

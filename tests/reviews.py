@@ -1,0 +1,197 @@
+#!/usr/bin/env python3
+"""Compares the reviewer with the review of `review_model.py`.
+
+    reviews.py model               the model alone, over the logs that were worked out by hand
+    reviews.py compare PROGRAM     and the program `reviewed`, over these and over 10,000 logs by a seed
+
+The last line is `reviews: N passed, M failed`.
+"""
+import base64
+import collections
+import subprocess
+import sys
+
+from review_examples import EXAMPLES, LENGTHS, QUESTIONS, READINGS
+from review_logs import make
+from review_model import Block, Log, questions, reading, review
+
+# what the program heads the words of a reviewer with
+REVIEWERS = {"pairs": "Reviewer", "whole": "plain::Reviewer"}
+LOGS = 10_000
+AT_ONCE = 2_500
+# how many differences are made small and shown
+SHOWN = 3
+REACHED = ["listed", "gap lost", "gap disputed", "hole", "unlisted", "refused", *("spoilt S%d" % cause for cause in range(1, 10)),
+           *("session " + state for state in ("joined", "disputed", "incomplete", "malformed", "untrusted", "unaccepted")),
+           "question trust", "question yes"]
+passed = failed = 0
+
+
+def tell(what, wanted, said):
+    """One check."""
+    global passed, failed
+    if wanted == said:
+        passed += 1
+        return
+    failed += 1
+    print("reviews: %s: FAILED" % what)
+    if failed > SHOWN:
+        return
+    for line in wanted:
+        print("    wanted %s" % line)
+    for line in said:
+        print("    said   %s" % line)
+
+
+# ---- the logs that were worked out by hand
+
+def report_text(lines):
+    """The report in the words of `ssign review`."""
+    text, session, group = [], None, None
+    for line in lines:
+        word, *fields = line.split(" ")
+        if word == "session":
+            session = " ".join(["-" if it == "-" else bytes.fromhex(it).decode() for it in fields[:3]] + [fields[3]])
+            text.append("session %s %s" % (session, fields[4]))
+        elif word == "group":
+            group = " ".join(fields)
+        elif word in ("listed", "gap", "hole"):
+            text.append(" ".join(["ok" if word == "listed" else word, session, group, *fields]))
+        else:
+            text.append("end " + fields[0] if word == "count" else line)
+    return text
+
+
+def question_text(lines):
+    """The questions in the words of `ssign questions`."""
+    return [" ".join([word, *(base64.b64encode(bytes.fromhex(it)).decode() for it in fields)])
+            for word, *fields in (line.split(" ") for line in lines)]
+
+
+def answers_to(log, answers):
+    """What is asked of a log, and answered yes."""
+    trusts, accepts = answers
+    asked = [tuple(bytes.fromhex(it) for it in line.split(" ")[1:]) for line in questions(log)]
+    return {it[0] for it in asked if len(it) == 1 and trusts(*it)}, {it for it in asked if len(it) == 3 and accepts(*it)}
+
+
+def examples():
+    """The logs with their answers. The model is tried on them."""
+    cases = []
+    for text, length in LENGTHS:
+        tell("the length of %r" % text, [length], [len(text)])
+    for text, wanted in READINGS:
+        said = reading(0, text)
+        tell("the reading of %r" % text, [wanted], [0 if isinstance(said, Block) else said])
+    for name, messages, answers, wanted in EXAMPLES:
+        log = Log(messages)
+        trusted, valid = answers_to(log, answers)
+        tell("the model of " + name, wanted, report_text(review(log, trusted, valid)))
+        cases.append((name, messages, trusted, valid))
+    for name, messages, wanted in QUESTIONS:
+        tell("the model of " + name, wanted, question_text(questions(Log(messages))))
+        cases.append((name, messages, set(), set()))
+    return cases
+
+
+# ---- the program
+
+def frame(kind, octets=b""):
+    return b"%d %s%s" % (len(octets) + 1, kind, octets)
+
+
+def told(case):
+    """A case as the program reads it."""
+    _, messages, trusted, valid = case
+    frames = [frame(b"t", it) for it in sorted(trusted)]
+    for triple in sorted(valid):
+        frames += map(frame, (b"p", b"o", b"s"), triple)
+    return b"".join(frames + [frame(b"m", it) for it in messages] + [frame(b".")])
+
+
+def run(program, cases):
+    """What the program says of each case: the lines of each reviewer."""
+    done = subprocess.run([program], input=b"".join(map(told, cases)), stdout=subprocess.PIPE, timeout=100)
+    said, first = [], next(iter(REVIEWERS))
+    for line in done.stdout.decode().splitlines():
+        if line == first:
+            said.append({head: [] for head in REVIEWERS})
+        if line in REVIEWERS:
+            lines = said[-1][line]
+        else:
+            lines.append(line)
+    if done.returncode != 0 or len(said) != len(cases):
+        print("reviews: the program ended with status %d behind %d of %d logs" % (done.returncode, len(said), len(cases)))
+    return said + [{head: ["nothing"] for head in REVIEWERS}] * (len(cases) - len(said))
+
+
+def model(case):
+    _, messages, trusted, valid = case
+    log = Log(messages)
+    return review(log, trusted, valid) + questions(log)
+
+
+def smaller(program, case, head):
+    """The case without what isn't needed for the program to say something else than the model."""
+    name, messages, trusted, valid = case
+    parts = [("m", it) for it in messages] + [("t", it) for it in sorted(trusted)] + [("v", it) for it in sorted(valid)]
+
+    def of(parts):
+        return (name, [it for kind, it in parts if kind == "m"], {it for kind, it in parts if kind == "t"}, {it for kind, it in parts if kind == "v"})
+
+    at = 0
+    while at < len(parts):
+        fewer = of(parts[:at] + parts[at + 1:])
+        if run(program, [fewer])[0][head] != model(fewer):
+            del parts[at]
+        else:
+            at += 1
+    return of(parts)
+
+
+def show(case):
+    _, messages, trusted, valid = case
+    for place, text in enumerate(messages):
+        print("    message %d %r" % (place, text))
+    for payload in sorted(trusted):
+        print("    trusted %r" % payload)
+    for triple in sorted(valid):
+        print("    valid %r %r %r" % triple)
+
+
+def compare(program, cases, reached):
+    for case, said in zip(cases, run(program, cases)):
+        wanted = model(case)
+        for line in wanted:
+            reached[kind_of(line)] += 1
+        for head, reviewer in REVIEWERS.items():
+            if said[head] == wanted or failed >= SHOWN:
+                tell("%s on %s" % (reviewer, case[0]), wanted, said[head])
+            else:
+                less = smaller(program, case, head)
+                show(less)
+                tell("%s on %s" % (reviewer, case[0]), model(less), run(program, [less])[0][head])
+
+
+def kind_of(line):
+    word, *fields = line.split(" ")
+    return {"session": "session " + fields[-1], "gap": "gap " + fields[-1], "spoilt": "spoilt " + fields[-1], "trust": "question trust",
+            "yes": "question yes"}.get(word, word)
+
+
+def main():
+    cases = examples()
+    if sys.argv[1:2] == ["compare"]:
+        program, reached = sys.argv[2], collections.Counter()
+        compare(program, cases, collections.Counter())
+        for first in range(0, LOGS, AT_ONCE):
+            compare(program, [("seed %d" % seed, *make(seed)) for seed in range(first, first + AT_ONCE)], reached)
+        for kind in REACHED:
+            print("reviews: %6d %s" % (reached[kind], kind))
+            tell("some log has " + kind, [True], [reached[kind] > 0])
+    print("reviews: %d passed, %d failed" % (passed, failed))
+    return failed > 0 or passed == 0
+
+
+if __name__ == "__main__":
+    sys.exit(main())
