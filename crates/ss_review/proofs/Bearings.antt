@@ -13,6 +13,7 @@ use Rattle.ss_block.specs.declared.hash.Hash.TheVariants as hashes
 use Rattle.ss_block.specs.declared.hash.HashPair.{HashPair}
 use Rattle.ss_block.specs.Order.{hash_cmp}
 use Rattle.ss_block.specs.OrderLaws.{hash_cmp_total, hash_cmp_exact}
+use Rattle.ss_review.specs.declared.by_hash.ByHash.{ByHash}
 use Rattle.ss_review.specs.declared.message.NormalMessage.{NormalMessage}
 use Rattle.ss_review.specs.Assigned.{has_hash, same_pair, pair_of_bearer, places_with}
 use Rattle.ss_review.specs.Bearing.{earlier, earliest, first_with, candidate, bearer_among, pairs_among}
@@ -188,14 +189,14 @@ candidate_at h p (n ∷ ns) c true e f =
     (e, sym (ap (λ (m : NormalMessage). m.pair) same), inl (ap (λ (m : NormalMessage). m.place) same))
 candidate_at h p places c false e f = absurd (cc)
 
-module _ (places : List ℕ) (pairs : tree.BTreeMap HashPair (List ℕ)) (ms : List NormalMessage) (k : KeepsNormal places pairs ms) (rise : tree.IsOrdered pair_cmp pairs) (up : IsStrictlySortedBy nat_cmp (map (λ (m : NormalMessage). m.place) ms)) (h : Hash) where
-  got : (e : HashPair × List ℕ) → Has pairs.entries e → tree.get pair_cmp pairs e.0 ≡ Some e.1
-  got e i = (btree_map_get_iff pair_cmp_total pair_cmp_exact pairs rise e.0 e.1).1 (contains_from_has pairs.entries e i)
+module _ (index : ByHash) (ms : List NormalMessage) (k : KeepsNormal index ms) (rise : tree.IsOrdered pair_cmp index.pairs) (up : IsStrictlySortedBy nat_cmp (map (λ (m : NormalMessage). m.place) ms)) (h : Hash) where
+  got : (e : HashPair × List ℕ) → Has index.pairs.entries e → tree.get pair_cmp index.pairs e.0 ≡ Some e.1
+  got e i = (btree_map_get_iff pair_cmp_total pair_cmp_exact index.pairs rise e.0 e.1).1 (contains_from_has index.pairs.entries e i)
 
   -- each candidate is a message that has the hash
-  from_candidate : (c : NormalMessage) → Has (filter_map (candidate h) pairs.entries) c → Has ms c × (has_hash h c.pair ≡ true)
+  from_candidate : (c : NormalMessage) → Has (filter_map (candidate h) index.pairs.entries) c → Has ms c × (has_hash h c.pair ≡ true)
   from_candidate c i =
-      let w : (e : HashPair × List ℕ) × Has pairs.entries e × (candidate h e ≡ Some c) = from_has-filter_map (candidate h) pairs.entries c i in
+      let w : (e : HashPair × List ℕ) × Has index.pairs.entries e × (candidate h e ≡ Some c) = from_has-filter_map (candidate h) index.pairs.entries c i in
       let t = candidate_at h w.0.0 w.0.1 c (has_hash h w.0.0) refl w.2 in
       let told : w.0.1 ≡ places_with ms w.0.0 = sym (ap places_in (got w.0 w.1)) ∙ k.pairs_are w.0.0 in (
         subst (Has ms) (sym (message_is c c.place w.0.0 refl t.1)) (placed_with ms w.0.0 c.place (subst (λ ns. Has ns c.place) told t.2)),
@@ -203,25 +204,25 @@ module _ (places : List ℕ) (pairs : tree.BTreeMap HashPair (List ℕ)) (ms : L
       )
 
   -- the first message with two hashes is a candidate where one of them is the hash
-  candidate_of : (m : NormalMessage) → has_hash h m.pair ≡ true → (ns : List ℕ) → ns ≡ places_with ms m.pair → Has ns m.place → Has pairs.entries (m.pair, ns)
-      → (c : NormalMessage) × Has (filter_map (candidate h) pairs.entries) c × (c.place ≤ m.place)
+  candidate_of : (m : NormalMessage) → has_hash h m.pair ≡ true → (ns : List ℕ) → ns ≡ places_with ms m.pair → Has ns m.place → Has index.pairs.entries (m.pair, ns)
+      → (c : NormalMessage) × Has (filter_map (candidate h) index.pairs.entries) c × (c.place ≤ m.place)
   candidate_of m t [] same i e = absurd i
   candidate_of m t (n ∷ ns) same i e = (
     record { place = n; pair = m.pair },
-    has-filter_map (candidate h) pairs.entries (m.pair, n ∷ ns) (record { place = n; pair = m.pair }) e (ap (λ b. cond b (first_with m.pair (n ∷ ns)) None) t),
+    has-filter_map (candidate h) index.pairs.entries (m.pair, n ∷ ns) (record { place = n; pair = m.pair }) e (ap (λ b. cond b (first_with m.pair (n ∷ ns)) None) t),
     head_least ns n m.place (subst (IsStrictlySortedBy nat_cmp) (sym same) (places_rise ms m.pair up)) i,
   )
 
-  entry_of : (m : NormalMessage) → (o : Option (List ℕ)) → tree.get pair_cmp pairs m.pair ≡ o → Has (places_in o) m.place → Has pairs.entries (m.pair, places_in o)
+  entry_of : (m : NormalMessage) → (o : Option (List ℕ)) → tree.get pair_cmp index.pairs m.pair ≡ o → Has (places_in o) m.place → Has index.pairs.entries (m.pair, places_in o)
   entry_of m None e i = absurd i
-  entry_of m (Some ns) e i = has_from_contains pairs.entries (m.pair, ns) ((btree_map_get_iff pair_cmp_total pair_cmp_exact pairs rise m.pair ns).0 e)
+  entry_of m (Some ns) e i = has_from_contains index.pairs.entries (m.pair, ns) ((btree_map_get_iff pair_cmp_total pair_cmp_exact index.pairs rise m.pair ns).0 e)
 
-  has_candidate : (m : NormalMessage) → Has ms m → has_hash h m.pair ≡ true → (c : NormalMessage) × Has (filter_map (candidate h) pairs.entries) c × (c.place ≤ m.place)
+  has_candidate : (m : NormalMessage) → Has ms m → has_hash h m.pair ≡ true → (c : NormalMessage) × Has (filter_map (candidate h) index.pairs.entries) c × (c.place ≤ m.place)
   has_candidate m i t =
-      let here : Has (places_in (tree.get pair_cmp pairs m.pair)) m.place = subst (λ ns. Has ns m.place) (sym (k.pairs_are m.pair)) (with_itself ms m i) in
-      candidate_of m t (places_in (tree.get pair_cmp pairs m.pair)) (k.pairs_are m.pair) here (entry_of m (tree.get pair_cmp pairs m.pair) refl here)
+      let here : Has (places_in (tree.get pair_cmp index.pairs m.pair)) m.place = subst (λ ns. Has ns m.place) (sym (k.pairs_are m.pair)) (with_itself ms m i) in
+      candidate_of m t (places_in (tree.get pair_cmp index.pairs m.pair)) (k.pairs_are m.pair) here (entry_of m (tree.get pair_cmp index.pairs m.pair) refl here)
 
-  bearer_at : (o : Option NormalMessage) (cs : List NormalMessage) → find (λ m. has_hash h m.pair) ms ≡ o → filter_map (candidate h) pairs.entries ≡ cs → earliest cs ≡ o
+  bearer_at : (o : Option NormalMessage) (cs : List NormalMessage) → find (λ m. has_hash h m.pair) ms ≡ o → filter_map (candidate h) index.pairs.entries ≡ cs → earliest cs ≡ o
   bearer_at None [] e f = refl
   bearer_at None (c ∷ cs) e f =
       let w = from_candidate c (subst (λ xs. Has xs c) (sym f) (inl refl)) in
@@ -240,9 +241,9 @@ module _ (places : List ℕ) (pairs : tree.BTreeMap HashPair (List ℕ)) (ms : L
       let place : first.0.place ≡ m.place = omega (arith, before, behind, near.2) in
       first.1 ∙ ap (λ n. Some n) (one_of_key nat_cmp_total exact_unsigned (λ (n : NormalMessage). n.place) ms up first.0 m of_ms.0 w.0 place)
 
-  pub bearer_is : option_map (λ (m : NormalMessage). m.pair) (bearer_among pairs.entries h) ≡ pair_of_bearer ms h
+  pub bearer_is : option_map (λ (m : NormalMessage). m.pair) (bearer_among index.pairs.entries h) ≡ pair_of_bearer ms h
   unfolding pair_of_bearer
-  bearer_is = ap (option_map (λ (m : NormalMessage). m.pair)) (bearer_at (find (λ m. has_hash h m.pair) ms) (filter_map (candidate h) pairs.entries) refl refl)
+  bearer_is = ap (option_map (λ (m : NormalMessage). m.pair)) (bearer_at (find (λ m. has_hash h m.pair) ms) (filter_map (candidate h) index.pairs.entries) refl refl)
 
-pub wanted_are : (places : List ℕ) (pairs : tree.BTreeMap HashPair (List ℕ)) (ms : List NormalMessage) → KeepsNormal places pairs ms → tree.IsOrdered pair_cmp pairs → IsStrictlySortedBy nat_cmp (map (λ (m : NormalMessage). m.place) ms) → (hs : List (Option Hash)) → pairs_among pairs.entries hs ≡ pairs_wanted ms hs
-wanted_are places pairs ms k rise up hs = ap (λ f. map (option_and_then f) hs) (λ i g. bearer_is places pairs ms k rise up g i)
+pub wanted_are : (index : ByHash) (ms : List NormalMessage) → KeepsNormal index ms → tree.IsOrdered pair_cmp index.pairs → IsStrictlySortedBy nat_cmp (map (λ (m : NormalMessage). m.place) ms) → (hs : List (Option Hash)) → pairs_among index.pairs.entries hs ≡ pairs_wanted ms hs
+wanted_are index ms k rise up hs = ap (λ f. map (option_and_then f) hs) (λ i g. bearer_is index ms k rise up g i)

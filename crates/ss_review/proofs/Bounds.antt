@@ -14,6 +14,7 @@ use Rattle.std.proofs.lemmas.Map.Views.{btree_map_get_iff}
 use Rattle.ss_block.specs.declared.hash.HashPair.{HashPair}
 use Rattle.ss_block.specs.Order.{pair_cmp}
 use Rattle.ss_block.specs.OrderLaws.{pair_cmp_total, pair_cmp_exact}
+use Rattle.ss_review.specs.declared.by_hash.ByHash.{ByHash}
 use Rattle.ss_review.specs.declared.message.NormalMessage.{NormalMessage}
 use Rattle.ss_review.specs.declared.reviewer.BlockText.{BlockText}
 use Rattle.ss_review.specs.declared.reviewer.Reviewer.{Reviewer}
@@ -67,29 +68,29 @@ pub with_itself : (ms : List NormalMessage) (m : NormalMessage) → Has ms m →
 unfolding places_with
 with_itself ms m h = has-map (λ (n : NormalMessage). n.place) (filter (λ (n : NormalMessage). same_pair n.pair m.pair) ms) m (has-filter (λ (n : NormalMessage). same_pair n.pair m.pair) ms m h (same_as_itself m.pair))
 
-module _ (places : List ℕ) (pairs : tree.BTreeMap HashPair (List ℕ)) (ms : List NormalMessage) (k : KeepsNormal places pairs ms) (rise : tree.IsOrdered pair_cmp pairs) where
-  of_message : (p : HashPair) → Has (tree.keys pairs) p → Has (map (λ m. m.pair) ms) p
+module _ (index : ByHash) (ms : List NormalMessage) (k : KeepsNormal index ms) (rise : tree.IsOrdered pair_cmp index.pairs) where
+  of_message : (p : HashPair) → Has (tree.keys index.pairs) p → Has (map (λ m. m.pair) ms) p
   of_message p h =
-      let w : (e : HashPair × List ℕ) × Has pairs.entries e × (e.0 ≡ p) = from_has-map (λ (e : HashPair × List ℕ). e.0) pairs.entries p h in
-      let got : tree.get pair_cmp pairs w.0.0 ≡ Some w.0.1 = (btree_map_get_iff pair_cmp_total pair_cmp_exact pairs rise w.0.0 w.0.1).1 (contains_from_has pairs.entries w.0 w.1) in
+      let w : (e : HashPair × List ℕ) × Has index.pairs.entries e × (e.0 ≡ p) = from_has-map (λ (e : HashPair × List ℕ). e.0) index.pairs.entries p h in
+      let got : tree.get pair_cmp index.pairs w.0.0 ≡ Some w.0.1 = (btree_map_get_iff pair_cmp_total pair_cmp_exact index.pairs rise w.0.0 w.0.1).1 (contains_from_has index.pairs.entries w.0 w.1) in
       subst (Has (map (λ (m : NormalMessage). m.pair) ms)) w.2
       (some_with ms w.0.0 (λ none. k.no_empty_pair w.0.0 (got ∙ ap Some (sym (ap places_in got) ∙ k.pairs_are w.0.0 ∙ none))))
 
-  found_at : (p : HashPair) (place : ℕ) (o : Option (List ℕ)) → tree.get pair_cmp pairs p ≡ o → Has (places_in o) place → Has (tree.keys pairs) p
+  found_at : (p : HashPair) (place : ℕ) (o : Option (List ℕ)) → tree.get pair_cmp index.pairs p ≡ o → Has (places_in o) place → Has (tree.keys index.pairs) p
   found_at p place None e h = absurd h
   found_at p place (Some v) e h =
-      has-map (λ (e : HashPair × List ℕ). e.0) pairs.entries (p, v) (has_from_contains pairs.entries (p, v) ((btree_map_get_iff pair_cmp_total pair_cmp_exact pairs rise p v).0 e))
+      has-map (λ (e : HashPair × List ℕ). e.0) index.pairs.entries (p, v) (has_from_contains index.pairs.entries (p, v) ((btree_map_get_iff pair_cmp_total pair_cmp_exact index.pairs rise p v).0 e))
 
-  of_pair : (p : HashPair) → Has (map (λ m. m.pair) ms) p → Has (tree.keys pairs) p
+  of_pair : (p : HashPair) → Has (map (λ m. m.pair) ms) p → Has (tree.keys index.pairs) p
   of_pair p h =
       let w : (m : NormalMessage) × Has ms m × (m.pair ≡ p) = from_has-map (λ (m : NormalMessage). m.pair) ms p h in
-      subst (Has (tree.keys pairs)) w.2
-      (found_at w.0.pair w.0.place (tree.get pair_cmp pairs w.0.pair) refl (subst (λ ps. Has ps w.0.place) (sym (k.pairs_are w.0.pair)) (with_itself ms w.0 w.1)))
+      subst (Has (tree.keys index.pairs)) w.2
+      (found_at w.0.pair w.0.place (tree.get pair_cmp index.pairs w.0.pair) refl (subst (λ ps. Has ps w.0.place) (sym (k.pairs_are w.0.pair)) (with_itself ms w.0 w.1)))
 
-  pub pairs_are_few : tree.btree_map_len pairs ≤ length ms
+  pub pairs_are_few : tree.btree_map_len index.pairs ≤ length ms
   pairs_are_few =
-      let same : tree.keys pairs ≡ in_order pair_cmp (map (λ m. m.pair) ms) = in_order_is pair_cmp_total pair_cmp_exact (tree.keys pairs) (map (λ m. m.pair) ms) rise of_message of_pair in
-      omega (arith, ap length same, no_more_members pair_cmp (map (λ m. m.pair) ms), length-map ms (λ (m : NormalMessage). m.pair), length-map pairs.entries (λ (e : HashPair × List ℕ). e.0))
+      let same : tree.keys index.pairs ≡ in_order pair_cmp (map (λ m. m.pair) ms) = in_order_is pair_cmp_total pair_cmp_exact (tree.keys index.pairs) (map (λ m. m.pair) ms) rise of_message of_pair in
+      omega (arith, ap length same, no_more_members pair_cmp (map (λ m. m.pair) ms), length-map ms (λ (m : NormalMessage). m.pair), length-map index.pairs.entries (λ (e : HashPair × List ℕ). e.0))
 
 -- ---- what the notes tell
 
@@ -110,8 +111,8 @@ pub octets_are : (ns : List Note) → octets_noted ns ≡ 52 * length (normals n
 unfolding normals texts
 octets_are ns = octets_from 0 ns
 
-pub kept_are_few : (r : Reviewer) (ns : List Note) → Keeps r ns → tree.IsOrdered pair_cmp r.pairs → octets_kept r ≤ octets_noted ns
+pub kept_are_few : (r : Reviewer) (ns : List Note) → Keeps r ns → tree.IsOrdered pair_cmp r.normal.pairs → octets_kept r ≤ octets_noted ns
 kept_are_few r ns k rise =
     let told : sum_by (λ (b : BlockText). length b.text) r.blocks.items ≡ sum_by (λ (t : ℕ × List ℕ). length t.1) (texts ns)
     = sym (sum_by-map (λ (t : ℕ × List ℕ). length t.1) (λ (b : BlockText). (b.place, b.text)) r.blocks.items) ∙ ap (sum_by (λ (t : ℕ × List ℕ). length t.1)) k.blocks in
-    omega (arith, told, octets_are ns, pairs_are_few r.places.items r.pairs (normals ns) k.normal rise)
+    omega (arith, told, octets_are ns, pairs_are_few r.normal (normals ns) k.normal rise)
