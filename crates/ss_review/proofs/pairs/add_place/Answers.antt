@@ -14,7 +14,7 @@ returns-in_err-push-in-Occupied-clause-unchanged c =
     = λ w v same had. put_back c.args.pairs.now (map_with_value c.in_ok-entry.field-0 w) c.args.pair w (c.in_ok-entry.ensures.update.0 w).0 (had ∙ ap Some (sym same)) in
     let old = sym c.in_ok-entry.ensures.value ∙ ap entry_value c.in-Occupied.is ∙ c.into_mut.ensures.value in
     let written = subst (λ e. (w v : List ℕ) → w ≡ v → get pair_cmp c.args.pairs.now c.args.pair ≡ Some v → (p : HashPair) → get pair_cmp (map_with_value e w) p ≡ get pair_cmp c.args.pairs.now p) c.in-Occupied.is stays in
-    let same = written c.push.new.self _ c.in_err-push-in-Occupied.ensures old in
+    let same = written c.push.new.places _ c.in_err-push-in-Occupied.ensures old in
     search (rules, same)
 
 pub returns-in_ok-push-in-Occupied-clause-added : goal.returns-in_ok-push-in-Occupied-clause-added
@@ -24,7 +24,7 @@ returns-in_ok-push-in-Occupied-clause-added c =
     let old = sym c.in_ok-entry.ensures.value ∙ ap entry_value c.in-Occupied.is ∙ c.into_mut.ensures.value in
     let more = c.in_ok-push-in-Occupied.ensures ∙ ap (λ o. places_in o ++ c.args.place ∷ []) (sym old) in
     let written = subst (λ e. (w v : List ℕ) → w ≡ v → Updates pair_cmp c.args.pairs.now (map_with_value e w) c.args.pair (Some v)) c.in-Occupied.is writes in
-    let update = written c.push.new.self _ more in
+    let update = written c.push.new.places _ more in
     search (rules, update)
 
 pub returns-in_ok-one-in-Vacant-clause-added : goal.returns-in_ok-one-in-Vacant-clause-added
