@@ -1,11 +1,10 @@
 -- The bearer of a hash among the messages from a place in the list on.
-use Rattle.std.proofs.Common.{◌≡◌, ◌≢◌, ℕ, zero, suc, ◌+◌, ◌-◌, ◌<◌, ◌≤◌, Bool, true, false, cond, List, [], ◌∷◌, length, get_or, drop, refl, ap, ◌∙◌, arith}
-use Rattle.std.specs.Prelude.{Some, None, option_map, slice_get, find, filter, map}
-use Rattle.std.proofs.lemmas.List.{at_drop_more, at_drop_all}
+use Rattle.std.proofs.Common.{◌≡◌, ℕ, ◌+◌, ◌<◌, Bool, true, false, cond, List, ◌∷◌, length, get_or, drop, ap, ◌∙◌}
+use Rattle.std.specs.Prelude.{Some, option_map, find}
+use Rattle.std.proofs.lemmas.List.{at_drop_more}
 use Rattle.ss_block.specs.declared.hash.Hash.{Hash}
-use Rattle.ss_block.specs.declared.hash.HashPair.{HashPair}
 use Rattle.ss_review.specs.declared.message.NormalMessage.{NormalMessage}
-use Rattle.ss_review.specs.Assigned.{has_hash, same_pair, pair_of_bearer, places_with}
+use Rattle.ss_review.specs.Assigned.{has_hash, pair_of_bearer}
 
 bearer_first : (m : NormalMessage) (ms : List NormalMessage) (h : Hash) (b : Bool) → has_hash h m.pair ≡ b → pair_of_bearer (m ∷ ms) h ≡ cond b (Some m.pair) (pair_of_bearer ms h)
 unfolding pair_of_bearer

@@ -1,4 +1,4 @@
-use Rattle.std.proofs.Common.{◌≡◌, ◌∙◌}
+use Rattle.std.proofs.Common.{◌∙◌}
 use Rattle.std.proofs.lemmas.Result.{IfOk-weaker}
 use Rattle.ss_review.proofs.Bearings.{wanted_are}
 use Rattle.ss_review.proofs.by_hash.ByHashIndex.bearers.Goals as goal

@@ -1,4 +1,4 @@
-use Rattle.std.proofs.Common.{◌∷◌, [], ◌++◌, refl, sym, ap, ◌∙◌}
+use Rattle.std.proofs.Common.{◌∷◌, [], ◌++◌, refl, sym, ◌∙◌}
 use Rattle.ss_review.specs.Notes.{Spoilt}
 use Rattle.ss_review.proofs.Ends.{blocks_push, spoilts_push}
 use Rattle.ss_review.proofs.Keeping.{normal_stays}
