@@ -3,10 +3,9 @@ use Rattle.std.proofs.Common.{◌≡◌, inl, inr, ℕ, ◌+◌, ◌*◌, ◌≤
 use Rattle.std.specs.Prelude.{Option, Some, None, sum_by}
 use Rattle.std.specs.declared.cmp.Ordering.{Ordering}
 use Rattle.std.specs.declared.cmp.Ordering.TheVariants.{Less, Equal, Greater}
-use Rattle.std.specs.Ordering.{is_eq, match_ordering}
+use Rattle.std.specs.Ordering.{match_ordering}
 use Rattle.std.specs.List.{enumerate_from, filter_map}
 use Rattle.std.specs.BTreeMap as tree
-use Rattle.std.proofs.lemmas.Cmp.{tied_itself}
 use Rattle.std.proofs.lemmas.List.{length-map}
 use Rattle.std.proofs.lemmas.List.Sums.{sum_by-cons}
 use Rattle.std.proofs.lemmas.Map.Views.{btree_map_get_iff}
@@ -22,7 +21,7 @@ use Rattle.ss_review.specs.Notes.{Note, Normal, Block, Spoilt}
 use Rattle.ss_review.specs.Contents.{normal_at, normals}
 use Rattle.ss_review.specs.Assigned.{same_pair, places_with}
 use Rattle.ss_review.specs.Keeping.{text_at, texts, note_octets, octets_noted, places_in, KeepsNormal, Keeps, octets_kept}
-use Rattle.ss_review.proofs.Counting.{is_eq-pair_cmp, same_pair-is}
+use Rattle.ss_review.proofs.Counting.{same_pair-is, same_itself}
 use Rattle.ss_review.proofs.Members.{Has, has_from_contains, contains_from_has, has-map, from_has-map, has-filter}
 use Rattle.ss_review.proofs.Rising.{in_order_is}
 
@@ -45,9 +44,6 @@ pub no_more_members : {K : Type 0} (R : K → K → Ordering) (ks : List K) → 
 unfolding in_order
 no_more_members R ks = omega (arith, members_from R [] ks)
 
-same_as_itself : (p : HashPair) → same_pair p p ≡ true
-same_as_itself p = sym (is_eq-pair_cmp p p) ∙ ap is_eq (tied_itself pair_cmp_total p)
-
 sum_by-map : {X Y : Type 0} (f : Y → ℕ) (g : X → Y) (xs : List X) → sum_by f (map g xs) ≡ sum_by (λ x. f (g x)) xs
 sum_by-map f g [] = refl
 sum_by-map f g (x ∷ xs) = sum_by-cons f (g x) (map g xs) ∙ ap (λ n. f (g x) + n) (sum_by-map f g xs) ∙ sym (sum_by-cons (λ y. f (g y)) x xs)
@@ -65,7 +61,7 @@ some_with (m ∷ ms) p some = some_at (same_pair m.pair p) ms (filter (λ (n : N
 
 pub with_itself : (ms : List NormalMessage) (m : NormalMessage) → Has ms m → Has (places_with ms m.pair) m.place
 unfolding places_with
-with_itself ms m h = has-map (λ (n : NormalMessage). n.place) (filter (λ (n : NormalMessage). same_pair n.pair m.pair) ms) m (has-filter (λ (n : NormalMessage). same_pair n.pair m.pair) ms m h (same_as_itself m.pair))
+with_itself ms m h = has-map (λ (n : NormalMessage). n.place) (filter (λ (n : NormalMessage). same_pair n.pair m.pair) ms) m (has-filter (λ (n : NormalMessage). same_pair n.pair m.pair) ms m h (same_itself m.pair))
 
 module _ (index : ByHash) (ms : List NormalMessage) (k : KeepsNormal index ms) (rise : tree.IsOrdered pair_cmp index.pairs) where
   of_message : (p : HashPair) → Has (tree.keys index.pairs) p → Has (map (λ m. m.pair) ms) p

@@ -80,17 +80,6 @@ module _ (old new : ByHash) (ms : List NormalMessage) (m : NormalMessage) (k : K
     no_empty_pair = λ p. some_then p (same_pair m.pair p) refl;
   }
 
--- an index whose places and pairs are as they were
-pub keeps_as_before : (old new : ByHash) (ms : List NormalMessage) → KeepsNormal old ms
-    → new.places.items ≡ old.places.items
-    → ((p : HashPair) → tree.get pair_cmp new.pairs p ≡ tree.get pair_cmp old.pairs p)
-    → KeepsNormal new ms
-keeps_as_before old new ms k places pairs = record {
-  places_are = places ∙ k.places_are;
-  pairs_are = λ p. ap places_in (pairs p) ∙ k.pairs_are p;
-  no_empty_pair = λ p none. k.no_empty_pair p (sym (pairs p) ∙ none);
-}
-
 -- messages with the one that a note tells of, where it tells of one
 pub keeps_note : (i : ByHash) (ns : List Note) (n : Note) → KeepsNormal i (normals ns ++ cons_option (normal_at (length ns) n) []) → KeepsNormal i (normals (ns ++ n ∷ []))
 keeps_note i ns n k = subst (KeepsNormal i) (sym (normals_push ns n)) k

@@ -1,9 +1,9 @@
 -- Each place of a log is told of in one way: its note, whether it is taken, and whether it has a verified block, decide
 -- which.
-use Rattle.std.proofs.Common.{◌≡◌, inl, inr, ℕ, ◌+◌, ◌<◌, Bool, true, false, cond, ◌&&◌, ◌==◌, List, [], length, get_or, refl, sym, ap, ◌∙◌, subst, arith}
+use Rattle.std.proofs.Common.{◌≡◌, ℕ, ◌+◌, ◌<◌, Bool, true, false, cond, ◌&&◌, ◌==◌, List, [], length, get_or, refl, sym, ap, ◌∙◌, subst, arith}
 use Rattle.std.specs.Prelude.{Option, Some, None, is_some, option_map, slice_get}
 use Rattle.std.specs.List.{enumerate_from, filter_map, list_any}
-use Rattle.std.proofs.lemmas.Bool.{eqb-true, eq-eqb}
+use Rattle.std.proofs.lemmas.Bool.{eqb-true, eq-eqb, and_parts, and_from, false_from_ne_true}
 use Rattle.std.proofs.lemmas.Cmp.{nat_cmp_total}
 use Rattle.std.proofs.lemmas.List.{length-map}
 use Rattle.std.proofs.lemmas.Map.Lookups.{exact_unsigned}
@@ -37,7 +37,7 @@ use Rattle.ss_review.proofs.Members.{Has, has_from_contains, contains_from_has, 
 use Rattle.ss_review.proofs.NotesTold.{IsBlockOf, some_is, normal_told, spoilt_told, block_told, block_place}
 use Rattle.ss_review.proofs.OnePlaceOneKey.{assigned_cases, from_has-places_with}
 use Rattle.ss_review.proofs.PlacesRise.{blocks_rise}
-use Rattle.ss_review.proofs.Tests.{bool_cases, both_true, and_true, any_member, member_any}
+use Rattle.ss_review.proofs.Tests.{any_member, member_any}
 use Rattle.ss_review.proofs.Witnesses.{got_map, note_block}
 
 -- ---- the note at a place
@@ -152,12 +152,12 @@ module _ (says : Answers) (ns : List Note) where
   verified_by : (place : ℕ) → verified_at place ≡ true → accounts.IsVerifiedAt says (blocks ns) place
   verified_by place e =
       let w = any_member (is_verified_at place) (blocks ns) e in
-      let both = both_true (w.0.place == place) (is_verified says (blocks ns) w.0) w.2 in
+      let both = and_parts (w.0.place == place) (is_verified says (blocks ns) w.0) w.2 in
       (w.0, contains_from_has (blocks ns) w.0 w.1, eqb-true w.0.place place both.0, both.1)
 
   verifies : (b : BlockMessage) (place : ℕ) → Has (blocks ns) b → b.place ≡ place → is_verified says (blocks ns) b ≡ true → verified_at place ≡ true
   verifies b place h at e =
-      member_any (is_verified_at place) (blocks ns) b h (and_true (b.place == place) (is_verified says (blocks ns) b) (eq-eqb b.place place at) e)
+      member_any (is_verified_at place) (blocks ns) b h (and_from (b.place == place) (is_verified says (blocks ns) b) (eq-eqb b.place place at) e)
 
   -- ---- each account that a place has is that one
 
@@ -176,10 +176,7 @@ module _ (says : Answers) (ns : List Note) where
       let w = (unlisted_are says (contents ns) place).0 u in
       let m = w.0.0 in
       let untaken : taken_at place ≡ false
-      = elim (bool_cases (taken_at place)) [
-        | inl t ↦ (let k = taken_by (normals ns) all_rows place t in absurd (w.1 k.0 k.1))
-        | inr f ↦ f
-      ] in
+      = false_from_ne_true (taken_at place) (λ t. (let k = taken_by (normals ns) all_rows place t in w.1 k.0 k.1)) in
       record {
         kept = Normal m.pair;
         stored = subst (λ k. slice_get ns k ≡ Some (Normal m.pair)) w.0.2 (normal_noted ns m (has_from_contains (normals ns) m w.0.1));
@@ -198,13 +195,10 @@ module _ (says : Answers) (ns : List Note) where
       let h = has_from_contains (blocks ns) w.0 w.1 in
       let text = block_noted ns w.0 h in
       let unverified : verified_at place ≡ false
-      = elim (bool_cases (verified_at place)) [
-        | inl t ↦ (
-            let v = verified_by place t in
-            let one : v.0 ≡ w.0 = one_block v.0 w.0 (has_from_contains (blocks ns) v.0 v.1) h (v.2 ∙ sym w.2) in
-            absurd (w.3 (ap (is_verified says (blocks ns)) (sym one) ∙ v.3)))
-        | inr f ↦ f
-      ] in
+      = false_from_ne_true (verified_at place) (λ t.
+      (let v = verified_by place t in
+      let one : v.0 ≡ w.0 = one_block v.0 w.0 (has_from_contains (blocks ns) v.0 v.1) h (v.2 ∙ sym w.2) in
+      w.3 (ap (is_verified says (blocks ns)) (sym one) ∙ v.3))) in
       record {
         kept = Block text.0;
         stored = subst (λ k. slice_get ns k ≡ Some (Block text.0)) w.2 text.1;

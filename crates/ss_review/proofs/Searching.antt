@@ -31,7 +31,7 @@ module _ {K : Type 0} {R : K → K → Ordering} (o : IsTotalOrder R) (exact : C
       let above : R v x ≡ Greater = ap (R v) (sym (exact w x e)) ∙ o.antisymm v w ∙ ap ordering_reverse l in
       omega (arith, ap ordering_index above)
   index_at Greater w v x l e =
-      let above : R v x ≡ Greater = o.antisymm v x ∙ ap ordering_reverse (o.trans x w v (reversed o exact w x e) l) in
+      let above : R v x ≡ Greater = o.antisymm v x ∙ ap ordering_reverse (o.trans x w v (reversed o w x e) l) in
       omega (arith, ap ordering_index above)
 
   pub answers_rise : (ws : List K) (x : K) → IsStrictlySortedBy R ws → IsNonDecreasingBy (λ y. ordering_index (R y x)) ws
@@ -46,10 +46,10 @@ module _ {K : Type 0} {R : K → K → Ordering} (o : IsTotalOrder R) (exact : C
   -- ---- what is found
 
   not_equal : (y x : K) → R y x ≡ Less → y ≡ x → ⊥
-  not_equal y x l e = not_less_itself o exact x (subst (λ z. R z x ≡ Less) e l)
+  not_equal y x l e = not_less_itself o x (subst (λ z. R z x ≡ Less) e l)
 
   not_above : (y x : K) → R y x ≡ Greater → y ≡ x → ⊥
-  not_above y x l e = not_less_itself o exact x (subst (λ z. R x z ≡ Less) e (reversed o exact y x l))
+  not_above y x l e = not_less_itself o x (subst (λ z. R x z ≡ Less) e (reversed o y x l))
 
   -- Q is the order as the search has it
   module _ (Q : K → K → Ordering) (same : (a b : K) → Q a b ≡ R a b) where
