@@ -32,6 +32,7 @@ use Rattle.ss_review.proofs.Keyed.{from_less, one_of_key, keys_rise-filter}
 use Rattle.ss_review.proofs.Members.{Has, has_from_contains, contains_from_has, has-map, from_has-map, from_has-filter, has-filter_map, from_has-filter_map}
 use Rattle.ss_review.proofs.Rising.{below_all}
 use Rattle.ss_review.proofs.Searching.{not_eq, eq_itself}
+use Rattle.ss_review.proofs.Finding.{finds, finds_none}
 
 -- ---- one more message that has a hash
 
@@ -125,40 +126,6 @@ earliest_from first (n ∷ ns) = by (nat_lt n.place first.place) refl (earliest_
       },
     )
 
--- ---- the first message that passes a test
-
-find_at : (p : NormalMessage → Bool) (b : Bool) (m : NormalMessage) (ms : List NormalMessage) (f : NormalMessage) → cond b (Some m) (find p ms) ≡ Some f → p m ≡ b → ((p m ≡ true) × (m ≡ f)) ⊎ ((p m ≡ false) × (find p ms ≡ Some f))
-find_at p true m ms f e t = inl (t, cc)
-find_at p false m ms f e t = inr (t, e)
-
-find_some : (p : NormalMessage → Bool) (ms : List NormalMessage) (f : NormalMessage) → find p ms ≡ Some f → Has ms f × (p f ≡ true)
-find_some p [] f e = absurd (cc)
-find_some p (m ∷ ms) f e = elim (find_at p (p m) m ms f e refl) [
-  | inl w ↦ (inl w.1, subst (λ n. p n ≡ true) w.1 w.0)
-  | inr w ↦ (let r = find_some p ms f w.1 in (inr r.0, r.1))
-]
-
-find_least : (p : NormalMessage → Bool) (ms : List NormalMessage) (f : NormalMessage) → IsStrictlySortedBy nat_cmp (map (λ (m : NormalMessage). m.place) ms) → find p ms ≡ Some f → (n : NormalMessage) → Has ms n → p n ≡ true → f.place ≤ n.place
-unfolding IsStrictlySortedBy
-find_least p [] f up e n h t = absurd h
-find_least p (m ∷ ms) f up e n (inl same) t = elim (find_at p (p m) m ms f e refl) [
-  | inl w ↦ omega (arith, ap (λ (k : NormalMessage). k.place) w.1, ap (λ (k : NormalMessage). k.place) same)
-  | inr w ↦ absurd (let no : true ≡ false = sym t ∙ ap p (sym same) ∙ w.0 in cc)
-]
-find_least p (m ∷ ms) f up e n (inr h) t = elim (find_at p (p m) m ms f e refl) [
-  | inl w ↦ omega (arith, ap (λ (k : NormalMessage). k.place) w.1, from_less m.place n.place (below_all (λ k. nat_cmp m.place k ≡ Less) (map (λ (k : NormalMessage). k.place) ms) n.place up.0 (has-map (λ (k : NormalMessage). k.place) ms n h)))
-  | inr w ↦ find_least p ms f up.1 w.1 n h t
-]
-
-none_at : (p : NormalMessage → Bool) (b : Bool) (m : NormalMessage) (ms : List NormalMessage) → cond b (Some m) (find p ms) ≡ None → p m ≡ b → (p m ≡ false) × (find p ms ≡ None)
-none_at p true m ms e t = absurd (cc)
-none_at p false m ms e t = (t, e)
-
-find_none : (p : NormalMessage → Bool) (ms : List NormalMessage) → find p ms ≡ None → (n : NormalMessage) → Has ms n → p n ≡ true → ⊥
-find_none p [] e n h t = h
-find_none p (m ∷ ms) e n (inl same) t = let no : true ≡ false = sym t ∙ ap p (sym same) ∙ (none_at p (p m) m ms e refl).0 in absurd (cc)
-find_none p (m ∷ ms) e n (inr h) t = find_none p ms (none_at p (p m) m ms e refl).1 n h t
-
 -- ---- the pairs that are kept, and the messages
 
 -- a message is told by its place and its hashes
@@ -222,28 +189,19 @@ module _ (index : ByHash) (ms : List NormalMessage) (k : KeepsNormal index ms) (
       let here : Has (places_in (tree.get pair_cmp index.pairs m.pair)) m.place = subst (λ ns. Has ns m.place) (sym (k.pairs_are m.pair)) (with_itself ms m i) in
       candidate_of m t (places_in (tree.get pair_cmp index.pairs m.pair)) (k.pairs_are m.pair) here (entry_of m (tree.get pair_cmp index.pairs m.pair) refl here)
 
-  bearer_at : (o : Option NormalMessage) (cs : List NormalMessage) → find (λ m. has_hash h m.pair) ms ≡ o → filter_map (candidate h) index.pairs.entries ≡ cs → earliest cs ≡ o
-  bearer_at None [] e f = refl
-  bearer_at None (c ∷ cs) e f =
-      let w = from_candidate c (subst (λ xs. Has xs c) (sym f) (inl refl)) in
-      absurd (find_none (λ m. has_hash h m.pair) ms e c w.0 w.1)
-  bearer_at (Some m) [] e f =
-      let w = find_some (λ m. has_hash h m.pair) ms m e in
-      let c = has_candidate m w.0 w.1 in
-      absurd (subst (λ xs. Has xs c.0) f c.1)
-  bearer_at (Some m) (c ∷ cs) e f =
-      let w = find_some (λ m. has_hash h m.pair) ms m e in
-      let near = has_candidate m w.0 w.1 in
+  earliest_is : (cs : List NormalMessage) → filter_map (candidate h) index.pairs.entries ≡ cs → earliest cs ≡ find (λ m. has_hash h m.pair) ms
+  earliest_is [] f = sym (finds_none (λ m. has_hash h m.pair) ms (λ n i t. subst (λ xs. Has xs (has_candidate n i t).0) f (has_candidate n i t).1))
+  earliest_is (c ∷ cs) f =
       let first = earliest_from c cs in
       let of_ms = from_candidate first.0 (subst (λ xs. Has xs first.0) (sym f) first.2.member) in
-      let before : first.0.place ≤ near.0.place = first.2.least near.0 (subst (λ xs. Has xs near.0) f near.1) in
-      let behind : m.place ≤ first.0.place = find_least (λ m. has_hash h m.pair) ms m up e first.0 of_ms.0 of_ms.1 in
-      let place : first.0.place ≡ m.place = omega (arith, before, behind, near.2) in
-      first.1 ∙ ap (λ n. Some n) (one_of_key nat_cmp_total exact_unsigned (λ (n : NormalMessage). n.place) ms up first.0 m of_ms.0 w.0 place)
+      first.1
+      ∙ sym (finds (λ m. has_hash h m.pair) ms first.0 up of_ms.0 of_ms.1 (λ n i t.
+      (let near = has_candidate n i t in
+      omega (arith, first.2.least near.0 (subst (λ xs. Has xs near.0) f near.1), near.2))))
 
   pub bearer_is : option_map (λ (m : NormalMessage). m.pair) (bearer_among index.pairs.entries h) ≡ pair_of_bearer ms h
   unfolding pair_of_bearer
-  bearer_is = ap (option_map (λ (m : NormalMessage). m.pair)) (bearer_at (find (λ m. has_hash h m.pair) ms) (filter_map (candidate h) index.pairs.entries) refl refl)
+  bearer_is = ap (option_map (λ (m : NormalMessage). m.pair)) (earliest_is (filter_map (candidate h) index.pairs.entries) refl)
 
 pub wanted_are : (index : ByHash) (ms : List NormalMessage) → KeepsNormal index ms → tree.IsOrdered pair_cmp index.pairs → IsStrictlySortedBy nat_cmp (map (λ (m : NormalMessage). m.place) ms) → (hs : List (Option Hash)) → pairs_among index.pairs.entries hs ≡ pairs_wanted ms hs
 wanted_are index ms k rise up hs = ap (λ f. map (option_and_then f) hs) (λ i g. bearer_is index ms k rise up g i)

@@ -12,7 +12,7 @@ use Rattle.ss_block.specs.declared.hash.Hash.{Hash}
 use Rattle.ss_block.specs.declared.hash.HashPair.{HashPair}
 use Rattle.ss_review.specs.declared.message.NormalMessage.{NormalMessage}
 use Rattle.ss_review.specs.Announced.{Key, Row, key_cmp, keys, hashes_for}
-use Rattle.ss_review.specs.Assigned.{same_pair, is_pair, places_with, wanted_with, wanted, rank, place_of, assigned}
+use Rattle.ss_review.specs.Assigned.{same_pair, is_pair, places_with, wanted_with, wanted, rank, place_of, assigned, pair_of_bearer}
 use Rattle.ss_review.proofs.Announcements.{has-keys, from_has-hashes_for}
 use Rattle.ss_review.proofs.Counting.{count_by-cons, same_pair-is, same_itself}
 use Rattle.ss_review.proofs.Keyed.{has-slice_get, one_index, one_of_key, keys_rise-filter}
@@ -51,16 +51,18 @@ module _ {X : Type 0} (f g : X → Bool) (weaker : (x : X) → f x ≡ true → 
 
 -- ---- what a key wants
 
-wanted_hash : (ms : List NormalMessage) (hs : List Hash) (p : HashPair) → wanted_with ms hs ≡ Some p → (h : Hash) × Has hs h
-wanted_hash ms [] p e = absurd (cc)
-wanted_hash ms (h ∷ hs) p e = (h, inl refl)
+-- one hash, whose bearer has these hashes
+pub only_one : (ms : List NormalMessage) (hs : List Hash) (p : HashPair) → wanted_with ms hs ≡ Some p → (h : Hash) × Has hs h × (hs ≡ h ∷ []) × (pair_of_bearer ms h ≡ Some p)
+only_one ms [] p e = absurd (cc)
+only_one ms (h ∷ []) p e = (h, inl refl, refl, e)
+only_one ms (h ∷ g ∷ hs) p e = absurd (cc)
 
 module _ (ms : List NormalMessage) (rs : List Row) where
   -- a key that wants something is announced
   pub wanted_key : (k : Key) (p : HashPair) → wanted ms rs k ≡ Some p → Has (keys rs) k
   unfolding wanted
   wanted_key k p e =
-      let w = wanted_hash ms (hashes_for rs k) p e in
+      let w = only_one ms (hashes_for rs k) p e in
       has-keys rs (record { key = k; hash = w.0 }) (from_has-hashes_for rs k w.0 w.1)
 
   place_cases : (k : Key) (w : Option HashPair) (place : ℕ) → place_of ms rs k w ≡ Some place → (p : HashPair) × (w ≡ Some p) × (slice_get (places_with ms p) (rank ms rs k p) ≡ Some place)

@@ -8,6 +8,7 @@ use Rattle.std.specs.Cmp.{Equal-is}
 use Rattle.std.specs.Cmp.Lexicographic.{slice_cmp}
 use Rattle.std.proofs.lemmas.Map.Lookups.{exact_bytes}
 use Rattle.std.proofs.lemmas.Map.Text.{is_eq-slice_cmp}
+use Rattle.std.proofs.lemmas.Option.{slice_get-map}
 use Rattle.ss_block.specs.declared.hash.Alg.{Alg}
 use Rattle.ss_block.specs.declared.hash.Alg.TheVariants as algs
 use Rattle.ss_block.specs.declared.hash.Hash.{Hash}
@@ -36,15 +37,14 @@ use Rattle.ss_review.proofs.Announcements.{numbered_from, announced_row, from_ha
 use Rattle.ss_review.proofs.Keyed.{has-slice_get}
 use Rattle.ss_review.proofs.Members.{Has, has_from_contains, from_has-filter_map}
 use Rattle.ss_review.proofs.NotesTold.{IsBlockOf, normal_told, block_told}
-use Rattle.ss_review.proofs.OnePlaceOneKey.{assigned_cases, from_has-places_with}
+use Rattle.ss_review.proofs.OnePlaceOneKey.{assigned_cases, from_has-places_with, only_one}
 use Rattle.ss_review.proofs.Tests.{all_member}
+use Rattle.ss_review.proofs.Finding.{find_some, bearer_of, mapped}
 
 -- ---- what is stored
 
 pub got_map : {X Y : Type 0} (f : X → Y) (xs : List X) (i : ℕ) (y : Y) → slice_get (map f xs) i ≡ Some y → (x : X) × (slice_get xs i ≡ Some x) × (f x ≡ y)
-got_map f [] i y e = absurd (cc)
-got_map f (x ∷ xs) zero y e = let it : f x ≡ y = cc in (x, refl, it)
-got_map f (x ∷ xs) (suc i) y e = got_map f xs i y e
+got_map f xs i y e = mapped f (slice_get xs i) y (sym (slice_get-map f xs i) ∙ e)
 
 -- a note that a log is told with is that of its message at the place
 pub stored_note : (log : List (List ℕ)) (n : ℕ × Note) → Has (enumerate_from 0 (notes log)) n → (text : List ℕ) × (slice_get log n.0 ≡ Some text) × (note text ≡ n.1)
@@ -116,20 +116,10 @@ said_signature (readings.Spoilt cause) b e = absurd (cc)
 
 -- ---- the hash that a key wants
 
--- a key that wants something has one hash, and its bearer's hashes
-one_hash : (ms : List NormalMessage) (hs : List Hash) (p : HashPair) → wanted_with ms hs ≡ Some p → (h : Hash) × Has hs h × (pair_of_bearer ms h ≡ Some p)
-one_hash ms [] p e = absurd (cc)
-one_hash ms (h ∷ []) p e = (h, inl refl, e)
-one_hash ms (h ∷ g ∷ hs) p e = absurd (cc)
-
-bearer_cases : (h : Hash) (b : Bool) (m : NormalMessage) (rest : Option NormalMessage) (p : HashPair) → has_hash h m.pair ≡ b → (option_map (λ (n : NormalMessage). n.pair) rest ≡ Some p → has_hash h p ≡ true) → option_map (λ (n : NormalMessage). n.pair) (cond b (Some m) rest) ≡ Some p → has_hash h p ≡ true
-bearer_cases h true m rest p t f e = let it : m.pair ≡ p = cc in ap (has_hash h) (sym it) ∙ t
-bearer_cases h false m rest p t f e = f e
-
 pub bearer_has : (ms : List NormalMessage) (h : Hash) (p : HashPair) → pair_of_bearer ms h ≡ Some p → has_hash h p ≡ true
-unfolding pair_of_bearer
-bearer_has [] h p e = absurd (cc)
-bearer_has (m ∷ ms) h p e = bearer_cases h (has_hash h m.pair) m (find (λ (n : NormalMessage). has_hash h n.pair) ms) p refl (bearer_has ms h p) e
+bearer_has ms h p e =
+    let w = bearer_of ms h p e in
+    ap (has_hash h) (sym w.2) ∙ (find_some (λ m. has_hash h m.pair) ms w.0 w.1).1
 
 same_octets : (a b : List ℕ) → bytes_eq a b ≡ true → a ≡ b
 same_octets a b e = exact_bytes a b ((Equal-is (slice_cmp nat_cmp a b)).0 (is_eq-slice_cmp a b ∙ e))
@@ -156,8 +146,8 @@ verified_cases says bs b e = valid_cases says (joined says (of_session bs b.sess
 pub wanted_hash_of : (says : Answers) (ns : List Note) (k : Key) (p : HashPair) → wanted (normals ns) (rows says (blocks ns)) k ≡ Some p → (h : Hash) × Announces says (blocks ns) k h × (pair_of_bearer (normals ns) h ≡ Some p)
 unfolding wanted
 wanted_hash_of says ns k p e =
-    let w = one_hash (normals ns) (hashes_for (rows says (blocks ns)) k) p e in
-    (w.0, announced_row says (blocks ns) (record { key = k; hash = w.0 }) (from_has-hashes_for (rows says (blocks ns)) k w.0 w.1), w.2)
+    let w = only_one (normals ns) (hashes_for (rows says (blocks ns)) k) p e in
+    (w.0, announced_row says (blocks ns) (record { key = k; hash = w.0 }) (from_has-hashes_for (rows says (blocks ns)) k w.0 w.1), w.3)
 
 pub witnessed : BlocksAreInRange → (says : Answers) (log : List (List ℕ)) (k : Key) (place : ℕ) → assigned (normals (notes log)) (rows says (blocks (notes log))) k ≡ Some place → IsWitnessed says log k place
 witnessed range says log k place e =
