@@ -1,5 +1,5 @@
 -- The bearer of a hash is the earliest of the first messages with two hashes, one of which is this one.
-use Rattle.std.proofs.Common.{◌≡◌, ◌⊎◌, inl, inr, ℕ, ◌≤◌, Bool, true, false, cond, List, [], ◌∷◌, ◌++◌, map, fold, refl, sym, ap, ◌∙◌, subst, arith, nat_lt}
+use Rattle.std.proofs.Common.{◌≡◌, inl, inr, ℕ, ◌≤◌, Bool, true, false, cond, List, [], ◌∷◌, ◌++◌, map, fold, refl, sym, ap, ◌∙◌, subst, arith, nat_lt}
 use Rattle.std.specs.Prelude.{Option, Some, None, option_map, option_and_then, filter_map, find, filter, slice_get}
 use Rattle.std.specs.Ordering.{is_eq, nat_cmp}
 use Rattle.std.specs.List.{cons_option}
@@ -21,15 +21,13 @@ use Rattle.ss_review.specs.Assigning.{pairs_wanted}
 use Rattle.std.specs.declared.cmp.Ordering.TheVariants.{Less}
 use Rattle.std.specs.BTreeMap as tree
 use Rattle.std.proofs.lemmas.Map.Views.{btree_map_get_iff}
-use Rattle.std.proofs.lemmas.Cmp.{nat_cmp_total}
-use Rattle.std.proofs.lemmas.Map.Lookups.{exact_unsigned}
 use Rattle.ss_block.specs.Order.{pair_cmp}
 use Rattle.ss_block.specs.OrderLaws.{pair_cmp_total, pair_cmp_exact}
 use Rattle.ss_review.specs.Keeping.{places_in, KeepsNormal}
 use Rattle.ss_review.proofs.Bounds.{with_itself}
 use Rattle.ss_review.proofs.Counting.{same_pair-is}
-use Rattle.ss_review.proofs.Keyed.{from_less, one_of_key, keys_rise-filter}
-use Rattle.ss_review.proofs.Members.{Has, has_from_contains, contains_from_has, has-map, from_has-map, from_has-filter, has-filter_map, from_has-filter_map}
+use Rattle.ss_review.proofs.Keyed.{from_less, keys_rise-filter}
+use Rattle.ss_review.proofs.Members.{Has, has_from_contains, contains_from_has, from_has-map, from_has-filter, has-filter_map, from_has-filter_map}
 use Rattle.ss_review.proofs.Rising.{below_all}
 use Rattle.ss_review.proofs.Searching.{not_eq, eq_itself}
 use Rattle.ss_review.proofs.Finding.{finds, finds_none}

@@ -6,11 +6,10 @@ use Rattle.std.specs.declared.cmp.Ordering.TheVariants.{Less}
 use Rattle.std.specs.Ordering.{nat_cmp, is_lt}
 use Rattle.std.specs.List.{AllByRecursion}
 use Rattle.std.specs.List.Sorted.{IsStrictlySortedBy}
-use Rattle.std.proofs.lemmas.Bool.{ltb-true, ltb-false, lt-ltb, cases_Bool, and_parts, and_from, false_from_ne_true}
+use Rattle.std.proofs.lemmas.Bool.{ltb-true, ltb-false, lt-ltb, and_parts, and_from, false_from_ne_true}
 use Rattle.std.proofs.lemmas.Cmp.{nat_cmp_total}
 use Rattle.std.proofs.lemmas.List.Kept.{IsStrictlySortedBy-filter}
 use Rattle.std.proofs.lemmas.List.Sums.{length-filter}
-use Rattle.std.proofs.lemmas.Map.Lookups.{exact_unsigned}
 use Rattle.ss_block.specs.declared.hash.Hash.{Hash}
 use Rattle.ss_block.specs.declared.hash.HashPair.{HashPair}
 use Rattle.ss_review.specs.declared.message.NormalMessage.{NormalMessage}
@@ -23,7 +22,7 @@ use Rattle.ss_review.specs.Listing.{IsBearer, Wants, StandsBefore, IsDue}
 use Rattle.ss_review.proofs.Announcements.{announced_row, has-rows, keys-rise, from_has-hashes_for, has-hashes_for, disputed_key, has-disputed_key}
 use Rattle.ss_review.proofs.Counting.{same_pair-is, same_itself}
 use Rattle.ss_review.proofs.Finding.{find_some, find_least, finds, bearer_of}
-use Rattle.ss_review.proofs.Keyed.{from_less, slice_get-has, has-slice_get, one_of_key}
+use Rattle.ss_review.proofs.Keyed.{from_less, slice_get-has, has-slice_get}
 use Rattle.ss_review.proofs.Members.{Has, has_from_contains, contains_from_has, has-map, has-filter, from_has-filter}
 use Rattle.ss_review.proofs.OnePlaceOneKey.{wanted_key, assigned_cases, from_has-places_with, places_with-rise, only_one}
 use Rattle.ss_review.proofs.PlacesRise.{normals_rise}
