@@ -1,2 +1,3 @@
 pub mod LogSoFar
 pub mod TextSoFar
+pub mod FedSoFar

@@ -3,5 +3,6 @@ pub mod Inspection
 pub mod ReportText
 pub mod QuestionText
 pub mod Verdict
+pub mod Fed
 pub mod Run
 pub mod Jobs

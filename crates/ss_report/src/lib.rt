@@ -2,9 +2,11 @@
 //! inspection, which says what each message is.
 #![tactic(auto)]
 
+mod cleanness;
 mod ending;
 mod extract;
 mod fault;
+mod fed;
 mod inspect;
 mod inspection;
 mod log;
