@@ -1,3 +1,5 @@
 pub mod Log
+pub mod Words
+pub mod Ending
 pub mod Inspection
 pub mod Inspect

@@ -9,6 +9,7 @@ mod inspection;
 mod log;
 mod output;
 mod verdict;
+mod words;
 
 pub use ending::put_end;
 pub use fault::RunFault;
