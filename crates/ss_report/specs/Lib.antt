@@ -3,3 +3,4 @@ pub mod Words
 pub mod Ending
 pub mod Inspection
 pub mod Inspect
+pub mod ReportText

@@ -1,5 +1,5 @@
-//! What every run over a stored log needs, the log read to its end, a text written whole, and how the run ended; and the
-//! inspection, which says what each message is.
+//! What every run over a stored log needs, the log read to its end, a text written whole, and how the run ended; the
+//! inspection, which says what each message is; and the text of a review.
 #![tactic(auto)]
 
 mod ending;
@@ -8,6 +8,7 @@ mod inspect;
 mod inspection;
 mod log;
 mod output;
+pub mod report_text;
 mod verdict;
 mod words;
 
