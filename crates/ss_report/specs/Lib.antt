@@ -4,3 +4,4 @@ pub mod Ending
 pub mod Inspection
 pub mod Inspect
 pub mod ReportText
+pub mod QuestionText

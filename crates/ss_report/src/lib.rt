@@ -8,6 +8,7 @@ mod inspect;
 mod inspection;
 mod log;
 mod output;
+mod question_text;
 pub mod report_text;
 mod verdict;
 mod words;
