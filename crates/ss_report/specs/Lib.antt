@@ -1,4 +1,6 @@
 pub mod Log
+pub mod Words
+pub mod Ending
 pub mod Inspection
 pub mod ReportText
 pub mod QuestionText
