@@ -9,6 +9,7 @@ mod fault;
 mod fed;
 mod inspect;
 mod inspection;
+mod listed;
 mod log;
 mod outcome;
 mod output;
