@@ -1,4 +1,3 @@
-pub mod Verifier
 pub mod ReportText
 pub mod ThinText
 pub mod ThinReading

@@ -3,7 +3,6 @@
 
 mod answers;
 mod command_line;
-mod judge;
 mod nobody;
 mod program;
 mod report;
@@ -15,7 +14,6 @@ mod tests;
 mod thin;
 
 pub use answers::{AnswerFault, Answers, SealFault, open_answers, read_answers};
-pub use judge::{Judge, Verifier};
 pub use nobody::Nobody;
 pub use report::{Entry, Report, SessionReport, SessionState};
 pub use report_text::report_text;

@@ -5,13 +5,13 @@ ghost use Rattle.ssign.specs.CommandLine.{AreMistaken, status_of};
 
 use crate::answers::open_answers;
 use crate::command_line::{answers_file, command, limits_of};
-use crate::judge::Judge;
 use crate::nobody::Nobody;
 use crate::run::run_review;
 use clap::ArgMatches;
 use clap::error::ErrorKind;
 use ss_frame::{Buffered, Limits, Watched};
 use ss_report::{RunFault, Verdict, run_inspect};
+use ss_review::Judge;
 use std::alloc::AllocError;
 use std::fmt::Display;
 use std::io::{BufWriter, Printer};

@@ -8,13 +8,13 @@ mod judging;
 mod places;
 mod search;
 
-use crate::judge::Judge;
 use crate::report::{Entry, Report, SessionReport, SessionState};
 use crate::review::entries::{digests_of, entries_of};
 use crate::review::judging::judged;
 use crate::review::places::{all_places, refused, unlisted_places};
 use crate::review::search::{Found, Outcome, find_blocks};
 use ss_frame::Bytes;
+use ss_review::Judge;
 use std::alloc::{AllocError, Global};
 
 /// Reviews a log, given as its messages in order. `None` for a log that isn't covered yet: one with blocks other

@@ -4,11 +4,11 @@ ghost use Rattle.ssign.specs.ThinText.{IsSignature, IsCertificate, signed_signat
 ghost use Rattle.ssign.specs.Review.{Blocks, state_of, is_verified};
 ghost use Rattle.ssign.specs.Search.{AreFound};
 
-use crate::judge::Judge;
 use crate::report::SessionState;
 use crate::review::search::Found;
 use crate::thin::{ThinCertificate, ThinSignature, signed_octets};
 use ss_frame::Bytes;
+use ss_review::Judge;
 use std::alloc::{AllocError, Global};
 
 /// The state of the session, and whether the signature block is verified.

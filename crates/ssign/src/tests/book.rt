@@ -3,12 +3,12 @@ ghost use Rattle.std.specs.Prelude.{◌≡◌, ◌&&◌, ◌||◌, false, Bool};
 ghost use Rattle.std.specs.Str.{bytes_eq};
 ghost use Rattle.ss_frame.specs.Watched.{has_failed};
 
-use crate::judge::Verifier;
 use crate::run::run_review;
 use crate::tests::logs::{PAYLOAD, SIGN, SIGNED_CERTIFICATE, SIGNED_SIGNATURE};
 use ss_block::Scheme;
 use ss_frame::{Limits, Watched};
 use ss_report::{RunFault, Verdict};
+use ss_review::Verifier;
 use std::alloc::Global;
 use std::io::{Read, Write};
 
