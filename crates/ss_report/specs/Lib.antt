@@ -1,3 +1,7 @@
 pub mod Log
 pub mod Inspection
-pub mod Inspect
+pub mod ReportText
+pub mod QuestionText
+pub mod Verdict
+pub mod Run
+pub mod Jobs
