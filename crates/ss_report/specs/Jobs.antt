@@ -1,5 +1,5 @@
 -- The runs over a log: what each writes of its messages and its tail, and its verdict.
-use Rattle.std.specs.Prelude.{ℕ, true, false, List}
+use Rattle.std.specs.Prelude.{true, false}
 use Rattle.ss_frame.specs.Frame.{frames}
 use Rattle.ss_frame.specs.Limits.{Allowance}
 use Rattle.ss_frame.specs.Watched.{Source, Sink}

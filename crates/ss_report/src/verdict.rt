@@ -1,8 +1,10 @@
 //! Whether a run over a log found anything.
 ghost use Rattle.std.specs.Prelude.{◌≡◌};
-ghost use Rattle.ss_report.specs.Verdict.{end_verdict};
+ghost use Rattle.ss_report.specs.Verdict.{end_verdict, report_verdict};
 
+use crate::cleanness::is_clean;
 use ss_frame::Tail;
+use ss_review::Report;
 
 /// Whether a log leaves anything to look into.
 #[derive(Clone, Copy, Debug, PartialEq, Eq)]
@@ -21,5 +23,16 @@ pub(crate) fn end_verdict(tail: Tail) -> Verdict
     match tail {
         Tail::Clean => Verdict::Clean,
         Tail::Torn { .. } => Verdict::Findings,
+    }
+}
+
+/// Whether the report leaves nothing to look into, and the log has a clean end.
+pub(crate) fn report_verdict(report: &Report, tail: Tail) -> Verdict
+    ensures { result ≡ report_verdict report.now tail }
+{
+    if is_clean(report) {
+        end_verdict(tail)
+    } else {
+        Verdict::Findings
     }
 }

@@ -1,7 +1,7 @@
 -- The text of a report: a line for each thing that it says, each ended by LF, with one SP between two fields.
 use Rattle.std.specs.Prelude.{ℕ, List, [], ◌++◌, codes, decimal, flat_map, Option, Some, None}
 use Rattle.ss_frame.specs.declared.step.Tail.{Tail}
-use Rattle.ss_report.specs.Inspection.{end_lines}
+use Rattle.ss_report.specs.Ending.{end_lines}
 use Rattle.ssign.specs.declared.report.SessionState.{SessionState}
 use Rattle.ssign.specs.declared.report.SessionState.TheVariants as states
 use Rattle.ssign.specs.declared.report.Entry.{Entry}
