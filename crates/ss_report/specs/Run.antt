@@ -47,4 +47,3 @@ Stops job limits before after was is run.Write = FailsToWrite job limits before 
 Stops job limits before after was is (run.Frame fault) = StopsRun job.reviews limits before after (run.Frame fault)
 Stops job limits before after was is (run.Review fault) = StopsRun job.reviews limits before after (run.Review fault)
 Stops job limits before after was is run.Memory = StopsRun job.reviews limits before after run.Memory
-Stops job limits before after was is run.NotYet = StopsRun job.reviews limits before after run.NotYet

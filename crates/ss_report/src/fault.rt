@@ -24,9 +24,6 @@ pub enum RunFault {
     /// W2: want of memory.
     #[error("W2")]
     Memory,
-    /// The log has blocks in a form that isn't reviewed yet. Only a review answers it.
-    #[error("not yet")]
-    NotYet,
 }
 
 impl From<FrameFault> for RunFault {
