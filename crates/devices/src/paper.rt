@@ -13,24 +13,24 @@ pub enum Refusal {
     Nothing,
 }
 
-/// Keeps up to 256 octets without taking memory, and counts its writes.
+/// Keeps up to 1,024 octets without taking memory, and counts its writes.
 #[derive(Clone, Copy)]
 pub struct Paper {
-    text: [u8; 256],
+    text: [u8; 1024],
     len: usize,
     most: usize,
     refusal: Option<(u64, Refusal)>,
     flush_fails: bool,
     /// How many writes there were.
     pub writes: u64,
-    ghost fits: { len ≤ 256 },
+    ghost fits: { len ≤ 1024 },
 }
 
 impl Paper {
     /// A write takes at most `most` octets.
     pub fn new(most: usize) -> Paper {
         Paper {
-            text: [0; 256],
+            text: [0; 1024],
             len: 0,
             most,
             refusal: None,
@@ -70,7 +70,7 @@ impl Write for Paper {
                 };
             }
         }
-        let taken = buf.len().min(self.most).min(256 - self.len);
+        let taken = buf.len().min(self.most).min(1024 - self.len);
         let end = self.len + taken;
         self.text[self.len..end].copy_from_slice(&buf[..taken]);
         self.len = end;

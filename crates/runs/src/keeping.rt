@@ -1,8 +1,8 @@
 //! What a reviewer keeps of messages, and how many of them it takes.
-use super::book::{Who, finish};
-use super::lines::Line;
-use super::row::sees_lines;
-use super::texts::{Text, octets_of, signed_of};
+use crate::book::Yes;
+use crate::texts::{Text, octets_of, signed_of};
+use ss_frame::Tail;
+use ss_report::report_text::report_text;
 use ss_review::{ReviewFault, Reviewer};
 use std::alloc::{AllocError, Global};
 use std::process::Abort;
@@ -29,10 +29,6 @@ const LENGTHS: [(Text, usize, Option<usize>); 17] = [
     (Text::ShortBesideOthers, 177, Some(165)),
 ];
 
-fn length_of(alloc: Global, text: Text) -> Result<usize, AllocError> {
-    Ok(octets_of(alloc, text)?.len())
-}
-
 fn signed_length(alloc: Global, text: Text) -> Result<usize, AllocError> {
     Ok(signed_of(alloc, text)?.len())
 }
@@ -44,7 +40,7 @@ fn sees_lengths(
     length: usize,
     signed: Option<usize>,
 ) -> Result<(), AllocError> {
-    assert_eq!(rt; length_of(rt.alloc(), text)?, length, "{text:?}");
+    assert_eq!(rt; octets_of(text).len(), length, "{text:?}");
     if let Some(signed) = signed {
         assert_eq!(rt; signed_length(rt.alloc(), text)?, signed, "{text:?}");
     }
@@ -61,15 +57,11 @@ const KEPT: [(Text, u128); 6] = [
     (Text::Certificate, 388),
 ];
 
-fn feed_one(alloc: Global, reviewer: &mut Reviewer, text: Text) -> Result<(), ReviewFault> {
-    reviewer.feed(octets_of(alloc, text)?.as_slice())
-}
-
 fn sees_kept(rt: &(impl Abort + AllocGlobal)) -> Result<(), ReviewFault> {
     let mut reviewer = Reviewer::new(rt.alloc(), 16);
     assert_eq!(rt; reviewer.kept(), 0);
     for (text, kept) in &KEPT {
-        feed_one(rt.alloc(), &mut reviewer, *text)?;
+        reviewer.feed(octets_of(*text))?;
         assert_eq!(rt; reviewer.kept(), *kept, "{text:?}");
     }
     Ok(())
@@ -78,11 +70,13 @@ fn sees_kept(rt: &(impl Abort + AllocGlobal)) -> Result<(), ReviewFault> {
 /// A reviewer that takes one message refuses the next one, and reports the first.
 fn sees_limit(rt: &(impl Abort + AllocGlobal)) -> Result<(), ReviewFault> {
     let mut reviewer = Reviewer::new(rt.alloc(), 1);
-    feed_one(rt.alloc(), &mut reviewer, Text::Short)?;
-    let refused = feed_one(rt.alloc(), &mut reviewer, Text::Short);
-    assert_eq!(rt; refused, Err(ReviewFault::TooManyMessages));
-    let report = finish(rt.alloc(), &reviewer, Who::All)?;
-    sees_lines(rt, &report, &[Line::Unlisted(0), Line::End(1)], "the limit")?;
+    reviewer.feed(b"abc")?;
+    assert_eq!(rt; reviewer.feed(b"abc"), Err(ReviewFault::TooManyMessages));
+    let report = reviewer.finish(&Yes)?;
+    let Ok(text) = report_text(rt.alloc(), &report, Tail::Clean) else {
+        return Err(ReviewFault::Memory);
+    };
+    assert_eq!(rt; text.as_slice(), b"unlisted 0\nend 1\n".as_slice());
     assert!(rt; reviewer.questions()?.as_slice().is_empty());
     Ok(())
 }

@@ -1,7 +1,6 @@
 //! What a review asks of a signature scheme.
-use super::book::{PAYLOAD, SIGN};
-use super::row::feed;
-use super::texts::{Text, signed_of};
+use crate::book::{PAYLOAD, SIGN};
+use crate::texts::{Text, octets_of, signed_of};
 use ss_frame::Bytes;
 use ss_review::{Question, Questions, ReviewFault, Reviewer};
 use std::alloc::{AllocError, Global};
@@ -128,7 +127,9 @@ fn is_asked(alloc: Global, question: &Question, asked: Asked) -> Result<bool, Al
 
 fn questions_of(alloc: Global, log: &[Text]) -> Result<Questions, ReviewFault> {
     let mut reviewer = Reviewer::new(alloc, 16);
-    feed(alloc, &mut reviewer, log)?;
+    for text in log {
+        reviewer.feed(octets_of(*text))?;
+    }
     reviewer.questions()
 }
 

@@ -1,11 +1,15 @@
-//! Who answers for signatures in these tests.
-ghost use Rattle.std.specs.Prelude.{◌≡◌, ◌&&◌, ◌||◌, Bool};
+//! Who answers for signatures in these tests, and the runs that ask.
+ghost use Rattle.std.specs.Prelude.{◌≡◌, ◌&&◌, ◌||◌, false, true, Bool};
 ghost use Rattle.std.specs.Str.{bytes_eq};
+ghost use Rattle.ss_frame.specs.Watched.{has_failed};
 
-use super::texts::{Text, signed_of};
+use crate::texts::{Text, signed_of};
 use ss_block::Scheme;
-use ss_review::{Report, ReviewFault, Reviewer, Verifier};
+use ss_frame::{Limits, Watched};
+use ss_report::{RunFault, Verdict, run_extract, run_questions, run_review};
+use ss_review::{Judge, Verifier};
 use std::alloc::{AllocError, Global};
+use std::io::{Read, Write};
 
 /// The payload of the certificate blocks.
 pub const PAYLOAD: &[u8] = b"2009-05-03T14:00:39Z K S0VZ";
@@ -29,7 +33,7 @@ pub enum Who {
 /// A scheme in which all is trusted and valid, or one payload is trusted, and two texts have one valid signature under
 /// one payload.
 #[derive(Clone, Copy)]
-struct Book<'b> {
+pub struct Book<'b> {
     all: bool,
     trusted: &'b [u8],
     payload: &'b [u8],
@@ -62,12 +66,53 @@ impl<'b> Book<'b> {
     }
 }
 
-/// What a reviewer reports by two closures that answer as `book` says.
-fn finish_by(reviewer: &Reviewer, book: &Book<'_>) -> Result<Report, ReviewFault> {
+/// Which run over a log.
+#[derive(Clone, Copy, Debug)]
+pub enum Job {
+    Review,
+    Questions,
+    Extract,
+}
+
+/// Runs over a log with two closures that answer as `book` says.
+pub fn run_by<R: Read, W: Write>(
+    alloc: Global,
+    job: Job,
+    reader: &mut Watched<R>,
+    writer: &mut Watched<W>,
+    book: &Book<'_>,
+    limits: Limits,
+) -> Result<Verdict, RunFault>
+    requires reader { has_failed reader.old ≡ false }
+    requires writer { has_failed writer.old ≡ false }
+{
     let trust = |payload: &[u8]| book.trusts(payload);
     let check = |payload: &[u8], octets: &[u8], sign: &[u8]| book.accepts(payload, octets, sign);
     let verifier = Verifier::new(book, trust, check);
-    reviewer.finish(&verifier)
+    match job {
+        Job::Review => run_review(alloc, reader, writer, &verifier, limits),
+        Job::Questions => run_questions(alloc, reader, writer, limits),
+        Job::Extract => run_extract(alloc, reader, writer, &verifier, limits),
+    }
+}
+
+/// Says yes to everything.
+pub struct Yes;
+
+impl Judge for Yes {
+    ghost sound = { λ _. Unit {0} };
+
+    ghost trusted = { λ _ _. true };
+
+    ghost valid = { λ _ _ _ _. true };
+
+    fn trusts(&self, _payload: &[u8]) -> bool {
+        true
+    }
+
+    fn accepts(&self, _payload: &[u8], _octets: &[u8], _signature: &[u8]) -> bool {
+        true
+    }
 }
 
 /// The two texts whose signatures are valid.
@@ -79,7 +124,7 @@ fn valid_texts(who: Who) -> Option<(Text, Text)> {
 }
 
 /// What is signed of the first text and of the second, or nothing.
-fn signed_texts(alloc: Global, who: Who) -> Result<(Vec<u8>, Vec<u8>), AllocError> {
+pub fn signed_texts(alloc: Global, who: Who) -> Result<(Vec<u8>, Vec<u8>), AllocError> {
     match valid_texts(who) {
         Some((first, second)) => Ok((signed_of(alloc, first)?, signed_of(alloc, second)?)),
         None => Ok((Vec::new(alloc), Vec::new(alloc))),
@@ -87,7 +132,7 @@ fn signed_texts(alloc: Global, who: Who) -> Result<(Vec<u8>, Vec<u8>), AllocErro
 }
 
 /// The book that says so, where these octets are signed.
-fn book_of<'b>(who: Who, signed: (&'b [u8], &'b [u8])) -> Book<'b> {
+pub fn book_of<'b>(who: Who, signed: (&'b [u8], &'b [u8])) -> Book<'b> {
     Book {
         all: matches!(who, Who::All),
         trusted: match who {
@@ -98,11 +143,4 @@ fn book_of<'b>(who: Who, signed: (&'b [u8], &'b [u8])) -> Book<'b> {
         signed,
         sign: SIGN,
     }
-}
-
-/// What a reviewer reports where these are the answers.
-pub fn finish(alloc: Global, reviewer: &Reviewer, who: Who) -> Result<Report, ReviewFault> {
-    let (first, second) = signed_texts(alloc, who)?;
-    let book = book_of(who, (first.as_slice(), second.as_slice()));
-    finish_by(reviewer, &book)
 }

@@ -1,6 +1,6 @@
 //! Inspections of logs that cannot be read, over devices that fail, and where memory runs out: nothing is written then but
 //! by a write that failed.
-use crate::devices::{Paper, Pieces, Refusal};
+use devices::{Paper, Pieces, Refusal};
 use ss_frame::{FrameFault, Limits, Watched};
 use ss_report::{RunFault, Verdict, run_inspect};
 use std::io::ErrorKind;
@@ -15,8 +15,8 @@ const LOG: &[u8] =
 const INSPECTION: &[u8] =
     b"unparsed 0 M1 0\nunparsed 1 M1 0\ncertificate 2 h s - 1 0 0 27 1 27\nsignature 3 h s - 1 0 0 0 1 2\nend 4\n";
 
-/// A log, the most octets of a message and the most messages, and why the inspection stops.
-const STOPS: [(&[u8], (u32, u32), FrameFault); 3] = [
+/// A log, the most octets of a message and the most messages, and why a run stops.
+pub const STOPS: [(&[u8], (u32, u32), FrameFault); 3] = [
     (
         b"3 abcx",
         (65_536, 10_000_000),
