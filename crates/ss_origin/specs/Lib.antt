@@ -1,0 +1,14 @@
+pub mod Groups
+pub mod Configs
+pub mod Counting
+pub mod Calls
+pub mod State
+pub mod Step
+pub mod Blocks
+pub mod Setting
+pub mod Sealing
+pub mod Emission
+pub mod Refusals
+pub mod Slots
+pub mod Originator
+pub mod Chain
