@@ -6,6 +6,7 @@ mod config;
 mod counters;
 mod fault;
 mod grouping;
+pub mod laws;
 mod originator;
 mod sealer;
 mod slots;
