@@ -1,2 +1,4 @@
 pub mod Runs
 pub mod Steps
+pub mod Groups
+pub mod RunsClosed

@@ -12,3 +12,5 @@ pub mod Refusals
 pub mod Slots
 pub mod Originator
 pub mod Chain
+pub mod GroupLaws
+pub mod RunLaws

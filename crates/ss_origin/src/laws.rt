@@ -1,3 +1,5 @@
 //! Laws of the definitions that contracts cite. Each is the contract of a function that does nothing.
 
+pub mod groups;
+pub mod runs;
 pub mod steps;
