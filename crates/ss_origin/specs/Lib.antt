@@ -14,3 +14,4 @@ pub mod Originator
 pub mod Chain
 pub mod GroupLaws
 pub mod RunLaws
+pub mod ChainLaws
