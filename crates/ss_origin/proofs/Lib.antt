@@ -5,3 +5,5 @@ pub mod RunsClosed
 pub mod Numbering
 pub mod Configs
 pub mod CountersInRange
+pub mod Numbered
+pub mod Covered

@@ -15,3 +15,5 @@ pub mod Chain
 pub mod GroupLaws
 pub mod RunLaws
 pub mod ChainLaws
+pub mod BlockLaws
+pub mod CoverLaws

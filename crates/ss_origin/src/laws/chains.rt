@@ -1,4 +1,5 @@
 //! The originators of a session that follow one another.
+ghost use Rattle.ss_origin.specs.BlockLaws.{RunsAreNumbered};
 ghost use Rattle.ss_origin.specs.ChainLaws.{NumbersGoOn, ChainsCanBeResumed};
 
 use ss_message::laws::faults_are_of_no_message;
@@ -14,3 +15,9 @@ pub fn chains_can_be_resumed()
 {
     faults_are_of_no_message();
 }
+
+/// A run that a call closes holds the hashes of the messages that the chain was given for its group, from the number on that
+/// its block says is the first.
+pub fn runs_are_numbered()
+    ensures { RunsAreNumbered }
+{}
