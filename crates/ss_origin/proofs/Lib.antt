@@ -7,3 +7,9 @@ pub mod Configs
 pub mod CountersInRange
 pub mod Numbered
 pub mod Covered
+pub mod Sealed
+pub mod Sending
+pub mod Due
+pub mod Starting
+pub mod PendingRuns
+pub mod Answering
