@@ -13,3 +13,5 @@ pub mod Due
 pub mod Starting
 pub mod PendingRuns
 pub mod Answering
+pub mod Submitting
+pub mod Taking

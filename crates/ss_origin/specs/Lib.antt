@@ -9,6 +9,7 @@ pub mod Setting
 pub mod Sealing
 pub mod Emission
 pub mod Refusals
+pub mod Admission
 pub mod Signing
 pub mod Slots
 pub mod Pending

@@ -1,11 +1,11 @@
 //! The blocks that are due in a call.
-ghost use Rattle.std.specs.Prelude.{◌≡◌, ◌+◌, ◌≤◌, ◌<◌, ◌++◌, List, length, map, true, IfOk, OnOk};
+ghost use Rattle.std.specs.Prelude.{◌≡◌, ◌+◌, ◌-◌, ◌≤◌, ◌<◌, ◌++◌, ◌∷◌, [], List, length, map, true, IfOk, OnOk};
 ghost use Rattle.std.specs.List.{All};
 ghost use Rattle.ss_payload.specs.declared.cuts.Cut.{Cut};
 ghost use Rattle.ss_payload.specs.Cuts.{AreCuts};
 ghost use Rattle.ss_payload.specs.CuttingLaws.{LiesWithin};
 ghost use Rattle.ss_payload.specs.Payload.{payload_text};
-ghost use Rattle.ss_block.specs.Block.{IsSignature, IsCertificate};
+ghost use Rattle.ss_block.specs.Block.{IsSignature, IsCertificate, is_of};
 ghost use Rattle.ss_origin.specs.Configs.{is_config, IsFit};
 ghost use Rattle.ss_origin.specs.Calls.{run_if_any};
 ghost use Rattle.ss_origin.specs.State.{spris};
@@ -165,5 +165,32 @@ pub fn pending_blocks(
         let gbc = gbc + due.len() as u64;
         push_pending(alloc, config, spri, gbc, slots.slot(spri), &mut due)?;
     }
+    Ok(due)
+}
+
+/// The signature block of a group's hashes and one more.
+pub fn full_block(
+    alloc: Global,
+    config: &Config,
+    spri: u8,
+    gbc: u64,
+    slot: &Slot,
+    hash: Hash,
+) -> Result<Vec<Unsigned>, NoMemory>
+    requires config { is_config config.now ≡ true }
+    requires spri { spri < 192 }
+    requires group { IsGroupState config.now slot.now }
+    requires gbc { gbc < 10000000000 }
+    requires number { slot.now.number < 10000000000 }
+    requires hash { is_of config.now.alg hash ≡ true }
+    ensures { IfOk result (λ v. v.items ≡ Signature (signature_in config.now spri gbc (slot.now.number - length slot.now.pending) (slot.now.pending ++ hash ∷ [])) ∷ []) }
+{
+    let pending = slot.pending();
+    let first = slot.number() - pending.len() as u64;
+    let mut hashes = Vec::with_capacity(alloc, pending.len() + 1)?;
+    hashes.extend_from_slice(pending)?;
+    hashes.push(hash)?;
+    let mut due = Vec::with_capacity(alloc, 1)?;
+    due.push(signature(alloc, config, spri, gbc, first, hashes)?)?;
     Ok(due)
 }

@@ -9,6 +9,7 @@ mod fault;
 mod grouping;
 pub mod laws;
 mod originator;
+mod plain;
 mod ranges;
 mod sealer;
 mod sealing;
