@@ -1,0 +1,17 @@
+pub mod Runs
+pub mod Steps
+pub mod Groups
+pub mod RunsClosed
+pub mod Numbering
+pub mod Configs
+pub mod CountersInRange
+pub mod Numbered
+pub mod Covered
+pub mod Sealed
+pub mod Sending
+pub mod Due
+pub mod Starting
+pub mod PendingRuns
+pub mod Answering
+pub mod Submitting
+pub mod Taking

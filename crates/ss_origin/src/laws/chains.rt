@@ -1,0 +1,23 @@
+//! The originators of a session that follow one another.
+ghost use Rattle.ss_origin.specs.BlockLaws.{RunsAreNumbered};
+ghost use Rattle.ss_origin.specs.ChainLaws.{NumbersGoOn, ChainsCanBeResumed};
+
+use ss_message::laws::faults_are_of_no_message;
+
+/// Behind the originators of a chain, the next number of a group is one more than how many messages they were given for it.
+pub fn numbers_go_on()
+    ensures { NumbersGoOn }
+{}
+
+/// The counters behind a chain are such as `resume` takes.
+pub fn chains_can_be_resumed()
+    ensures { ChainsCanBeResumed }
+{
+    faults_are_of_no_message();
+}
+
+/// A run that a call closes holds the hashes of the messages that the chain was given for its group, from the number on that
+/// its block says is the first.
+pub fn runs_are_numbered()
+    ensures { RunsAreNumbered }
+{}
