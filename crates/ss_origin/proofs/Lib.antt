@@ -7,3 +7,4 @@ pub mod Configs
 pub mod CountersInRange
 pub mod Numbered
 pub mod Covered
+pub mod RowsTold

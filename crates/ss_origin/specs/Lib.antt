@@ -17,3 +17,4 @@ pub mod RunLaws
 pub mod ChainLaws
 pub mod BlockLaws
 pub mod CoverLaws
+pub mod Rows
