@@ -1,6 +1,6 @@
 //! The originators of a session that follow one another.
 ghost use Rattle.ss_origin.specs.BlockLaws.{RunsAreNumbered};
-ghost use Rattle.ss_origin.specs.ChainLaws.{NumbersGoOn, ChainsCanBeResumed};
+ghost use Rattle.ss_origin.specs.ChainLaws.{NumbersGoOn, CountersStayInRange, ChainsCanBeResumed};
 
 use ss_message::laws::faults_are_of_no_message;
 
@@ -8,6 +8,13 @@ use ss_message::laws::faults_are_of_no_message;
 pub fn numbers_go_on()
     ensures { NumbersGoOn }
 {}
+
+/// An originator that begins at counters in their ranges ends at such.
+pub fn counters_stay_in_range()
+    ensures { CountersStayInRange }
+{
+    faults_are_of_no_message();
+}
 
 /// The counters behind a chain are such as `resume` takes.
 pub fn chains_can_be_resumed()
