@@ -18,3 +18,4 @@ pub mod ChainLaws
 pub mod BlockLaws
 pub mod CoverLaws
 pub mod Rows
+pub mod RangeRows
