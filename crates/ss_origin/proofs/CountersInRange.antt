@@ -28,7 +28,7 @@ use Rattle.ss_origin.proofs.Steps.{states_step}
 
 -- ---- faults that don't apply
 
-none_first : (b : Bool) (fault : OriginFault) (rest : Option OriginFault) → (if b then Some fault else rest) ≡ None → (b ≡ false) × (rest ≡ None)
+pub none_first : (b : Bool) (fault : OriginFault) (rest : Option OriginFault) → (if b then Some fault else rest) ≡ None → (b ≡ false) × (rest ≡ None)
 none_first true fault rest e = absurd (cc)
 none_first false fault rest e = (refl, e)
 

@@ -8,3 +8,4 @@ pub mod CountersInRange
 pub mod Numbered
 pub mod Covered
 pub mod RowsTold
+pub mod Sent

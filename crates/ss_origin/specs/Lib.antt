@@ -19,3 +19,4 @@ pub mod BlockLaws
 pub mod CoverLaws
 pub mod Rows
 pub mod RangeRows
+pub mod SentLaws

@@ -1,6 +1,7 @@
 //! The originators of a session that follow one another.
 ghost use Rattle.ss_origin.specs.BlockLaws.{RunsAreNumbered};
 ghost use Rattle.ss_origin.specs.ChainLaws.{NumbersGoOn, CountersStayInRange, ChainsCanBeResumed};
+ghost use Rattle.ss_origin.specs.SentLaws.{SentBlocksAreNumbered};
 
 use ss_message::laws::faults_are_of_no_message;
 
@@ -28,3 +29,11 @@ pub fn chains_can_be_resumed()
 pub fn runs_are_numbered()
     ensures { RunsAreNumbered }
 {}
+
+/// A message that a chain sent and that is read as a signature block is of its configuration, and has the hashes of the
+/// messages that the chain was given for the block's group, from the block's first number on.
+pub fn sent_blocks_are_numbered()
+    ensures { SentBlocksAreNumbered }
+{
+    faults_are_of_no_message();
+}
