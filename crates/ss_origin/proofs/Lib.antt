@@ -9,3 +9,5 @@ pub mod Numbered
 pub mod Covered
 pub mod RowsTold
 pub mod Sent
+pub mod Members
+pub mod Announced

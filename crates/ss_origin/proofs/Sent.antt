@@ -32,12 +32,12 @@ use Rattle.ss_origin.proofs.CountersInRange.{none_first}
 
 -- ---- the turn of a chain
 
-turn_of : (s : Setting) (start : Start) (later earlier : List Turn) (t : Turn) → AreTurns s start (later ++ t ∷ earlier)
+pub turn_of : (s : Setting) (start : Start) (later earlier : List Turn) (t : Turn) → AreTurns s start (later ++ t ∷ earlier)
     → (fault_of s.config (state s.config start (calls_of earlier)) t.call ≡ None) × EmitsFrom s (state s.config start (calls_of earlier)) t.call t.emitted
 turn_of s start [] earlier t turned = (turned.1, turned.2)
 turn_of s start (u ∷ later) earlier t turned = turn_of s start later earlier t turned.0
 
-turns_of : (s : Setting) (newer older : List (List Turn)) (turns : List Turn) → AreChained s (newer ++ turns ∷ older) → AreTurns s (start_behind s.config older) turns
+pub turns_of : (s : Setting) (newer older : List (List Turn)) (turns : List Turn) → AreChained s (newer ++ turns ∷ older) → AreTurns s (start_behind s.config older) turns
 turns_of s [] older turns are = are.1
 turns_of s (u ∷ newer) older turns are = turns_of s newer older turns are.0
 

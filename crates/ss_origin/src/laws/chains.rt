@@ -1,7 +1,7 @@
 //! The originators of a session that follow one another.
 ghost use Rattle.ss_origin.specs.BlockLaws.{RunsAreNumbered};
 ghost use Rattle.ss_origin.specs.ChainLaws.{NumbersGoOn, CountersStayInRange, ChainsCanBeResumed};
-ghost use Rattle.ss_origin.specs.SentLaws.{SentBlocksAreNumbered};
+ghost use Rattle.ss_origin.specs.SentLaws.{SentBlocksAreNumbered, OthersAreSent};
 
 use ss_message::laws::faults_are_of_no_message;
 
@@ -37,3 +37,9 @@ pub fn sent_blocks_are_numbered()
 {
     faults_are_of_no_message();
 }
+
+/// Each message that an originator of a chain was given, and that isn't pending at its end, has a hash in a block that was
+/// sent, at its number.
+pub fn others_are_sent()
+    ensures { OthersAreSent }
+{}
