@@ -11,3 +11,4 @@ pub mod RowsTold
 pub mod Sent
 pub mod Members
 pub mod Announced
+pub mod Beginning

@@ -1,8 +1,10 @@
 -- What holds of the numbers and counters of a chain.
-use Rattle.std.specs.Prelude.{◌≡◌, ℕ, ◌+◌, ◌<◌, true, List, length}
+use Rattle.std.specs.Prelude.{◌≡◌, ℕ, ◌+◌, ◌<◌, true, List, [], ◌∷◌, ◌++◌, length, Option}
+use Rattle.ss_message.specs.Stamp.{Moment}
 use Rattle.ss_origin.specs.declared.config.Config.{Config}
 use Rattle.ss_origin.specs.Configs.{is_config}
 use Rattle.ss_origin.specs.Counting.{Start, number_in, are_counters}
+use Rattle.ss_origin.specs.Calls.{Begin}
 use Rattle.ss_origin.specs.State.{state, counters_of}
 use Rattle.ss_origin.specs.Setting.{Setting}
 use Rattle.ss_origin.specs.Chain.{Turn, calls_of, AreTurns, start_behind, IsChain, given_to}
@@ -22,3 +24,8 @@ CountersStayInRange = (s : Setting) (start : Start) (turns : List Turn)
 abbrev pub ChainsCanBeResumed : Type 0
 ChainsCanBeResumed = (s : Setting) (chain : List (List Turn)) → IsChain s chain
     → are_counters s.config.grouping (start_behind s.config chain).counters ≡ true
+
+-- `begin` is accepted as the first call of the first originator alone.
+abbrev pub BeginsFirst : Type 0
+BeginsFirst = (s : Setting) (newer older : List (List Turn)) (later earlier : List Turn) (t : Turn) (stamp : Option Moment)
+    → IsChain s (newer ++ (later ++ t ∷ earlier) ∷ older) → t.call ≡ Begin stamp → (older ≡ []) × (earlier ≡ [])

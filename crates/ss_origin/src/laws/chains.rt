@@ -1,6 +1,6 @@
 //! The originators of a session that follow one another.
 ghost use Rattle.ss_origin.specs.BlockLaws.{RunsAreNumbered};
-ghost use Rattle.ss_origin.specs.ChainLaws.{NumbersGoOn, CountersStayInRange, ChainsCanBeResumed};
+ghost use Rattle.ss_origin.specs.ChainLaws.{NumbersGoOn, CountersStayInRange, ChainsCanBeResumed, BeginsFirst};
 ghost use Rattle.ss_origin.specs.SentLaws.{SentBlocksAreNumbered, OthersAreSent};
 
 use ss_message::laws::faults_are_of_no_message;
@@ -42,4 +42,9 @@ pub fn sent_blocks_are_numbered()
 /// sent, at its number.
 pub fn others_are_sent()
     ensures { OthersAreSent }
+{}
+
+/// `begin` is accepted as the first call of the first originator alone.
+pub fn begins_first()
+    ensures { BeginsFirst }
 {}
