@@ -55,9 +55,9 @@ module _ (s : Setting) (old : State) where
 
   sent_message : (call : Call) (emitted : List (List ℕ)) (d : Unsigned) → 1 ≤ s.config.copies → (e : EmitsFrom s old call emitted) → Has e.due d → (m : List ℕ) × Contains emitted m × IsSealed s (stamp_of call) d m
   sent_message call emitted d some e has =
-      let w = has-zipped (IsSealed s (stamp_of call)) e.due e.messages d e.sealed has in
-      let copies = flat_map (λ m. replicate s.config.copies m) e.messages in
-      let sent : Has emitted w.0 = subst (λ l. Has l w.0) (sym e.emitted_are) (has-append_right (sent_first call) copies w.0 (has-copies s.config.copies e.messages w.0 some w.1)) in
+      let w = has-zipped (IsSealed s (stamp_of call)) e.due e.sent.messages d e.sent.sealed has in
+      let copies = flat_map (λ m. replicate s.config.copies m) e.sent.messages in
+      let sent : Has emitted w.0 = subst (λ l. Has l w.0) (sym e.sent.sent_are) (has-append_right (sent_first call) copies w.0 (has-copies s.config.copies e.sent.messages w.0 some w.1)) in
       (w.0, contains_from_has emitted w.0 sent, w.2)
 
 -- the block of a run stands in what a turn sent

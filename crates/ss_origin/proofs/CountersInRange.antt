@@ -98,17 +98,17 @@ module _ (grouping : Grouping) (s : State) (groups : (spri : ℕ) → IsCounted 
 
 -- ---- at the start
 
-or_right_false : (b : Bool) → (b || false) ≡ b
+pub or_right_false : (b : Bool) → (b || false) ≡ b
 or_right_false true = refl
 or_right_false false = refl
 
 -- what a group has of the counters that an originator begins with
-record IsNamed (grouping : Grouping) (numbers : List NextNumber) (spri : ℕ) : Type 0 where
-  least : 1 ≤ number_in numbers spri
-  most : number_in numbers spri ≤ 10000000000
-  had : names numbers spri ≡ true → has_group grouping spri ≡ true
+pub record IsNamed (grouping : Grouping) (numbers : List NextNumber) (spri : ℕ) : Type 0 where
+  pub least : 1 ≤ number_in numbers spri
+  pub most : number_in numbers spri ≤ 10000000000
+  pub had : names numbers spri ≡ true → has_group grouping spri ≡ true
 
-are_named : (grouping : Grouping) (numbers : List NextNumber) (spri : ℕ) → list_all (λ n. has_group grouping n.spri && is_between 1 10000000000 n.number) numbers ≡ true → IsNamed grouping numbers spri
+pub are_named : (grouping : Grouping) (numbers : List NextNumber) (spri : ℕ) → list_all (λ n. has_group grouping n.spri && is_between 1 10000000000 n.number) numbers ≡ true → IsNamed grouping numbers spri
 are_named grouping [] spri all = record { least = omega arith; most = omega arith; had = λ e. absurd (cc) }
 are_named grouping (n ∷ numbers) spri all =
     let parts = and_parts (has_group grouping n.spri && is_between 1 10000000000 n.number) (list_all (λ m. has_group grouping m.spri && is_between 1 10000000000 m.number) numbers) all in

@@ -60,7 +60,7 @@ bound-most spri (bound ∷ next ∷ bounds) rise is =
 
 -- ---- groups
 
-group-most : (grouping : Grouping) (spri : ℕ) → is_grouping grouping ≡ true → has_group grouping spri ≡ true → spri ≤ 191
+pub group-most : (grouping : Grouping) (spri : ℕ) → is_grouping grouping ≡ true → has_group grouping spri ≡ true → spri ≤ 191
 group-most (One only) spri is has = let same : spri ≡ only = eqb-true spri only has in let most : only ≤ 191 = leb-true only 191 is in omega arith
 group-most ByPri spri is has = leb-true spri 191 has
 group-most (Ranges bounds) spri is has = bound-most spri bounds is has

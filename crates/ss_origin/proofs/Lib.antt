@@ -12,3 +12,9 @@ pub mod Sent
 pub mod Members
 pub mod Announced
 pub mod Beginning
+pub mod Sealed
+pub mod Sending
+pub mod Due
+pub mod Starting
+pub mod PendingRuns
+pub mod Answering

@@ -94,9 +94,9 @@ module _ (P : block.Signature → Type 0) where
 
   of_emitted : (s : Setting) (old : State) (call : Call) (emitted : List (List ℕ)) → AllByRecursion OfMessage (sent_first call) → (e : EmitsFrom s old call emitted) → AllByRecursion OfDue e.due → AllByRecursion OfMessage emitted
   of_emitted s old call emitted first e due =
-      subst (AllByRecursion OfMessage) (sym e.emitted_are)
-      (all-append OfMessage (sent_first call) (flat_map (λ m. replicate s.config.copies m) e.messages) first
-      (all-copies OfMessage s.config.copies e.messages (all-zipped OfDue OfMessage (IsSealed s (stamp_of call)) (of_sealed s (stamp_of call)) e.due e.messages due e.sealed)))
+      subst (AllByRecursion OfMessage) (sym e.sent.sent_are)
+      (all-append OfMessage (sent_first call) (flat_map (λ m. replicate s.config.copies m) e.sent.messages) first
+      (all-copies OfMessage s.config.copies e.sent.messages (all-zipped OfDue OfMessage (IsSealed s (stamp_of call)) (of_sealed s (stamp_of call)) e.due e.sent.messages due e.sent.sealed)))
 
   first_of : (c : Config) (old : State) (call : Call) → fault_of c old call ≡ None → AllByRecursion OfMessage (sent_first call)
   first_of c old (Begin stamp) e = tt

@@ -9,7 +9,9 @@ pub mod Setting
 pub mod Sealing
 pub mod Emission
 pub mod Refusals
+pub mod Signing
 pub mod Slots
+pub mod Pending
 pub mod Originator
 pub mod Chain
 pub mod GroupLaws

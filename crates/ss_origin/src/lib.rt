@@ -2,13 +2,16 @@
 //! the certificate blocks of a session in front and a signature block behind each run of a group.
 #![tactic(auto)]
 
+mod blocks;
 mod config;
 mod counters;
 mod fault;
 mod grouping;
 pub mod laws;
 mod originator;
+mod ranges;
 mod sealer;
+mod sealing;
 mod slots;
 mod unsigned;
 
