@@ -21,14 +21,14 @@ use Rattle.ss_origin.specs.Step.{group_with, groups_after, after}
 use Rattle.ss_origin.specs.Setting.{Setting}
 use Rattle.ss_origin.specs.Refusals.{is_unparsed, is_plain, is_counter_spent, fault_of}
 use Rattle.ss_origin.specs.Chain.{Turn, calls_of, AreTurns, start_behind, AreChained}
-use Rattle.ss_origin.specs.ChainLaws.{ChainsCanBeResumed}
+use Rattle.ss_origin.specs.ChainLaws.{CountersStayInRange, ChainsCanBeResumed}
 use Rattle.ss_origin.proofs.Configs.{has_ranges}
 use Rattle.ss_origin.proofs.Groups.{messages_have_groups}
 use Rattle.ss_origin.proofs.Steps.{states_step}
 
 -- ---- faults that don't apply
 
-none_first : (b : Bool) (fault : OriginFault) (rest : Option OriginFault) → (if b then Some fault else rest) ≡ None → (b ≡ false) × (rest ≡ None)
+pub none_first : (b : Bool) (fault : OriginFault) (rest : Option OriginFault) → (if b then Some fault else rest) ≡ None → (b ≡ false) × (rest ≡ None)
 none_first true fault rest e = absurd (cc)
 none_first false fault rest e = (refl, e)
 
@@ -198,11 +198,14 @@ are_counters-anew : (grouping : Grouping) → are_counters grouping anew.counter
 unfolding are_counters
 are_counters-anew grouping = refl
 
+pub counters_stay_in_range : FaultsAreOfNoMessage → CountersStayInRange
+counters_stay_in_range read s start turns is are turned =
+    let behind = counted_behind read s is start are turns turned in
+    are_told s.config.grouping (state s.config start (calls_of turns)) behind.groups behind.gbc
+
 chained : FaultsAreOfNoMessage → (s : Setting) → is_config s.config ≡ true → (chain : List (List Turn)) → AreChained s chain → are_counters s.config.grouping (start_behind s.config chain).counters ≡ true
 chained read s is [] are = are_counters-anew s.config.grouping
-chained read s is (turns ∷ before) are =
-    let behind = counted_behind read s is (start_behind s.config before) (chained read s is before are.0) turns are.1 in
-    are_told s.config.grouping (state s.config (start_behind s.config before) (calls_of turns)) behind.groups behind.gbc
+chained read s is (turns ∷ before) are = counters_stay_in_range read s (start_behind s.config before) turns is (chained read s is before are.0) are.1
 
 pub chains_can_be_resumed : FaultsAreOfNoMessage → ChainsCanBeResumed
 chains_can_be_resumed read s chain is = chained read s is.setting.fit.config chain is.chained

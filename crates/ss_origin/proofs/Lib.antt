@@ -7,6 +7,11 @@ pub mod Configs
 pub mod CountersInRange
 pub mod Numbered
 pub mod Covered
+pub mod RowsTold
+pub mod Sent
+pub mod Members
+pub mod Announced
+pub mod Beginning
 pub mod Sealed
 pub mod Sending
 pub mod Due

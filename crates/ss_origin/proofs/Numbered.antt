@@ -32,7 +32,7 @@ given_behind c spri (turns ∷ newer) older =
     let messages = messages_of c.grouping spri (calls_of turns) in
     (w.0 ++ messages, ap (λ ms. ms ++ messages) w.1 ∙ append_assoc (given_to c spri older) w.0 messages)
 
-all-weaker : {X : Type 0} (P Q : X → Type 0) → ((x : X) → P x → Q x) → (xs : List X) → AllByRecursion P xs → AllByRecursion Q xs
+pub all-weaker : {X : Type 0} (P Q : X → Type 0) → ((x : X) → P x → Q x) → (xs : List X) → AllByRecursion P xs → AllByRecursion Q xs
 all-weaker P Q f [] all = tt
 all-weaker P Q f (x ∷ xs) all = (f x all.0, all-weaker P Q f xs all.1)
 

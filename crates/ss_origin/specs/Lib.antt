@@ -20,3 +20,6 @@ pub mod RunLaws
 pub mod ChainLaws
 pub mod BlockLaws
 pub mod CoverLaws
+pub mod Rows
+pub mod RangeRows
+pub mod SentLaws

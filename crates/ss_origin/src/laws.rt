@@ -3,4 +3,5 @@
 pub mod chains;
 pub mod groups;
 pub mod runs;
+pub mod scripts;
 pub mod steps;

@@ -1,6 +1,7 @@
 //! The originators of a session that follow one another.
 ghost use Rattle.ss_origin.specs.BlockLaws.{RunsAreNumbered};
-ghost use Rattle.ss_origin.specs.ChainLaws.{NumbersGoOn, ChainsCanBeResumed};
+ghost use Rattle.ss_origin.specs.ChainLaws.{NumbersGoOn, CountersStayInRange, ChainsCanBeResumed, BeginsFirst};
+ghost use Rattle.ss_origin.specs.SentLaws.{SentBlocksAreNumbered, OthersAreSent};
 
 use ss_message::laws::faults_are_of_no_message;
 
@@ -8,6 +9,13 @@ use ss_message::laws::faults_are_of_no_message;
 pub fn numbers_go_on()
     ensures { NumbersGoOn }
 {}
+
+/// An originator that begins at counters in their ranges ends at such.
+pub fn counters_stay_in_range()
+    ensures { CountersStayInRange }
+{
+    faults_are_of_no_message();
+}
 
 /// The counters behind a chain are such as `resume` takes.
 pub fn chains_can_be_resumed()
@@ -20,4 +28,23 @@ pub fn chains_can_be_resumed()
 /// its block says is the first.
 pub fn runs_are_numbered()
     ensures { RunsAreNumbered }
+{}
+
+/// A message that a chain sent and that is read as a signature block is of its configuration, and has the hashes of the
+/// messages that the chain was given for the block's group, from the block's first number on.
+pub fn sent_blocks_are_numbered()
+    ensures { SentBlocksAreNumbered }
+{
+    faults_are_of_no_message();
+}
+
+/// Each message that an originator of a chain was given, and that isn't pending at its end, has a hash in a block that was
+/// sent, at its number.
+pub fn others_are_sent()
+    ensures { OthersAreSent }
+{}
+
+/// `begin` is accepted as the first call of the first originator alone.
+pub fn begins_first()
+    ensures { BeginsFirst }
 {}
