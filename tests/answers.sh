@@ -1,5 +1,5 @@
 #!/usr/bin/env bash
-# `review --answers FILE`: what a signature checker said decides the report, and a bad file is refused before the log
+# `--answers FILE`: what a signature checker said decides the report, and a bad file is refused before the log
 # is read.
 # shellcheck source=tests/lib.sh
 . "$(dirname -- "$0")/lib.sh"
@@ -88,6 +88,10 @@ run review --answers "$root" <"$log"
 expect 'a folder' 2 '' 'ssign: A2'
 run review --answers "$scratch/no such file" <"$log"
 expect 'no such file' 2 '' 'ssign: A2'
+for code in A1 A2; do
+    run explain "$code" </dev/null
+    expect "explain $code" 0 'SOME TEXT' ''
+done
 
 # What comes first: the command line, then the answers, then the log
 run review --answers "$scratch/no such file" --max-len 0 <"$log"

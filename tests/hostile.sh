@@ -23,17 +23,17 @@ except BrokenPipeError:
 print(taken, file=sys.stderr)' "$@" 2>"$scratch/taken"
 }
 
-# The kernel gives the program no address space past 8 MiB, so its peak memory is below that.
+# confined COMMAND: the kernel gives the program no address space past 8 MiB, so its peak memory is below that.
 confined() {
     # shellcheck disable=SC2016 # for the inner shell
-    timeout "$patience" sh -c 'ulimit -v 8192 && exec "$@"' - "$program" review >"$scratch/out" 2>"$scratch/err"
+    timeout "$patience" sh -c 'ulimit -v 8192 && exec "$@"' - "$program" "$1" >"$scratch/out" 2>"$scratch/err"
 }
 
-# hostile WHAT COMPLAINT TEXT COUNT TEXT
+# hostile COMMAND WHAT COMPLAINT TEXT COUNT TEXT
 hostile() {
-    local what=$1 complaint=$2 taken
-    shift 2
-    stream "$@" | confined
+    local command=$1 what="$1: $2" complaint=$3 taken
+    shift 3
+    stream "$@" | confined "$command"
     status=${PIPESTATUS[1]}
     expect "$what" 2 '' "$complaint"
     taken=$(<"$scratch/taken")
@@ -42,8 +42,10 @@ hostile() {
     tell "$what, which isn't read on" "$taken"
 }
 
-hostile 'random octets' 'ssign: F1 0' 'x' 0 ''
-hostile 'random octets behind a length of twenty digits' 'ssign: F2 4' '99999999999999999999' 0 ''
-hostile 'random octets behind the longest message' 'ssign: F1 65542' '65536 ' 65536 'x'
+for command in review questions extract inspect; do
+    hostile "$command" 'random octets' 'ssign: F1 0' 'x' 0 ''
+    hostile "$command" 'random octets behind a length of twenty digits' 'ssign: F2 4' '99999999999999999999' 0 ''
+    hostile "$command" 'random octets behind the longest message' 'ssign: F1 65542' '65536 ' 65536 'x'
+done
 
 finish

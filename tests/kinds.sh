@@ -15,4 +15,8 @@ done
 for kind in plain signature certificate 'spoilt [0-9]* S'{1..9} 'unparsed [0-9]* M'{1..12}; do
     holds "some line says $kind" grep -q "^$kind\b" "$scratch/wanted"
 done
+while read -r word; do
+    run explain "$word" </dev/null
+    expect "explain $word" 0 'SOME TEXT' ''
+done < <(awk '{ print $1 } $1 == "spoilt" || $1 == "unparsed" { print $3 }' "$scratch/wanted" | sort -u)
 finish

@@ -1,5 +1,5 @@
 #!/usr/bin/env bash
-# `review --lines`: each line is a message, and what a review says of messages is the same as it says of frames.
+# `--lines`: each line is a message, and what is said of messages is the same as of frames.
 # shellcheck source=tests/lib.sh
 . "$(dirname -- "$0")/lib.sh"
 need_program
@@ -46,7 +46,11 @@ ok h s - 1 0 0 1 1
 ok h s - 1 0 0 2 2
 end 4' ''
 run review --lines --answers "$root/examples/four-messages.answers" < <(head -c -1 -- "$log")
-expect 'the last line without its LF, which leaves one block' 2 '' 'ssign: not yet'
+expect 'the last line without its LF, which leaves one block' 1 'session h s - 1 joined
+unlisted 0
+unlisted 1
+torn 204
+end 3' ''
 run review --lines </dev/null
 expect 'an empty log' 0 'end 0' ''
 octets 'abc\nab' --max-len 3
@@ -76,6 +80,24 @@ octets 'a\n' --max-messages 1
 expect 'as many lines as --max-messages' 1 $'unlisted 0\nend 1' ''
 run review --lines <"$root"
 expect 'a folder as standard input' 2 '' 'ssign: F3'
+
+# The questions are the same, and what is extracted is frames
+run questions --lines <"$log"
+expect 'the questions of lines' 0 "$(<"$root/examples/four-messages.answers")" ''
+run questions --lines < <(head -c -1 -- "$log")
+expect 'the questions of a torn log' 1 "$(head -n 2 -- "$root/examples/four-messages.answers")" ''
+run extract --lines --answers "$root/examples/four-messages.answers" <"$log"
+holds 'an extract of lines' cmp -- "$scratch/out" <(head -c 64 -- "$root/examples/four-messages.frames")
+run extract --lines --answers "$root/examples/four-messages.answers" < <(head -c -1 -- "$log")
+expect 'an extract of a torn log' 1 '' ''
+for command in questions extract; do
+    run "$command" --lines < <(printf 'a\n\nb\n')
+    expect "$command: an empty line behind another" 2 '' 'ssign: F9 2'
+    run "$command" --lines --max-len 3 < <(printf 'abc\nabcd\n')
+    expect "$command: a line over --max-len" 2 '' 'ssign: F2 7'
+    run "$command" --lines --max-messages 1 < <(printf 'a\nb\n')
+    expect "$command: a line past --max-messages" 2 '' 'ssign: F5 2'
+done
 
 # Lines are asked for
 run review <"$log"

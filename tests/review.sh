@@ -68,14 +68,30 @@ refused 'a message past --max-messages' '1 a1 b' 'ssign: F5 3' --max-len 3 --max
 octets '1 a' review --max-len 3 --max-messages 1
 expect 'as many messages as --max-messages' 1 $'unlisted 0\nend 1' ''
 
-# What this program doesn't cover yet
-refused 'a message with the start of a block that is none' "$(frame '<13>1 - - - - - - [ssign')" 'ssign: not yet'
+# Blocks
+octets "$(frame '<13>1 - - - - - - [ssign')" review
+expect 'the octets of a block in a text' 1 $'unlisted 0\nend 1' ''
 run review < <(tail -c +65 -- "$log" | head -c 146)
-expect 'a certificate block alone' 2 '' 'ssign: not yet'
+expect 'a certificate block alone' 1 $'session h s - 1 untrusted\nrefused 0\nend 1' ''
 run review < <(tail -c +211 -- "$log")
-expect 'a signature block alone' 2 '' 'ssign: not yet'
+expect 'a signature block alone' 1 $'session h s - 1 incomplete\nrefused 0\nend 1' ''
 run review < <(cat -- "$log" && tail -c +211 -- "$log")
-expect 'two signature blocks' 2 '' 'ssign: not yet'
+expect 'two signature blocks' 1 'session h s - 1 untrusted
+unlisted 0
+unlisted 1
+refused 2
+refused 3
+refused 4
+end 5' ''
+run review <"$root/examples/kinds.frames"
+expect 'a message of each kind' 1 'session h s - 1 untrusted
+unlisted 0
+unlisted 1
+refused 2
+refused 3
+spoilt 4 S3
+torn 531
+end 5' ''
 
 # Options
 usage() {
@@ -101,8 +117,13 @@ for option in '--max-len 159' '--max-len 1048576' '--max-messages 4' '--max-mess
 done
 run --help </dev/null
 expect '--help' 0 'SOME TEXT' ''
-run review --help </dev/null
-expect 'review --help' 0 'SOME TEXT' ''
+for command in review questions extract inspect explain; do
+    run "$command" --help </dev/null
+    expect "$command --help" 0 'SOME TEXT' ''
+done
+run --version </dev/null
+expect '--version' 0 'SOME TEXT' ''
+holds 'the version' grep -qxE 'ssign [0-9]+\.[0-9]+\.[0-9]+' "$scratch/out"
 
 # Devices
 run review <"$root"

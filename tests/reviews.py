@@ -6,7 +6,6 @@
 
 The last line is `reviews: N passed, M failed`.
 """
-import base64
 import collections
 import subprocess
 import sys
@@ -14,6 +13,7 @@ import sys
 from review_examples import EXAMPLES, LENGTHS, QUESTIONS, READINGS
 from review_logs import make
 from review_model import Block, Log, questions, reading, review
+from review_runs import answers_to, question_text, report_text
 
 # what the program heads the words of a reviewer with
 REVIEWERS = {"pairs": "Reviewer", "whole": "plain::Reviewer"}
@@ -44,36 +44,6 @@ def tell(what, wanted, said):
 
 
 # ---- the logs that were worked out by hand
-
-def report_text(lines):
-    """The report in the words of `ssign review`."""
-    text, session, group = [], None, None
-    for line in lines:
-        word, *fields = line.split(" ")
-        if word == "session":
-            session = " ".join(["-" if it == "-" else bytes.fromhex(it).decode() for it in fields[:3]] + [fields[3]])
-            text.append("session %s %s" % (session, fields[4]))
-        elif word == "group":
-            group = " ".join(fields)
-        elif word in ("listed", "gap", "hole"):
-            text.append(" ".join(["ok" if word == "listed" else word, session, group, *fields]))
-        else:
-            text.append("end " + fields[0] if word == "count" else line)
-    return text
-
-
-def question_text(lines):
-    """The questions in the words of `ssign questions`."""
-    return [" ".join([word, *(base64.b64encode(bytes.fromhex(it)).decode() for it in fields)])
-            for word, *fields in (line.split(" ") for line in lines)]
-
-
-def answers_to(log, answers):
-    """What is asked of a log, and answered yes."""
-    trusts, accepts = answers
-    asked = [tuple(bytes.fromhex(it) for it in line.split(" ")[1:]) for line in questions(log)]
-    return {it[0] for it in asked if len(it) == 1 and trusts(*it)}, {it for it in asked if len(it) == 3 and accepts(*it)}
-
 
 def examples():
     """The logs with their answers. The model is tried on them."""

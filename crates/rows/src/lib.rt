@@ -4,14 +4,8 @@
 #[cfg(test)]
 mod blocks;
 #[cfg(test)]
-mod devices;
-#[cfg(test)]
 mod frames;
 #[cfg(test)]
 mod full_readings;
 #[cfg(test)]
-mod inspections;
-#[cfg(test)]
 mod messages;
-#[cfg(test)]
-mod reviews;

@@ -1,2 +1,4 @@
 pub mod LogSoFar
 pub mod TextSoFar
+pub mod FedSoFar
+pub mod Taken

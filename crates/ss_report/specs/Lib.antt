@@ -1,3 +1,10 @@
 pub mod Log
+pub mod Words
+pub mod Ending
 pub mod Inspection
-pub mod Inspect
+pub mod ReportText
+pub mod QuestionText
+pub mod Verdict
+pub mod Fed
+pub mod Run
+pub mod Jobs

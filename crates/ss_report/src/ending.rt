@@ -1,8 +1,8 @@
 //! The last lines of a text about a log.
 ghost use Rattle.std.specs.Prelude.{◌≡◌, ◌++◌, OnOk};
-ghost use Rattle.ss_report.specs.Inspection.{end_lines};
+ghost use Rattle.ss_report.specs.Ending.{end_lines};
 
-use crate::inspection::put_spaced;
+use crate::words::put_number_line;
 use ss_frame::Tail;
 use std::alloc::AllocError;
 
@@ -13,11 +13,7 @@ pub fn put_end(text: &mut Vec<u8>, tail: Tail, count: u64) -> Result<(), AllocEr
     ensures { OnOk result (text.new.items ≡ text.old.items ++ end_lines tail count) }
 {
     if let Tail::Torn { pos } = tail {
-        text.extend_from_slice(b"torn")?;
-        put_spaced(text, pos)?;
-        text.extend_from_slice(b"\n")?;
+        put_number_line(text, b"torn", pos)?;
     }
-    text.extend_from_slice(b"end")?;
-    put_spaced(text, count)?;
-    text.extend_from_slice(b"\n")
+    put_number_line(text, b"end", count)
 }

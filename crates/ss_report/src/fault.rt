@@ -1,9 +1,10 @@
 //! Why a run over a log gave no output.
 ghost use Rattle.std.specs.Prelude.{◌≡◌};
-ghost use Rattle.ss_report.specs.declared.fault.RunFault.TheVariants.{Frame, Memory};
+ghost use Rattle.ss_report.specs.declared.fault.RunFault.TheVariants.{Frame, Memory, Review};
 
 use ss_frame::FrameFault;
 use ss_message::NoMemory;
+use ss_review::ReviewFault;
 use std::alloc::{AllocError, AllocFailed};
 use thiserror::Error;
 
@@ -13,15 +14,16 @@ pub enum RunFault {
     /// The log couldn't be read to its end: F1 to F5, or F9.
     #[error("{0}")]
     Frame(FrameFault),
+    /// The messages couldn't be reviewed: V1, want of memory. V2 is never answered, since the log is refused with F5
+    /// before a message too many is reviewed.
+    #[error("{0}")]
+    Review(ReviewFault),
     /// W1: a write failed. What was written is a prefix of the output.
     #[error("W1")]
     Write,
     /// W2: want of memory.
     #[error("W2")]
     Memory,
-    /// The log has blocks in a form that isn't reviewed yet. Only a review answers it.
-    #[error("not yet")]
-    NotYet,
 }
 
 impl From<FrameFault> for RunFault {
@@ -29,6 +31,14 @@ impl From<FrameFault> for RunFault {
 
     fn from(fault: FrameFault) -> RunFault {
         RunFault::Frame(fault)
+    }
+}
+
+impl From<ReviewFault> for RunFault {
+    ghost from_gives = { λ f e. e ≡ Review f };
+
+    fn from(fault: ReviewFault) -> RunFault {
+        RunFault::Review(fault)
     }
 }
 

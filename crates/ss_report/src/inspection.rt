@@ -1,10 +1,12 @@
 //! The line that says what a stored message is.
-ghost use Rattle.std.specs.Prelude.{◌≡◌, ◌++◌, None, length, codes, OnOk};
-ghost use Rattle.ss_report.specs.Inspection.{part_number, cause_number, field_word, spaced, session_words, group_words, line_of, message_line};
+ghost use Rattle.std.specs.Prelude.{◌≡◌, ◌++◌, None, length, OnOk};
+ghost use Rattle.ss_report.specs.Words.{spaced, group_words};
+ghost use Rattle.ss_report.specs.Inspection.{part_number, known_session_words, line_of, message_line};
 
-use ss_block::{CertBlock, Group, Reading, Session, SigBlock, Spoil, classify_with_session};
+use crate::words::{put_group, put_number_line, put_session, put_spaced, put_spoilt};
+use ss_block::{CertBlock, Group, Reading, Session, SigBlock, classify_with_session};
 use ss_frame::put_number;
-use ss_message::{Field, NoMemory, Part};
+use ss_message::{NoMemory, Part};
 use std::alloc::{AllocError, Global};
 
 /// Puts the line of the message at this place, which counts the messages of the log from 0, behind the text.
@@ -19,22 +21,13 @@ pub(crate) fn put_message(
 {
     let (reading, session) = classify_with_session(alloc, message)?;
     match reading {
-        Reading::Plain => put_plain(text, place)?,
+        Reading::Plain => put_number_line(text, b"plain", place)?,
         Reading::Unparsed { part, pos } => put_unparsed(text, place, part, pos)?,
         Reading::Signature(block) => put_signature(text, place, &session, &block)?,
         Reading::Certificate(block) => put_certificate(text, place, &session, &block)?,
         Reading::Spoilt(cause) => put_spoilt(text, place, cause)?,
     }
     Ok(())
-}
-
-/// plain PLACE
-fn put_plain(text: &mut Vec<u8>, place: u64) -> Result<(), AllocError>
-    ensures { OnOk result (text.new.items ≡ text.old.items ++ line_of Reading.Plain None place) }
-{
-    text.extend_from_slice(b"plain")?;
-    put_spaced(text, place)?;
-    text.extend_from_slice(b"\n")
 }
 
 /// unparsed PLACE Mn POS
@@ -77,17 +70,6 @@ fn put_certificate(
     text.extend_from_slice(b"\n")
 }
 
-/// spoilt PLACE Sn
-fn put_spoilt(text: &mut Vec<u8>, place: u64, cause: Spoil) -> Result<(), AllocError>
-    ensures { OnOk result (text.new.items ≡ text.old.items ++ line_of (Reading.Spoilt cause) None place) }
-{
-    text.extend_from_slice(b"spoilt")?;
-    put_spaced(text, place)?;
-    text.extend_from_slice(b" S")?;
-    put_number(text, number_of_cause(cause))?;
-    text.extend_from_slice(b"\n")
-}
-
 /// GBC FMN CNT, with the SP before each.
 fn put_numbers(text: &mut Vec<u8>, block: &SigBlock) -> Result<(), AllocError>
     ensures { OnOk result (text.new.items ≡ text.old.items ++ (spaced block.now.gbc ++ spaced block.now.first ++ spaced (length block.now.hashes))) }
@@ -114,52 +96,22 @@ fn put_head(
     session: &Option<Session>,
     group: Group,
 ) -> Result<(), AllocError>
-    ensures { OnOk result (text.new.items ≡ text.old.items ++ (kind.now ++ spaced place ++ session_words session.now ++ group_words group)) }
+    ensures { OnOk result (text.new.items ≡ text.old.items ++ (kind.now ++ spaced place ++ known_session_words session.now ++ group_words group)) }
 {
     text.extend_from_slice(kind)?;
     put_spaced(text, place)?;
-    put_session(text, session)?;
+    put_known_session(text, session)?;
     put_group(text, group)
 }
 
-/// HOST APP PROCID RSID, with the SP before each.
-fn put_session(text: &mut Vec<u8>, session: &Option<Session>) -> Result<(), AllocError>
-    ensures { OnOk result (text.new.items ≡ text.old.items ++ session_words session.now) }
+/// HOST APP PROCID RSID, with the SP before each, where a session is known.
+fn put_known_session(text: &mut Vec<u8>, session: &Option<Session>) -> Result<(), AllocError>
+    ensures { OnOk result (text.new.items ≡ text.old.items ++ known_session_words session.now) }
 {
-    let Some(session) = session else {
-        return Ok(());
-    };
-    put_field(text, &session.host)?;
-    put_field(text, &session.app)?;
-    put_field(text, &session.procid)?;
-    put_spaced(text, session.rsid)
-}
-
-/// A header field and the SP before it; `-` for an absent one.
-fn put_field(text: &mut Vec<u8>, field: &Field) -> Result<(), AllocError>
-    ensures { OnOk result (text.new.items ≡ text.old.items ++ codes " " ++ field_word field.now) }
-{
-    text.extend_from_slice(b" ")?;
-    match field {
-        Field::Nil => text.extend_from_slice(b"-"),
-        Field::Text(octets) => text.extend_from_slice(octets.as_slice()),
+    match session {
+        None => Ok(()),
+        Some(session) => put_session(text, session),
     }
-}
-
-/// SG SPRI, with the SP before each.
-fn put_group(text: &mut Vec<u8>, group: Group) -> Result<(), AllocError>
-    ensures { OnOk result (text.new.items ≡ text.old.items ++ group_words group) }
-{
-    put_spaced(text, u64::from(group.sg))?;
-    put_spaced(text, u64::from(group.spri))
-}
-
-/// A number and the SP before it.
-pub(crate) fn put_spaced(text: &mut Vec<u8>, number: u64) -> Result<(), AllocError>
-    ensures { OnOk result (text.new.items ≡ text.old.items ++ spaced number) }
-{
-    text.extend_from_slice(b" ")?;
-    put_number(text, number)
 }
 
 /// The number of the part at fault, 1 to 12.
@@ -179,22 +131,5 @@ fn number_of_part(part: Part) -> u64
         Part::Value => 10,
         Part::RepeatedId => 11,
         Part::Msg => 12,
-    }
-}
-
-/// The number of the cause, 1 to 9.
-fn number_of_cause(cause: Spoil) -> u64
-    ensures { result ≡ cause_number cause }
-{
-    match cause {
-        Spoil::BothBlocks => 1,
-        Spoil::Names => 2,
-        Spoil::Version => 3,
-        Spoil::Number => 4,
-        Spoil::HashCount => 5,
-        Spoil::Hash => 6,
-        Spoil::Sign => 7,
-        Spoil::Fragment => 8,
-        Spoil::LastNumber => 9,
     }
 }

@@ -1,18 +1,31 @@
-//! What every run over a stored log needs, the log read to its end, a text written whole, and how the run ended; and the
-//! inspection, which says what each message is.
+//! The runs over a stored log: it is read to its end, and a text about it, or frames from it, are written whole; how the
+//! run ended; and the text of a review.
 #![tactic(auto)]
 
+mod cleanness;
 mod ending;
+mod extract;
 mod fault;
+mod fed;
 mod inspect;
 mod inspection;
+mod listed;
 mod log;
+mod outcome;
 mod output;
+mod question_text;
+mod questions;
+pub mod report_text;
+mod review;
 mod verdict;
+mod words;
 
 pub use ending::put_end;
+pub use extract::run_extract;
 pub use fault::RunFault;
 pub use inspect::run_inspect;
 pub use log::{Log, read_log};
 pub use output::write_whole;
+pub use questions::run_questions;
+pub use review::run_review;
 pub use verdict::Verdict;

@@ -1,5 +1,5 @@
 -- The bearer of a hash is the earliest of the first messages with two hashes, one of which is this one.
-use Rattle.std.proofs.Common.{◌≡◌, ◌⊎◌, inl, inr, ℕ, zero, suc, ◌+◌, ◌<◌, ◌≤◌, Bool, true, false, cond, List, [], ◌∷◌, ◌++◌, length, get_or, map, fold, refl, sym, ap, ◌∙◌, subst, arith, nat_lt}
+use Rattle.std.proofs.Common.{◌≡◌, inl, inr, ℕ, ◌≤◌, Bool, true, false, cond, List, [], ◌∷◌, ◌++◌, map, fold, refl, sym, ap, ◌∙◌, subst, arith, nat_lt}
 use Rattle.std.specs.Prelude.{Option, Some, None, option_map, option_and_then, filter_map, find, filter, slice_get}
 use Rattle.std.specs.Ordering.{is_eq, nat_cmp}
 use Rattle.std.specs.List.{cons_option}
@@ -13,6 +13,7 @@ use Rattle.ss_block.specs.declared.hash.Hash.TheVariants as hashes
 use Rattle.ss_block.specs.declared.hash.HashPair.{HashPair}
 use Rattle.ss_block.specs.Order.{hash_cmp}
 use Rattle.ss_block.specs.OrderLaws.{hash_cmp_total, hash_cmp_exact}
+use Rattle.ss_review.specs.declared.by_hash.ByHash.{ByHash}
 use Rattle.ss_review.specs.declared.message.NormalMessage.{NormalMessage}
 use Rattle.ss_review.specs.Assigned.{has_hash, same_pair, pair_of_bearer, places_with}
 use Rattle.ss_review.specs.Bearing.{earlier, earliest, first_with, candidate, bearer_among, pairs_among}
@@ -20,17 +21,16 @@ use Rattle.ss_review.specs.Assigning.{pairs_wanted}
 use Rattle.std.specs.declared.cmp.Ordering.TheVariants.{Less}
 use Rattle.std.specs.BTreeMap as tree
 use Rattle.std.proofs.lemmas.Map.Views.{btree_map_get_iff}
-use Rattle.std.proofs.lemmas.Cmp.{nat_cmp_total}
-use Rattle.std.proofs.lemmas.Map.Lookups.{exact_unsigned}
 use Rattle.ss_block.specs.Order.{pair_cmp}
 use Rattle.ss_block.specs.OrderLaws.{pair_cmp_total, pair_cmp_exact}
 use Rattle.ss_review.specs.Keeping.{places_in, KeepsNormal}
 use Rattle.ss_review.proofs.Bounds.{with_itself}
 use Rattle.ss_review.proofs.Counting.{same_pair-is}
-use Rattle.ss_review.proofs.Keyed.{from_less, one_of_key, keys_rise-filter}
-use Rattle.ss_review.proofs.Members.{Has, has_from_contains, contains_from_has, has-map, from_has-map, from_has-filter, has-filter_map, from_has-filter_map}
+use Rattle.ss_review.proofs.Keyed.{from_less, keys_rise-filter}
+use Rattle.ss_review.proofs.Members.{Has, has_from_contains, contains_from_has, from_has-map, from_has-filter, has-filter_map, from_has-filter_map}
 use Rattle.ss_review.proofs.Rising.{below_all}
 use Rattle.ss_review.proofs.Searching.{not_eq, eq_itself}
+use Rattle.ss_review.proofs.Finding.{finds, finds_none}
 
 -- ---- one more message that has a hash
 
@@ -124,40 +124,6 @@ earliest_from first (n ∷ ns) = by (nat_lt n.place first.place) refl (earliest_
       },
     )
 
--- ---- the first message that passes a test
-
-find_at : (p : NormalMessage → Bool) (b : Bool) (m : NormalMessage) (ms : List NormalMessage) (f : NormalMessage) → cond b (Some m) (find p ms) ≡ Some f → p m ≡ b → ((p m ≡ true) × (m ≡ f)) ⊎ ((p m ≡ false) × (find p ms ≡ Some f))
-find_at p true m ms f e t = inl (t, cc)
-find_at p false m ms f e t = inr (t, e)
-
-find_some : (p : NormalMessage → Bool) (ms : List NormalMessage) (f : NormalMessage) → find p ms ≡ Some f → Has ms f × (p f ≡ true)
-find_some p [] f e = absurd (cc)
-find_some p (m ∷ ms) f e = elim (find_at p (p m) m ms f e refl) [
-  | inl w ↦ (inl w.1, subst (λ n. p n ≡ true) w.1 w.0)
-  | inr w ↦ (let r = find_some p ms f w.1 in (inr r.0, r.1))
-]
-
-find_least : (p : NormalMessage → Bool) (ms : List NormalMessage) (f : NormalMessage) → IsStrictlySortedBy nat_cmp (map (λ (m : NormalMessage). m.place) ms) → find p ms ≡ Some f → (n : NormalMessage) → Has ms n → p n ≡ true → f.place ≤ n.place
-unfolding IsStrictlySortedBy
-find_least p [] f up e n h t = absurd h
-find_least p (m ∷ ms) f up e n (inl same) t = elim (find_at p (p m) m ms f e refl) [
-  | inl w ↦ omega (arith, ap (λ (k : NormalMessage). k.place) w.1, ap (λ (k : NormalMessage). k.place) same)
-  | inr w ↦ absurd (let no : true ≡ false = sym t ∙ ap p (sym same) ∙ w.0 in cc)
-]
-find_least p (m ∷ ms) f up e n (inr h) t = elim (find_at p (p m) m ms f e refl) [
-  | inl w ↦ omega (arith, ap (λ (k : NormalMessage). k.place) w.1, from_less m.place n.place (below_all (λ k. nat_cmp m.place k ≡ Less) (map (λ (k : NormalMessage). k.place) ms) n.place up.0 (has-map (λ (k : NormalMessage). k.place) ms n h)))
-  | inr w ↦ find_least p ms f up.1 w.1 n h t
-]
-
-none_at : (p : NormalMessage → Bool) (b : Bool) (m : NormalMessage) (ms : List NormalMessage) → cond b (Some m) (find p ms) ≡ None → p m ≡ b → (p m ≡ false) × (find p ms ≡ None)
-none_at p true m ms e t = absurd (cc)
-none_at p false m ms e t = (t, e)
-
-find_none : (p : NormalMessage → Bool) (ms : List NormalMessage) → find p ms ≡ None → (n : NormalMessage) → Has ms n → p n ≡ true → ⊥
-find_none p [] e n h t = h
-find_none p (m ∷ ms) e n (inl same) t = let no : true ≡ false = sym t ∙ ap p (sym same) ∙ (none_at p (p m) m ms e refl).0 in absurd (cc)
-find_none p (m ∷ ms) e n (inr h) t = find_none p ms (none_at p (p m) m ms e refl).1 n h t
-
 -- ---- the pairs that are kept, and the messages
 
 -- a message is told by its place and its hashes
@@ -188,14 +154,14 @@ candidate_at h p (n ∷ ns) c true e f =
     (e, sym (ap (λ (m : NormalMessage). m.pair) same), inl (ap (λ (m : NormalMessage). m.place) same))
 candidate_at h p places c false e f = absurd (cc)
 
-module _ (places : List ℕ) (pairs : tree.BTreeMap HashPair (List ℕ)) (ms : List NormalMessage) (k : KeepsNormal places pairs ms) (rise : tree.IsOrdered pair_cmp pairs) (up : IsStrictlySortedBy nat_cmp (map (λ (m : NormalMessage). m.place) ms)) (h : Hash) where
-  got : (e : HashPair × List ℕ) → Has pairs.entries e → tree.get pair_cmp pairs e.0 ≡ Some e.1
-  got e i = (btree_map_get_iff pair_cmp_total pair_cmp_exact pairs rise e.0 e.1).1 (contains_from_has pairs.entries e i)
+module _ (index : ByHash) (ms : List NormalMessage) (k : KeepsNormal index ms) (rise : tree.IsOrdered pair_cmp index.pairs) (up : IsStrictlySortedBy nat_cmp (map (λ (m : NormalMessage). m.place) ms)) (h : Hash) where
+  got : (e : HashPair × List ℕ) → Has index.pairs.entries e → tree.get pair_cmp index.pairs e.0 ≡ Some e.1
+  got e i = (btree_map_get_iff pair_cmp_total pair_cmp_exact index.pairs rise e.0 e.1).1 (contains_from_has index.pairs.entries e i)
 
   -- each candidate is a message that has the hash
-  from_candidate : (c : NormalMessage) → Has (filter_map (candidate h) pairs.entries) c → Has ms c × (has_hash h c.pair ≡ true)
+  from_candidate : (c : NormalMessage) → Has (filter_map (candidate h) index.pairs.entries) c → Has ms c × (has_hash h c.pair ≡ true)
   from_candidate c i =
-      let w : (e : HashPair × List ℕ) × Has pairs.entries e × (candidate h e ≡ Some c) = from_has-filter_map (candidate h) pairs.entries c i in
+      let w : (e : HashPair × List ℕ) × Has index.pairs.entries e × (candidate h e ≡ Some c) = from_has-filter_map (candidate h) index.pairs.entries c i in
       let t = candidate_at h w.0.0 w.0.1 c (has_hash h w.0.0) refl w.2 in
       let told : w.0.1 ≡ places_with ms w.0.0 = sym (ap places_in (got w.0 w.1)) ∙ k.pairs_are w.0.0 in (
         subst (Has ms) (sym (message_is c c.place w.0.0 refl t.1)) (placed_with ms w.0.0 c.place (subst (λ ns. Has ns c.place) told t.2)),
@@ -203,46 +169,37 @@ module _ (places : List ℕ) (pairs : tree.BTreeMap HashPair (List ℕ)) (ms : L
       )
 
   -- the first message with two hashes is a candidate where one of them is the hash
-  candidate_of : (m : NormalMessage) → has_hash h m.pair ≡ true → (ns : List ℕ) → ns ≡ places_with ms m.pair → Has ns m.place → Has pairs.entries (m.pair, ns)
-      → (c : NormalMessage) × Has (filter_map (candidate h) pairs.entries) c × (c.place ≤ m.place)
+  candidate_of : (m : NormalMessage) → has_hash h m.pair ≡ true → (ns : List ℕ) → ns ≡ places_with ms m.pair → Has ns m.place → Has index.pairs.entries (m.pair, ns)
+      → (c : NormalMessage) × Has (filter_map (candidate h) index.pairs.entries) c × (c.place ≤ m.place)
   candidate_of m t [] same i e = absurd i
   candidate_of m t (n ∷ ns) same i e = (
     record { place = n; pair = m.pair },
-    has-filter_map (candidate h) pairs.entries (m.pair, n ∷ ns) (record { place = n; pair = m.pair }) e (ap (λ b. cond b (first_with m.pair (n ∷ ns)) None) t),
+    has-filter_map (candidate h) index.pairs.entries (m.pair, n ∷ ns) (record { place = n; pair = m.pair }) e (ap (λ b. cond b (first_with m.pair (n ∷ ns)) None) t),
     head_least ns n m.place (subst (IsStrictlySortedBy nat_cmp) (sym same) (places_rise ms m.pair up)) i,
   )
 
-  entry_of : (m : NormalMessage) → (o : Option (List ℕ)) → tree.get pair_cmp pairs m.pair ≡ o → Has (places_in o) m.place → Has pairs.entries (m.pair, places_in o)
+  entry_of : (m : NormalMessage) → (o : Option (List ℕ)) → tree.get pair_cmp index.pairs m.pair ≡ o → Has (places_in o) m.place → Has index.pairs.entries (m.pair, places_in o)
   entry_of m None e i = absurd i
-  entry_of m (Some ns) e i = has_from_contains pairs.entries (m.pair, ns) ((btree_map_get_iff pair_cmp_total pair_cmp_exact pairs rise m.pair ns).0 e)
+  entry_of m (Some ns) e i = has_from_contains index.pairs.entries (m.pair, ns) ((btree_map_get_iff pair_cmp_total pair_cmp_exact index.pairs rise m.pair ns).0 e)
 
-  has_candidate : (m : NormalMessage) → Has ms m → has_hash h m.pair ≡ true → (c : NormalMessage) × Has (filter_map (candidate h) pairs.entries) c × (c.place ≤ m.place)
+  has_candidate : (m : NormalMessage) → Has ms m → has_hash h m.pair ≡ true → (c : NormalMessage) × Has (filter_map (candidate h) index.pairs.entries) c × (c.place ≤ m.place)
   has_candidate m i t =
-      let here : Has (places_in (tree.get pair_cmp pairs m.pair)) m.place = subst (λ ns. Has ns m.place) (sym (k.pairs_are m.pair)) (with_itself ms m i) in
-      candidate_of m t (places_in (tree.get pair_cmp pairs m.pair)) (k.pairs_are m.pair) here (entry_of m (tree.get pair_cmp pairs m.pair) refl here)
+      let here : Has (places_in (tree.get pair_cmp index.pairs m.pair)) m.place = subst (λ ns. Has ns m.place) (sym (k.pairs_are m.pair)) (with_itself ms m i) in
+      candidate_of m t (places_in (tree.get pair_cmp index.pairs m.pair)) (k.pairs_are m.pair) here (entry_of m (tree.get pair_cmp index.pairs m.pair) refl here)
 
-  bearer_at : (o : Option NormalMessage) (cs : List NormalMessage) → find (λ m. has_hash h m.pair) ms ≡ o → filter_map (candidate h) pairs.entries ≡ cs → earliest cs ≡ o
-  bearer_at None [] e f = refl
-  bearer_at None (c ∷ cs) e f =
-      let w = from_candidate c (subst (λ xs. Has xs c) (sym f) (inl refl)) in
-      absurd (find_none (λ m. has_hash h m.pair) ms e c w.0 w.1)
-  bearer_at (Some m) [] e f =
-      let w = find_some (λ m. has_hash h m.pair) ms m e in
-      let c = has_candidate m w.0 w.1 in
-      absurd (subst (λ xs. Has xs c.0) f c.1)
-  bearer_at (Some m) (c ∷ cs) e f =
-      let w = find_some (λ m. has_hash h m.pair) ms m e in
-      let near = has_candidate m w.0 w.1 in
+  earliest_is : (cs : List NormalMessage) → filter_map (candidate h) index.pairs.entries ≡ cs → earliest cs ≡ find (λ m. has_hash h m.pair) ms
+  earliest_is [] f = sym (finds_none (λ m. has_hash h m.pair) ms (λ n i t. subst (λ xs. Has xs (has_candidate n i t).0) f (has_candidate n i t).1))
+  earliest_is (c ∷ cs) f =
       let first = earliest_from c cs in
       let of_ms = from_candidate first.0 (subst (λ xs. Has xs first.0) (sym f) first.2.member) in
-      let before : first.0.place ≤ near.0.place = first.2.least near.0 (subst (λ xs. Has xs near.0) f near.1) in
-      let behind : m.place ≤ first.0.place = find_least (λ m. has_hash h m.pair) ms m up e first.0 of_ms.0 of_ms.1 in
-      let place : first.0.place ≡ m.place = omega (arith, before, behind, near.2) in
-      first.1 ∙ ap (λ n. Some n) (one_of_key nat_cmp_total exact_unsigned (λ (n : NormalMessage). n.place) ms up first.0 m of_ms.0 w.0 place)
+      first.1
+      ∙ sym (finds (λ m. has_hash h m.pair) ms first.0 up of_ms.0 of_ms.1 (λ n i t.
+      (let near = has_candidate n i t in
+      omega (arith, first.2.least near.0 (subst (λ xs. Has xs near.0) f near.1), near.2))))
 
-  pub bearer_is : option_map (λ (m : NormalMessage). m.pair) (bearer_among pairs.entries h) ≡ pair_of_bearer ms h
+  pub bearer_is : option_map (λ (m : NormalMessage). m.pair) (bearer_among index.pairs.entries h) ≡ pair_of_bearer ms h
   unfolding pair_of_bearer
-  bearer_is = ap (option_map (λ (m : NormalMessage). m.pair)) (bearer_at (find (λ m. has_hash h m.pair) ms) (filter_map (candidate h) pairs.entries) refl refl)
+  bearer_is = ap (option_map (λ (m : NormalMessage). m.pair)) (earliest_is (filter_map (candidate h) index.pairs.entries) refl)
 
-pub wanted_are : (places : List ℕ) (pairs : tree.BTreeMap HashPair (List ℕ)) (ms : List NormalMessage) → KeepsNormal places pairs ms → tree.IsOrdered pair_cmp pairs → IsStrictlySortedBy nat_cmp (map (λ (m : NormalMessage). m.place) ms) → (hs : List (Option Hash)) → pairs_among pairs.entries hs ≡ pairs_wanted ms hs
-wanted_are places pairs ms k rise up hs = ap (λ f. map (option_and_then f) hs) (λ i g. bearer_is places pairs ms k rise up g i)
+pub wanted_are : (index : ByHash) (ms : List NormalMessage) → KeepsNormal index ms → tree.IsOrdered pair_cmp index.pairs → IsStrictlySortedBy nat_cmp (map (λ (m : NormalMessage). m.place) ms) → (hs : List (Option Hash)) → pairs_among index.pairs.entries hs ≡ pairs_wanted ms hs
+wanted_are index ms k rise up hs = ap (λ f. map (option_and_then f) hs) (λ i g. bearer_is index ms k rise up g i)

@@ -1,19 +1,18 @@
 -- A reviewer keeps no more octets of hashes than 52 for each message without a block.
-use Rattle.std.proofs.Common.{◌≡◌, inl, inr, ℕ, zero, suc, ◌+◌, ◌*◌, ◌≤◌, ◌<◌, Bool, true, false, cond, List, [], ◌∷◌, ◌++◌, length, map, filter, fold, refl, sym, ap, ◌∙◌, subst, arith}
-use Rattle.std.specs.Prelude.{Option, Some, None, Contains, sum_by}
+use Rattle.std.proofs.Common.{◌≡◌, inl, inr, ℕ, ◌+◌, ◌*◌, ◌≤◌, Bool, true, false, cond, List, [], ◌∷◌, length, map, filter, fold, refl, sym, ap, ◌∙◌, subst, arith}
+use Rattle.std.specs.Prelude.{Option, Some, None, sum_by}
 use Rattle.std.specs.declared.cmp.Ordering.{Ordering}
 use Rattle.std.specs.declared.cmp.Ordering.TheVariants.{Less, Equal, Greater}
-use Rattle.std.specs.Ordering.{is_eq, match_ordering}
+use Rattle.std.specs.Ordering.{match_ordering}
 use Rattle.std.specs.List.{enumerate_from, filter_map}
 use Rattle.std.specs.BTreeMap as tree
-use Rattle.std.specs.Map.{keys_of}
-use Rattle.std.proofs.lemmas.Cmp.{tied_itself}
 use Rattle.std.proofs.lemmas.List.{length-map}
 use Rattle.std.proofs.lemmas.List.Sums.{sum_by-cons}
 use Rattle.std.proofs.lemmas.Map.Views.{btree_map_get_iff}
 use Rattle.ss_block.specs.declared.hash.HashPair.{HashPair}
 use Rattle.ss_block.specs.Order.{pair_cmp}
 use Rattle.ss_block.specs.OrderLaws.{pair_cmp_total, pair_cmp_exact}
+use Rattle.ss_review.specs.declared.by_hash.ByHash.{ByHash}
 use Rattle.ss_review.specs.declared.message.NormalMessage.{NormalMessage}
 use Rattle.ss_review.specs.declared.reviewer.BlockText.{BlockText}
 use Rattle.ss_review.specs.declared.reviewer.Reviewer.{Reviewer}
@@ -22,7 +21,7 @@ use Rattle.ss_review.specs.Notes.{Note, Normal, Block, Spoilt}
 use Rattle.ss_review.specs.Contents.{normal_at, normals}
 use Rattle.ss_review.specs.Assigned.{same_pair, places_with}
 use Rattle.ss_review.specs.Keeping.{text_at, texts, note_octets, octets_noted, places_in, KeepsNormal, Keeps, octets_kept}
-use Rattle.ss_review.proofs.Counting.{is_eq-pair_cmp, same_pair-is}
+use Rattle.ss_review.proofs.Counting.{same_pair-is, same_itself}
 use Rattle.ss_review.proofs.Members.{Has, has_from_contains, contains_from_has, has-map, from_has-map, has-filter}
 use Rattle.ss_review.proofs.Rising.{in_order_is}
 
@@ -45,9 +44,6 @@ pub no_more_members : {K : Type 0} (R : K → K → Ordering) (ks : List K) → 
 unfolding in_order
 no_more_members R ks = omega (arith, members_from R [] ks)
 
-same_as_itself : (p : HashPair) → same_pair p p ≡ true
-same_as_itself p = sym (is_eq-pair_cmp p p) ∙ ap is_eq (tied_itself pair_cmp_total p)
-
 sum_by-map : {X Y : Type 0} (f : Y → ℕ) (g : X → Y) (xs : List X) → sum_by f (map g xs) ≡ sum_by (λ x. f (g x)) xs
 sum_by-map f g [] = refl
 sum_by-map f g (x ∷ xs) = sum_by-cons f (g x) (map g xs) ∙ ap (λ n. f (g x) + n) (sum_by-map f g xs) ∙ sym (sum_by-cons (λ y. f (g y)) x xs)
@@ -65,31 +61,31 @@ some_with (m ∷ ms) p some = some_at (same_pair m.pair p) ms (filter (λ (n : N
 
 pub with_itself : (ms : List NormalMessage) (m : NormalMessage) → Has ms m → Has (places_with ms m.pair) m.place
 unfolding places_with
-with_itself ms m h = has-map (λ (n : NormalMessage). n.place) (filter (λ (n : NormalMessage). same_pair n.pair m.pair) ms) m (has-filter (λ (n : NormalMessage). same_pair n.pair m.pair) ms m h (same_as_itself m.pair))
+with_itself ms m h = has-map (λ (n : NormalMessage). n.place) (filter (λ (n : NormalMessage). same_pair n.pair m.pair) ms) m (has-filter (λ (n : NormalMessage). same_pair n.pair m.pair) ms m h (same_itself m.pair))
 
-module _ (places : List ℕ) (pairs : tree.BTreeMap HashPair (List ℕ)) (ms : List NormalMessage) (k : KeepsNormal places pairs ms) (rise : tree.IsOrdered pair_cmp pairs) where
-  of_message : (p : HashPair) → Has (tree.keys pairs) p → Has (map (λ m. m.pair) ms) p
+module _ (index : ByHash) (ms : List NormalMessage) (k : KeepsNormal index ms) (rise : tree.IsOrdered pair_cmp index.pairs) where
+  of_message : (p : HashPair) → Has (tree.keys index.pairs) p → Has (map (λ m. m.pair) ms) p
   of_message p h =
-      let w : (e : HashPair × List ℕ) × Has pairs.entries e × (e.0 ≡ p) = from_has-map (λ (e : HashPair × List ℕ). e.0) pairs.entries p h in
-      let got : tree.get pair_cmp pairs w.0.0 ≡ Some w.0.1 = (btree_map_get_iff pair_cmp_total pair_cmp_exact pairs rise w.0.0 w.0.1).1 (contains_from_has pairs.entries w.0 w.1) in
+      let w : (e : HashPair × List ℕ) × Has index.pairs.entries e × (e.0 ≡ p) = from_has-map (λ (e : HashPair × List ℕ). e.0) index.pairs.entries p h in
+      let got : tree.get pair_cmp index.pairs w.0.0 ≡ Some w.0.1 = (btree_map_get_iff pair_cmp_total pair_cmp_exact index.pairs rise w.0.0 w.0.1).1 (contains_from_has index.pairs.entries w.0 w.1) in
       subst (Has (map (λ (m : NormalMessage). m.pair) ms)) w.2
       (some_with ms w.0.0 (λ none. k.no_empty_pair w.0.0 (got ∙ ap Some (sym (ap places_in got) ∙ k.pairs_are w.0.0 ∙ none))))
 
-  found_at : (p : HashPair) (place : ℕ) (o : Option (List ℕ)) → tree.get pair_cmp pairs p ≡ o → Has (places_in o) place → Has (tree.keys pairs) p
+  found_at : (p : HashPair) (place : ℕ) (o : Option (List ℕ)) → tree.get pair_cmp index.pairs p ≡ o → Has (places_in o) place → Has (tree.keys index.pairs) p
   found_at p place None e h = absurd h
   found_at p place (Some v) e h =
-      has-map (λ (e : HashPair × List ℕ). e.0) pairs.entries (p, v) (has_from_contains pairs.entries (p, v) ((btree_map_get_iff pair_cmp_total pair_cmp_exact pairs rise p v).0 e))
+      has-map (λ (e : HashPair × List ℕ). e.0) index.pairs.entries (p, v) (has_from_contains index.pairs.entries (p, v) ((btree_map_get_iff pair_cmp_total pair_cmp_exact index.pairs rise p v).0 e))
 
-  of_pair : (p : HashPair) → Has (map (λ m. m.pair) ms) p → Has (tree.keys pairs) p
+  of_pair : (p : HashPair) → Has (map (λ m. m.pair) ms) p → Has (tree.keys index.pairs) p
   of_pair p h =
       let w : (m : NormalMessage) × Has ms m × (m.pair ≡ p) = from_has-map (λ (m : NormalMessage). m.pair) ms p h in
-      subst (Has (tree.keys pairs)) w.2
-      (found_at w.0.pair w.0.place (tree.get pair_cmp pairs w.0.pair) refl (subst (λ ps. Has ps w.0.place) (sym (k.pairs_are w.0.pair)) (with_itself ms w.0 w.1)))
+      subst (Has (tree.keys index.pairs)) w.2
+      (found_at w.0.pair w.0.place (tree.get pair_cmp index.pairs w.0.pair) refl (subst (λ ps. Has ps w.0.place) (sym (k.pairs_are w.0.pair)) (with_itself ms w.0 w.1)))
 
-  pub pairs_are_few : tree.btree_map_len pairs ≤ length ms
+  pub pairs_are_few : tree.btree_map_len index.pairs ≤ length ms
   pairs_are_few =
-      let same : tree.keys pairs ≡ in_order pair_cmp (map (λ m. m.pair) ms) = in_order_is pair_cmp_total pair_cmp_exact (tree.keys pairs) (map (λ m. m.pair) ms) rise of_message of_pair in
-      omega (arith, ap length same, no_more_members pair_cmp (map (λ m. m.pair) ms), length-map ms (λ (m : NormalMessage). m.pair), length-map pairs.entries (λ (e : HashPair × List ℕ). e.0))
+      let same : tree.keys index.pairs ≡ in_order pair_cmp (map (λ m. m.pair) ms) = in_order_is pair_cmp_total pair_cmp_exact (tree.keys index.pairs) (map (λ m. m.pair) ms) rise of_message of_pair in
+      omega (arith, ap length same, no_more_members pair_cmp (map (λ m. m.pair) ms), length-map ms (λ (m : NormalMessage). m.pair), length-map index.pairs.entries (λ (e : HashPair × List ℕ). e.0))
 
 -- ---- what the notes tell
 
@@ -110,8 +106,8 @@ pub octets_are : (ns : List Note) → octets_noted ns ≡ 52 * length (normals n
 unfolding normals texts
 octets_are ns = octets_from 0 ns
 
-pub kept_are_few : (r : Reviewer) (ns : List Note) → Keeps r ns → tree.IsOrdered pair_cmp r.pairs → octets_kept r ≤ octets_noted ns
+pub kept_are_few : (r : Reviewer) (ns : List Note) → Keeps r ns → tree.IsOrdered pair_cmp r.normal.pairs → octets_kept r ≤ octets_noted ns
 kept_are_few r ns k rise =
     let told : sum_by (λ (b : BlockText). length b.text) r.blocks.items ≡ sum_by (λ (t : ℕ × List ℕ). length t.1) (texts ns)
     = sym (sum_by-map (λ (t : ℕ × List ℕ). length t.1) (λ (b : BlockText). (b.place, b.text)) r.blocks.items) ∙ ap (sum_by (λ (t : ℕ × List ℕ). length t.1)) k.blocks in
-    omega (arith, told, octets_are ns, pairs_are_few r.places.items r.pairs (normals ns) k.normal rise)
+    omega (arith, told, octets_are ns, pairs_are_few r.normal (normals ns) k.normal rise)

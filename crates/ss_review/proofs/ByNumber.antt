@@ -1,9 +1,8 @@
 -- Rows in order, number by number.
 use Rattle.std.proofs.Common.{◌≡◌, ℕ, Bool, true, false, cond, List, [], ◌∷◌, ◌++◌, drop, map, Bor, refl, sym, ap, ◌∙◌}
 use Rattle.std.specs.Prelude.{Option, Some, None, slice_get, option_map}
-use Rattle.std.specs.declared.cmp.Ordering.{Ordering}
-use Rattle.std.specs.declared.cmp.Ordering.TheVariants.{Less, Equal, Greater}
-use Rattle.std.specs.Ordering.{is_gt, ordering_then}
+use Rattle.std.specs.declared.cmp.Ordering.TheVariants.{Less}
+use Rattle.std.specs.Ordering.{is_gt}
 use Rattle.std.specs.Slice.{IsItemAt}
 use Rattle.std.specs.List.Sorted.{IsStrictlySortedBy}
 use Rattle.std.proofs.lemmas.List.{append-nil, append_assoc, drop_more, drop_all}
@@ -16,7 +15,7 @@ use Rattle.ss_review.specs.Announced.{Key, Row, key_cmp, row_cmp, same_key, keys
 use Rattle.ss_review.specs.Numbered.{row_of, only_hash, only_hashes, is_more_of, hash_before}
 use Rattle.ss_review.proofs.Rising.{below_all, all_below}
 use Rattle.ss_review.proofs.Sections.{KeysRise, front, back, sections, keys_step, sections_step}
-use Rattle.ss_review.proofs.TotalOrders.{key_cmp_total, key_cmp_exact}
+use Rattle.ss_review.proofs.TotalOrders.{key_cmp_total, key_cmp_exact, then_first}
 
 abbrev key_in : Row → Key
 key_in r = r.key
@@ -24,15 +23,10 @@ key_in r = r.key
 abbrev pub RowsRise : List Row → Type 0
 RowsRise rs = KeysRise key_in key_cmp_total key_cmp_exact rs
 
-not_above : (c d : Ordering) → ordering_then c d ≡ Less → is_gt c ≡ false
-not_above Less d e = refl
-not_above Equal d e = refl
-not_above Greater d e = cc
-
 pub rows_rise : (rs : List Row) → IsStrictlySortedBy row_cmp rs → RowsRise rs
 unfolding IsStrictlySortedBy
 rows_rise [] up = tt
-rows_rise (r ∷ rs) up = (all_below (λ s. is_gt (key_cmp r.key s.key) ≡ false) rs (λ s h. not_above (key_cmp r.key s.key) (hash_cmp r.hash s.hash) (below_all (λ s. row_cmp r s ≡ Less) rs s up.0 h)), rows_rise rs up.1)
+rows_rise (r ∷ rs) up = (all_below (λ s. is_gt (key_cmp r.key s.key) ≡ false) rs (λ s h. then_first (key_cmp r.key s.key) (hash_cmp r.hash s.hash) (below_all (λ s. row_cmp r s ≡ Less) rs s up.0 h)), rows_rise rs up.1)
 
 -- ---- the rows of one key, and those behind them
 

@@ -3,10 +3,10 @@ use Rattle.std.proofs.Common.{◌≡◌, ℕ, ◌+◌, ◌<◌, inl, length, get
 use Rattle.std.specs.Prelude.{Option, Some, None, unwrap_or, count_by, slice_get}
 use Rattle.std.specs.Str.{bytes_eq}
 use Rattle.std.specs.declared.cmp.Ordering.{Ordering}
-use Rattle.std.specs.declared.cmp.Ordering.TheVariants.{Less, Equal, Greater}
-use Rattle.std.specs.Ordering.{nat_cmp, is_lt, is_eq, ordering_then, ordering_reverse}
+use Rattle.std.specs.declared.cmp.Ordering.TheVariants.{Less}
+use Rattle.std.specs.Ordering.{nat_cmp, is_lt, is_eq, ordering_reverse}
 use Rattle.std.specs.Cmp.Lexicographic.{slice_cmp}
-use Rattle.std.specs.Cmp.{IsTotalOrder, Equal-is}
+use Rattle.std.specs.Cmp.{IsTotalOrder, Equal-is, tied_then}
 use Rattle.std.specs.List.{AllByRecursion}
 use Rattle.std.specs.List.Sorted.{IsStrictlySortedBy}
 use Rattle.std.specs.BTreeMap as tree
@@ -20,11 +20,11 @@ use Rattle.ss_review.specs.declared.message.NormalMessage.{NormalMessage}
 use Rattle.ss_block.specs.Order.{pair_cmp}
 use Rattle.ss_review.specs.Announced.{Key, Row, key_cmp, keys}
 use Rattle.ss_review.specs.Assigned.{same_pair, is_pair, places_with, wanted, rank, place_of, assigned}
-use Rattle.ss_review.specs.Assigning.{pair_wanted, pairs_wanted, place_after, assigned_after, assigned_all, count_of, Counts}
+use Rattle.ss_review.specs.Assigning.{pairs_wanted, place_after, assigned_after, assigned_all, count_of, Counts}
 use Rattle.ss_review.proofs.Announcements.{keys-rise}
 use Rattle.ss_review.proofs.Members.{has-append_right}
 use Rattle.ss_review.proofs.Rising.{below_all}
-use Rattle.ss_block.specs.OrderLaws.{pair_cmp_exact}
+use Rattle.ss_block.specs.OrderLaws.{pair_cmp_exact, pair_cmp_total}
 use Rattle.ss_review.proofs.TotalOrders.{key_cmp_total}
 
 -- ---- one more
@@ -74,16 +74,14 @@ module _ {K : Type 0} {R : K → K → Ordering} (o : IsTotalOrder R) where
 
 -- ---- pairs that were wanted
 
-then_eq : (a b : Ordering) → is_eq (ordering_then a b) ≡ (is_eq a && is_eq b)
-then_eq Less b = refl
-then_eq Equal b = refl
-then_eq Greater b = refl
-
 pub is_eq-pair_cmp : (p q : HashPair) → is_eq (pair_cmp p q) ≡ same_pair p q
 is_eq-pair_cmp p q =
-    then_eq (slice_cmp nat_cmp p.sha1 q.sha1) (slice_cmp nat_cmp p.sha256 q.sha256)
+    sym (tied_then (slice_cmp nat_cmp p.sha1 q.sha1) (slice_cmp nat_cmp p.sha256 q.sha256))
     ∙ ap (λ b. b && is_eq (slice_cmp nat_cmp p.sha256 q.sha256)) (is_eq-slice_cmp p.sha1 q.sha1)
     ∙ ap (λ b. bytes_eq p.sha1 q.sha1 && b) (is_eq-slice_cmp p.sha256 q.sha256)
+
+pub same_itself : (p : HashPair) → same_pair p p ≡ true
+same_itself p = sym (is_eq-pair_cmp p p) ∙ ap is_eq (tied_itself pair_cmp_total p)
 
 pub same_pair-is : (p q : HashPair) → same_pair p q ≡ true → p ≡ q
 same_pair-is p q e = pair_cmp_exact p q ((Equal-is (pair_cmp p q)).0 (is_eq-pair_cmp p q ∙ e))
@@ -109,10 +107,6 @@ counted m n before p c u q = by (same_pair p q) refl
         ∙ sym (more true e)
     by false e =
         read false e ∙ c q ∙ (let r : count_by (is_pair q) before + 0 ≡ count_by (is_pair q) before = omega arith in sym r) ∙ sym (more false e)
-
--- one that wants nothing is no more of any pair
-pub not_counted : (m : tree.BTreeMap HashPair ℕ) (before : List (Option HashPair)) → Counts m before → Counts m (before ++ None ∷ [])
-not_counted m before c q = omega (arith, c q, count_by-push (is_pair q) before None)
 
 -- ---- all keys at once
 

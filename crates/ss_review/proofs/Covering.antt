@@ -7,11 +7,10 @@ use Rattle.std.specs.declared.cmp.Ordering.{Ordering}
 use Rattle.std.specs.declared.cmp.Ordering.TheVariants.{Less, Equal, Greater}
 use Rattle.std.specs.Ordering.{nat_cmp, ordering_then, is_lt}
 use Rattle.std.specs.Cmp.{IsTotalOrder}
-use Rattle.std.proofs.lemmas.Bool.{lt-ltb, le-leb, ltb-true, ltb-false, leb-true, true≢false}
+use Rattle.std.proofs.lemmas.Bool.{ltb-true, ltb-false, leb-true, true≢false, cases_Bool, and_parts, false_from_ne_true}
 use Rattle.std.proofs.lemmas.Cmp.{then_total, on_total, nat_cmp_total}
 use Rattle.std.proofs.lemmas.List.{get_or_default, map_more, map-append}
 use Rattle.std.proofs.lemmas.List.Elements.{filter-append, filter_map-append}
-use Rattle.std.proofs.lemmas.List.Folds.{list_any_at}
 use Rattle.std.proofs.lemmas.List.Sorted.{sorted_far, ranks_by, list_any-IsPermutation}
 use Rattle.std.proofs.lemmas.Map.Keys.{ge_from_not_lt}
 use Rattle.ss_block.specs.Block as block
@@ -21,7 +20,7 @@ use Rattle.ss_review.specs.Payloads.{certificate_of, certificates, has_index, co
 use Rattle.ss_review.specs.Verified.{Answers, is_valid}
 use Rattle.ss_review.specs.Covering.{span_of, spans_of, is_within, covers, IsFirstUncovered, accepted_span}
 use Rattle.ss_review.proofs.Members.{Has, contains_from_has}
-use Rattle.ss_review.proofs.Tests.{bool_cases, both_true, and_true, any_member, member_all, all_member, in_range, from_in_range}
+use Rattle.ss_review.proofs.Tests.{any_member, member_all, all_member, in_range, from_in_range}
 
 covers_is : (cs : List block.Certificate) (i : ℕ) → covers (spans_of cs) i ≡ has_index cs i
 covers_is [] i = refl
@@ -39,14 +38,12 @@ cover_from_first cs total i first beyond =
 pub first_from_cover : (cs : List block.Certificate) (total i : ℕ) → IsFirstUncovered (spans_of cs) i → i ≤ total → cover cs total ≡ false
 unfolding cover
 first_from_cover cs total i first within =
-    elim (bool_cases (list_all (has_index cs) (range_with_len 1 total))) [
-      | inl holds ↦ absurd (true≢false (sym (all_member (has_index cs) (range_with_len 1 total) holds i (in_range 1 total i first.some_index (omega (arith, within)))) ∙ (sym (covers_is cs i) ∙ first.at)))
-      | inr isnt ↦ isnt
-    ]
+    false_from_ne_true (list_all (has_index cs) (range_with_len 1 total)) (λ holds.
+    true≢false (sym (all_member (has_index cs) (range_with_len 1 total) holds i (in_range 1 total i first.some_index (omega (arith, within)))) ∙ (sym (covers_is cs i) ∙ first.at)))
 
 pub cover_is : (cs : List block.Certificate) (total i : ℕ) → IsFirstUncovered (spans_of cs) i → nat_lt total i ≡ cover cs total
 cover_is cs total i first =
-    elim (bool_cases (nat_lt total i)) [
+    elim (cases_Bool (nat_lt total i)) [
       | inl beyond ↦ beyond ∙ sym (cover_from_first cs total i first (ltb-true total i beyond))
       | inr within ↦ within ∙ sym (first_from_cover cs total i first (ltb-false total i within))
     ]
@@ -94,18 +91,15 @@ nothing_reached spans = record {
 
 uncovered : (spans : List Span) (i : ℕ) → ((j : ℕ) (d : Span) → j < length spans → ((get_or spans j d).end ≤ i) ⊎ (i < (get_or spans j d).start)) → covers spans i ≡ false
 uncovered spans i apart =
-    elim (bool_cases (covers spans i)) [
-      | inl holds ↦ (
-          let w : (s : Span) × Has spans s × (is_within i s ≡ true) = any_member (is_within i) spans holds in
-          let c = contains_from_has spans w.0 w.1 in
-          let b = both_true (nat_le w.0.start i) (nat_lt i w.0.end) w.2 in
-          let low : w.0.start ≤ i = leb-true w.0.start i b.0 in
-          let high : i < w.0.end = ltb-true i w.0.end b.1 in
-          let starts : (get_or spans c.0 w.0).start ≡ w.0.start = ap (λ (s : Span). s.start) c.2 in
-          let ends : (get_or spans c.0 w.0).end ≡ w.0.end = ap (λ (s : Span). s.end) c.2 in
-          elim (apart c.0 w.0 c.1) [ inl e ↦ absurd (omega (arith, e, ends, high)) | inr s ↦ absurd (omega (arith, s, starts, low)) ])
-      | inr isnt ↦ isnt
-    ]
+    false_from_ne_true (covers spans i) (λ holds.
+    (let w : (s : Span) × Has spans s × (is_within i s ≡ true) = any_member (is_within i) spans holds in
+    let c = contains_from_has spans w.0 w.1 in
+    let b = and_parts (nat_le w.0.start i) (nat_lt i w.0.end) w.2 in
+    let low : w.0.start ≤ i = leb-true w.0.start i b.0 in
+    let high : i < w.0.end = ltb-true i w.0.end b.1 in
+    let starts : (get_or spans c.0 w.0).start ≡ w.0.start = ap (λ (s : Span). s.start) c.2 in
+    let ends : (get_or spans c.0 w.0).end ≡ w.0.end = ap (λ (s : Span). s.end) c.2 in
+    elim (apart c.0 w.0 c.1) [ inl e ↦ omega (arith, e, ends, high) | inr s ↦ omega (arith, s, starts, low) ]))
 
 -- the next span begins beyond it, and so do all behind
 pub first_before : (spans : List Span) (i reached : ℕ) (d : Span) → IsNonDecreasingBy (λ (s : Span). s.start) spans → i < length spans → IsReached spans i reached → reached < (get_or spans i d).start → IsFirstUncovered spans reached
@@ -113,7 +107,7 @@ first_before spans i reached d rise below so_far beyond = record {
   some_index = so_far.some_index;
   before = so_far.before;
   at = uncovered spans reached (λ j e inside.
-      elim (bool_cases (nat_lt j i)) [
+      elim (cases_Bool (nat_lt j i)) [
         | inl l ↦ inl (so_far.ends j e (ltb-true j i l))
         | inr g ↦ (
             let same : (get_or spans i d).start ≡ (get_or spans i e).start = ap (λ (s : Span). s.start) (get_or_default spans i d e below) in
@@ -128,49 +122,6 @@ first_at_end spans i reached over so_far = record {
   some_index = so_far.some_index;
   before = so_far.before;
   at = uncovered spans reached (λ j d inside. inl (so_far.ends j d (omega (arith, inside, over))));
-}
-
--- the next span begins before it or there, and ends beyond it
-pub reached_more : (spans : List Span) (i reached next : ℕ) (d : Span) → i < length spans → IsReached spans i reached → (get_or spans i d).start ≤ reached → reached < (get_or spans i d).end → next ≡ (get_or spans i d).end → IsReached spans (i + 1) next
-reached_more spans i reached next d below so_far low high e = record {
-  some_index = omega (arith, so_far.some_index, high, e);
-  before = λ k from to.
-      elim (bool_cases (nat_lt k reached)) [
-        | inl l ↦ so_far.before k from (ltb-true k reached l)
-        | inr g ↦ (
-            let at_least : reached ≤ k = ltb-false k reached g in
-            list_any_at (is_within k) spans i d below
-            (and_true (nat_le (get_or spans i d).start k) (nat_lt k (get_or spans i d).end)
-            (le-leb (get_or spans i d).start k (omega (arith, low, at_least)))
-            (lt-ltb k (get_or spans i d).end (omega (arith, to, e)))))
-      ];
-  ends = λ j f inside.
-      elim (bool_cases (nat_lt j i)) [
-        | inl l ↦ (let before : (get_or spans j f).end ≤ reached = so_far.ends j f (ltb-true j i l) in omega (arith, before, high, e))
-        | inr g ↦ (
-            let least : i ≤ j = ltb-false j i g in
-            let at : j ≡ i = omega (arith, inside, least) in
-            let here : (get_or spans j f).end ≡ (get_or spans i f).end = ap (λ k. (get_or spans k f).end) at in
-            let same : (get_or spans i d).end ≡ (get_or spans i f).end = ap (λ (s : Span). s.end) (get_or_default spans i d f below) in
-            omega (arith, here, same, e))
-      ];
-}
-
--- or ends before it or there
-pub reached_still : (spans : List Span) (i reached : ℕ) (d : Span) → i < length spans → IsReached spans i reached → (get_or spans i d).end ≤ reached → IsReached spans (i + 1) reached
-reached_still spans i reached d below so_far low = record {
-  some_index = so_far.some_index;
-  before = so_far.before;
-  ends = λ j f inside.
-      elim (bool_cases (nat_lt j i)) [
-        | inl l ↦ so_far.ends j f (ltb-true j i l)
-        | inr g ↦ (
-            let least : i ≤ j = ltb-false j i g in
-            let at : j ≡ i = omega (arith, inside, least) in
-            let here : (get_or spans j f).end ≡ (get_or spans i f).end = ap (λ k. (get_or spans k f).end) at in
-            let same : (get_or spans i d).end ≡ (get_or spans i f).end = ap (λ (s : Span). s.end) (get_or_default spans i d f below) in
-            omega (arith, here, same, low))
-      ];
 }
 
 -- ---- the spans of the valid certificate blocks

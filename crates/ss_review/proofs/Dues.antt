@@ -1,20 +1,17 @@
 -- A key is assigned a place exactly where it is due: it wants the hashes of the message there, and as many smaller keys
 -- want them as messages with them stand before it.
 use Rattle.std.proofs.Common.{◌≡◌, inl, inr, ℕ, zero, suc, ◌<◌, ◌≤◌, Bool, true, false, cond, ◌&&◌, List, [], ◌∷◌, length, map, filter, refl, sym, ap, ◌∙◌, subst, arith}
-use Rattle.std.specs.Prelude.{Option, Some, None, Contains, nat_lt, slice_get}
-use Rattle.std.specs.declared.cmp.Ordering.{Ordering}
-use Rattle.std.specs.declared.cmp.Ordering.TheVariants.{Less, Equal, Greater}
-use Rattle.std.specs.Ordering.{nat_cmp, is_lt, is_eq}
+use Rattle.std.specs.Prelude.{Option, Some, None, Contains, nat_lt, slice_get, option_map}
+use Rattle.std.specs.declared.cmp.Ordering.TheVariants.{Less}
+use Rattle.std.specs.Ordering.{nat_cmp, is_lt}
 use Rattle.std.specs.List.{AllByRecursion}
 use Rattle.std.specs.List.Sorted.{IsStrictlySortedBy}
-use Rattle.std.proofs.lemmas.Bool.{ltb-true, ltb-false, lt-ltb}
-use Rattle.std.proofs.lemmas.Cmp.{nat_cmp_total, tied_itself}
+use Rattle.std.proofs.lemmas.Bool.{ltb-true, ltb-false, lt-ltb, and_parts, and_from, false_from_ne_true}
+use Rattle.std.proofs.lemmas.Cmp.{nat_cmp_total}
 use Rattle.std.proofs.lemmas.List.Kept.{IsStrictlySortedBy-filter}
 use Rattle.std.proofs.lemmas.List.Sums.{length-filter}
-use Rattle.std.proofs.lemmas.Map.Lookups.{exact_unsigned}
 use Rattle.ss_block.specs.declared.hash.Hash.{Hash}
 use Rattle.ss_block.specs.declared.hash.HashPair.{HashPair}
-use Rattle.ss_block.specs.OrderLaws.{pair_cmp_total}
 use Rattle.ss_review.specs.declared.message.NormalMessage.{NormalMessage}
 use Rattle.ss_review.specs.Notes.{Note}
 use Rattle.ss_review.specs.Contents.{normals, blocks, contents}
@@ -23,15 +20,14 @@ use Rattle.ss_review.specs.Announced.{Key, Row, key_cmp, rows, keys, hashes_for}
 use Rattle.ss_review.specs.Assigned.{has_hash, same_pair, is_pair, pair_of_bearer, places_with, wanted_with, wanted, rank, place_of, assigned}
 use Rattle.ss_review.specs.Listing.{IsBearer, Wants, StandsBefore, IsDue}
 use Rattle.ss_review.proofs.Announcements.{announced_row, has-rows, keys-rise, from_has-hashes_for, has-hashes_for, disputed_key, has-disputed_key}
-use Rattle.ss_review.proofs.Counting.{is_eq-pair_cmp, same_pair-is}
-use Rattle.ss_review.proofs.Finding.{bearer_at}
-use Rattle.ss_review.proofs.Keyed.{from_less, slice_get-has, has-slice_get, one_of_key}
+use Rattle.ss_review.proofs.Counting.{same_pair-is, same_itself}
+use Rattle.ss_review.proofs.Finding.{find_some, find_least, finds, bearer_of}
+use Rattle.ss_review.proofs.Keyed.{from_less, slice_get-has, has-slice_get}
 use Rattle.ss_review.proofs.Members.{Has, has_from_contains, contains_from_has, has-map, has-filter, from_has-filter}
-use Rattle.ss_review.proofs.OnePlaceOneKey.{wanted_key, assigned_cases, from_has-places_with, places_with-rise}
+use Rattle.ss_review.proofs.OnePlaceOneKey.{wanted_key, assigned_cases, from_has-places_with, places_with-rise, only_one}
 use Rattle.ss_review.proofs.PlacesRise.{normals_rise}
 use Rattle.ss_review.proofs.Rising.{below_all, same_members}
-use Rattle.ss_review.proofs.Tests.{bool_cases, both_true, and_true}
-use Rattle.ss_review.proofs.TotalOrders.{key_cmp_total, key_cmp_exact}
+use Rattle.ss_review.proofs.TotalOrders.{key_cmp_total, less_is}
 
 abbrev place_of_message : NormalMessage → ℕ
 place_of_message m = m.place
@@ -41,69 +37,28 @@ PlacesRise ms = IsStrictlySortedBy nat_cmp (map place_of_message ms)
 
 -- ---- the bearer of a hash
 
-bearer_step : (h : Hash) (m : NormalMessage) (ms : List NormalMessage) (b : Bool) → has_hash h m.pair ≡ b → pair_of_bearer (m ∷ ms) h ≡ cond b (Some m.pair) (pair_of_bearer ms h)
-bearer_step h m ms b e = bearer_at (m ∷ ms) 0 m h b (omega arith) e
-
-first_bearer : (h : Hash) (m : NormalMessage) (ms : List NormalMessage) → PlacesRise (m ∷ ms) → has_hash h m.pair ≡ true → IsBearer (m ∷ ms) h m
-unfolding IsStrictlySortedBy
-first_bearer h m ms up t = record {
-  stored = contains_from_has (m ∷ ms) m (inl refl);
-  has = t;
-  first = λ n c s. (elim (has_from_contains (m ∷ ms) n c) [
-    | inl e ↦ (let same : m.place ≡ n.place = ap place_of_message e in omega (arith, same))
-    | inr i ↦ (let below : m.place < n.place = from_less m.place n.place (below_all (λ p. nat_cmp m.place p ≡ Less) (map place_of_message ms) n.place up.0 (has-map place_of_message ms n i)) in omega (arith, below))
-  ]);
-}
-
-later_bearer : (h : Hash) (m : NormalMessage) (ms : List NormalMessage) (b : NormalMessage) → has_hash h m.pair ≡ false → IsBearer ms h b → IsBearer (m ∷ ms) h b
-later_bearer h m ms b f is = record {
-  stored = contains_from_has (m ∷ ms) b (inr (has_from_contains ms b is.stored));
-  has = is.has;
-  first = λ n c s. (elim (has_from_contains (m ∷ ms) n c) [
-    | inl e ↦ (let bad : false ≡ true = sym f ∙ ap (λ (x : NormalMessage). has_hash h x.pair) e ∙ s in absurd (cc))
-    | inr i ↦ is.first n (contains_from_has ms n i) s
-  ]);
-}
-
 -- what is found are the hashes of the bearer
 bearer_found : (ms : List NormalMessage) (h : Hash) (p : HashPair) → PlacesRise ms → pair_of_bearer ms h ≡ Some p → (b : NormalMessage) × IsBearer ms h b × (b.pair ≡ p)
-unfolding pair_of_bearer IsStrictlySortedBy
-bearer_found [] h p up e = absurd (cc)
-bearer_found (m ∷ ms) h p up e =
-    elim (bool_cases (has_hash h m.pair)) [
-      | inl t ↦ (let here : Some m.pair ≡ Some p = sym (bearer_step h m ms true t) ∙ e in let same : m.pair ≡ p = cc in (m, first_bearer h m ms up t, same))
-      | inr f ↦ (
-          let w : (b : NormalMessage) × IsBearer ms h b × (b.pair ≡ p) = bearer_found ms h p up.1 (sym (bearer_step h m ms false f) ∙ e) in
-          (w.0, later_bearer h m ms w.0 f w.1, w.2))
-    ]
-
-bearer_there : (ms : List NormalMessage) (h : Hash) (b : NormalMessage) → Has ms b → has_hash h b.pair ≡ true → (p : HashPair) × (pair_of_bearer ms h ≡ Some p)
-bearer_there [] h b i t = absurd i
-bearer_there (m ∷ ms) h b i t =
-    elim (bool_cases (has_hash h m.pair)) [
-      | inl s ↦ (m.pair, bearer_step h m ms true s)
-      | inr f ↦ (elim i [
-        | inl e ↦ (let bad : false ≡ true = sym f ∙ ap (λ (x : NormalMessage). has_hash h x.pair) e ∙ t in absurd (cc))
-        | inr j ↦ (let w : (p : HashPair) × (pair_of_bearer ms h ≡ Some p) = bearer_there ms h b j t in (w.0, bearer_step h m ms false f ∙ w.1))
-      ])
-    ]
+bearer_found ms h p up e =
+    let w = bearer_of ms h p e in
+    let found = find_some (λ m. has_hash h m.pair) ms w.0 w.1 in (
+      w.0,
+      record {
+        stored = contains_from_has ms w.0 found.0;
+        has = found.1;
+        first = λ n c t. find_least (λ m. has_hash h m.pair) ms w.0 up w.1 n (has_from_contains ms n c) t;
+      },
+      w.2,
+    )
 
 -- and the hashes of the bearer are found
 finds_bearer : (ms : List NormalMessage) (h : Hash) (b : NormalMessage) → PlacesRise ms → IsBearer ms h b → pair_of_bearer ms h ≡ Some b.pair
+unfolding pair_of_bearer
 finds_bearer ms h b up is =
-    let f = bearer_there ms h b (has_from_contains ms b is.stored) is.has in
-    let w = bearer_found ms h f.0 up f.1 in
-    let least = w.1.first b is.stored is.has in
-    let most = is.first w.0 w.1.stored w.1.has in
-    let one : w.0 ≡ b = one_of_key nat_cmp_total exact_unsigned place_of_message ms up w.0 b (has_from_contains ms w.0 w.1.stored) (has_from_contains ms b is.stored) (omega (arith, least, most)) in
-    f.1 ∙ ap (λ (q : HashPair). Some q) (sym w.2) ∙ ap (λ (m : NormalMessage). Some m.pair) one
+    ap (option_map (λ (m : NormalMessage). m.pair))
+    (finds (λ m. has_hash h m.pair) ms b up (has_from_contains ms b is.stored) is.has (λ n i t. is.first n (contains_from_has ms n i) t))
 
 -- ---- what a key wants
-
-only_one : (ms : List NormalMessage) (hs : List Hash) (p : HashPair) → wanted_with ms hs ≡ Some p → (h : Hash) × (hs ≡ h ∷ []) × (pair_of_bearer ms h ≡ Some p)
-only_one ms [] p e = absurd (cc)
-only_one ms (h ∷ []) p e = (h, refl, e)
-only_one ms (h ∷ g ∷ hs) p e = absurd (cc)
 
 single : (hs : List Hash) (h : Hash) → Has hs h → nat_lt 1 (length hs) ≡ false → hs ≡ h ∷ []
 single [] h i f = absurd i
@@ -119,12 +74,11 @@ module _ (says : Answers) (ns : List Note) where
   unfolding wanted
   wanted_wants k p e =
       let w = only_one (normals ns) (hashes_for all_rows k) p e in
-      let b = bearer_found (normals ns) w.0 p (normals_rise ns) w.2 in
-      let mine : Has (hashes_for all_rows k) w.0 = subst (λ hs. Has hs w.0) (sym w.1) (inl refl) in
+      let b = bearer_found (normals ns) w.0 p (normals_rise ns) w.3 in
       record {
-        undisputed = λ d. (let bad : true ≡ false = sym (has-disputed_key says (blocks ns) k d) ∙ ap (λ (hs : List Hash). nat_lt 1 (length hs)) w.1 in cc);
+        undisputed = λ d. (let bad : true ≡ false = sym (has-disputed_key says (blocks ns) k d) ∙ ap (λ (hs : List Hash). nat_lt 1 (length hs)) w.2 in cc);
         hash = w.0;
-        announced = announced_row says (blocks ns) (record { key = k; hash = w.0 }) (from_has-hashes_for all_rows k w.0 mine);
+        announced = announced_row says (blocks ns) (record { key = k; hash = w.0 }) (from_has-hashes_for all_rows k w.0 w.1);
         bearer = b.0;
         is_bearer = b.1;
         pair_is = b.2;
@@ -135,23 +89,12 @@ module _ (says : Answers) (ns : List Note) where
   wants_wanted k p w =
       let mine : Has (hashes_for all_rows k) w.hash = has-hashes_for all_rows k w.hash (has-rows says (blocks ns) k w.hash w.announced) in
       let alone : nat_lt 1 (length (hashes_for all_rows k)) ≡ false
-      = elim (bool_cases (nat_lt 1 (length (hashes_for all_rows k)))) [
-        | inl t ↦ absurd (w.undisputed (disputed_key says (blocks ns) k t))
-        | inr f ↦ f
-      ] in
+      = false_from_ne_true (nat_lt 1 (length (hashes_for all_rows k))) (λ t. w.undisputed (disputed_key says (blocks ns) k t)) in
       ap (wanted_with (normals ns)) (single (hashes_for all_rows k) w.hash mine alone)
       ∙ finds_bearer (normals ns) w.hash w.bearer (normals_rise ns) w.is_bearer
       ∙ ap (λ (q : HashPair). Some q) w.pair_is
 
 -- ---- tests
-
-less_is : (c : Ordering) → is_lt c ≡ true → c ≡ Less
-less_is Less e = refl
-less_is Equal e = absurd (cc)
-less_is Greater e = absurd (cc)
-
-same_itself : (p : HashPair) → same_pair p p ≡ true
-same_itself p = sym (is_eq-pair_cmp p p) ∙ ap is_eq (tied_itself pair_cmp_total p)
 
 is_pair_is : (p : HashPair) (o : Option HashPair) → is_pair p o ≡ true → o ≡ Some p
 is_pair_is p None e = absurd (cc)
@@ -176,14 +119,14 @@ module _ (says : Answers) (ns : List Note) (k : Key) (p : HashPair) where
   from_has-smaller : (j : Key) → Has smaller_keys j → (key_cmp j k ≡ Less) × Wants says (contents ns) j p
   from_has-smaller j h =
       let f = from_has-filter is_smaller (keys (all_rows says ns)) j h in
-      let both = both_true (is_lt (key_cmp j k)) (is_pair p (wanted (normals ns) (all_rows says ns) j)) f.1 in
+      let both = and_parts (is_lt (key_cmp j k)) (is_pair p (wanted (normals ns) (all_rows says ns) j)) f.1 in
       (less_is (key_cmp j k) both.0, wanted_wants says ns j p (is_pair_is p (wanted (normals ns) (all_rows says ns) j) both.1))
 
   has-smaller : (j : Key) → (key_cmp j k ≡ Less) × Wants says (contents ns) j p → Has smaller_keys j
   has-smaller j w =
       let e = wants_wanted says ns j p w.1 in
       has-filter is_smaller (keys (all_rows says ns)) j (wanted_key (normals ns) (all_rows says ns) j p e)
-      (and_true (is_lt (key_cmp j k)) (is_pair p (wanted (normals ns) (all_rows says ns) j)) (ap is_lt w.0) (ap (is_pair p) e ∙ same_itself p))
+      (and_from (is_lt (key_cmp j k)) (is_pair p (wanted (normals ns) (all_rows says ns) j)) (ap is_lt w.0) (ap (is_pair p) e ∙ same_itself p))
 
 -- ---- the places before one
 
@@ -191,7 +134,7 @@ none_below : (place : ℕ) (q : ℕ) (ps : List ℕ) → place ≤ q → AllByRe
 none_below place q [] le a = refl
 none_below place q (r ∷ ps) le a =
     let above : q < r = from_less q r a.0 in
-    let not_before : nat_lt r place ≡ false = elim (bool_cases (nat_lt r place)) [ inl t ↦ (let l : r < place = ltb-true r place t in absurd (omega (arith, l, above, le))) | inr f ↦ f ] in
+    let not_before : nat_lt r place ≡ false = false_from_ne_true (nat_lt r place) (λ t. (let l : r < place = ltb-true r place t in omega (arith, l, above, le))) in
     ap (λ b. length (cond b (r ∷ filter (λ r. nat_lt r place) ps) (filter (λ r. nat_lt r place) ps))) not_before
     ∙ none_below place q ps le a.1
 
@@ -201,7 +144,7 @@ unfolding IsStrictlySortedBy
 place_index [] up i place e = absurd (cc)
 place_index (q ∷ ps) up zero place e =
     let here : q ≡ place = cc in
-    let not_before : nat_lt q place ≡ false = elim (bool_cases (nat_lt q place)) [ inl t ↦ (let l : q < place = ltb-true q place t in absurd (omega (arith, l, here))) | inr f ↦ f ] in
+    let not_before : nat_lt q place ≡ false = false_from_ne_true (nat_lt q place) (λ t. (let l : q < place = ltb-true q place t in omega (arith, l, here))) in
     ap (λ b. length (cond b (q ∷ filter (λ r. nat_lt r place) ps) (filter (λ r. nat_lt r place) ps))) not_before
     ∙ none_below place q ps (omega (arith, here)) up.0
 place_index (q ∷ ps) up (suc i) place e =
@@ -276,11 +219,11 @@ module _ (says : Answers) (ns : List Note) (k : Key) (place : ℕ) where
   due_assigned d =
       let p = d.message.pair in
       let all_smaller : d.smaller ≡ smaller_keys says ns k p
-      = same_members key_cmp_total key_cmp_exact d.smaller (smaller_keys says ns k p) d.smaller_rise (smaller_rise says ns k p)
+      = same_members key_cmp_total d.smaller (smaller_keys says ns k p) d.smaller_rise (smaller_rise says ns k p)
       (λ j h. has-smaller says ns k p j ((d.smaller_are j).0 (contains_from_has d.smaller j h)))
       (λ j h. has_from_contains d.smaller j ((d.smaller_are j).1 (from_has-smaller says ns k p j h))) in
       let all_before : d.before ≡ places_before says ns p place
-      = same_members nat_cmp_total exact_unsigned d.before (places_before says ns p place) d.before_rise (before_rise says ns p place)
+      = same_members nat_cmp_total d.before (places_before says ns p place) d.before_rise (before_rise says ns p place)
       (λ q h. has-before says ns p place q ((d.before_are q).0 (contains_from_has d.before q h)))
       (λ q h. has_from_contains d.before q ((d.before_are q).1 (from_has-before says ns p place q h))) in
       let here : Has (places_with (normals ns) p) place = subst (Has (places_with (normals ns) p)) d.place_is (has-places_with says ns p place d.message (has_from_contains (normals ns) d.message d.stored) refl) in

@@ -1,7 +1,7 @@
 -- An entry is told of a group exactly where it belongs there.
 use Rattle.std.proofs.Common.{◌≡◌, ◌⊎◌, inl, inr, ℕ, ◌+◌, ◌-◌, ◌<◌, ◌≤◌, Bool, true, false, List, [], ◌∷◌, map, filter, fold, refl, sym, ap, ◌∙◌, subst, arith}
 use Rattle.std.specs.Prelude.{Option, Some, None, max, nat_lt, if◌then◌else◌}
-use Rattle.std.proofs.lemmas.Bool.{lt-ltb, ltb-true, ltb-false}
+use Rattle.std.proofs.lemmas.Bool.{lt-ltb, ltb-true, ltb-false, cases_Bool}
 use Rattle.ss_block.specs.declared.block.Group.{Group}
 use Rattle.ss_block.specs.declared.session.Session.{Session}
 use Rattle.ss_review.specs.declared.entry.Why.{Why}
@@ -21,13 +21,12 @@ use Rattle.ss_review.proofs.EntriesRise.{not_above_greatest}
 use Rattle.ss_review.proofs.Listings.{given_cases, key_of, listed_assigned, assigned_listed, gap_told, tells_gap}
 use Rattle.ss_review.proofs.Members.{Has, has-append_left, from_has-map, from_has-filter}
 use Rattle.ss_review.proofs.Telling.{from_has-group_keys, has-group_keys, told_by, tells}
-use Rattle.ss_review.proofs.Tests.{bool_cases}
 
 -- ---- the greatest number below another
 
 larger : (a b : ℕ) → (max a b ≡ a) ⊎ (max a b ≡ b)
 larger a b =
-    elim (bool_cases (nat_lt a b)) [
+    elim (cases_Bool (nat_lt a b)) [
       | inl t ↦ (let less : a < b = ltb-true a b t in inr (omega (arith, less)))
       | inr f ↦ (let more : b ≤ a = ltb-false a b f in inl (omega (arith, more)))
     ]
@@ -132,7 +131,7 @@ module _ (says : Answers) (log : Contents) (s : Session) (g : Group) where
     below_first =
         elim (greatest_cases group_of (last + 1)) [
           | inl none ↦ omega (arith, none, hole.some_first)
-          | inr w ↦ (elim (bool_cases (nat_lt below first)) [
+          | inr w ↦ (elim (cases_Bool (nat_lt below first)) [
             | inl t ↦ ltb-true below first t
             | inr f ↦ (
                 let within : first ≤ below = ltb-false below first f in

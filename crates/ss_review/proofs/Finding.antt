@@ -1,59 +1,70 @@
--- What is found among the messages from a place in the list on.
-use Rattle.std.proofs.Common.{◌≡◌, ◌≢◌, ℕ, zero, suc, ◌+◌, ◌-◌, ◌<◌, ◌≤◌, Bool, true, false, cond, List, [], ◌∷◌, length, get_or, drop, refl, ap, ◌∙◌, arith}
-use Rattle.std.specs.Prelude.{Some, None, option_map, slice_get, find, filter, map}
-use Rattle.std.proofs.lemmas.List.{at_drop_more, at_drop_all}
+-- The first message that passes a test, and the bearer of a hash.
+use Rattle.std.proofs.Common.{◌≡◌, ◌⊎◌, inl, inr, ◌≤◌, Bool, true, false, cond, List, [], ◌∷◌, map, refl, sym, ap, ◌∙◌, subst, arith}
+use Rattle.std.specs.Prelude.{Option, Some, None, option_map, find}
+use Rattle.std.specs.declared.cmp.Ordering.TheVariants.{Less}
+use Rattle.std.specs.Ordering.{nat_cmp}
+use Rattle.std.specs.List.Sorted.{IsStrictlySortedBy}
+use Rattle.std.proofs.lemmas.Bool.{false_from_ne_true}
 use Rattle.ss_block.specs.declared.hash.Hash.{Hash}
 use Rattle.ss_block.specs.declared.hash.HashPair.{HashPair}
 use Rattle.ss_review.specs.declared.message.NormalMessage.{NormalMessage}
-use Rattle.ss_review.specs.Assigned.{has_hash, same_pair, pair_of_bearer, places_with}
+use Rattle.ss_review.specs.Assigned.{has_hash, pair_of_bearer}
+use Rattle.ss_review.proofs.Keyed.{from_less}
+use Rattle.ss_review.proofs.Members.{Has, has-map}
+use Rattle.ss_review.proofs.Rising.{below_all}
 
--- ---- the bearer
+-- ---- the first message that passes a test
 
-bearer_first : (m : NormalMessage) (ms : List NormalMessage) (h : Hash) (b : Bool) → has_hash h m.pair ≡ b → pair_of_bearer (m ∷ ms) h ≡ cond b (Some m.pair) (pair_of_bearer ms h)
+find_at : (p : NormalMessage → Bool) (b : Bool) (m : NormalMessage) (ms : List NormalMessage) (f : NormalMessage) → cond b (Some m) (find p ms) ≡ Some f → p m ≡ b → ((p m ≡ true) × (m ≡ f)) ⊎ ((p m ≡ false) × (find p ms ≡ Some f))
+find_at p true m ms f e t = inl (t, cc)
+find_at p false m ms f e t = inr (t, e)
+
+pub find_some : (p : NormalMessage → Bool) (ms : List NormalMessage) (f : NormalMessage) → find p ms ≡ Some f → Has ms f × (p f ≡ true)
+find_some p [] f e = absurd (cc)
+find_some p (m ∷ ms) f e = elim (find_at p (p m) m ms f e refl) [
+  | inl w ↦ (inl w.1, subst (λ n. p n ≡ true) w.1 w.0)
+  | inr w ↦ (let r = find_some p ms f w.1 in (inr r.0, r.1))
+]
+
+pub find_least : (p : NormalMessage → Bool) (ms : List NormalMessage) (f : NormalMessage) → IsStrictlySortedBy nat_cmp (map (λ (m : NormalMessage). m.place) ms) → find p ms ≡ Some f → (n : NormalMessage) → Has ms n → p n ≡ true → f.place ≤ n.place
+unfolding IsStrictlySortedBy
+find_least p [] f up e n h t = absurd h
+find_least p (m ∷ ms) f up e n (inl same) t = elim (find_at p (p m) m ms f e refl) [
+  | inl w ↦ omega (arith, ap (λ (k : NormalMessage). k.place) w.1, ap (λ (k : NormalMessage). k.place) same)
+  | inr w ↦ absurd (let no : true ≡ false = sym t ∙ ap p (sym same) ∙ w.0 in cc)
+]
+find_least p (m ∷ ms) f up e n (inr h) t = elim (find_at p (p m) m ms f e refl) [
+  | inl w ↦ omega (arith, ap (λ (k : NormalMessage). k.place) w.1, from_less m.place n.place (below_all (λ k. nat_cmp m.place k ≡ Less) (map (λ (k : NormalMessage). k.place) ms) n.place up.0 (has-map (λ (k : NormalMessage). k.place) ms n h)))
+  | inr w ↦ find_least p ms f up.1 w.1 n h t
+]
+
+-- it is that which stands before all others that pass
+finds_at : (p : NormalMessage → Bool) (c : Bool) (m : NormalMessage) (ms : List NormalMessage) (f : NormalMessage) → p m ≡ c → p f ≡ true → Has (m ∷ ms) f → (p m ≡ true → Has ms f → ⊥) → (Has ms f → find p ms ≡ Some f) → cond c (Some m) (find p ms) ≡ Some f
+finds_at p true m ms f e t (inl same) before rest = ap (λ (n : NormalMessage). Some n) same
+finds_at p true m ms f e t (inr i) before rest = absurd (before e i)
+finds_at p false m ms f e t (inl same) before rest = let no : true ≡ false = sym t ∙ ap p (sym same) ∙ e in absurd (cc)
+finds_at p false m ms f e t (inr i) before rest = rest i
+
+pub finds : (p : NormalMessage → Bool) (ms : List NormalMessage) (f : NormalMessage) → IsStrictlySortedBy nat_cmp (map (λ (m : NormalMessage). m.place) ms) → Has ms f → p f ≡ true → ((n : NormalMessage) → Has ms n → p n ≡ true → f.place ≤ n.place) → find p ms ≡ Some f
+unfolding IsStrictlySortedBy
+finds p [] f up h t least = absurd h
+finds p (m ∷ ms) f up h t least =
+    finds_at p (p m) m ms f refl t h
+    (λ s i. omega (arith, least m (inl refl) s, from_less m.place f.place (below_all (λ k. nat_cmp m.place k ≡ Less) (map (λ (k : NormalMessage). k.place) ms) f.place up.0 (has-map (λ (k : NormalMessage). k.place) ms f i))))
+    (λ i. finds p ms f up.1 i t (λ n j s. least n (inr j) s))
+
+pub finds_none : (p : NormalMessage → Bool) (ms : List NormalMessage) → ((n : NormalMessage) → Has ms n → p n ≡ true → ⊥) → find p ms ≡ None
+finds_none p [] none = refl
+finds_none p (m ∷ ms) none =
+    ap (λ c. cond c (Some m) (find p ms)) (false_from_ne_true (p m) (none m (inl refl)))
+    ∙ finds_none p ms (λ n h t. none n (inr h) t)
+
+-- ---- the bearer of a hash
+
+pub mapped : {X Y : Type 0} (f : X → Y) (o : Option X) (y : Y) → option_map f o ≡ Some y → (x : X) × (o ≡ Some x) × (f x ≡ y)
+mapped f None y e = absurd (cc)
+mapped f (Some x) y e = let it : f x ≡ y = cc in (x, refl, it)
+
+pub bearer_of : (ms : List NormalMessage) (h : Hash) (p : HashPair) → pair_of_bearer ms h ≡ Some p → (b : NormalMessage) × (find (λ m. has_hash h m.pair) ms ≡ Some b) × (b.pair ≡ p)
 unfolding pair_of_bearer
-bearer_first m ms h true e = ap (λ t. option_map (λ (n : NormalMessage). n.pair) (cond t (Some m) (find (λ n. has_hash h n.pair) ms))) e
-bearer_first m ms h false e = ap (λ t. option_map (λ (n : NormalMessage). n.pair) (cond t (Some m) (find (λ n. has_hash h n.pair) ms))) e
-
-pub bearer_at : (ms : List NormalMessage) (i : ℕ) (d : NormalMessage) (h : Hash) (b : Bool) → i < length ms → has_hash h (get_or ms i d).pair ≡ b → pair_of_bearer (drop i ms) h ≡ cond b (Some (get_or ms i d).pair) (pair_of_bearer (drop (i + 1) ms) h)
-bearer_at ms i d h b below e =
-    at_drop_more (λ ns. pair_of_bearer ns h) ms i d below ∙ bearer_first (get_or ms i d) (drop (i + 1) ms) h b e
-
-pub no_bearer : (ms : List NormalMessage) (i : ℕ) (h : Hash) → length ms ≤ i → pair_of_bearer (drop i ms) h ≡ None
-unfolding pair_of_bearer
-no_bearer ms i h over = at_drop_all (λ ns. pair_of_bearer ns h) ms i over
-
--- ---- the places with two hashes
-
-places_first : (m : NormalMessage) (ms : List NormalMessage) (p : HashPair) (b : Bool) → same_pair m.pair p ≡ b → places_with (m ∷ ms) p ≡ cond b (m.place ∷ places_with ms p) (places_with ms p)
-unfolding places_with
-places_first m ms p true e = ap (λ t. map (λ (n : NormalMessage). n.place) (cond t (m ∷ filter (λ n. same_pair n.pair p) ms) (filter (λ n. same_pair n.pair p) ms))) e
-places_first m ms p false e = ap (λ t. map (λ (n : NormalMessage). n.place) (cond t (m ∷ filter (λ n. same_pair n.pair p) ms) (filter (λ n. same_pair n.pair p) ms))) e
-
-pub places_at : (ms : List NormalMessage) (i : ℕ) (d : NormalMessage) (p : HashPair) (b : Bool) → i < length ms → same_pair (get_or ms i d).pair p ≡ b → places_with (drop i ms) p ≡ cond b ((get_or ms i d).place ∷ places_with (drop (i + 1) ms) p) (places_with (drop (i + 1) ms) p)
-places_at ms i d p b below e =
-    at_drop_more (λ ns. places_with ns p) ms i d below ∙ places_first (get_or ms i d) (drop (i + 1) ms) p b e
-
-pub no_places : (ms : List NormalMessage) (i : ℕ) (p : HashPair) → length ms ≤ i → places_with (drop i ms) p ≡ []
-unfolding places_with
-no_places ms i p over = at_drop_all (λ ns. places_with ns p) ms i over
-
-first_of : (place : ℕ) (places : List ℕ) (n : ℕ) → n ≡ 0 → slice_get (place ∷ places) n ≡ Some place
-first_of place places n e = ap (slice_get (place ∷ places)) e
-
-later_of : (place : ℕ) (places : List ℕ) (n : ℕ) → n ≢ 0 → slice_get (place ∷ places) n ≡ slice_get places (n - 1)
-later_of place places zero e = absurd (e refl)
-later_of place places (suc n) e = let less : n ≡ suc n - 1 = omega arith in ap (slice_get places) less
-
-pub place_here : (ms : List NormalMessage) (i : ℕ) (d : NormalMessage) (p : HashPair) (n : ℕ) → i < length ms → same_pair (get_or ms i d).pair p ≡ true → n ≡ 0 → slice_get (places_with (drop i ms) p) n ≡ Some (get_or ms i d).place
-place_here ms i d p n below e z =
-    ap (λ places. slice_get places n) (places_at ms i d p true below e) ∙ first_of (get_or ms i d).place (places_with (drop (i + 1) ms) p) n z
-
-pub place_later : (ms : List NormalMessage) (i : ℕ) (d : NormalMessage) (p : HashPair) (n : ℕ) → i < length ms → same_pair (get_or ms i d).pair p ≡ true → n ≢ 0 → slice_get (places_with (drop i ms) p) n ≡ slice_get (places_with (drop (i + 1) ms) p) (n - 1)
-place_later ms i d p n below e z =
-    ap (λ places. slice_get places n) (places_at ms i d p true below e) ∙ later_of (get_or ms i d).place (places_with (drop (i + 1) ms) p) n z
-
-pub place_other : (ms : List NormalMessage) (i : ℕ) (d : NormalMessage) (p : HashPair) (n : ℕ) → i < length ms → same_pair (get_or ms i d).pair p ≡ false → slice_get (places_with (drop i ms) p) n ≡ slice_get (places_with (drop (i + 1) ms) p) n
-place_other ms i d p n below e = ap (λ places. slice_get places n) (places_at ms i d p false below e)
-
-pub no_place : (ms : List NormalMessage) (i : ℕ) (p : HashPair) (n : ℕ) → length ms ≤ i → slice_get (places_with (drop i ms) p) n ≡ None
-no_place ms i p n over = ap (λ places. slice_get places n) (no_places ms i p over)
+bearer_of ms h p e = mapped (λ (m : NormalMessage). m.pair) (find (λ m. has_hash h m.pair) ms) p e

@@ -37,7 +37,8 @@ use Rattle.ss_review.proofs.NotTaken.{filter_map_is}
 use Rattle.ss_review.proofs.Rising.{below_all, all_below}
 use Rattle.ss_review.proofs.Sections as sectioned
 use Rattle.ss_review.proofs.Sections.{map_agree}
-use Rattle.ss_review.proofs.SessionRange.{numbered_key, session_of, then_first}
+use Rattle.ss_review.proofs.SessionRange.{numbered_key, session_of}
+use Rattle.ss_review.proofs.TotalOrders.{then_first}
 
 -- ---- a list in the order of groups falls into them
 

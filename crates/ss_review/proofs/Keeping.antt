@@ -1,18 +1,19 @@
 -- What a reviewer keeps, once it was fed one more message.
 use Rattle.std.proofs.Common.{◌≡◌, ◌≢◌, ℕ, ◌+◌, Bool, true, false, cond, List, [], ◌∷◌, ◌++◌, length, map, refl, subst, sym, ap, ◌∙◌, arith, length-append}
-use Rattle.std.specs.Prelude.{Some, filter}
+use Rattle.std.specs.Prelude.{Some, None, filter}
 use Rattle.std.specs.List.{cons_option}
 use Rattle.std.specs.BTreeMap as tree
 use Rattle.std.proofs.lemmas.List.{map-append, append-nil}
 use Rattle.std.proofs.lemmas.List.Elements.{filter-append}
 use Rattle.ss_block.specs.declared.hash.HashPair.{HashPair}
 use Rattle.ss_block.specs.declared.spoil.Spoil.{Spoil}
+use Rattle.ss_review.specs.declared.by_hash.ByHash.{ByHash}
 use Rattle.ss_review.specs.declared.message.NormalMessage.{NormalMessage}
 use Rattle.ss_review.specs.declared.reviewer.BlockText.{BlockText}
 use Rattle.ss_review.specs.declared.reviewer.Reviewer.{Reviewer}
 use Rattle.ss_block.specs.Order.{pair_cmp}
 use Rattle.ss_review.specs.Notes.{Note, Normal, Block, Spoilt}
-use Rattle.ss_review.specs.Contents.{normals, spoilts}
+use Rattle.ss_review.specs.Contents.{normal_at, normals, spoilts}
 use Rattle.ss_review.specs.Assigned.{same_pair, places_with}
 use Rattle.ss_review.specs.Keeping.{text_at, texts, places_in, KeepsNormal, Keeps}
 use Rattle.ss_review.proofs.Counting.{is_eq-pair_cmp, same_pair-is}
@@ -50,34 +51,41 @@ not_empty places place e =
     let none : length (places ++ place ∷ []) ≡ 0 = ap (λ o. length (places_in o)) e in
     absurd (omega (arith, none, length-append places (place ∷ [])))
 
-module _ (places : List ℕ) (old new : tree.BTreeMap HashPair (List ℕ)) (ms : List NormalMessage) (pair : HashPair) (place : ℕ)
-    (k : KeepsNormal places old ms)
-    (u : (p : HashPair) → tree.get pair_cmp new p ≡ cond (tree.is_at (pair_cmp pair) p) (Some (places_in (tree.get pair_cmp old pair) ++ place ∷ [])) (tree.get pair_cmp old p)) where
-  found : (p : HashPair) (b : Bool) → same_pair pair p ≡ b → tree.get pair_cmp new p ≡ cond b (Some (places_in (tree.get pair_cmp old pair) ++ place ∷ [])) (tree.get pair_cmp old p)
-  found p b e = u p ∙ ap (λ t. cond t (Some (places_in (tree.get pair_cmp old pair) ++ place ∷ [])) (tree.get pair_cmp old p)) (is_eq-pair_cmp pair p ∙ e)
+module _ (old new : ByHash) (ms : List NormalMessage) (m : NormalMessage) (k : KeepsNormal old ms)
+    (placed : new.places.items ≡ old.places.items ++ m.place ∷ [])
+    (u : (p : HashPair) → tree.get pair_cmp new.pairs p ≡ cond (tree.is_at (pair_cmp m.pair) p) (Some (places_in (tree.get pair_cmp old.pairs m.pair) ++ m.place ∷ [])) (tree.get pair_cmp old.pairs p)) where
+  found : (p : HashPair) (b : Bool) → same_pair m.pair p ≡ b → tree.get pair_cmp new.pairs p ≡ cond b (Some (places_in (tree.get pair_cmp old.pairs m.pair) ++ m.place ∷ [])) (tree.get pair_cmp old.pairs p)
+  found p b e = u p ∙ ap (λ t. cond t (Some (places_in (tree.get pair_cmp old.pairs m.pair) ++ m.place ∷ [])) (tree.get pair_cmp old.pairs p)) (is_eq-pair_cmp m.pair p ∙ e)
 
-  places_then : (p : HashPair) (b : Bool) → same_pair pair p ≡ b → places_in (tree.get pair_cmp new p) ≡ places_with (ms ++ record { place = place; pair = pair } ∷ []) p
+  places_then : (p : HashPair) (b : Bool) → same_pair m.pair p ≡ b → places_in (tree.get pair_cmp new.pairs p) ≡ places_with (ms ++ m ∷ []) p
   places_then p true e =
       ap places_in (found p true e)
-      ∙ ap (λ q. places_in (tree.get pair_cmp old q) ++ place ∷ []) (same_pair-is pair p e)
-      ∙ ap (λ ps. ps ++ place ∷ []) (k.pairs_are p)
-      ∙ sym (places_with-push ms (record { place = place; pair = pair }) p true e)
+      ∙ ap (λ q. places_in (tree.get pair_cmp old.pairs q) ++ m.place ∷ []) (same_pair-is m.pair p e)
+      ∙ ap (λ ps. ps ++ m.place ∷ []) (k.pairs_are p)
+      ∙ sym (places_with-push ms m p true e)
   places_then p false e =
       ap places_in (found p false e)
       ∙ k.pairs_are p
       ∙ sym (append-nil (places_with ms p))
-      ∙ sym (places_with-push ms (record { place = place; pair = pair }) p false e)
+      ∙ sym (places_with-push ms m p false e)
 
-  some_then : (p : HashPair) (b : Bool) → same_pair pair p ≡ b → tree.get pair_cmp new p ≢ Some []
-  some_then p true e h = not_empty (places_in (tree.get pair_cmp old pair)) place (sym (found p true e) ∙ h)
+  some_then : (p : HashPair) (b : Bool) → same_pair m.pair p ≡ b → tree.get pair_cmp new.pairs p ≢ Some []
+  some_then p true e h = not_empty (places_in (tree.get pair_cmp old.pairs m.pair)) m.place (sym (found p true e) ∙ h)
   some_then p false e h = k.no_empty_pair p (sym (found p false e) ∙ h)
 
-  pub keeps_one_more : KeepsNormal (places ++ place ∷ []) new (ms ++ record { place = place; pair = pair } ∷ [])
+  pub keeps_one_more : KeepsNormal new (ms ++ m ∷ [])
   keeps_one_more = record {
-    places_are = ap (λ ps. ps ++ place ∷ []) k.places_are ∙ sym (map-append (λ (m : NormalMessage). m.place) ms (record { place = place; pair = pair } ∷ []));
-    pairs_are = λ p. places_then p (same_pair pair p) refl;
-    no_empty_pair = λ p. some_then p (same_pair pair p) refl;
+    places_are = placed ∙ ap (λ ps. ps ++ m.place ∷ []) k.places_are ∙ sym (map-append (λ (n : NormalMessage). n.place) ms (m ∷ []));
+    pairs_are = λ p. places_then p (same_pair m.pair p) refl;
+    no_empty_pair = λ p. some_then p (same_pair m.pair p) refl;
   }
+
+-- messages with the one that a note tells of, where it tells of one
+pub keeps_note : (i : ByHash) (ns : List Note) (n : Note) → KeepsNormal i (normals ns ++ cons_option (normal_at (length ns) n) []) → KeepsNormal i (normals (ns ++ n ∷ []))
+keeps_note i ns n k = subst (KeepsNormal i) (sym (normals_push ns n)) k
+
+pub normal_stays : (i : ByHash) (ns : List Note) (n : Note) → normal_at (length ns) n ≡ None → KeepsNormal i (normals ns) → KeepsNormal i (normals (ns ++ n ∷ []))
+normal_stays i ns n none k = subst (KeepsNormal i) (sym (normals_push ns n ∙ ap (λ o. normals ns ++ cons_option o []) none ∙ append-nil (normals ns))) k
 
 -- ---- what the notes tell of one more message
 
@@ -89,34 +97,22 @@ texts_push ns n = told_push (λ (p : ℕ × Note). text_at p.0 p.1) ns n
 
 module _ (r new : Reviewer) (ns : List Note) (k : Keeps r ns) (more : new.count ≡ r.count + 1) where
   pub keeps_normal : (pair : HashPair)
-      → new.places.items ≡ r.places.items ++ r.count ∷ []
-      → ((p : HashPair) → tree.get pair_cmp new.pairs p ≡ cond (tree.is_at (pair_cmp pair) p) (Some (places_in (tree.get pair_cmp r.pairs pair) ++ r.count ∷ [])) (tree.get pair_cmp r.pairs p))
+      → KeepsNormal new.normal (normals ns ++ record { place = r.count; pair = pair } ∷ [])
       → new.blocks ≡ r.blocks
       → new.spoilt ≡ r.spoilt
       → Keeps new (ns ++ Normal pair ∷ [])
-  keeps_normal pair places pairs blocks spoilt = record {
+  keeps_normal pair normal blocks spoilt = record {
     count = more ∙ ap (λ n. n + 1) k.count ∙ sym (count_more ns (Normal pair));
-    normal =
-        let one_more : KeepsNormal (r.places.items ++ r.count ∷ []) new.pairs (normals ns ++ record { place = r.count; pair = pair } ∷ [])
-        = keeps_one_more r.places.items r.pairs new.pairs (normals ns) pair r.count k.normal pairs in
-        let same : normals ns ++ record { place = r.count; pair = pair } ∷ [] ≡ normals (ns ++ Normal pair ∷ [])
-        = ap (λ n. normals ns ++ record { place = n; pair = pair } ∷ []) k.count ∙ sym (normals_push ns (Normal pair)) in
-        subst (λ ms. KeepsNormal new.places.items new.pairs ms) same (subst (λ ps. KeepsNormal ps new.pairs (normals ns ++ record { place = r.count; pair = pair } ∷ [])) (sym places) one_more);
+    normal = keeps_note new.normal ns (Normal pair) (subst (λ n. KeepsNormal new.normal (normals ns ++ record { place = n; pair = pair } ∷ [])) k.count normal);
     blocks = ap (λ v. map (λ b. (b.place, b.text)) v.items) blocks ∙ k.blocks ∙ sym (append-nil (texts ns)) ∙ sym (texts_push ns (Normal pair));
     spoilt = ap (λ v. v.items) spoilt ∙ k.spoilt ∙ sym (append-nil (spoilts ns)) ∙ sym (spoilts_push ns (Normal pair));
   }
 
-  module _ (places : new.places ≡ r.places) (pairs : new.pairs ≡ r.pairs) where
-    normal_stays : (n : Note) → normals ns ≡ normals (ns ++ n ∷ []) → KeepsNormal new.places.items new.pairs (normals (ns ++ n ∷ []))
-    normal_stays n same =
-        subst (λ ms. KeepsNormal new.places.items new.pairs ms) same
-        (subst (λ ps. KeepsNormal ps.items new.pairs (normals ns)) (sym places)
-        (subst (λ ps. KeepsNormal r.places.items ps (normals ns)) (sym pairs) k.normal))
-
+  module _ (normal : new.normal ≡ r.normal) where
     pub keeps_block : (text : List ℕ) → new.blocks.items ≡ r.blocks.items ++ record { place = r.count; text = text } ∷ [] → new.spoilt ≡ r.spoilt → Keeps new (ns ++ Block text ∷ [])
     keeps_block text blocks spoilt = record {
       count = more ∙ ap (λ n. n + 1) k.count ∙ sym (count_more ns (Block text));
-      normal = normal_stays (Block text) (sym (append-nil (normals ns)) ∙ sym (normals_push ns (Block text)));
+      normal = normal_stays new.normal ns (Block text) refl (subst (λ i. KeepsNormal i (normals ns)) (sym normal) k.normal);
       blocks =
           ap (map (λ (b : BlockText). (b.place, b.text))) blocks
           ∙ map-append (λ (b : BlockText). (b.place, b.text)) r.blocks.items (record { place = r.count; text = text } ∷ [])
@@ -129,7 +125,7 @@ module _ (r new : Reviewer) (ns : List Note) (k : Keeps r ns) (more : new.count 
     pub keeps_spoilt : (cause : Spoil) → new.blocks ≡ r.blocks → new.spoilt.items ≡ r.spoilt.items ++ record { place = r.count; cause = cause } ∷ [] → Keeps new (ns ++ Spoilt cause ∷ [])
     keeps_spoilt cause blocks spoilt = record {
       count = more ∙ ap (λ n. n + 1) k.count ∙ sym (count_more ns (Spoilt cause));
-      normal = normal_stays (Spoilt cause) (sym (append-nil (normals ns)) ∙ sym (normals_push ns (Spoilt cause)));
+      normal = normal_stays new.normal ns (Spoilt cause) refl (subst (λ i. KeepsNormal i (normals ns)) (sym normal) k.normal);
       blocks = ap (λ v. map (λ b. (b.place, b.text)) v.items) blocks ∙ k.blocks ∙ sym (append-nil (texts ns)) ∙ sym (texts_push ns (Spoilt cause));
       spoilt =
           spoilt

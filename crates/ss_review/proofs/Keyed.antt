@@ -41,10 +41,10 @@ module _ {K : Type 0} {R : K → K → Ordering} (o : IsTotalOrder R) (exact : C
   one_index (y ∷ ys) up zero zero x e f = refl
   one_index (y ∷ ys) up zero (suc j) x e f =
       let here : y ≡ x = cc in
-      absurd (not_less_itself o exact x (subst (λ z. R z x ≡ Less) here (below_all (λ z. R y z ≡ Less) ys x up.0 (has-slice_get ys j x f))))
+      absurd (not_less_itself o x (subst (λ z. R z x ≡ Less) here (below_all (λ z. R y z ≡ Less) ys x up.0 (has-slice_get ys j x f))))
   one_index (y ∷ ys) up (suc i) zero x e f =
       let here : y ≡ x = cc in
-      absurd (not_less_itself o exact x (subst (λ z. R z x ≡ Less) here (below_all (λ z. R y z ≡ Less) ys x up.0 (has-slice_get ys i x e))))
+      absurd (not_less_itself o x (subst (λ z. R z x ≡ Less) here (below_all (λ z. R y z ≡ Less) ys x up.0 (has-slice_get ys i x e))))
   one_index (y ∷ ys) up (suc i) (suc j) x e f = ap suc (one_index ys up.1 i j x e f)
 
   -- elements with one key are one
@@ -53,9 +53,9 @@ module _ {K : Type 0} {R : K → K → Ordering} (o : IsTotalOrder R) (exact : C
   one_of_key key [] up x y h i e = absurd h
   one_of_key key (z ∷ zs) up x y (inl p) (inl q) e = sym p ∙ q
   one_of_key key (z ∷ zs) up x y (inl p) (inr i) e =
-      absurd (not_less_itself o exact (key y) (subst (λ k. R k (key y) ≡ Less) (ap key p ∙ e) (below_all (λ k. R (key z) k ≡ Less) (map key zs) (key y) up.0 (has-map key zs y i))))
+      absurd (not_less_itself o (key y) (subst (λ k. R k (key y) ≡ Less) (ap key p ∙ e) (below_all (λ k. R (key z) k ≡ Less) (map key zs) (key y) up.0 (has-map key zs y i))))
   one_of_key key (z ∷ zs) up x y (inr h) (inl q) e =
-      absurd (not_less_itself o exact (key x) (subst (λ k. R k (key x) ≡ Less) (ap key q ∙ sym e) (below_all (λ k. R (key z) k ≡ Less) (map key zs) (key x) up.0 (has-map key zs x h))))
+      absurd (not_less_itself o (key x) (subst (λ k. R k (key x) ≡ Less) (ap key q ∙ sym e) (below_all (λ k. R (key z) k ≡ Less) (map key zs) (key x) up.0 (has-map key zs x h))))
   one_of_key key (z ∷ zs) up x y (inr h) (inr i) e = one_of_key key zs up.1 x y h i e
 
 -- ---- what is left of it rises

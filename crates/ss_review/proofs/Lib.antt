@@ -1,7 +1,6 @@
 pub mod Members
 pub mod Rising
 pub mod TotalOrders
-pub mod Finding
 pub mod Counting
 pub mod Tests
 pub mod Stating
@@ -10,6 +9,7 @@ pub mod Keeping
 pub mod Bounds
 pub mod TextsTold
 pub mod Searching
+pub mod Finding
 pub mod Bearings
 pub mod Sections
 pub mod BySession

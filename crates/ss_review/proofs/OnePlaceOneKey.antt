@@ -7,19 +7,18 @@ use Rattle.std.specs.Ordering.{nat_cmp, is_lt}
 use Rattle.std.specs.List.Sorted.{IsStrictlySortedBy}
 use Rattle.std.proofs.lemmas.Cmp.{nat_cmp_total, tied_itself}
 use Rattle.std.proofs.lemmas.Map.Lookups.{exact_unsigned}
+use Rattle.std.proofs.lemmas.Bool.{and_from, and_parts}
 use Rattle.ss_block.specs.declared.hash.Hash.{Hash}
 use Rattle.ss_block.specs.declared.hash.HashPair.{HashPair}
 use Rattle.ss_review.specs.declared.message.NormalMessage.{NormalMessage}
 use Rattle.ss_review.specs.Announced.{Key, Row, key_cmp, keys, hashes_for}
-use Rattle.ss_review.specs.Assigned.{same_pair, is_pair, places_with, wanted_with, wanted, rank, place_of, assigned}
+use Rattle.ss_review.specs.Assigned.{same_pair, is_pair, places_with, wanted_with, wanted, rank, place_of, assigned, pair_of_bearer}
 use Rattle.ss_review.proofs.Announcements.{has-keys, from_has-hashes_for}
-use Rattle.ss_review.proofs.Counting.{count_by-cons, same_pair-is, is_eq-pair_cmp}
+use Rattle.ss_review.proofs.Counting.{count_by-cons, same_pair-is, same_itself}
 use Rattle.ss_review.proofs.Keyed.{has-slice_get, one_index, one_of_key, keys_rise-filter}
 use Rattle.ss_review.proofs.Members.{Has, from_has-map, from_has-filter}
 use Rattle.ss_review.proofs.Rising.{reversed}
-use Rattle.ss_review.proofs.Tests.{and_true, both_true}
-use Rattle.ss_block.specs.OrderLaws.{pair_cmp_total}
-use Rattle.ss_review.proofs.TotalOrders.{key_cmp_total, key_cmp_exact}
+use Rattle.ss_review.proofs.TotalOrders.{key_cmp_total, key_cmp_exact, less_is}
 
 -- ---- counts of a weaker test
 
@@ -50,23 +49,20 @@ module _ {X : Type 0} (f g : X → Bool) (weaker : (x : X) → f x ≡ true → 
   count_by-fewer (y ∷ ys) x (inr h) out inside =
       omega (arith, one_more (f y) (g y) (weaker y), count_by-fewer ys x h out inside, count_by-cons f y ys, count_by-cons g y ys)
 
-is_less : (c : Ordering) → is_lt c ≡ true → c ≡ Less
-is_less Less e = refl
-is_less Equal e = cc
-is_less Greater e = cc
-
 -- ---- what a key wants
 
-wanted_hash : (ms : List NormalMessage) (hs : List Hash) (p : HashPair) → wanted_with ms hs ≡ Some p → (h : Hash) × Has hs h
-wanted_hash ms [] p e = absurd (cc)
-wanted_hash ms (h ∷ hs) p e = (h, inl refl)
+-- one hash, whose bearer has these hashes
+pub only_one : (ms : List NormalMessage) (hs : List Hash) (p : HashPair) → wanted_with ms hs ≡ Some p → (h : Hash) × Has hs h × (hs ≡ h ∷ []) × (pair_of_bearer ms h ≡ Some p)
+only_one ms [] p e = absurd (cc)
+only_one ms (h ∷ []) p e = (h, inl refl, refl, e)
+only_one ms (h ∷ g ∷ hs) p e = absurd (cc)
 
 module _ (ms : List NormalMessage) (rs : List Row) where
   -- a key that wants something is announced
   pub wanted_key : (k : Key) (p : HashPair) → wanted ms rs k ≡ Some p → Has (keys rs) k
   unfolding wanted
   wanted_key k p e =
-      let w = wanted_hash ms (hashes_for rs k) p e in
+      let w = only_one ms (hashes_for rs k) p e in
       has-keys rs (record { key = k; hash = w.0 }) (from_has-hashes_for rs k w.0 w.1)
 
   place_cases : (k : Key) (w : Option HashPair) (place : ℕ) → place_of ms rs k w ≡ Some place → (p : HashPair) × (w ≡ Some p) × (slice_get (places_with ms p) (rank ms rs k p) ≡ Some place)
@@ -77,9 +73,6 @@ module _ (ms : List NormalMessage) (rs : List Row) where
   unfolding assigned
   assigned_cases k place e = place_cases k (wanted ms rs k) place e
 
-  same_itself : (p : HashPair) → same_pair p p ≡ true
-  same_itself p = sym (is_eq-pair_cmp p p) ∙ ap (λ c. elim c as (λ _. Bool) [ Less ↦ false | Equal ↦ true | Greater ↦ false ]) (tied_itself pair_cmp_total p)
-
   -- the smaller of two keys that want the same has the smaller rank
   pub rank_below : (k j : Key) (p : HashPair) → key_cmp k j ≡ Less → wanted ms rs k ≡ Some p → rank ms rs k p < rank ms rs j p
   unfolding rank
@@ -88,16 +81,16 @@ module _ (ms : List NormalMessage) (rs : List Row) where
       (λ i. is_lt (key_cmp i k) && is_pair p (wanted ms rs i))
       (λ i. is_lt (key_cmp i j) && is_pair p (wanted ms rs i))
       (λ i t.
-      (let both = both_true (is_lt (key_cmp i k)) (is_pair p (wanted ms rs i)) t in
-      and_true (is_lt (key_cmp i j)) (is_pair p (wanted ms rs i)) (ap is_lt (key_cmp_total.trans i k j (is_less (key_cmp i k) both.0) l)) both.1))
+      (let both = and_parts (is_lt (key_cmp i k)) (is_pair p (wanted ms rs i)) t in
+      and_from (is_lt (key_cmp i j)) (is_pair p (wanted ms rs i)) (ap is_lt (key_cmp_total.trans i k j (less_is (key_cmp i k) both.0) l)) both.1))
       (keys rs) k (wanted_key k p e)
       (ap (λ c. is_lt c && is_pair p (wanted ms rs k)) (tied_itself key_cmp_total k))
-      (and_true (is_lt (key_cmp k j)) (is_pair p (wanted ms rs k)) (ap is_lt l) (ap (is_pair p) e ∙ same_itself p))
+      (and_from (is_lt (key_cmp k j)) (is_pair p (wanted ms rs k)) (ap is_lt l) (ap (is_pair p) e ∙ same_itself p))
 
   by_order : (c : Ordering) (k j : Key) (p : HashPair) → key_cmp k j ≡ c → wanted ms rs k ≡ Some p → wanted ms rs j ≡ Some p → rank ms rs k p ≡ rank ms rs j p → k ≡ j
   by_order Less k j p o e f same = absurd (omega (arith, same, rank_below k j p o e))
   by_order Equal k j p o e f same = key_cmp_exact k j o
-  by_order Greater k j p o e f same = absurd (omega (arith, same, rank_below j k p (reversed key_cmp_total key_cmp_exact k j o) f))
+  by_order Greater k j p o e f same = absurd (omega (arith, same, rank_below j k p (reversed key_cmp_total k j o) f))
 
   -- ---- the message at a place
 

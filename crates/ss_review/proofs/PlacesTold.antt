@@ -1,13 +1,13 @@
 -- Each place of a log is told of in one way: its note, whether it is taken, and whether it has a verified block, decide
 -- which.
-use Rattle.std.proofs.Common.{◌≡◌, inl, inr, ℕ, ◌+◌, ◌<◌, Bool, true, false, cond, ◌&&◌, ◌==◌, List, [], length, get_or, refl, sym, ap, ◌∙◌, subst, arith}
+use Rattle.std.proofs.Common.{◌≡◌, ℕ, ◌<◌, Bool, true, false, cond, ◌&&◌, ◌==◌, List, [], length, get_or, refl, sym, ap, ◌∙◌, subst, arith}
 use Rattle.std.specs.Prelude.{Option, Some, None, is_some, option_map, slice_get}
-use Rattle.std.specs.List.{enumerate_from, filter_map, list_any}
-use Rattle.std.proofs.lemmas.Bool.{eqb-true, eq-eqb}
+use Rattle.std.specs.List.{list_any}
+use Rattle.std.proofs.lemmas.Bool.{eqb-true, eq-eqb, and_parts, and_from, false_from_ne_true}
 use Rattle.std.proofs.lemmas.Cmp.{nat_cmp_total}
 use Rattle.std.proofs.lemmas.List.{length-map}
 use Rattle.std.proofs.lemmas.Map.Lookups.{exact_unsigned}
-use Rattle.std.proofs.lemmas.Option.{slice_get_within, slice_get-get_or, slice_get-map}
+use Rattle.std.proofs.lemmas.Option.{slice_get_within, slice_get-get_or, slice_get-map, same_Some}
 use Rattle.ss_block.specs.declared.reading.Reading.{Reading}
 use Rattle.ss_block.specs.declared.reading.Reading.TheVariants as readings
 use Rattle.ss_block.specs.declared.session.Session.{Session}
@@ -21,7 +21,7 @@ use Rattle.ss_review.specs.declared.message.Said.{Said}
 use Rattle.ss_review.specs.declared.message.Said.TheVariants.{Hashes, Fragment}
 use Rattle.ss_review.specs.declared.spoilt.SpoiltPlace.{SpoiltPlace}
 use Rattle.ss_review.specs.Notes.{Note, Normal, Block, Spoilt, noted, note, notes}
-use Rattle.ss_review.specs.Contents.{said_in, block_with, block_in, normal_at, block_at, spoilt_at, normals, blocks, spoilts, contents}
+use Rattle.ss_review.specs.Contents.{said_in, block_with, block_in, normals, blocks, spoilts, contents}
 use Rattle.ss_review.specs.Verified.{Answers, is_verified}
 use Rattle.ss_review.specs.Announced.{Row, rows}
 use Rattle.ss_review.specs.Assigned.{is_taken}
@@ -29,65 +29,15 @@ use Rattle.ss_review.specs.Report.{report_of}
 use Rattle.ss_review.specs.Accounts as accounts
 use Rattle.ss_review.specs.Accounts.{Account, HasAccount}
 use Rattle.ss_review.specs.Laws.{EveryPlaceIsTold}
-use Rattle.ss_review.proofs.Announcements.{numbered_from, has-numbered}
 use Rattle.ss_review.proofs.Keyed.{has-slice_get, one_of_key}
 use Rattle.ss_review.proofs.Leftovers.{taken_by, takes, unlisted_are, refused_are}
 use Rattle.ss_review.proofs.Listings.{listed_assigned, assigned_listed}
-use Rattle.ss_review.proofs.Members.{Has, has_from_contains, contains_from_has, has-map, from_has-map, has-filter_map, from_has-filter_map}
-use Rattle.ss_review.proofs.NotesTold.{IsBlockOf, some_is, normal_told, spoilt_told, block_told, block_place}
+use Rattle.ss_review.proofs.Members.{Has, has_from_contains, contains_from_has, has-map, from_has-map}
+use Rattle.ss_review.proofs.NotesTold.{block_place, normal_noted, block_noted, spoilt_noted, has-normal, has-block, has-spoilt}
 use Rattle.ss_review.proofs.OnePlaceOneKey.{assigned_cases, from_has-places_with}
 use Rattle.ss_review.proofs.PlacesRise.{blocks_rise}
-use Rattle.ss_review.proofs.Tests.{bool_cases, both_true, and_true, any_member, member_any}
+use Rattle.ss_review.proofs.Tests.{any_member, member_any}
 use Rattle.ss_review.proofs.Witnesses.{got_map, note_block}
-
--- ---- the note at a place
-
--- what notes are told as comes from the note at a place, and what that note is told as is there
-module _ {Y : Type 0} (f : ℕ × Note → Option Y) (ns : List Note) where
-  note_of : (y : Y) → Has (filter_map f (enumerate_from 0 ns)) y → (place : ℕ) × (n : Note) × (slice_get ns place ≡ Some n) × (f (place, n) ≡ Some y)
-  note_of y h =
-      let w : (n : ℕ × Note) × Has (enumerate_from 0 ns) n × (f n ≡ Some y) = from_has-filter_map f (enumerate_from 0 ns) y h in
-      let i = numbered_from 0 ns w.0 w.1 in
-      let at : i.0 ≡ w.0.0 = omega (arith, i.1) in
-      (w.0.0, w.0.1, subst (λ k. slice_get ns k ≡ Some w.0.1) at i.2, w.2)
-
-  has-note : (place : ℕ) (n : Note) (y : Y) → slice_get ns place ≡ Some n → f (place, n) ≡ Some y → Has (filter_map f (enumerate_from 0 ns)) y
-  has-note place n y e t =
-      let at : 0 + place ≡ place = omega arith in
-      has-filter_map f (enumerate_from 0 ns) (place, n) y (subst (λ k. Has (enumerate_from 0 ns) (k, n)) at (has-numbered 0 ns place n e)) t
-
-normal_noted : (ns : List Note) (m : NormalMessage) → Has (normals ns) m → slice_get ns m.place ≡ Some (Normal m.pair)
-unfolding normals
-normal_noted ns m h =
-    let w : (place : ℕ) × (n : Note) × (slice_get ns place ≡ Some n) × (normal_at place n ≡ Some m) = note_of (λ (n : ℕ × Note). normal_at n.0 n.1) ns m h in
-    let told = normal_told w.0 w.1 m w.3 in
-    ap (slice_get ns) told.1 ∙ w.2 ∙ ap (λ (n : Note). Some n) told.0
-
-block_noted : (ns : List Note) (b : BlockMessage) → Has (blocks ns) b → (text : List ℕ) × (slice_get ns b.place ≡ Some (Block text))
-unfolding blocks
-block_noted ns b h =
-    let w : (place : ℕ) × (n : Note) × (slice_get ns place ≡ Some n) × (block_at place n ≡ Some b) = note_of (λ (n : ℕ × Note). block_at n.0 n.1) ns b h in
-    let told : (text : List ℕ) × (w.1 ≡ Block text) × IsBlockOf w.0 text b = block_told w.0 w.1 b w.3 in
-    (told.0, ap (slice_get ns) told.2.place_is ∙ w.2 ∙ ap (λ (n : Note). Some n) told.1)
-
-spoilt_noted : (ns : List Note) (s : SpoiltPlace) → Has (spoilts ns) s → slice_get ns s.place ≡ Some (Spoilt s.cause)
-unfolding spoilts
-spoilt_noted ns s h =
-    let w : (place : ℕ) × (n : Note) × (slice_get ns place ≡ Some n) × (spoilt_at place n ≡ Some s) = note_of (λ (n : ℕ × Note). spoilt_at n.0 n.1) ns s h in
-    let told = spoilt_told w.0 w.1 s w.3 in
-    ap (slice_get ns) told.1 ∙ w.2 ∙ ap (λ (n : Note). Some n) told.0
-
-has-normal : (ns : List Note) (m : NormalMessage) → slice_get ns m.place ≡ Some (Normal m.pair) → Has (normals ns) m
-unfolding normals
-has-normal ns m e = has-note (λ (n : ℕ × Note). normal_at n.0 n.1) ns m.place (Normal m.pair) m e refl
-
-has-block : (ns : List Note) (place : ℕ) (text : List ℕ) (b : BlockMessage) → slice_get ns place ≡ Some (Block text) → block_in place text ≡ Some b → Has (blocks ns) b
-unfolding blocks
-has-block ns place text b e t = has-note (λ (n : ℕ × Note). block_at n.0 n.1) ns place (Block text) b e t
-
-has-spoilt : (ns : List Note) (s : SpoiltPlace) → slice_get ns s.place ≡ Some (Spoilt s.cause) → Has (spoilts ns) s
-unfolding spoilts
-has-spoilt ns s e = has-note (λ (n : ℕ × Note). spoilt_at n.0 n.1) ns s.place (Spoilt s.cause) s e refl
 
 -- ---- the block of a text
 
@@ -152,12 +102,12 @@ module _ (says : Answers) (ns : List Note) where
   verified_by : (place : ℕ) → verified_at place ≡ true → accounts.IsVerifiedAt says (blocks ns) place
   verified_by place e =
       let w = any_member (is_verified_at place) (blocks ns) e in
-      let both = both_true (w.0.place == place) (is_verified says (blocks ns) w.0) w.2 in
+      let both = and_parts (w.0.place == place) (is_verified says (blocks ns) w.0) w.2 in
       (w.0, contains_from_has (blocks ns) w.0 w.1, eqb-true w.0.place place both.0, both.1)
 
   verifies : (b : BlockMessage) (place : ℕ) → Has (blocks ns) b → b.place ≡ place → is_verified says (blocks ns) b ≡ true → verified_at place ≡ true
   verifies b place h at e =
-      member_any (is_verified_at place) (blocks ns) b h (and_true (b.place == place) (is_verified says (blocks ns) b) (eq-eqb b.place place at) e)
+      member_any (is_verified_at place) (blocks ns) b h (and_from (b.place == place) (is_verified says (blocks ns) b) (eq-eqb b.place place at) e)
 
   -- ---- each account that a place has is that one
 
@@ -176,10 +126,7 @@ module _ (says : Answers) (ns : List Note) where
       let w = (unlisted_are says (contents ns) place).0 u in
       let m = w.0.0 in
       let untaken : taken_at place ≡ false
-      = elim (bool_cases (taken_at place)) [
-        | inl t ↦ (let k = taken_by (normals ns) all_rows place t in absurd (w.1 k.0 k.1))
-        | inr f ↦ f
-      ] in
+      = false_from_ne_true (taken_at place) (λ t. (let k = taken_by (normals ns) all_rows place t in w.1 k.0 k.1)) in
       record {
         kept = Normal m.pair;
         stored = subst (λ k. slice_get ns k ≡ Some (Normal m.pair)) w.0.2 (normal_noted ns m (has_from_contains (normals ns) m w.0.1));
@@ -198,13 +145,10 @@ module _ (says : Answers) (ns : List Note) where
       let h = has_from_contains (blocks ns) w.0 w.1 in
       let text = block_noted ns w.0 h in
       let unverified : verified_at place ≡ false
-      = elim (bool_cases (verified_at place)) [
-        | inl t ↦ (
-            let v = verified_by place t in
-            let one : v.0 ≡ w.0 = one_block v.0 w.0 (has_from_contains (blocks ns) v.0 v.1) h (v.2 ∙ sym w.2) in
-            absurd (w.3 (ap (is_verified says (blocks ns)) (sym one) ∙ v.3)))
-        | inr f ↦ f
-      ] in
+      = false_from_ne_true (verified_at place) (λ t.
+      (let v = verified_by place t in
+      let one : v.0 ≡ w.0 = one_block v.0 w.0 (has_from_contains (blocks ns) v.0 v.1) h (v.2 ∙ sym w.2) in
+      w.3 (ap (is_verified says (blocks ns)) (sym one) ∙ v.3))) in
       record {
         kept = Block text.0;
         stored = subst (λ k. slice_get ns k ≡ Some (Block text.0)) w.2 text.1;
@@ -222,7 +166,7 @@ module _ (says : Answers) (ns : List Note) where
   one_account place a b h i =
       let u = account_told place a h in
       let v = account_told place b i in
-      let same : v.kept ≡ u.kept = some_is v.kept u.kept (sym v.stored ∙ u.stored) in
+      let same : v.kept ≡ u.kept = same_Some v.kept u.kept (sym v.stored ∙ u.stored) in
       sym v.account_is ∙ ap (λ (n : Note). account_of n (taken_at place) (verified_at place)) same ∙ u.account_is
 
   -- ---- and each place has it

@@ -8,7 +8,7 @@ use Rattle.std.specs.List.{AllByRecursion, Any, Contains}
 use Rattle.std.specs.List.Sorted.{IsStrictlySortedBy}
 use Rattle.std.specs.BTreeMap.{insert_entry}
 use Rattle.std.specs.Map.{keys_of}
-use Rattle.std.proofs.lemmas.Cmp.{tied_itself}
+use Rattle.std.proofs.lemmas.Cmp.{tied_itself, on_total}
 use Rattle.std.proofs.lemmas.List.Sums.{fold-append}
 use Rattle.std.proofs.lemmas.Map.Lookups.{CmpEqualImpliesEq}
 use Rattle.ss_review.specs.Ordered.{with_member, in_order}
@@ -36,17 +36,57 @@ unfolding IsStrictlySortedBy
 rise_by key R [] up = tt
 rise_by key R (x ∷ xs) up = (all_keys key (λ k. R (key x) k ≡ Less) xs up.0, rise_by key R xs up.1)
 
+keys_all : {X K : Type 0} (key : X → K) (P : K → Type 0) (xs : List X) → AllByRecursion P (map key xs) → AllByRecursion (λ x. P (key x)) xs
+keys_all key P [] a = tt
+keys_all key P (x ∷ xs) a = (a.0, keys_all key P xs a.1)
+
+rise_from : {X K : Type 0} (key : X → K) (R : K → K → Ordering) (xs : List X) → IsStrictlySortedBy R (map key xs) → IsStrictlySortedBy (λ x y. R (key x) (key y)) xs
+unfolding IsStrictlySortedBy
+rise_from key R [] up = tt
+rise_from key R (x ∷ xs) up = (keys_all key (λ k. R (key x) k ≡ Less) xs up.0, rise_from key R xs up.1)
+
 -- the keys of a list that rises by them rise
 pub keys_rise : {X K : Type 0} (key : X → K) (R : K → K → Ordering) (Q : X → X → Ordering) → ((x y : X) → Q x y ≡ R (key x) (key y)) → (xs : List X) → IsStrictlySortedBy Q xs → IsStrictlySortedBy R (map key xs)
 keys_rise {X} key R Q by xs up = rise_by key R xs (subst (λ (S : X → X → Ordering). IsStrictlySortedBy S xs) (λ i x y. by x y i) up)
 
-module _ {K : Type 0} {R : K → K → Ordering} (o : IsTotalOrder R) (exact : CmpEqualImpliesEq R) where
+module _ {K : Type 0} {R : K → K → Ordering} (o : IsTotalOrder R) where
   pub not_less_itself : (k : K) → R k k ≡ Less → ⊥
   not_less_itself k e = let t : R k k ≡ Equal = tied_itself o k in absurd (cc)
 
   pub reversed : (x y : K) → R x y ≡ Greater → R y x ≡ Less
   reversed x y e = o.antisymm y x ∙ ap ordering_reverse e
 
+  -- ---- lists that rise and have the same members are equal
+
+  first_is : (x y : K) (xs ys : List K) → IsStrictlySortedBy R (x ∷ xs) → IsStrictlySortedBy R (y ∷ ys) → Has (y ∷ ys) x → Has (x ∷ xs) y → x ≡ y
+  unfolding IsStrictlySortedBy
+  first_is x y xs ys up vp (inl e) h = sym e
+  first_is x y xs ys up vp (inr g) (inl e) = e
+  first_is x y xs ys up vp (inr g) (inr h) =
+      absurd (not_less_itself x (o.trans x y x (below_all (λ z. R x z ≡ Less) xs y up.0 h) (below_all (λ z. R y z ≡ Less) ys x vp.0 g)))
+
+  rest_has : (x q : K) (xs ys : List K) → IsStrictlySortedBy R (x ∷ xs) → Has xs q → Has (x ∷ ys) q → Has ys q
+  unfolding IsStrictlySortedBy
+  rest_has x q xs ys up h (inl e) = absurd (not_less_itself x (subst (λ z. R x z ≡ Less) (sym e) (below_all (λ z. R x z ≡ Less) xs q up.0 h)))
+  rest_has x q xs ys up h (inr g) = g
+
+  pub same_members : (xs ys : List K) → IsStrictlySortedBy R xs → IsStrictlySortedBy R ys → ((q : K) → Has xs q → Has ys q) → ((q : K) → Has ys q → Has xs q) → xs ≡ ys
+  unfolding IsStrictlySortedBy
+  same_members [] [] up vp f g = refl
+  same_members [] (y ∷ ys) up vp f g = absurd (g y (inl refl))
+  same_members (x ∷ xs) [] up vp f g = absurd (f x (inl refl))
+  same_members (x ∷ xs) (y ∷ ys) up vp f g =
+      let e : x ≡ y = first_is x y xs ys up vp (f x (inl refl)) (g y (inl refl)) in
+      let rest : xs ≡ ys = same_members xs ys up.1 vp.1
+      (λ q h. rest_has x q xs ys up h (subst (λ z. Has (z ∷ ys) q) (sym e) (f q (inr h))))
+      (λ q h. rest_has y q ys xs vp h (subst (λ z. Has (z ∷ xs) q) e (g q (inr h)))) in
+      λ i. e i ∷ rest i
+
+-- lists whose keys rise and that have the same members are equal
+pub same_keyed : {K X : Type 0} {R : K → K → Ordering} (o : IsTotalOrder R) (key : X → K) (xs ys : List X) → IsStrictlySortedBy R (map key xs) → IsStrictlySortedBy R (map key ys) → ((q : X) → Has xs q → Has ys q) → ((q : X) → Has ys q → Has xs q) → xs ≡ ys
+same_keyed {R = R} o key xs ys up vp f g = same_members (on_total key o) xs ys (rise_from key R xs up) (rise_from key R ys vp) f g
+
+module _ {K : Type 0} {R : K → K → Ordering} (o : IsTotalOrder R) (exact : CmpEqualImpliesEq R) where
   -- ---- one more member
 
   has_at : (c : Ordering) (k q x : K) (xs ws : List K) → (Has ws q → (k ≡ q) ⊎ Has xs q) → Has (match_ordering c (k ∷ x ∷ xs) (x ∷ xs) (x ∷ ws)) q → (k ≡ q) ⊎ Has (x ∷ xs) q
@@ -76,7 +116,7 @@ module _ {K : Type 0} {R : K → K → Ordering} (o : IsTotalOrder R) (exact : C
   rises_at Less k x xs ws t up w f = ((t, all_below (λ y. R k y ≡ Less) xs (λ y h. o.trans k x y t (below_all (λ z. R x z ≡ Less) xs y up.0 h))), up)
   rises_at Equal k x xs ws t up w f = up
   rises_at Greater k x xs ws t up w f =
-      (all_below (λ y. R x y ≡ Less) ws (λ y h. elim (f y h) [ inl e ↦ subst (λ z. R x z ≡ Less) e (reversed k x t) | inr i ↦ below_all (λ z. R x z ≡ Less) xs y up.0 i ]), w)
+      (all_below (λ y. R x y ≡ Less) ws (λ y h. elim (f y h) [ inl e ↦ subst (λ z. R x z ≡ Less) e (reversed o k x t) | inr i ↦ below_all (λ z. R x z ≡ Less) xs y up.0 i ]), w)
 
   pub rises-with_member : (k : K) (xs : List K) → IsStrictlySortedBy R xs → IsStrictlySortedBy R (with_member R k xs)
   unfolding IsStrictlySortedBy
@@ -117,36 +157,10 @@ module _ {K : Type 0} {R : K → K → Ordering} (o : IsTotalOrder R) (exact : C
   unfolding in_order
   from_has-in_order q ks h = elim (back_along q [] ks h) [ inl l ↦ absurd l | inr r ↦ r ]
 
-  -- ---- lists that rise and have the same members are equal
-
-  first_is : (x y : K) (xs ys : List K) → IsStrictlySortedBy R (x ∷ xs) → IsStrictlySortedBy R (y ∷ ys) → Has (y ∷ ys) x → Has (x ∷ xs) y → x ≡ y
-  unfolding IsStrictlySortedBy
-  first_is x y xs ys up vp (inl e) h = sym e
-  first_is x y xs ys up vp (inr g) (inl e) = e
-  first_is x y xs ys up vp (inr g) (inr h) =
-      absurd (not_less_itself x (o.trans x y x (below_all (λ z. R x z ≡ Less) xs y up.0 h) (below_all (λ z. R y z ≡ Less) ys x vp.0 g)))
-
-  rest_has : (x q : K) (xs ys : List K) → IsStrictlySortedBy R (x ∷ xs) → Has xs q → Has (x ∷ ys) q → Has ys q
-  unfolding IsStrictlySortedBy
-  rest_has x q xs ys up h (inl e) = absurd (not_less_itself x (subst (λ z. R x z ≡ Less) (sym e) (below_all (λ z. R x z ≡ Less) xs q up.0 h)))
-  rest_has x q xs ys up h (inr g) = g
-
-  pub same_members : (xs ys : List K) → IsStrictlySortedBy R xs → IsStrictlySortedBy R ys → ((q : K) → Has xs q → Has ys q) → ((q : K) → Has ys q → Has xs q) → xs ≡ ys
-  unfolding IsStrictlySortedBy
-  same_members [] [] up vp f g = refl
-  same_members [] (y ∷ ys) up vp f g = absurd (g y (inl refl))
-  same_members (x ∷ xs) [] up vp f g = absurd (f x (inl refl))
-  same_members (x ∷ xs) (y ∷ ys) up vp f g =
-      let e : x ≡ y = first_is x y xs ys up vp (f x (inl refl)) (g y (inl refl)) in
-      let rest : xs ≡ ys = same_members xs ys up.1 vp.1
-      (λ q h. rest_has x q xs ys up h (subst (λ z. Has (z ∷ ys) q) (sym e) (f q (inr h))))
-      (λ q h. rest_has y q ys xs vp h (subst (λ z. Has (z ∷ xs) q) e (g q (inr h)))) in
-      λ i. e i ∷ rest i
-
   -- a list that rises and has the members of another is that one in order
   pub in_order_is : (xs ks : List K) → IsStrictlySortedBy R xs → ((q : K) → Has xs q → Has ks q) → ((q : K) → Has ks q → Has xs q) → xs ≡ in_order R ks
   in_order_is xs ks up f g =
-      same_members xs (in_order R ks) up (rises-in_order ks) (λ q h. has-in_order q ks (f q h)) (λ q h. g q (from_has-in_order q ks h))
+      same_members o xs (in_order R ks) up (rises-in_order ks) (λ q h. has-in_order q ks (f q h)) (λ q h. g q (from_has-in_order q ks h))
 
   -- a list that rises by its keys and has the keys of another has those in order
   pub in_order_by : {X : Type 0} (key : X → K) (Q : X → X → Ordering) → ((x y : X) → Q x y ≡ R (key x) (key y)) → (xs ys : List X)
@@ -172,10 +186,6 @@ module _ {K : Type 0} {R : K → K → Ordering} (o : IsTotalOrder R) (exact : C
   pub in_order_same : (ks js : List K) → ((q : K) → Has ks q → Has js q) → ((q : K) → Has js q → Has ks q) → in_order R ks ≡ in_order R js
   in_order_same ks js f g =
       in_order_is (in_order R ks) js (rises-in_order ks) (λ q h. f q (from_has-in_order q ks h)) (λ q h. has-in_order q ks (g q h))
-
-  -- a list that rises is in order
-  pub in_order_itself : (xs : List K) → IsStrictlySortedBy R xs → in_order R xs ≡ xs
-  in_order_itself xs up = sym (in_order_is xs xs up (λ q h. h) (λ q h. h))
 
 -- ---- one more
 

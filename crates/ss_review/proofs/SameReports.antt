@@ -1,14 +1,10 @@
 -- Two reports that say what there is of one log are equal.
-use Rattle.std.proofs.Common.{◌≡◌, ◌≢◌, inl, inr, List, [], ◌∷◌, map, refl, sym, ap, ◌∙◌, subst}
+use Rattle.std.proofs.Common.{◌≡◌, ◌≢◌, inl, List, [], ◌∷◌, map, refl, sym, ap, ◌∙◌, subst}
 use Rattle.std.specs.Prelude.{All}
-use Rattle.std.specs.declared.cmp.Ordering.{Ordering}
-use Rattle.std.specs.declared.cmp.Ordering.TheVariants.{Less}
 use Rattle.std.specs.Ordering.{nat_cmp}
-use Rattle.std.specs.Cmp.{IsTotalOrder}
 use Rattle.std.specs.List.Sorted.{IsStrictlySortedBy}
 use Rattle.std.proofs.lemmas.Cmp.{nat_cmp_total}
 use Rattle.std.proofs.lemmas.List.Elements.{recursion_from_All}
-use Rattle.std.proofs.lemmas.Map.Lookups.{CmpEqualImpliesEq, exact_unsigned}
 use Rattle.ss_block.specs.declared.session.Session.{Session}
 use Rattle.ss_block.specs.Order.{group_cmp}
 use Rattle.ss_block.specs.OrderLaws.{session_cmp_total, session_cmp_exact, group_cmp_total, group_cmp_exact}
@@ -21,37 +17,8 @@ use Rattle.ss_review.specs.Sessions.{of_session}
 use Rattle.ss_review.specs.Verified.{Answers, joined, state_in}
 use Rattle.ss_review.specs.Meaning.{Tells, first_number, IsReport}
 use Rattle.ss_review.proofs.Keyed.{one_of_key}
-use Rattle.ss_review.proofs.Members.{Has, has_from_contains, contains_from_has, has-map}
-use Rattle.ss_review.proofs.Rising.{below_all, not_less_itself, same_members}
-
--- ---- lists whose keys rise and that have the same members are equal
-
-module _ {K X : Type 0} {R : K → K → Ordering} (o : IsTotalOrder R) (exact : CmpEqualImpliesEq R) (key : X → K) where
-  key_below : (x y : X) (xs : List X) → IsStrictlySortedBy R (map key (x ∷ xs)) → Has xs y → R (key x) (key y) ≡ Less
-  unfolding IsStrictlySortedBy
-  key_below x y xs up h = below_all (λ k. R (key x) k ≡ Less) (map key xs) (key y) up.0 (has-map key xs y h)
-
-  apart : (x y : X) (xs : List X) → IsStrictlySortedBy R (map key (x ∷ xs)) → Has xs y → x ≡ y → ⊥
-  apart x y xs up h e = not_less_itself o exact (key y) (subst (λ z. R (key z) (key y) ≡ Less) e (key_below x y xs up h))
-
-  first_same : (x y : X) (xs ys : List X) → IsStrictlySortedBy R (map key (x ∷ xs)) → IsStrictlySortedBy R (map key (y ∷ ys)) → Has (y ∷ ys) x → Has (x ∷ xs) y → x ≡ y
-  first_same x y xs ys up vp (inl e) h = sym e
-  first_same x y xs ys up vp (inr g) (inl e) = e
-  first_same x y xs ys up vp (inr g) (inr h) = absurd (not_less_itself o exact (key x) (o.trans (key x) (key y) (key x) (key_below x y xs up h) (key_below y x ys vp g)))
-
-  rest_same : (x y q : X) (xs ys : List X) → IsStrictlySortedBy R (map key (x ∷ xs)) → x ≡ y → Has xs q → Has (y ∷ ys) q → Has ys q
-  rest_same x y q xs ys up e h (inl f) = absurd (apart x q xs up h (e ∙ f))
-  rest_same x y q xs ys up e h (inr g) = g
-
-  same_keyed : (xs ys : List X) → IsStrictlySortedBy R (map key xs) → IsStrictlySortedBy R (map key ys) → ((q : X) → Has xs q → Has ys q) → ((q : X) → Has ys q → Has xs q) → xs ≡ ys
-  unfolding IsStrictlySortedBy
-  same_keyed [] [] up vp f g = refl
-  same_keyed [] (y ∷ ys) up vp f g = absurd (g y (inl refl))
-  same_keyed (x ∷ xs) [] up vp f g = absurd (f x (inl refl))
-  same_keyed (x ∷ xs) (y ∷ ys) up vp f g =
-      let e : x ≡ y = first_same x y xs ys up vp (f x (inl refl)) (g y (inl refl)) in
-      let rest : xs ≡ ys = same_keyed xs ys up.1 vp.1 (λ q h. rest_same x y q xs ys up e h (f q (inr h))) (λ q h. rest_same y x q ys xs vp (sym e) h (g q (inr h))) in
-      λ i. e i ∷ rest i
+use Rattle.ss_review.proofs.Members.{Has, has_from_contains, contains_from_has}
+use Rattle.ss_review.proofs.Rising.{below_all, same_members, same_keyed}
 
 some_member : {X : Type 0} (xs : List X) → xs ≢ [] → (x : X) × Has xs x
 some_member [] n = absurd (n refl)
@@ -124,7 +91,7 @@ module _ (says : Answers) (log : Contents) where
       let some = some_entry r t g is_r ht hg in
       let w = told_too r q t u g some.0 is_r is_q ht hu at hg some.1 in
       let entries : w.0.entries ≡ g.entries
-      = same_keyed nat_cmp_total exact_unsigned first_number w.0.entries g.entries (entries_up q u w.0 is_q hu w.1) (entries_up r t g is_r ht hg)
+      = same_keyed nat_cmp_total first_number w.0.entries g.entries (entries_up q u w.0 is_q hu w.1) (entries_up r t g is_r ht hg)
       (has-entry q r u t w.0 g is_q is_r hu ht (sym at) w.1 hg (sym w.2)) (has-entry r q t u g w.0 is_r is_q ht hu at hg w.1 w.2) in
       let same : w.0 ≡ g = λ i. record { group = sym w.2 i; entries = entries i } in
       subst (Has u.groups) same w.1
@@ -136,7 +103,7 @@ module _ (says : Answers) (log : Contents) where
       let hu = has_from_contains q.sessions u w.1 in
       let state : u.state ≡ t.state = state_of q u is_q hu ∙ ap (λ s. state_in (joined says (of_session log.blocks s))) w.2 ∙ sym (state_of r t is_r ht) in
       let groups : u.groups ≡ t.groups
-      = same_keyed group_cmp_total group_cmp_exact (λ (x : GroupReport). x.group) u.groups t.groups (groups_up q u is_q hu) (groups_up r t is_r ht)
+      = same_keyed group_cmp_total (λ (x : GroupReport). x.group) u.groups t.groups (groups_up q u is_q hu) (groups_up r t is_r ht)
       (has-group q r u t is_q is_r hu ht w.2) (has-group r q t u is_r is_q ht hu (sym w.2)) in
       let same : u ≡ t = λ i. record { session = w.2 i; state = state i; groups = groups i } in
       subst (Has q.sessions) same hu
@@ -144,11 +111,11 @@ module _ (says : Answers) (log : Contents) where
   pub same_report : (r q : Report) → IsReport says log r → IsReport says log q → r ≡ q
   same_report r q is_r is_q =
       λ i. record {
-        sessions = same_keyed session_cmp_total session_cmp_exact whose r.sessions q.sessions is_r.in_order.sessions is_q.in_order.sessions (has-session r q is_r is_q) (has-session q r is_q is_r) i;
-        unlisted = same_members nat_cmp_total exact_unsigned r.unlisted q.unlisted is_r.in_order.unlisted is_q.in_order.unlisted
+        sessions = same_keyed session_cmp_total whose r.sessions q.sessions is_r.in_order.sessions is_q.in_order.sessions (has-session r q is_r is_q) (has-session q r is_q is_r) i;
+        unlisted = same_members nat_cmp_total r.unlisted q.unlisted is_r.in_order.unlisted is_q.in_order.unlisted
             (λ p h. has_from_contains q.unlisted p ((is_q.unlisted p).1 ((is_r.unlisted p).0 (contains_from_has r.unlisted p h))))
             (λ p h. has_from_contains r.unlisted p ((is_r.unlisted p).1 ((is_q.unlisted p).0 (contains_from_has q.unlisted p h)))) i;
-        refused = same_members nat_cmp_total exact_unsigned r.refused q.refused is_r.in_order.refused is_q.in_order.refused
+        refused = same_members nat_cmp_total r.refused q.refused is_r.in_order.refused is_q.in_order.refused
             (λ p h. has_from_contains q.refused p ((is_q.refused p).1 ((is_r.refused p).0 (contains_from_has r.refused p h))))
             (λ p h. has_from_contains r.refused p ((is_r.refused p).1 ((is_q.refused p).0 (contains_from_has q.refused p h)))) i;
         spoilt = (is_r.spoilt ∙ sym is_q.spoilt) i;

@@ -1,12 +1,11 @@
 -- What a binary search finds in a list that rises, and what a change of one element makes of a map over it.
-use Rattle.std.proofs.Common.{◌≡◌, inl, inr, ℕ, zero, suc, ◌+◌, ◌<◌, ◌≤◌, Bool, true, false, cond, List, [], ◌∷◌, length, get_or, map, refl, sym, ap, ◌∙◌, subst, arith, slice_set}
-use Rattle.std.specs.Prelude.{Result, Ok, Err, MatchResult}
+use Rattle.std.proofs.Common.{◌≡◌, inl, inr, ℕ, zero, suc, ◌<◌, ◌≤◌, true, false, List, [], ◌∷◌, length, get_or, map, refl, sym, ap, ◌∙◌, subst, arith, slice_set}
 use Rattle.std.specs.declared.cmp.Ordering.{Ordering}
 use Rattle.std.specs.declared.cmp.Ordering.TheVariants.{Less, Equal, Greater}
 use Rattle.std.specs.Ordering.{is_eq, ordering_index, ordering_reverse}
 use Rattle.std.specs.Cmp.{IsTotalOrder}
-use Rattle.std.specs.List.{AllByRecursion, HoldsAt, AllWithin}
-use Rattle.std.specs.List.Sorted.{IsStrictlySortedBy, IsNonDecreasingBy, IsPartitionPoint, IsBinarySearchResult}
+use Rattle.std.specs.List.{HoldsAt}
+use Rattle.std.specs.List.Sorted.{IsStrictlySortedBy, IsNonDecreasingBy, IsPartitionPoint}
 use Rattle.std.proofs.lemmas.Cmp.{tied_itself}
 use Rattle.std.proofs.lemmas.Map.Lookups.{CmpEqualImpliesEq}
 use Rattle.ss_review.proofs.Members.{Has}
@@ -32,7 +31,7 @@ module _ {K : Type 0} {R : K → K → Ordering} (o : IsTotalOrder R) (exact : C
       let above : R v x ≡ Greater = ap (R v) (sym (exact w x e)) ∙ o.antisymm v w ∙ ap ordering_reverse l in
       omega (arith, ap ordering_index above)
   index_at Greater w v x l e =
-      let above : R v x ≡ Greater = o.antisymm v x ∙ ap ordering_reverse (o.trans x w v (reversed o exact w x e) l) in
+      let above : R v x ≡ Greater = o.antisymm v x ∙ ap ordering_reverse (o.trans x w v (reversed o w x e) l) in
       omega (arith, ap ordering_index above)
 
   pub answers_rise : (ws : List K) (x : K) → IsStrictlySortedBy R ws → IsNonDecreasingBy (λ y. ordering_index (R y x)) ws
@@ -47,10 +46,10 @@ module _ {K : Type 0} {R : K → K → Ordering} (o : IsTotalOrder R) (exact : C
   -- ---- what is found
 
   not_equal : (y x : K) → R y x ≡ Less → y ≡ x → ⊥
-  not_equal y x l e = not_less_itself o exact x (subst (λ z. R z x ≡ Less) e l)
+  not_equal y x l e = not_less_itself o x (subst (λ z. R z x ≡ Less) e l)
 
   not_above : (y x : K) → R y x ≡ Greater → y ≡ x → ⊥
-  not_above y x l e = not_less_itself o exact x (subst (λ z. R x z ≡ Less) e (reversed o exact y x l))
+  not_above y x l e = not_less_itself o x (subst (λ z. R x z ≡ Less) e (reversed o y x l))
 
   -- Q is the order as the search has it
   module _ (Q : K → K → Ordering) (same : (a b : K) → Q a b ≡ R a b) where

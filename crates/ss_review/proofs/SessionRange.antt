@@ -2,7 +2,7 @@
 use Rattle.std.proofs.Common.{◌≡◌, ℕ, zero, suc, ◌+◌, ◌<◌, ◌≤◌, Bool, true, false, cond, List, [], ◌∷◌, length, get_or, take, drop, map, filter, refl, sym, ap, ◌∙◌, subst, arith}
 use Rattle.std.specs.declared.cmp.Ordering.{Ordering}
 use Rattle.std.specs.declared.cmp.Ordering.TheVariants.{Less, Equal, Greater}
-use Rattle.std.specs.Ordering.{is_eq, is_gt, is_lt, ordering_then}
+use Rattle.std.specs.Ordering.{is_eq, is_gt, is_lt}
 use Rattle.std.specs.Cmp.{Equal-is}
 use Rattle.std.specs.List.{AllWithin}
 use Rattle.std.specs.List.Sorted.{IsStrictlySortedBy, IsPartitionedBy, IsPartitionPoint}
@@ -18,6 +18,7 @@ use Rattle.ss_review.specs.Numbered.{key_of}
 use Rattle.ss_review.specs.Grouped.{Rise, numbers_of_session}
 use Rattle.ss_review.proofs.Members.{Has, has_from_contains, has-map}
 use Rattle.ss_review.proofs.Rising.{below_all}
+use Rattle.ss_review.proofs.TotalOrders.{less_is, then_first}
 
 -- ---- filters that keep a part
 
@@ -41,11 +42,6 @@ module _ {X : Type 0} (q : X → Bool) where
 
 -- ---- sessions in their order
 
-pub then_first : (c d : Ordering) → ordering_then c d ≡ Less → is_gt c ≡ false
-then_first Less d e = refl
-then_first Equal d e = refl
-then_first Greater d e = cc
-
 abbrev pub session_of : Numbered → Session
 session_of n = n.number.session.now
 
@@ -68,11 +64,6 @@ lt_of : (c : Ordering) (a b s : Session) → session_cmp a b ≡ c → is_gt c �
 lt_of Less a b s e g l = session_cmp_total.trans a b s e l
 lt_of Equal a b s e g l = ap (λ t. session_cmp t s) (session_cmp_exact a b e) ∙ l
 lt_of Greater a b s e g l = absurd (cc)
-
-less_is : (c : Ordering) → is_lt c ≡ true → c ≡ Less
-less_is Less e = refl
-less_is Equal e = absurd (cc)
-less_is Greater e = absurd (cc)
 
 eq_of : (c : Ordering) → is_lt c ≡ false → is_gt c ≡ false → is_eq c ≡ true
 eq_of Less l g = absurd (cc)

@@ -2,7 +2,7 @@
 use Rattle.std.proofs.Common.{◌≡◌, ℕ, ◌+◌, ◌<◌, ◌≤◌, inl, inr, Bool, true, false, cond, ◌&&◌, not, List, [], ◌∷◌, length, map, filter, refl, sym, ap, ◌∙◌, subst, arith}
 use Rattle.std.specs.Prelude.{nat_le, nat_lt, slice_index, Option, Some, None, is_some, Ok, Err}
 use Rattle.std.specs.List.{list_all, range_with_len}
-use Rattle.std.proofs.lemmas.Bool.{le-leb, lt-ltb, leb-true, ltb-true, true≢false}
+use Rattle.std.proofs.lemmas.Bool.{le-leb, lt-ltb, leb-true, ltb-true, true≢false, cases_Bool, and_parts, and_from, false_from_ne_true, true_from_ne_false}
 use Rattle.std.proofs.lemmas.List.FromFn.{length-map-range_with_len, get_or-map-range_with_len}
 use Rattle.ss_block.specs.Block as block
 use Rattle.ss_block.specs.Joining.{Stated, HasTotal, HasOctet, IsDisputed, HasGap, IsPayload}
@@ -17,9 +17,9 @@ use Rattle.ss_review.specs.Payloads.{certificate_of, certificates, octets, is_di
 use Rattle.ss_review.specs.Verified.{Answers, signature_of, is_valid, is_accepted, judged, joined, state_in}
 use Rattle.ss_review.specs.States.{stated_by, StatesText, HasValidOctet, IsCovered, IsPayloadBlock, IsInState}
 use Rattle.ss_review.proofs.Members.{Has, has_from_contains, contains_from_has, has-filter, from_has-filter, has-filter_map, from_has-filter_map}
-use Rattle.ss_review.proofs.Tests.{bool_cases, both_true, and_true, any_member, member_any, all_member, member_all, in_range, from_in_range}
-use Rattle.ss_review.proofs.Stating.{IsStatedBy, disputed_from, disputed_to, lacks_from_gap, gap_from_lacks, octet_from_index, found}
-use Rattle.ss_review.proofs.SessionStates.{stated_by-IsStatedBy, disputed_payload, incomplete_payload, text_payload}
+use Rattle.ss_review.proofs.Tests.{any_member, member_any, all_member, member_all, in_range, from_in_range}
+use Rattle.ss_review.proofs.Stating.{IsStatedBy, disputed_from, disputed_to, lacks_from_gap, gap_from_lacks, octet_from_index, found, stated_by-IsStatedBy}
+use Rattle.ss_review.proofs.SessionStates.{disputed_payload, incomplete_payload, text_payload}
 
 -- ---- what the valid certificate blocks cover
 
@@ -37,7 +37,7 @@ covered_from says bs payload e = λ index low high.
     let m : (b : BlockMessage) × Has valid_ones b × (certificate_of b.said ≡ Some w.0) = from_has-filter_map (λ (b : BlockMessage). certificate_of b.said) valid_ones w.0 w.1 in
     let f = from_has-filter (is_valid says payload) bs m.0 m.1 in
     let says_so : m.0.said ≡ Fragment w.0 = fragment_of m.0.said w.0 m.2 in
-    let within = both_true (nat_le w.0.index index) (nat_lt index (w.0.index + length w.0.fragment)) w.2 in
+    let within = and_parts (nat_le w.0.index index) (nat_lt index (w.0.index + length w.0.fragment)) w.2 in
     record {
       message = m.0;
       stored = contains_from_has bs m.0 f.0;
@@ -58,7 +58,7 @@ accepted_from says bs payload covered =
     member_any (λ (c : block.Certificate). nat_le c.index index && nat_lt index (c.index + length c.fragment)) (certificates (filter (is_valid says payload) bs)) o.said
     (has-filter_map (λ (b : BlockMessage). certificate_of b.said) (filter (is_valid says payload) bs) o.message o.said
     (has-filter (is_valid says payload) bs o.message (has_from_contains bs o.message o.stored) valid) (ap certificate_of o.says_so))
-    (and_true (nat_le o.said.index index) (nat_lt index (o.said.index + length o.said.fragment))
+    (and_from (nat_le o.said.index index) (nat_lt index (o.said.index + length o.said.fragment))
     (le-leb o.said.index index o.from) (lt-ltb index (o.said.index + length o.said.fragment) o.to))))
 
 -- ---- the computed state
@@ -86,7 +86,7 @@ in_state says bs states.Untrusted u =
     ∙ judged_trusted says bs u.0 false u.3
 in_state says bs states.Unaccepted u =
     let refused : is_accepted says bs u.0 ≡ false
-    = elim (bool_cases (is_accepted says bs u.0)) [ inl holds ↦ absurd (u.4 (covered_from says bs u.0 holds)) | inr isnt ↦ isnt ] in
+    = false_from_ne_true (is_accepted says bs u.0) (λ holds. u.4 (covered_from says bs u.0 holds)) in
     ap (λ r. state_in (judged says bs r)) (text_stated bs u.0 u.1 ∙ payload_ok u.0 u.2)
     ∙ judged_trusted says bs u.0 true u.3
     ∙ ap (λ b. state_in (cond b (Ok u.0) (Err states.Unaccepted))) refused
@@ -105,7 +105,7 @@ joined_text_stated (c ∷ cs) s told n =
     let text = map (octet_at os) (range_with_len 1 c.total) in
     let long : length text ≡ c.total = length-map-range_with_len (octet_at os) 1 c.total in
     let covered : list_all (has_index (c ∷ cs)) (range_with_len 1 c.total) ≡ true
-    = elim (bool_cases (list_all (has_index (c ∷ cs)) (range_with_len 1 c.total))) [ inl holds ↦ holds | inr isnt ↦ absurd (n (gap_from_lacks (c ∷ cs) s told (ap not isnt))) ] in
+    = true_from_ne_false (list_all (has_index (c ∷ cs)) (range_with_len 1 c.total)) (λ isnt. n (gap_from_lacks (c ∷ cs) s told (ap not isnt))) in
     record {
       total = subst (λ t. HasTotal s t) (sym long) (told.has_total c.total (inl refl));
       octets = λ i below.
@@ -121,8 +121,8 @@ joined_text_stated (c ∷ cs) s told n =
 by_payload : (says : Answers) (bs : List BlockMessage) (text : List ℕ) → StatesText (stated_by (certificates bs)) text → (o : Option PayloadValue) → payload_in text ≡ o → (state : SessionState) × IsInState says bs state
 by_payload says bs text t None e = (states.Malformed, (text, t, e))
 by_payload says bs text t (Some value) e =
-    elim (bool_cases (says.trusted text)) [
-      | inl trusted ↦ (elim (bool_cases (is_accepted says bs text)) [
+    elim (cases_Bool (says.trusted text)) [
+      | inl trusted ↦ (elim (cases_Bool (is_accepted says bs text)) [
         | inl accepted ↦ (states.Joined, (text, t, (value, e), trusted, covered_from says bs text accepted))
         | inr refused ↦ (states.Unaccepted, (text, t, (value, e), trusted, λ covered. true≢false (sym (accepted_from says bs text covered) ∙ refused)))
       ])
@@ -133,7 +133,7 @@ undisputed : (says : Answers) (bs : List BlockMessage) → ¬ IsDisputed (stated
 undisputed says bs n =
     let cs = certificates bs in
     let told = stated_by-IsStatedBy cs in
-    elim (bool_cases (lacks_some cs)) [
+    elim (cases_Bool (lacks_some cs)) [
       | inl lacks ↦ (states.Incomplete, (n, gap_from_lacks cs (stated_by cs) told lacks))
       | inr whole ↦ (
           let gapless : ¬ HasGap (stated_by cs) = λ g. true≢false (sym (lacks_from_gap cs (stated_by cs) told n g) ∙ whole) in
@@ -144,7 +144,7 @@ some_state : (says : Answers) (bs : List BlockMessage) → (state : SessionState
 some_state says bs =
     let cs = certificates bs in
     let told = stated_by-IsStatedBy cs in
-    elim (bool_cases (is_disputed cs)) [
+    elim (cases_Bool (is_disputed cs)) [
       | inl disputed ↦ (states.Disputed, disputed_from cs (stated_by cs) told disputed)
       | inr isnt ↦ undisputed says bs (λ d. true≢false (sym (disputed_to cs (stated_by cs) told d) ∙ isnt))
     ]

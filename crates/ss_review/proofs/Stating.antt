@@ -1,5 +1,5 @@
 -- What certificate blocks state together: as sets, and as it is computed from the list of them.
-use Rattle.std.proofs.Common.{◌≡◌, ℕ, zero, suc, ◌+◌, ◌<◌, ◌≤◌, ◌⊎◌, inl, inr, Bool, true, false, cond, ◌&&◌, not, List, [], ◌∷◌, ◌++◌, length, get_or, take, map, Bor, refl, sym, ap, ◌∙◌, subst, arith}
+use Rattle.std.proofs.Common.{◌≡◌, ℕ, zero, suc, ◌+◌, ◌<◌, ◌≤◌, ◌⊎◌, inl, inr, Bool, true, false, cond, ◌&&◌, ◌||◌, not, List, [], ◌∷◌, ◌++◌, length, get_or, take, map, Bor, refl, sym, ap, ◌∙◌, subst, arith}
 use Rattle.std.specs.Prelude.{◌≢◌, ◌==◌, nat_le, nat_lt, slice_index, Some, find, Err}
 use Rattle.std.specs.FinSet as set
 use Rattle.std.specs.FinSet.{IsAntisymmetric, contains-union, contains-from_list, contains-insert, contains-empty, nat_cmp-IsAntisymmetric}
@@ -7,12 +7,14 @@ use Rattle.std.specs.List.{list_any, list_all, range_with_len}
 use Rattle.std.specs.declared.cmp.Ordering.{Ordering}
 use Rattle.std.specs.Ordering.{nat_cmp, eq_by_cmp, is_eq}
 use Rattle.std.specs.Cmp.{IsTotalOrder, Equal-is, nat_cmp_total}
-use Rattle.std.proofs.lemmas.Bool.{cases_eq, eqb-true, eqb-false, eq-eqb, ne_eqb, not-true, le-leb, lt-ltb, leb-true, ltb-true, false≢true, true≢false}
+use Rattle.std.proofs.lemmas.Bool.{cases_eq, eqb-true, eqb-false, eq-eqb, ne_eqb, not-true, le-leb, lt-ltb, leb-true, ltb-true, true≢false, or_cases, or_left, or_right, and_parts, and_from, false_from_ne_true}
 use Rattle.std.proofs.lemmas.Cmp.{then_total, on_total, tied_itself}
 use Rattle.std.proofs.lemmas.List.{map_more}
 use Rattle.std.proofs.lemmas.List.Elements.{filter_map-append}
 use Rattle.std.proofs.lemmas.List.Sums.{fold-append}
 use Rattle.std.proofs.lemmas.Map.Lookups.{exact_pairs}
+use Rattle.std.proofs.Math.Bool.{or-false, or_assoc}
+use Rattle.std.proofs.lemmas.List.Folds.{list_any-append}
 use Rattle.ss_block.specs.Block as block
 use Rattle.ss_payload.specs.declared.joiner.JoinState.{JoinState}
 use Rattle.ss_payload.specs.declared.joiner.JoinState.TheVariants.{Incomplete, Disputed, Whole}
@@ -21,8 +23,9 @@ use Rattle.ss_review.specs.declared.message.BlockMessage.{BlockMessage}
 use Rattle.ss_review.specs.declared.session_report.SessionState.TheVariants as states
 use Rattle.ss_review.specs.Payloads.{certificate_of, certificates, octets, clash, is_disputed, has_index, cover, lacks_some, octet_found, octet_at, joined_text, payload_or_malformed, stated_payload}
 use Rattle.ss_review.specs.Stated.{stated_after, stated_in_turn, unjoined}
-use Rattle.ss_review.proofs.Members.{Has, has-map, from_has-map, has-append_left, has-append_right, has-append_cases, has-flat_map, from_has-flat_map}
-use Rattle.ss_review.proofs.Tests.{bool_cases, or_cases, or_first, or_second, both_true, and_true, any_member, member_any, all_member, not_all, in_range, from_in_range}
+use Rattle.ss_review.proofs.Members.{Has, has-map, from_has-map, has-flat_map, from_has-flat_map}
+use Rattle.ss_review.proofs.Tests.{any_member, member_any, all_member, not_all, in_range, from_in_range}
+use Rattle.ss_review.specs.States.{stated_by}
 
 placed_cmp_total : IsTotalOrder placed_cmp
 placed_cmp_total = then_total (on_total (λ (p : ℕ × ℕ). p.0) nat_cmp_total) (on_total (λ (p : ℕ × ℕ). p.1) nat_cmp_total)
@@ -33,13 +36,10 @@ placed_cmp-IsAntisymmetric = exact_pairs nat_cmp nat_cmp nat_cmp-IsAntisymmetric
 -- ---- sets and lists
 
 module _ {K : Type 0} {R : K → K → Ordering} (o : IsTotalOrder R) (exact : IsAntisymmetric R) where
-  tied : (x y : K) → eq_by_cmp R x y ≡ true → x ≡ y
-  tied x y e = exact x y ((Equal-is (R x y)).0 e)
-
   listed_from_test : (ks : List K) (q : K) → list_any (eq_by_cmp R q) ks ≡ true → Has ks q
   listed_from_test ks q e =
       let w : (x : K) × Has ks x × (eq_by_cmp R q x ≡ true) = any_member (eq_by_cmp R q) ks e in
-      subst (Has ks) (sym (tied q w.0 w.2)) w.1
+      subst (Has ks) (sym (exact q w.0 ((Equal-is (R q w.0)).0 w.2))) w.1
 
   test_from_listed : (ks : List K) (q : K) → Has ks q → list_any (eq_by_cmp R q) ks ≡ true
   test_from_listed ks q h = member_any (eq_by_cmp R q) ks q h (ap is_eq (tied_itself o q))
@@ -49,54 +49,29 @@ module _ {K : Type 0} {R : K → K → Ordering} (o : IsTotalOrder R) (exact : I
 abbrev totals_of : List block.Certificate → List ℕ
 totals_of cs = map (λ c. c.total) cs
 
-total_before : (s : Stated) (cs : List block.Certificate) (t : ℕ) → HasTotal (stated_after s cs) t → HasTotal s t ⊎ Has (totals_of cs) t
-unfolding with_fragment
-total_before s [] t h = inl h
-total_before s (c ∷ cs) t h =
-    elim (total_before (with_fragment s c.total c.index c.fragment) cs t h) [
-      | inl l ↦ (elim (or_cases _ _ (sym (contains-insert nat_cmp_total s.totals c.total t) ∙ l)) [
-        | inl e ↦ inr (inl (sym (tied nat_cmp_total nat_cmp-IsAntisymmetric t c.total e)))
-        | inr k ↦ inl k
-      ])
-      | inr r ↦ inr (inr r)
-    ]
+turned : (a b c : Bool) → ((a || b) || c) ≡ (b || (a || c))
+turned true true c = refl
+turned true false c = refl
+turned false b c = refl
 
-total_after : (s : Stated) (cs : List block.Certificate) (t : ℕ) → HasTotal s t ⊎ Has (totals_of cs) t → HasTotal (stated_after s cs) t
+total_stated : (s : Stated) (cs : List block.Certificate) (t : ℕ) → set.contains (stated_after s cs).totals t ≡ (set.contains s.totals t || list_any (eq_by_cmp nat_cmp t) (totals_of cs))
 unfolding with_fragment
-total_after s [] t (inl h) = h
-total_after s [] t (inr h) = absurd h
-total_after s (c ∷ cs) t (inl h) = total_after (with_fragment s c.total c.index c.fragment) cs t (inl (contains-insert nat_cmp_total s.totals c.total t ∙ or_second _ _ h))
-total_after s (c ∷ cs) t (inr (inl e)) =
-    total_after (with_fragment s c.total c.index c.fragment) cs t
-    (inl (contains-insert nat_cmp_total s.totals c.total t ∙ or_first _ _ (ap is_eq (ap (λ x. nat_cmp x c.total) (sym e) ∙ tied_itself nat_cmp_total c.total))))
-total_after s (c ∷ cs) t (inr (inr h)) = total_after (with_fragment s c.total c.index c.fragment) cs t (inr h)
+total_stated s [] t = sym (or-false (set.contains s.totals t))
+total_stated s (c ∷ cs) t =
+    total_stated (with_fragment s c.total c.index c.fragment) cs t
+    ∙ ap (λ b. b || list_any (eq_by_cmp nat_cmp t) (totals_of cs)) (contains-insert nat_cmp_total s.totals c.total t)
+    ∙ turned (eq_by_cmp nat_cmp t c.total) (set.contains s.totals t) (list_any (eq_by_cmp nat_cmp t) (totals_of cs))
 
-octet_before : (s : Stated) (cs : List block.Certificate) (p : ℕ × ℕ) → set.contains (stated_after s cs).octets p ≡ true → (set.contains s.octets p ≡ true) ⊎ Has (octets cs) p
+octet_stated : (s : Stated) (cs : List block.Certificate) (p : ℕ × ℕ) → set.contains (stated_after s cs).octets p ≡ (set.contains s.octets p || list_any (eq_by_cmp placed_cmp p) (octets cs))
 unfolding with_fragment
-octet_before s [] p h = inl h
-octet_before s (c ∷ cs) p h =
-    elim (octet_before (with_fragment s c.total c.index c.fragment) cs p h) [
-      | inl l ↦ (elim (or_cases _ _ (sym (contains-union placed_cmp_total s.octets (set.from_list (placed c.index c.fragment)) p) ∙ l)) [
-        | inl k ↦ inl k
-        | inr n ↦ inr (has-append_left (placed c.index c.fragment) (octets cs) p
-            (listed_from_test placed_cmp_total placed_cmp-IsAntisymmetric (placed c.index c.fragment) p (sym (contains-from_list placed_cmp_total (placed c.index c.fragment) p) ∙ n)))
-      ])
-      | inr r ↦ inr (has-append_right (placed c.index c.fragment) (octets cs) p r)
-    ]
-
-octet_after : (s : Stated) (cs : List block.Certificate) (p : ℕ × ℕ) → (set.contains s.octets p ≡ true) ⊎ Has (octets cs) p → set.contains (stated_after s cs).octets p ≡ true
-unfolding with_fragment
-octet_after s [] p (inl h) = h
-octet_after s [] p (inr h) = absurd h
-octet_after s (c ∷ cs) p (inl h) =
-    octet_after (with_fragment s c.total c.index c.fragment) cs p (inl (contains-union placed_cmp_total s.octets (set.from_list (placed c.index c.fragment)) p ∙ or_first _ _ h))
-octet_after s (c ∷ cs) p (inr h) =
-    elim (has-append_cases (placed c.index c.fragment) (octets cs) p h) [
-      | inl l ↦ octet_after (with_fragment s c.total c.index c.fragment) cs p
-          (inl (contains-union placed_cmp_total s.octets (set.from_list (placed c.index c.fragment)) p
-          ∙ or_second _ _ (contains-from_list placed_cmp_total (placed c.index c.fragment) p ∙ test_from_listed placed_cmp_total placed_cmp-IsAntisymmetric (placed c.index c.fragment) p l)))
-      | inr r ↦ octet_after (with_fragment s c.total c.index c.fragment) cs p (inr r)
-    ]
+octet_stated s [] p = sym (or-false (set.contains s.octets p))
+octet_stated s (c ∷ cs) p =
+    let is = eq_by_cmp placed_cmp p in
+    let own = placed c.index c.fragment in
+    octet_stated (with_fragment s c.total c.index c.fragment) cs p
+    ∙ ap (λ b. b || list_any is (octets cs)) (contains-union placed_cmp_total s.octets (set.from_list own) p ∙ ap (λ b. set.contains s.octets p || b) (contains-from_list placed_cmp_total own p))
+    ∙ or_assoc (set.contains s.octets p) (list_any is own) (list_any is (octets cs))
+    ∙ ap (λ b. set.contains s.octets p || b) (sym (list_any-append is own (octets cs)))
 
 -- one more fragment
 pub stated_push : (cs : List block.Certificate) (c : block.Certificate) → stated_in_turn (cs ++ c ∷ []) ≡ with_fragment (stated_in_turn cs) c.total c.index c.fragment
@@ -109,14 +84,28 @@ pub record IsStatedBy (s : Stated) (cs : List block.Certificate) : Type 0 where
   pub octet : (i o : ℕ) → HasOctet s i o → Has (octets cs) (i, o)
   pub has_octet : (p : ℕ × ℕ) → Has (octets cs) p → HasOctet s p.0 p.1
 
+told_by_tests : (s : Stated) (cs : List block.Certificate)
+    → ((t : ℕ) → set.contains s.totals t ≡ list_any (eq_by_cmp nat_cmp t) (totals_of cs))
+    → ((p : ℕ × ℕ) → set.contains s.octets p ≡ list_any (eq_by_cmp placed_cmp p) (octets cs))
+    → IsStatedBy s cs
+told_by_tests s cs totals octets_are = record {
+  total = λ t h. listed_from_test nat_cmp_total nat_cmp-IsAntisymmetric (totals_of cs) t (sym (totals t) ∙ h);
+  has_total = λ t h. totals t ∙ test_from_listed nat_cmp_total nat_cmp-IsAntisymmetric (totals_of cs) t h;
+  octet = λ i o h. listed_from_test placed_cmp_total placed_cmp-IsAntisymmetric (octets cs) (i, o) (sym (octets_are (i, o)) ∙ h);
+  has_octet = λ p h. octets_are p ∙ test_from_listed placed_cmp_total placed_cmp-IsAntisymmetric (octets cs) p h;
+}
+
 pub stated_in_turn-IsStatedBy : (cs : List block.Certificate) → IsStatedBy (stated_in_turn cs) cs
 unfolding nothing_stated
-stated_in_turn-IsStatedBy cs = record {
-  total = λ t h. elim (total_before nothing_stated cs t h) [ inl l ↦ (let no : false ≡ true = sym (contains-empty nat_cmp t) ∙ l in absurd (false≢true no)) | inr r ↦ r ];
-  has_total = λ t h. total_after nothing_stated cs t (inr h);
-  octet = λ i o h. elim (octet_before nothing_stated cs (i, o) h) [ inl l ↦ (let no : false ≡ true = sym (contains-empty placed_cmp (i, o)) ∙ l in absurd (false≢true no)) | inr r ↦ r ];
-  has_octet = λ p h. octet_after nothing_stated cs p (inr h);
-}
+stated_in_turn-IsStatedBy cs =
+    told_by_tests (stated_in_turn cs) cs
+    (λ t. total_stated nothing_stated cs t ∙ ap (λ b. b || list_any (eq_by_cmp nat_cmp t) (totals_of cs)) (contains-empty nat_cmp t))
+    (λ p. octet_stated nothing_stated cs p ∙ ap (λ b. b || list_any (eq_by_cmp placed_cmp p) (octets cs)) (contains-empty placed_cmp p))
+
+pub stated_by-IsStatedBy : (cs : List block.Certificate) → IsStatedBy (stated_by cs) cs
+unfolding stated_by
+stated_by-IsStatedBy cs =
+    told_by_tests (stated_by cs) cs (λ t. contains-from_list nat_cmp_total (totals_of cs) t) (λ p. contains-from_list placed_cmp_total (octets cs) p)
 
 -- ---- the octets of one fragment
 
@@ -136,10 +125,10 @@ from_has-placed index (x ∷ xs) p (inr h) =
     (omega (arith, w.0), omega (arith, w.1))
 
 within_true : (c : block.Certificate) (i : ℕ) → c.index ≤ i → i < c.index + length c.fragment → (nat_le c.index i && nat_lt i (c.index + length c.fragment)) ≡ true
-within_true c i low high = and_true (nat_le c.index i) (nat_lt i (c.index + length c.fragment)) (le-leb c.index i low) (lt-ltb i (c.index + length c.fragment) high)
+within_true c i low high = and_from (nat_le c.index i) (nat_lt i (c.index + length c.fragment)) (le-leb c.index i low) (lt-ltb i (c.index + length c.fragment) high)
 
 within_from : (c : block.Certificate) (i : ℕ) → (nat_le c.index i && nat_lt i (c.index + length c.fragment)) ≡ true → (c.index ≤ i) × (i < c.index + length c.fragment)
-within_from c i e = let b = both_true (nat_le c.index i) (nat_lt i (c.index + length c.fragment)) e in (leb-true c.index i b.0, ltb-true i (c.index + length c.fragment) b.1)
+within_from c i e = let b = and_parts (nat_le c.index i) (nat_lt i (c.index + length c.fragment)) e in (leb-true c.index i b.0, ltb-true i (c.index + length c.fragment) b.1)
 
 -- an index has an octet exactly where some fragment covers it
 index_from_octet : (cs : List block.Certificate) (p : ℕ × ℕ) → Has (octets cs) p → has_index cs p.0 ≡ true
@@ -176,7 +165,7 @@ disputed_from cs s told e =
       | inr b ↦ (
           let p : (p : ℕ × ℕ) × Has (octets cs) p × (list_any (clash p) (octets cs) ≡ true) = any_member (λ (p : ℕ × ℕ). list_any (clash p) (octets cs)) (octets cs) b in
           let q : (q : ℕ × ℕ) × Has (octets cs) q × (clash p.0 q ≡ true) = any_member (clash p.0) (octets cs) p.2 in
-          let t = both_true _ _ q.2 in
+          let t = and_parts _ _ q.2 in
           inr (p.0.0, p.0.1, q.0.1, told.has_octet p.0 p.1, subst (λ i. HasOctet s i q.0.1) (sym (eqb-true p.0.0 q.0.0 t.0)) (told.has_octet q.0 q.1), differ p.0.1 q.0.1 t.1))
     ]
 
@@ -185,14 +174,14 @@ unfolding is_disputed IsDisputed
 disputed_to cs s told (inl d) =
     let c : (c : block.Certificate) × Has cs c × (c.total ≡ d.0) = from_has-map (λ (c : block.Certificate). c.total) cs d.0 (told.total d.0 d.2) in
     let e : (c : block.Certificate) × Has cs c × (c.total ≡ d.1) = from_has-map (λ (c : block.Certificate). c.total) cs d.1 (told.total d.1 d.3) in
-    or_first _ _ (member_any (λ (c : block.Certificate). list_any (λ (d : block.Certificate). not (c.total == d.total)) cs) cs c.0 c.1
+    or_left _ _ (member_any (λ (c : block.Certificate). list_any (λ (d : block.Certificate). not (c.total == d.total)) cs) cs c.0 c.1
     (member_any (λ (d : block.Certificate). not (c.0.total == d.total)) cs e.0 e.1 (unlike c.0.total e.0.total (λ same. d.4 (sym c.2 ∙ same ∙ e.2)))))
 disputed_to cs s told (inr d) =
-    or_second _ _ (member_any (λ (p : ℕ × ℕ). list_any (clash p) (octets cs)) (octets cs) (d.0, d.1) (told.octet d.0 d.1 d.3)
-    (member_any (clash (d.0, d.1)) (octets cs) (d.0, d.2) (told.octet d.0 d.2 d.4) (and_true _ _ (eq-eqb d.0 d.0 refl) (unlike d.1 d.2 d.5))))
+    or_right _ _ (member_any (λ (p : ℕ × ℕ). list_any (clash p) (octets cs)) (octets cs) (d.0, d.1) (told.octet d.0 d.1 d.3)
+    (member_any (clash (d.0, d.1)) (octets cs) (d.0, d.2) (told.octet d.0 d.2 d.4) (and_from _ _ (eq-eqb d.0 d.0 refl) (unlike d.1 d.2 d.5))))
 
 pub not_disputed : (cs : List block.Certificate) (s : Stated) → IsStatedBy s cs → ¬ IsDisputed s → is_disputed cs ≡ false
-not_disputed cs s told n = elim (bool_cases (is_disputed cs)) [ inl holds ↦ absurd (n (disputed_from cs s told holds)) | inr isnt ↦ isnt ]
+not_disputed cs s told n = false_from_ne_true (is_disputed cs) (λ holds. n (disputed_from cs s told holds))
 
 -- where nothing is disputed, two totals are one
 one_total : (s : Stated) (t u : ℕ) → ¬ IsDisputed s → HasTotal s t → HasTotal s u → t ≡ u
@@ -212,13 +201,11 @@ lacks_from_gap [] s told n g = refl
 lacks_from_gap (c ∷ cs) s told n (inl none) = absurd (none c.total (told.has_total c.total (inl refl)))
 lacks_from_gap (c ∷ cs) s told n (inr g) =
     let same : g.0 ≡ c.total = one_total s g.0 c.total n g.2 (told.has_total c.total (inl refl)) in
-    elim (bool_cases (list_all (has_index (c ∷ cs)) (range_with_len 1 c.total))) [
-      | inl holds ↦ (
-          let o : (o : ℕ) × Has (octets (c ∷ cs)) (g.1, o)
-          = octet_from_index (c ∷ cs) g.1 (all_member (has_index (c ∷ cs)) (range_with_len 1 c.total) holds g.1 (in_range 1 c.total g.1 g.3 (omega (arith, g.4, same)))) in
-          absurd (g.5 o.0 (told.has_octet (g.1, o.0) o.1)))
-      | inr isnt ↦ ap not isnt
-    ]
+    ap not
+    (false_from_ne_true (list_all (has_index (c ∷ cs)) (range_with_len 1 c.total)) (λ holds.
+    (let o : (o : ℕ) × Has (octets (c ∷ cs)) (g.1, o)
+    = octet_from_index (c ∷ cs) g.1 (all_member (has_index (c ∷ cs)) (range_with_len 1 c.total) holds g.1 (in_range 1 c.total g.1 g.3 (omega (arith, g.4, same)))) in
+    g.5 o.0 (told.has_octet (g.1, o.0) o.1))))
 
 pub gap_from_lacks : (cs : List block.Certificate) (s : Stated) → IsStatedBy s cs → lacks_some cs ≡ true → HasGap s
 unfolding HasGap cover
@@ -236,7 +223,7 @@ gap_from_lacks (c ∷ cs) s told e =
     )
 
 pub not_lacking : (cs : List block.Certificate) (s : Stated) → IsStatedBy s cs → ¬ HasGap s → lacks_some cs ≡ false
-not_lacking cs s told n = elim (bool_cases (lacks_some cs)) [ inl holds ↦ absurd (n (gap_from_lacks cs s told holds)) | inr isnt ↦ isnt ]
+not_lacking cs s told n = false_from_ne_true (lacks_some cs) (λ holds. n (gap_from_lacks cs s told holds))
 
 -- ---- the text
 

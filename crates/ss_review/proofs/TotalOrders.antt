@@ -1,12 +1,24 @@
--- The orders of keys and rows are total, and only equal values tie in them.
-use Rattle.std.proofs.Common.{◌≡◌, Less, Equal, Greater, refl}
+-- Orders: those of keys and rows are total, and only equal values tie in them.
+use Rattle.std.proofs.Common.{◌≡◌, true, false, Less, Equal, Greater, refl}
 use Rattle.std.specs.declared.cmp.Ordering.{Ordering}
-use Rattle.std.specs.Ordering.{nat_cmp, ordering_then}
+use Rattle.std.specs.Ordering.{is_lt, is_gt, ordering_then}
 use Rattle.std.specs.Cmp.{IsTotalOrder}
 use Rattle.std.proofs.lemmas.Cmp.{then_total, on_total, nat_cmp_total}
 use Rattle.std.proofs.lemmas.Map.Lookups.{CmpEqualImpliesEq, exact_unsigned}
 use Rattle.ss_block.specs.OrderLaws.{session_cmp_total, session_cmp_exact, group_cmp_total, group_cmp_exact, hash_cmp_total, hash_cmp_exact}
 use Rattle.ss_review.specs.Announced.{Key, Row, key_cmp, row_cmp}
+
+-- ---- what is less
+
+pub less_is : (c : Ordering) → is_lt c ≡ true → c ≡ Less
+less_is Less e = refl
+less_is Equal e = cc
+less_is Greater e = cc
+
+pub then_first : (c d : Ordering) → ordering_then c d ≡ Less → is_gt c ≡ false
+then_first Less d e = refl
+then_first Equal d e = refl
+then_first Greater d e = cc
 
 -- ---- they are total
 

@@ -1,13 +1,13 @@
 -- Behind each listed message stands a stored block that announces its hash.
-use Rattle.std.proofs.Common.{◌≡◌, inl, ℕ, zero, suc, Bool, true, false, cond, List, [], ◌∷◌, map, find, refl, sym, ap, ◌∙◌, subst, arith}
-use Rattle.std.specs.Prelude.{Option, Some, Result, Ok, Err, option_map, slice_get}
+use Rattle.std.proofs.Common.{◌≡◌, ℕ, true, List, map, refl, sym, ap, ◌∙◌, subst}
+use Rattle.std.specs.Prelude.{Some, Result, Ok, Err, slice_get}
 use Rattle.std.specs.Ordering.{nat_cmp}
 use Rattle.std.specs.Str.{bytes_eq}
-use Rattle.std.specs.List.{enumerate_from}
 use Rattle.std.specs.Cmp.{Equal-is}
 use Rattle.std.specs.Cmp.Lexicographic.{slice_cmp}
 use Rattle.std.proofs.lemmas.Map.Lookups.{exact_bytes}
 use Rattle.std.proofs.lemmas.Map.Text.{is_eq-slice_cmp}
+use Rattle.std.proofs.lemmas.Option.{slice_get-map}
 use Rattle.ss_block.specs.declared.hash.Alg.{Alg}
 use Rattle.ss_block.specs.declared.hash.Alg.TheVariants as algs
 use Rattle.ss_block.specs.declared.hash.Hash.{Hash}
@@ -25,34 +25,25 @@ use Rattle.ss_review.specs.declared.message.Said.{Said}
 use Rattle.ss_review.specs.declared.message.Said.TheVariants.{Hashes}
 use Rattle.ss_block.specs.Hashes.{pair, hash_of}
 use Rattle.ss_review.specs.Notes.{Note, Normal, Block, noted, note, notes}
-use Rattle.ss_review.specs.Contents.{said_in, normal_at, block_at, normals, blocks}
+use Rattle.ss_review.specs.Contents.{said_in, normals, blocks}
 use Rattle.ss_review.specs.Sessions.{of_session}
 use Rattle.ss_review.specs.Verified.{Answers, joined, is_valid_in, is_verified, signature_of}
 use Rattle.ss_review.specs.Announced.{Key, rows, hashes_for}
-use Rattle.ss_review.specs.Assigned.{has_hash, pair_of_bearer, places_with, wanted_with, wanted, rank, assigned}
+use Rattle.ss_review.specs.Assigned.{has_hash, pair_of_bearer, places_with, wanted, rank, assigned}
 use Rattle.ss_review.specs.Announcing.{Announces}
 use Rattle.ss_review.specs.Witness.{IsWitnessed}
-use Rattle.ss_review.proofs.Announcements.{numbered_from, announced_row, from_has-hashes_for}
+use Rattle.ss_review.proofs.Announcements.{announced_row, from_has-hashes_for}
 use Rattle.ss_review.proofs.Keyed.{has-slice_get}
-use Rattle.ss_review.proofs.Members.{Has, has_from_contains, from_has-filter_map}
-use Rattle.ss_review.proofs.NotesTold.{IsBlockOf, normal_told, block_told}
-use Rattle.ss_review.proofs.OnePlaceOneKey.{assigned_cases, from_has-places_with}
+use Rattle.ss_review.proofs.Members.{Has, has_from_contains}
+use Rattle.ss_review.proofs.NotesTold.{IsBlockOf, normal_noted, block_noted}
+use Rattle.ss_review.proofs.OnePlaceOneKey.{assigned_cases, from_has-places_with, only_one}
 use Rattle.ss_review.proofs.Tests.{all_member}
+use Rattle.ss_review.proofs.Finding.{find_some, bearer_of, mapped}
 
 -- ---- what is stored
 
 pub got_map : {X Y : Type 0} (f : X → Y) (xs : List X) (i : ℕ) (y : Y) → slice_get (map f xs) i ≡ Some y → (x : X) × (slice_get xs i ≡ Some x) × (f x ≡ y)
-got_map f [] i y e = absurd (cc)
-got_map f (x ∷ xs) zero y e = let it : f x ≡ y = cc in (x, refl, it)
-got_map f (x ∷ xs) (suc i) y e = got_map f xs i y e
-
--- a note that a log is told with is that of its message at the place
-pub stored_note : (log : List (List ℕ)) (n : ℕ × Note) → Has (enumerate_from 0 (notes log)) n → (text : List ℕ) × (slice_get log n.0 ≡ Some text) × (note text ≡ n.1)
-stored_note log n h =
-    let w = numbered_from 0 (notes log) n h in
-    let at : w.0 ≡ n.0 = omega (arith, w.1) in
-    let got = got_map note log w.0 n.1 w.2 in
-    (got.0, subst (λ i. slice_get log i ≡ Some got.0) at got.1, got.2)
+got_map f xs i y e = mapped f (slice_get xs i) y (sym (slice_get-map f xs i) ∙ e)
 
 noted_normal : (text : List ℕ) (r : Reading) (p : HashPair) → noted text r ≡ Normal p → pair text ≡ p
 noted_normal text readings.Plain p e = cc
@@ -78,33 +69,17 @@ note_block text t e = noted_block text (reading text) t e
 
 -- a message without a block is stored at its place
 pub stored_normal : (log : List (List ℕ)) (m : NormalMessage) → Has (normals (notes log)) m → (text : List ℕ) × (slice_get log m.place ≡ Some text) × (note text ≡ Normal (pair text)) × (pair text ≡ m.pair)
-unfolding normals
 stored_normal log m h =
-    let w : (n : ℕ × Note) × Has (enumerate_from 0 (notes log)) n × (normal_at n.0 n.1 ≡ Some m)
-    = from_has-filter_map (λ (n : ℕ × Note). normal_at n.0 n.1) (enumerate_from 0 (notes log)) m h in
-    let told = normal_told w.0.0 w.0.1 m w.2 in
-    let got = stored_note log w.0 w.1 in
-    let both : pair got.0 ≡ m.pair = note_normal got.0 m.pair (got.2 ∙ told.0) in (
-      got.0,
-      subst (λ i. slice_get log i ≡ Some got.0) (sym told.1) got.1,
-      got.2 ∙ told.0 ∙ ap (λ (p : HashPair). Normal p) (sym both),
-      both,
-    )
+    let got = got_map note log m.place (Normal m.pair) (normal_noted (notes log) m h) in
+    let both : pair got.0 ≡ m.pair = note_normal got.0 m.pair got.2 in
+    (got.0, got.1, got.2 ∙ ap (λ (p : HashPair). Normal p) (sym both), both)
 
 -- and a block
 pub stored_block : (log : List (List ℕ)) (b : BlockMessage) → Has (blocks (notes log)) b → (text : List ℕ) × (slice_get log b.place ≡ Some text) × IsBlockOf b.place text b
-unfolding blocks
 stored_block log b h =
-    let w : (n : ℕ × Note) × Has (enumerate_from 0 (notes log)) n × (block_at n.0 n.1 ≡ Some b)
-    = from_has-filter_map (λ (n : ℕ × Note). block_at n.0 n.1) (enumerate_from 0 (notes log)) b h in
-    let told : (text : List ℕ) × (w.0.1 ≡ Block text) × IsBlockOf w.0.0 text b = block_told w.0.0 w.0.1 b w.2 in
-    let got = stored_note log w.0 w.1 in
-    let one : got.0 ≡ told.0 = note_block got.0 told.0 (got.2 ∙ told.1) in
-    let at : w.0.0 ≡ b.place = sym told.2.place_is in (
-      told.0,
-      subst (λ i. slice_get log i ≡ Some told.0) at (got.1 ∙ ap (λ (t : List ℕ). Some t) one),
-      subst (λ i. IsBlockOf i told.0 b) at told.2,
-    )
+    let told = block_noted (notes log) b h in
+    let got = got_map note log b.place (Block told.0) told.1 in
+    (told.0, got.1 ∙ ap (λ (t : List ℕ). Some t) (note_block got.0 told.0 got.2), told.2)
 
 -- what says hashes is a signature block
 pub said_signature : (r : Reading) (b : block.Signature) → said_in r ≡ Some (Hashes b) → r ≡ readings.Signature b
@@ -116,20 +91,10 @@ said_signature (readings.Spoilt cause) b e = absurd (cc)
 
 -- ---- the hash that a key wants
 
--- a key that wants something has one hash, and its bearer's hashes
-one_hash : (ms : List NormalMessage) (hs : List Hash) (p : HashPair) → wanted_with ms hs ≡ Some p → (h : Hash) × Has hs h × (pair_of_bearer ms h ≡ Some p)
-one_hash ms [] p e = absurd (cc)
-one_hash ms (h ∷ []) p e = (h, inl refl, e)
-one_hash ms (h ∷ g ∷ hs) p e = absurd (cc)
-
-bearer_cases : (h : Hash) (b : Bool) (m : NormalMessage) (rest : Option NormalMessage) (p : HashPair) → has_hash h m.pair ≡ b → (option_map (λ (n : NormalMessage). n.pair) rest ≡ Some p → has_hash h p ≡ true) → option_map (λ (n : NormalMessage). n.pair) (cond b (Some m) rest) ≡ Some p → has_hash h p ≡ true
-bearer_cases h true m rest p t f e = let it : m.pair ≡ p = cc in ap (has_hash h) (sym it) ∙ t
-bearer_cases h false m rest p t f e = f e
-
 pub bearer_has : (ms : List NormalMessage) (h : Hash) (p : HashPair) → pair_of_bearer ms h ≡ Some p → has_hash h p ≡ true
-unfolding pair_of_bearer
-bearer_has [] h p e = absurd (cc)
-bearer_has (m ∷ ms) h p e = bearer_cases h (has_hash h m.pair) m (find (λ (n : NormalMessage). has_hash h n.pair) ms) p refl (bearer_has ms h p) e
+bearer_has ms h p e =
+    let w = bearer_of ms h p e in
+    ap (has_hash h) (sym w.2) ∙ (find_some (λ m. has_hash h m.pair) ms w.0 w.1).1
 
 same_octets : (a b : List ℕ) → bytes_eq a b ≡ true → a ≡ b
 same_octets a b e = exact_bytes a b ((Equal-is (slice_cmp nat_cmp a b)).0 (is_eq-slice_cmp a b ∙ e))
@@ -156,8 +121,8 @@ verified_cases says bs b e = valid_cases says (joined says (of_session bs b.sess
 pub wanted_hash_of : (says : Answers) (ns : List Note) (k : Key) (p : HashPair) → wanted (normals ns) (rows says (blocks ns)) k ≡ Some p → (h : Hash) × Announces says (blocks ns) k h × (pair_of_bearer (normals ns) h ≡ Some p)
 unfolding wanted
 wanted_hash_of says ns k p e =
-    let w = one_hash (normals ns) (hashes_for (rows says (blocks ns)) k) p e in
-    (w.0, announced_row says (blocks ns) (record { key = k; hash = w.0 }) (from_has-hashes_for (rows says (blocks ns)) k w.0 w.1), w.2)
+    let w = only_one (normals ns) (hashes_for (rows says (blocks ns)) k) p e in
+    (w.0, announced_row says (blocks ns) (record { key = k; hash = w.0 }) (from_has-hashes_for (rows says (blocks ns)) k w.0 w.1), w.3)
 
 pub witnessed : BlocksAreInRange → (says : Answers) (log : List (List ℕ)) (k : Key) (place : ℕ) → assigned (normals (notes log)) (rows says (blocks (notes log))) k ≡ Some place → IsWitnessed says log k place
 witnessed range says log k place e =

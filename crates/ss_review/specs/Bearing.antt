@@ -1,6 +1,5 @@
 -- The bearers of announced hashes, from the places that stand under each two hashes.
 use Rattle.std.specs.Prelude.{ℕ, nat_lt, List, [], ◌∷◌, map, filter_map, fold, Option, Some, None, option_map, option_and_then, if◌then◌else◌}
-use Rattle.std.specs.BTreeMap as tree
 use Rattle.ss_block.specs.declared.hash.Hash.{Hash}
 use Rattle.ss_block.specs.declared.hash.HashPair.{HashPair}
 use Rattle.ss_review.specs.declared.message.NormalMessage.{NormalMessage}

@@ -1,11 +1,16 @@
-//! An index of the places that stand under each two hashes.
-ghost use Rattle.std.specs.Prelude.{◌≡◌, map, slice_get};
+//! The messages of a log without a block, under both their hashes.
+ghost use Rattle.std.specs.Prelude.{◌≡◌, ◌++◌, ◌∷◌, [], List, map, slice_get, MatchResult};
 ghost use Rattle.std.specs.Ordering.{nat_cmp};
 ghost use Rattle.std.specs.List.Sorted.{IsStrictlySortedBy};
+ghost use Rattle.std.specs.BTreeMap.{btree_map_len, IsOrdered};
+ghost use Rattle.ss_block.specs.Order.{pair_cmp};
+ghost use Rattle.ss_review.specs.declared.message.NormalMessage.{NormalMessage};
 ghost use Rattle.ss_review.specs.Keeping.{KeepsNormal};
 
 use crate::bearers::bearers;
 use crate::index::Index;
+use crate::message::NormalMessage;
+use crate::pairs::add_place;
 use crate::places::Places;
 use ss_block::{Hash, HashPair};
 use ss_message::NoMemory;
@@ -14,19 +19,52 @@ use std::collections::BTreeMap;
 
 /// The places of the messages of a log without a block, which rise, and those under each two hashes. It finds the
 /// bearers of all announced hashes in one pass over the pairs.
-#[derive(Clone, Copy)]
-pub(crate) struct ByHash<'a> {
-    pub(crate) places: &'a [u32],
-    pub(crate) pairs: &'a BTreeMap<HashPair, Places>,
+#[derive(Drop)]
+pub(crate) struct ByHash {
+    places: Vec<u32>,
+    pairs: BTreeMap<HashPair, Places>,
 }
 
-impl<'a> Index for ByHash<'a> {
+impl ByHash {
+    /// No message. It takes no memory.
+    #[tactic(auto, unfolding(crate::specs::Assigned::places_with))]
+    pub(crate) fn new(alloc: Global) -> ByHash
+        ensures { KeepsNormal result [] }
+    {
+        ByHash {
+            places: Vec::new(alloc),
+            pairs: BTreeMap::new(alloc),
+        }
+    }
+
+    /// Keeps the next message. Where memory runs out, it keeps those that it had.
+    pub(crate) fn add(&mut self, alloc: Global, message: NormalMessage) -> Result<(), NoMemory>
+        ensures { (ms : List NormalMessage)
+            → KeepsNormal self.old ms
+            → MatchResult result (λ _. KeepsNormal self.new (ms ++ message ∷ [])) (λ _. KeepsNormal self.new ms) }
+    {
+        self.places.reserve(1)?;
+        add_place(alloc, &mut self.pairs, message.pair, message.place)?;
+        self.places.push_reserved(message.place);
+        Ok(())
+    }
+
+    /// How many different pairs of hashes it holds.
+    pub(crate) fn pair_count(&self) -> usize
+        ensures count { result ≡ btree_map_len self.now.pairs }
+        ensures ordered { IsOrdered pair_cmp self.now.pairs }
+    {
+        self.pairs.len()
+    }
+}
+
+impl Index for ByHash {
     ghost use Rattle.ss_review.specs.declared.by_hash.ByHash.{ByHash};
 
-    ghost has = { λ i ms. KeepsNormal i.places.now i.pairs.now ms × IsStrictlySortedBy nat_cmp (map (λ m. m.place) ms) };
+    ghost has = { λ i ms. KeepsNormal i ms × IsStrictlySortedBy nat_cmp (map (λ m. m.place) ms) };
 
     fn places(&self) -> &[u32] {
-        self.places
+        self.places.as_slice()
     }
 
     fn bearers(
@@ -34,7 +72,7 @@ impl<'a> Index for ByHash<'a> {
         alloc: Global,
         hashes: &[Option<Hash>],
     ) -> Result<Vec<Option<HashPair>>, NoMemory> {
-        bearers(alloc, self.pairs, hashes)
+        bearers(alloc, &self.pairs, hashes)
     }
 
     fn place(&self, pair: &HashPair, number: usize) -> Option<u32> {

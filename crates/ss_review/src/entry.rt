@@ -1,7 +1,5 @@
 //! What a review says of the numbers of a group.
-ghost use Rattle.std.specs.Prelude.{◌≡◌};
-
-use std::marker::Model;
+use ss_frame::List;
 
 /// Why no message is listed for an announced number.
 #[derive(Clone, Copy, Debug, PartialEq, Eq)]
@@ -24,32 +22,4 @@ pub enum Entry {
 }
 
 /// What a review says of the numbers of a group, in their order. Contracts see the list alone.
-#[derive(Debug, Drop)]
-pub struct Entries {
-    entries: Vec<Entry>,
-}
-
-impl Model for Entries {
-    ghost use Rattle.std.specs.Prelude.{List};
-    ghost use Rattle.ss_review.specs.declared.entry.Entry.{Entry};
-
-    ghost Value = { List Entry };
-
-    ghost view = { λ l. l.entries.items };
-}
-
-impl Entries {
-    /// Keeps the entries of `entries`, and takes no memory.
-    pub fn from_vec(entries: Vec<Entry>) -> Entries
-        ensures { result ≡ entries.items }
-    {
-        Entries { entries }
-    }
-
-    /// The entries.
-    pub fn as_slice(&self) -> &[Entry]
-        ensures { result.now ≡ self.now }
-    {
-        self.entries.as_slice()
-    }
-}
+pub type Entries = List<Entry>;

@@ -32,7 +32,6 @@ mod report;
 mod review;
 mod reviewer;
 mod row;
-mod scan;
 mod sectioning;
 mod session_report;
 mod session_states;

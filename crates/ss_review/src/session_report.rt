@@ -1,9 +1,7 @@
 //! What a review says of a session.
-ghost use Rattle.std.specs.Prelude.{◌≡◌};
-
 use crate::group_report::GroupReports;
 use ss_block::Session;
-use std::marker::Model;
+use ss_frame::List;
 
 /// How far the payload of a session is joined, trusted and accepted. The first that applies.
 #[derive(Clone, Copy, Debug, PartialEq, Eq)]
@@ -34,32 +32,4 @@ pub struct SessionReport {
 }
 
 /// What a review says of the sessions of a log, in their order. Contracts see the list alone.
-#[derive(Debug, Drop)]
-pub struct SessionReports {
-    sessions: Vec<SessionReport>,
-}
-
-impl Model for SessionReports {
-    ghost use Rattle.std.specs.Prelude.{List};
-    ghost use Rattle.ss_review.specs.declared.session_report.SessionReport.{SessionReport};
-
-    ghost Value = { List SessionReport };
-
-    ghost view = { λ l. l.sessions.items };
-}
-
-impl SessionReports {
-    /// Keeps the sessions of `sessions`, and takes no memory.
-    pub fn from_vec(sessions: Vec<SessionReport>) -> SessionReports
-        ensures { result ≡ sessions.items }
-    {
-        SessionReports { sessions }
-    }
-
-    /// The sessions.
-    pub fn as_slice(&self) -> &[SessionReport]
-        ensures { result.now ≡ self.now }
-    {
-        self.sessions.as_slice()
-    }
-}
+pub type SessionReports = List<SessionReport>;

@@ -3,6 +3,7 @@ ghost use Rattle.std.specs.Prelude.{◌+◌, ◌^◌, ◌<◌, ◌++◌, ◌∷�
 ghost use Rattle.ss_review.specs.Notes.{Note, Normal, Block, Spoilt, noted, note, notes};
 ghost use Rattle.ss_review.specs.Keeping.{SortedOut};
 
+use crate::by_hash::ByHash;
 use crate::message::{BlockMessage, NormalMessage};
 use crate::pushing::push_some;
 use crate::reading::block_in;
@@ -17,9 +18,7 @@ use std::alloc::Global;
 pub(crate) struct Sorted {
     // How many messages there are; where they are more, as many as it can count.
     pub(crate) count: u32,
-    pub(crate) normal: Vec<NormalMessage>,
-    // The places of the messages without a block.
-    pub(crate) places: Vec<u32>,
+    pub(crate) normal: ByHash,
     pub(crate) blocks: Vec<BlockMessage>,
     pub(crate) spoilt: Vec<SpoiltPlace>,
 }
@@ -30,8 +29,7 @@ pub(crate) fn sort_out(alloc: Global, messages: &[Bytes]) -> Result<Sorted, NoMe
 {
     let mut sorted = Sorted {
         count: 0,
-        normal: Vec::new(alloc),
-        places: Vec::new(alloc),
+        normal: ByHash::new(alloc),
         blocks: Vec::new(alloc),
         spoilt: Vec::new(alloc),
     };
@@ -63,8 +61,8 @@ impl Sorted {
             → OnOk result (SortedOut self.new (ns ++ noted message.now reading ∷ [])) }
     {
         match reading {
-            Reading::Plain => self.add_normal(pair_of(message)),
-            Reading::Unparsed { .. } => self.add_normal(pair_of(message)),
+            Reading::Plain => self.add_normal(alloc, pair_of(message)),
+            Reading::Unparsed { .. } => self.add_normal(alloc, pair_of(message)),
             Reading::Signature(_) => self.add_block(alloc, message),
             Reading::Certificate(_) => self.add_block(alloc, message),
             Reading::Spoilt(cause) => self.add_spoilt(cause),
@@ -72,17 +70,14 @@ impl Sorted {
     }
 
     /// Adds a message without a block.
-    fn add_normal(&mut self, pair: HashPair) -> Result<(), NoMemory>
+    fn add_normal(&mut self, alloc: Global, pair: HashPair) -> Result<(), NoMemory>
         ensures { (ns : List Note)
             → SortedOut self.old ns
             → length ns + 1 < 2 ^ 32
             → OnOk result (SortedOut self.new (ns ++ Normal pair ∷ [])) }
     {
-        self.normal.push(NormalMessage {
-            place: self.count,
-            pair,
-        })?;
-        self.places.push(self.count)?;
+        let place = self.count;
+        self.normal.add(alloc, NormalMessage { place, pair })?;
         self.count = self.count.saturating_add(1);
         Ok(())
     }

@@ -62,13 +62,18 @@ pub(crate) fn verified<J: Judge>(
 }
 
 /// Adds the place of a block, unless it is verified.
-fn add_refused(places: &mut Places, block: &BlockMessage, is_verified: bool) -> Result<(), NoMemory>
-    ensures { OnOk result (places.new ≡ places.old ++ (if is_verified then [] else block.now.place ∷ [])) }
+fn add_refused(
+    places: &mut Vec<u32>,
+    block: &BlockMessage,
+    is_verified: bool,
+) -> Result<(), NoMemory>
+    ensures { OnOk result (places.new.items ≡ places.old.items ++ (if is_verified then [] else block.now.place ∷ [])) }
 {
     if is_verified {
         return Ok(());
     }
-    places.push(block.place)
+    places.push(block.place)?;
+    Ok(())
 }
 
 /// The places of the blocks that aren't verified, from which of them are.
@@ -81,9 +86,9 @@ pub(crate) fn refused(
         → verified.now ≡ map (is_verified says blocks.now) blocks.now
         → IfOk result (λ p. p ≡ refused says blocks.now) }
 {
-    let mut places = Places::from_vec(Vec::new(alloc));
+    let mut places = Vec::new(alloc);
     for (block, is_verified) in blocks.iter().zip(verified) {
         add_refused(&mut places, block, *is_verified)?;
     }
-    Ok(places)
+    Ok(Places::from_vec(places))
 }

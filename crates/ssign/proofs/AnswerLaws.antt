@@ -6,18 +6,19 @@ use Rattle.std.proofs.lemmas.List.Elements.{All-from_recursion}
 use Rattle.ss_payload.specs.StrictBase64.{base64}
 use Rattle.ssign.specs.Answers.{Answer, Trust, Yes, Seal, HasFields, HasFirstBadLine, HasLines, LinesAreDetermined, IsNoLine, Lacks, LinesAreDetermined, NoTextIsGoodAndBad, BadLineIsDetermined, ended, first_line, line_feed, line_text, space}
 use Rattle.ssign.proofs.AnswerLines.{cut_once}
-use Rattle.ssign.proofs.Base64Text.{Clear, Clear-append, Clear-base64, Lacks-space, base64-injective}
+use Rattle.ss_payload.proofs.Base64Text.{Clear, Clear-append}
+use Rattle.ssign.proofs.Base64Text.{Lacks-space, base64-injective, no_line_feed}
 use Rattle.ssign.proofs.ReadLines.{first_clear}
 
 Clear-line_text : (line : Answer) → Clear line_feed (line_text line)
-Clear-line_text (Trust p) = Clear-append line_feed (codes "trust ") (base64 p) (refl, (refl, (refl, (refl, (refl, (refl, tt)))))) (Clear-base64 p)
+Clear-line_text (Trust p) = Clear-append line_feed (codes "trust ") (base64 p) (refl, (refl, (refl, (refl, (refl, (refl, tt)))))) (no_line_feed p)
 Clear-line_text (Yes p o s) =
     Clear-append line_feed (codes "yes ") (base64 p ++ space ∷ (base64 o ++ space ∷ base64 s)) (refl, (refl, (refl, (refl, tt))))
-    (Clear-append line_feed (base64 p) (space ∷ (base64 o ++ space ∷ base64 s)) (Clear-base64 p)
-    (refl, Clear-append line_feed (base64 o) (space ∷ base64 s) (Clear-base64 o) (refl, Clear-base64 s)))
+    (Clear-append line_feed (base64 p) (space ∷ (base64 o ++ space ∷ base64 s)) (no_line_feed p)
+    (refl, Clear-append line_feed (base64 o) (space ∷ base64 s) (no_line_feed o) (refl, no_line_feed s)))
 Clear-line_text (Seal o s) =
     Clear-append line_feed (codes "seal ") (base64 o ++ space ∷ base64 s) (refl, (refl, (refl, (refl, (refl, tt)))))
-    (Clear-append line_feed (base64 o) (space ∷ base64 s) (Clear-base64 o) (refl, Clear-base64 s))
+    (Clear-append line_feed (base64 o) (space ∷ base64 s) (no_line_feed o) (refl, no_line_feed s))
 
 Lacks-line_text : (line : Answer) → Lacks line_feed (line_text line)
 Lacks-line_text line = All-from_recursion (λ x. eqb x line_feed ≡ false) (line_text line) (Clear-line_text line)

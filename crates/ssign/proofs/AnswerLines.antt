@@ -4,7 +4,8 @@ use Rattle.std.proofs.lemmas.List.Elements.{recursion_from_All}
 use Rattle.std.proofs.lemmas.Bool.{eqb-false}
 use Rattle.ss_payload.specs.StrictBase64.{base64}
 use Rattle.ssign.specs.Answers.{IsNoField, IsNoPair, IsNoTriple, Lacks, space}
-use Rattle.ssign.proofs.Base64Text.{Clear, Lacks-space}
+use Rattle.ss_payload.proofs.Base64Text.{Clear}
+use Rattle.ssign.proofs.Base64Text.{Lacks-space}
 use Rattle.ssign.specs.declared.answers.line.LineFault.{LineFault}
 use Rattle.ssign.specs.declared.answers.line.LineFault.TheVariants as faults
 use Rattle.ssign.specs.AnswerLine.{IfBad}

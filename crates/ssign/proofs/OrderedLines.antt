@@ -118,9 +118,11 @@ is_eq-then Less p = refl
 is_eq-then Equal p = refl
 is_eq-then Greater p = refl
 
-and_assoc : (a b d : Bool) → ((a && b) && d) ≡ (a && (b && d))
-and_assoc true b d = refl
-and_assoc false b d = refl
+and_comm : (a b : Bool) → (a && b) ≡ (b && a)
+and_comm true true = refl
+and_comm true false = refl
+and_comm false true = refl
+and_comm false false = refl
 
 has_trust_key : (payload : List ℕ) (line : Answer) → is_eq (key_cmp (key_of line) (trust_key payload)) ≡ is_trust payload line
 has_trust_key payload (Trust p) = then_Equal _ ∙ is_eq-slice_cmp p payload
@@ -132,7 +134,7 @@ has_yes_key : (payload octets signature : List ℕ) (line : Answer)
 has_yes_key payload octets signature (Trust p) = refl
 has_yes_key payload octets signature (Yes p o s) =
     rw (is_eq-then, is_eq-then, is_eq-slice_cmp, is_eq-slice_cmp, is_eq-slice_cmp)
-    (and_assoc (bytes_eq p payload) (bytes_eq o octets) (bytes_eq s signature))
+    (and_comm (bytes_eq o octets && bytes_eq s signature) (bytes_eq p payload))
 has_yes_key payload octets signature (Seal o s) = refl
 
 has_seal_key : (octets : List ℕ) (line : Answer) → is_eq (key_cmp (key_of line) (seal_key octets)) ≡ is_seal octets line

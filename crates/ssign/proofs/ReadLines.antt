@@ -8,7 +8,8 @@ use Rattle.ss_payload.specs.StrictBase64.{base64}
 use Rattle.ssign.specs.Answers.{Answer, Seal, Trust, Yes, space, HasFields, Lacks, ended, first_line, line_feed, line_text}
 use Rattle.ssign.specs.AnswerInput.{IsCutAfterLine, IsReadUpTo}
 use Rattle.ssign.specs.AnswerLine.{answers_at, size_of}
-use Rattle.ssign.proofs.Base64Text.{Clear, length-base64}
+use Rattle.ss_payload.proofs.Base64Text.{Clear}
+use Rattle.ssign.proofs.Base64Text.{length-base64}
 
 pub first_clear : (a b : List ℕ) → Clear line_feed a → first_line (a ++ line_feed ∷ b) ≡ a
 first_clear [] b h = refl

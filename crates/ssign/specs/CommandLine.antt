@@ -1,7 +1,9 @@
 -- What the command line gives: its commands, the limits that its options spell, and the exit status of a run.
 use Rattle.std.specs.Prelude.{◌≡◌, ◌≢◌, ◌⊎◌, ℕ, pos, Bool, true, false, List, [], ◌∷◌, Option, Some, None, Result, Ok, Err, codes}
 use Rattle.std.specs.Str.Parse.{IsNumeral, digits_value, without_leading_plus}
-use Rattle.clap.specs.Words.{App, IsAmong, Kinds, Rule, fault_of, found_of, new_app, new_rule, one_text, with_rule, with_subcommand}
+use Rattle.clap.specs.Words.{App, IsAmong, Kinds, Rule, app_of, fault_of, found_of, new_app, new_rule, one_text, with_rule, with_subcommand}
+use Rattle.clap.specs.declared.builder.command.Command.{Command}
+use Rattle.clap.specs.declared.builder.command.Command.TheViews.{out-Command}
 use Rattle.clap.specs.declared.builder.ArgAction.TheVariants.{Set, SetTrue}
 use Rattle.clap.specs.declared.builder.value_parser.ValueParser.TheVariants.{Signed}
 use Rattle.clap.specs.declared.error.kind.ErrorKind.TheVariants.{DisplayHelp, DisplayVersion}
@@ -9,6 +11,10 @@ use Rattle.clap.specs.declared.parser.matches.ArgMatches.{ArgMatches}
 use Rattle.ss_frame.specs.Limits.{Allowance}
 use Rattle.ss_frame.specs.declared.limits.Form.{Form}
 use Rattle.ss_frame.specs.declared.limits.Form.TheVariants.{Frames, Lines}
+use Rattle.ssign.specs.declared.command_line.Order.{Order}
+use Rattle.ssign.specs.declared.command_line.Order.TheVariants.{Log, Explain}
+use Rattle.ssign.specs.declared.task.Task.{Task}
+use Rattle.ssign.specs.declared.task.Task.TheVariants.{Review, Questions, Extract, Inspect}
 use Rattle.ss_report.specs.declared.fault.RunFault.{RunFault}
 use Rattle.ss_report.specs.declared.verdict.Verdict.{Verdict}
 use Rattle.ss_report.specs.declared.verdict.Verdict.TheVariants.{Clean, Findings}
@@ -64,24 +70,61 @@ max_len_rule = number_rule (codes "max-len") (codes "65536") 1048576
 abbrev pub max_messages_rule : Rule
 max_messages_rule = number_rule (codes "max-messages") (codes "10000000") 10000000
 
--- the options that both commands have
+-- what `explain` is asked about
+abbrev pub code_rule : Rule
+code_rule = record (new_rule (codes "code")) { action = Some Set; value_names = 1; required = true }
+
+-- the options of a command over a log
 abbrev pub with_limits : App → App
 with_limits a = with_rule (with_rule (with_rule a lines_rule) max_len_rule) max_messages_rule
 
 abbrev pub review_app : App
 review_app = with_limits (with_rule (new_app (codes "review")) answers_rule)
 
+abbrev pub questions_app : App
+questions_app = with_limits (new_app (codes "questions"))
+
+abbrev pub extract_app : App
+extract_app = with_limits (with_rule (new_app (codes "extract")) answers_rule)
+
 abbrev pub inspect_app : App
 inspect_app = with_limits (new_app (codes "inspect"))
 
--- the program, which wants a command, and shows its help where it is given no word at all
+abbrev pub explain_app : App
+explain_app = with_rule (new_app (codes "explain")) code_rule
+
+-- the program, which has a version, wants a command, and shows its help where it is given no word at all
 abbrev pub bare_app : App
 bare_app =
     let a = new_app (codes "ssign") in
-    record a { top = record a.top { arg_required_else_help = true; subcommand_required = true } }
+    record a { top = record a.top { arg_required_else_help = true; subcommand_required = true; has_version = true } }
 
 abbrev pub ssign_app : App
-ssign_app = with_subcommand (with_subcommand bare_app review_app.top) inspect_app.top
+ssign_app =
+    let reviewing = with_subcommand (with_subcommand (with_subcommand bare_app review_app.top) questions_app.top) extract_app.top in
+    with_subcommand (with_subcommand reviewing inspect_app.top) explain_app.top
+
+-- a command is this one, and has no global argument
+pub record IsLocalApp (command : Command) (app : App) : Type 0 where
+  pub shape : app_of command ≡ app
+  pub local : (out-Command command).has_globals ≡ false
+
+-- ---- the names of the commands
+
+abbrev pub task_name : Task → List ℕ
+task_name Review = codes "review"
+task_name Questions = codes "questions"
+task_name Extract = codes "extract"
+task_name Inspect = codes "inspect"
+
+abbrev pub name_of : Order → List ℕ
+name_of (Log task) = task_name task
+name_of Explain = codes "explain"
+
+-- no command has this name
+abbrev pub IsNoCommand : List ℕ → Type 0
+IsNoCommand name = (name ≢ codes "review") × (name ≢ codes "questions") × (name ≢ codes "extract")
+    × (name ≢ codes "inspect") × (name ≢ codes "explain")
 
 -- ---- the exit status
 

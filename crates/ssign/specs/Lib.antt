@@ -1,14 +1,7 @@
-pub mod Verifier
-pub mod ReportText
-pub mod ThinText
-pub mod ThinReading
-pub mod ThinMessage
-pub mod Review
-pub mod Search
-pub mod Entries
-pub mod Run
 pub mod Answers
 pub mod AnswerLine
 pub mod AnswerKey
 pub mod AnswerInput
 pub mod CommandLine
+pub mod Task
+pub mod Explanation

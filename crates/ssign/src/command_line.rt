@@ -1,36 +1,123 @@
 //! The command line.
-ghost use Rattle.std.specs.Prelude.{◌≡◌, ◌<◌, ◌^◌, ℕ, Bool, false, Some, codes, decimal, IfOk, IfSome, option_map};
+ghost use Rattle.std.specs.Prelude.{◌≡◌, ◌<◌, ◌^◌, ℕ, Bool, false, Some, codes, decimal, IfOk, IfSome, MatchOption, option_map};
 ghost use Rattle.std.specs.Option.{SomeIff};
-ghost use Rattle.clap.specs.Words.{app_of, first_value, found_of, rule_of};
+ghost use Rattle.clap.specs.Words.{App, app_of, first_value, found_of, new_app, rule_of};
 ghost use Rattle.ss_frame.specs.Limits.{InRange};
-ghost use Rattle.ssign.specs.CommandLine.{answers_rule, lines_rule, max_len_rule, max_messages_rule, ssign_app};
-ghost use Rattle.ssign.specs.CommandLine.{FlagIs, HasNumber, limits_with, text_of};
+ghost use Rattle.ssign.specs.CommandLine.{answers_rule, code_rule, lines_rule, max_len_rule, max_messages_rule};
+ghost use Rattle.ssign.specs.CommandLine.{bare_app, explain_app, extract_app, inspect_app, questions_app, review_app, ssign_app};
+ghost use Rattle.ssign.specs.CommandLine.{FlagIs, HasNumber, IsLocalApp, IsNoCommand, limits_with, name_of, text_of, with_limits};
 
+use crate::task::Task;
 use clap::{Arg, ArgAction, ArgMatches, Command};
 use ss_frame::Limits;
 use std::alloc::{AllocError, Global};
+
+/// The version of the program.
+const VERSION: &str = "0.1.0";
+
+/// What a command asks for.
+#[derive(Clone, Copy, Debug, PartialEq, Eq)]
+pub enum Order {
+    /// A run over a log.
+    Log(Task),
+    /// What a code means.
+    Explain,
+}
 
 /// The program's commands and their options.
 pub fn command<'a>(alloc: Global) -> Result<Command<'a>, AllocError>
     ensures { IfOk result (λ c. app_of c ≡ ssign_app) }
 {
-    let review = Command::new(alloc, "review")
-        .about("Reviews the log on standard input, and writes the report to standard output")
-        .arg(answers(alloc))?
-        .arg(lines(alloc))?
-        .arg(max_len(alloc))?
-        .arg(max_messages(alloc))?;
-    let inspect = Command::new(alloc, "inspect")
-        .about("Says of each message what it is")
-        .arg(lines(alloc))?
-        .arg(max_len(alloc))?
-        .arg(max_messages(alloc))?;
+    bare(alloc)
+        .subcommand(review(alloc)?)?
+        .subcommand(questions(alloc)?)?
+        .subcommand(extract(alloc)?)?
+        .subcommand(inspect(alloc)?)?
+        .subcommand(explain(alloc)?)
+}
+
+/// The program without its commands.
+fn bare<'a>(alloc: Global) -> Command<'a>
+    ensures { IsLocalApp result bare_app }
+{
     Command::new(alloc, "ssign")
+        .version(VERSION)
         .about("Reviews stored logs of signed syslog messages (RFC 5424, RFC 5848)")
         .subcommand_required(true)
         .arg_required_else_help(true)
-        .subcommand(review)?
-        .subcommand(inspect)
+}
+
+fn review<'a>(alloc: Global) -> Result<Command<'a>, AllocError>
+    ensures { IfOk result (λ c. IsLocalApp c review_app) }
+{
+    let about = "Reviews the log on standard input, and writes the report to standard output";
+    let usage = "ssign review [OPTIONS] < FILE";
+    let review = over_log(alloc, "review", about, usage);
+    limited(alloc, review.arg(answers(alloc))?)
+}
+
+fn questions<'a>(alloc: Global) -> Result<Command<'a>, AllocError>
+    ensures { IfOk result (λ c. IsLocalApp c questions_app) }
+{
+    let about = "Writes what a review would ask a signature checker, as lines of an answers file";
+    let usage = "ssign questions [OPTIONS] < FILE";
+    limited(alloc, over_log(alloc, "questions", about, usage))
+}
+
+fn extract<'a>(alloc: Global) -> Result<Command<'a>, AllocError>
+    ensures { IfOk result (λ c. IsLocalApp c extract_app) }
+{
+    let about = "Writes the messages that a review lists, as octet-counted frames";
+    let usage = "ssign extract [OPTIONS] < FILE";
+    let extract = over_log(alloc, "extract", about, usage);
+    limited(alloc, extract.arg(answers(alloc))?)
+}
+
+fn inspect<'a>(alloc: Global) -> Result<Command<'a>, AllocError>
+    ensures { IfOk result (λ c. IsLocalApp c inspect_app) }
+{
+    let about = "Says of each message what it is";
+    let usage = "ssign inspect [OPTIONS] < FILE";
+    limited(alloc, over_log(alloc, "inspect", about, usage))
+}
+
+fn explain<'a>(alloc: Global) -> Result<Command<'a>, AllocError>
+    ensures { IfOk result (λ c. IsLocalApp c explain_app) }
+{
+    Command::new(alloc, "explain")
+        .about("Says in words what a refusal or a word of the output means")
+        .arg(code(alloc))
+}
+
+/// A command without options that reads a log. Its usage says where the log comes from, for whoever names it as an
+/// argument.
+fn over_log<'a>(alloc: Global, name: &'a str, about: &'a str, usage: &'a str) -> Command<'a>
+    ensures { IsLocalApp result (new_app name.entry.now) }
+{
+    Command::new(alloc, name).about(about).override_usage(usage)
+}
+
+/// The command with the options that say how a log is read.
+fn limited<'a>(alloc: Global, command: Command<'a>) -> Result<Command<'a>, AllocError>
+    ensures { (app : App) → IsLocalApp command.entry app → IfOk result (λ c. IsLocalApp c (with_limits app)) }
+{
+    command
+        .arg(lines(alloc))?
+        .arg(max_len(alloc))?
+        .arg(max_messages(alloc))
+}
+
+fn code<'a>(alloc: Global) -> Arg<'a>
+    ensures rule { rule_of result ≡ code_rule }
+    ensures local { result.global ≡ false }
+{
+    Arg::new(alloc, "code")
+        .value_name("CODE")
+        .required(true)
+        .action(ArgAction::Set)
+        .help(
+            "A refusal (F1), a word of a report or an inspection (gap, untrusted), or a cause (M8, S3)",
+        )
 }
 
 fn answers<'a>(alloc: Global) -> Arg<'a>
@@ -78,6 +165,27 @@ fn max_messages<'a>(alloc: Global) -> Arg<'a>
         .value_parser(clap::value_parser!(u32).range(1..=10_000_000))
         .help("The most messages: 1 to 10000000")
         .default_value("10000000")
+}
+
+/// What the command of this name asks for. `None` exactly where no command has it.
+pub fn order_of(name: &str) -> Option<Order>
+    ensures { MatchOption result (IsNoCommand name.now) (λ order. name.now ≡ name_of order) }
+{
+    match name {
+        "review" => Some(Order::Log(Task::Review)),
+        "questions" => Some(Order::Log(Task::Questions)),
+        "extract" => Some(Order::Log(Task::Extract)),
+        "inspect" => Some(Order::Log(Task::Inspect)),
+        "explain" => Some(Order::Explain),
+        _ => None,
+    }
+}
+
+/// The code that is asked about, if one was given.
+pub fn asked_code<'a>(matches: &ArgMatches<'a>) -> Option<&'a str>
+    ensures { option_map (λ s. s.now) result ≡ first_value (found_of matches.now) (codes "code") }
+{
+    matches.get_str("code")
 }
 
 /// The file of answers, if one was given.

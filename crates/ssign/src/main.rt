@@ -3,25 +3,18 @@
 
 mod answers;
 mod command_line;
-mod judge;
+mod explain;
+mod explanations;
 mod nobody;
 mod program;
-mod report;
-mod report_text;
-mod review;
-mod run;
-#[cfg(test)]
-mod tests;
-mod thin;
+mod task;
 
 pub use answers::{AnswerFault, Answers, SealFault, open_answers, read_answers};
-pub use judge::{Judge, Verifier};
+pub use explain::{explanation_of, write_explanation};
+pub use explanations::{EXPLANATIONS, Explanation};
 pub use nobody::Nobody;
-pub use report::{Entry, Report, SessionReport, SessionState};
-pub use report_text::report_text;
-pub use review::review;
-pub use run::run_review;
 use std::process::ExitCode;
+pub use task::{Task, run_task};
 
 fn main(rt: HostRuntime) -> ExitCode {
     ExitCode::from(program::run(&rt))

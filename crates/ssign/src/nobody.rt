@@ -1,7 +1,7 @@
 //! A verifier that says no to everything.
 ghost use Rattle.std.specs.Prelude.{false};
 
-use crate::judge::Judge;
+use ss_review::Judge;
 
 /// Trusts no payload, and accepts no signature.
 #[derive(Clone, Copy, Debug)]

@@ -1,17 +1,21 @@
 //! The program: its command line, its streams and its exit statuses.
-ghost use Rattle.std.specs.Prelude.{◌≡◌, ◌≤◌, false, map, IfOk};
+ghost use Rattle.std.specs.Prelude.{◌≡◌, ◌≤◌, false, map, None, IfOk};
+ghost use Rattle.std.specs.List.{find};
 ghost use Rattle.ss_frame.specs.Watched.{has_failed};
 ghost use Rattle.ssign.specs.CommandLine.{AreMistaken, status_of};
+ghost use Rattle.ssign.specs.Explanation.{has_code};
 
 use crate::answers::open_answers;
-use crate::command_line::{answers_file, command, limits_of};
-use crate::judge::Judge;
+use crate::command_line::{Order, answers_file, asked_code, command, limits_of, order_of};
+use crate::explain::{explanation_of, write_explanation};
+use crate::explanations::{EXPLANATIONS, Explanation};
 use crate::nobody::Nobody;
-use crate::run::run_review;
+use crate::task::{Task, run_task};
 use clap::ArgMatches;
 use clap::error::ErrorKind;
 use ss_frame::{Buffered, Limits, Watched};
-use ss_report::{RunFault, Verdict, run_inspect};
+use ss_report::{RunFault, Verdict};
+use ss_review::Judge;
 use std::alloc::AllocError;
 use std::fmt::Display;
 use std::io::{BufWriter, Printer};
@@ -73,15 +77,20 @@ fn run_command<R: Input + Print + Eprint + Files + AllocGlobal>(
 ) -> u8
     ensures { result ≤ 2 }
 {
-    match matches.subcommand() {
-        Some(("review", options)) => review_command(rt, options),
-        Some(("inspect", options)) => inspect_command(rt, options),
-        _ => REFUSED,
+    let Some((name, options)) = matches.subcommand() else {
+        return REFUSED;
+    };
+    match order_of(name) {
+        Some(Order::Log(task)) => run_log(rt, task, options),
+        Some(Order::Explain) => run_explain(rt, options),
+        None => REFUSED,
     }
 }
 
-fn review_command<R: Input + Print + Eprint + Files + AllocGlobal>(
+/// Makes a run over standard input. The answers file is read before.
+fn run_log<R: Input + Print + Eprint + Files + AllocGlobal>(
     rt: &R,
+    task: Task,
     options: &ArgMatches<'_>,
 ) -> u8
     ensures { result ≤ 2 }
@@ -89,19 +98,30 @@ fn review_command<R: Input + Print + Eprint + Files + AllocGlobal>(
     let Some(limits) = limits_of(options) else {
         return REFUSED;
     };
-    let reviewed = match answers_file(options) {
-        None => review_streams(rt, &Nobody, limits),
+    let ended = match answers_file(options) {
+        None => run_streams(rt, task, &Nobody, limits),
         Some(file) => match open_answers(rt, file) {
-            Ok(answers) => review_streams(rt, &answers, limits),
+            Ok(answers) => run_streams(rt, task, &answers, limits),
             Err(fault) => return refuse(rt, &fault),
         },
     };
-    end(rt, reviewed)
+    end(rt, ended)
 }
 
-/// Reviews standard input onto standard output.
-fn review_streams<R: Input + Print + AllocGlobal, J: Judge>(
+/// Explains the code that is asked about.
+fn run_explain<R: Print + Eprint + AllocGlobal>(rt: &R, options: &ArgMatches<'_>) -> u8
+    ensures { result ≤ 2 }
+{
+    match asked_code(options) {
+        Some(code) => explain(rt, &EXPLANATIONS, code),
+        None => REFUSED,
+    }
+}
+
+/// Makes a run from standard input to standard output.
+fn run_streams<R: Input + Print + AllocGlobal, J: Judge>(
     rt: &R,
+    task: Task,
     judge: &J,
     limits: Limits,
 ) -> Result<Verdict, RunFault>
@@ -109,26 +129,29 @@ fn review_streams<R: Input + Print + AllocGlobal, J: Judge>(
 {
     let mut reader = standard_input(rt)?;
     let mut writer = standard_output(rt)?;
-    run_review(rt.alloc(), &mut reader, &mut writer, judge, limits)
+    run_task(rt.alloc(), &mut reader, &mut writer, task, judge, limits)
 }
 
-fn inspect_command<R: Input + Print + Eprint + AllocGlobal>(rt: &R, options: &ArgMatches<'_>) -> u8
-    ensures { result ≤ 2 }
+/// Tells on standard output what a code means, by the entry of a table.
+fn explain<R: Print + Eprint + AllocGlobal>(rt: &R, table: &[Explanation], code: &str) -> u8
+    ensures most { result ≤ 2 }
+    ensures unknown { find (has_code code.now) table.now ≡ None → result ≡ 2 }
 {
-    let Some(limits) = limits_of(options) else {
-        return REFUSED;
+    let Some(explanation) = explanation_of(table, code) else {
+        return refuse_code(rt, table, code);
     };
-    end(rt, inspect_streams(rt, limits))
+    match explain_on_output(rt, explanation) {
+        Ok(()) => CLEAN,
+        Err(fault) => refuse(rt, &fault),
+    }
 }
 
-/// Inspects standard input onto standard output.
-fn inspect_streams<R: Input + Print + AllocGlobal>(
+fn explain_on_output<R: Print + AllocGlobal>(
     rt: &R,
-    limits: Limits,
-) -> Result<Verdict, RunFault> {
-    let mut reader = standard_input(rt)?;
+    explanation: &Explanation,
+) -> Result<(), RunFault> {
     let mut writer = standard_output(rt)?;
-    run_inspect(rt.alloc(), &mut reader, &mut writer, limits)
+    write_explanation(rt.alloc(), &mut writer, explanation)
 }
 
 /// Standard input, through a buffer.
@@ -170,5 +193,17 @@ fn refuse<R: Eprint, F: Display>(rt: &R, fault: &F) -> u8
     ensures { result ≡ 2 }
 {
     let _ = eprintln!(rt; "ssign: {fault}");
+    REFUSED
+}
+
+/// Says on standard error that nothing is told of a code, and of which something is.
+fn refuse_code<R: Eprint>(rt: &R, table: &[Explanation], code: &str) -> u8
+    ensures { result ≡ 2 }
+{
+    let _ = eprint!(rt; "error: no explanation of {code:?}\n\nThe codes:");
+    for entry in table {
+        let _ = eprint!(rt; " {}", entry.code);
+    }
+    let _ = eprintln!(rt; "\n\nFor more information, try '--help'.");
     REFUSED
 }

@@ -100,9 +100,10 @@ fn peak<R: Files + AllocGlobal>(rt: &R) -> Result<u64, Fail> {
     Ok(peak_of(&status).ok_or("no VmPeak")?)
 }
 
-/// The first call that has more than 256 octets at once for an octet of the text and a mebibyte, with how many KiB it had.
+/// The first call that has more than 32 octets at once for an octet of the text and a quarter of a mebibyte, with how many
+/// KiB it had.
 fn first_over<R: Files + AllocGlobal>(rt: &R, text: &[u8]) -> Result<Option<(Call, u64)>, Fail> {
-    let allowed = 1024 + text.len() as u64 / 4;
+    let allowed = 256 + text.len() as u64 / 32;
     for call in &CALLS {
         let before = peak(rt)?;
         make(rt.alloc(), *call, text)?;
@@ -112,6 +113,24 @@ fn first_over<R: Files + AllocGlobal>(rt: &R, text: &[u8]) -> Result<Option<(Cal
         }
     }
     Ok(None)
+}
+
+/// Elements one behind another, whose names begin with these octets.
+fn put_elements(text: &mut Vec<u8>, first: u8, second: u8) -> Result<(), AllocError> {
+    for third in b'a'..=b'z' {
+        text.extend_from_slice(&[b'[', first, second, third, b']'])?;
+    }
+    Ok(())
+}
+
+/// A message of 5,200 elements without a parameter.
+fn many_elements(alloc: Global) -> Result<Vec<u8>, AllocError> {
+    let mut text = Vec::new(alloc);
+    text.extend_from_slice(b"<1>1 - - - - - ")?;
+    for i in 0..200_u8 {
+        put_elements(&mut text, b'a' + i % 25, b'a' + i / 25)?;
+    }
+    Ok(text)
 }
 
 /// A piece, so many times, between others.
@@ -150,6 +169,9 @@ fn room(rt: HostRuntime) -> Result<(), Fail> {
     assert_eq!(rt; first_over(&rt, &escapes)?, None);
     let blob = repeated(rt.alloc(), b"- C ", b"AAAA", 25_000, b"")?;
     assert_eq!(rt; first_over(&rt, &blob)?, None);
+
+    let elements = many_elements(rt.alloc())?;
+    assert_eq!(rt; first_over(&rt, &elements)?, None);
 
     let before = peak(&rt)?;
     let list: Vec<u8> = Vec::with_capacity(rt.alloc(), 33_000_000)?;

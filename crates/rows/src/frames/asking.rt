@@ -1,5 +1,5 @@
 //! Asks a frame reader for its frames, and compares each answer with what is wanted.
-use crate::devices::Pieces;
+use devices::Pieces;
 use ss_frame::{Form, FrameFault, FrameReader, Limits, Step, Watched};
 use std::process::Abort;
 

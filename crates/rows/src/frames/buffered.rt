@@ -1,5 +1,5 @@
 //! A buffered reader behind which one read fails.
-use crate::devices::Pieces;
+use devices::Pieces;
 use ss_frame::{Buffered, FrameFault, FrameReader, Limits, Step, Watched};
 use std::io;
 use std::io::{ErrorKind, Read};

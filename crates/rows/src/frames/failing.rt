@@ -1,7 +1,7 @@
 //! Reads that fail, and memory that runs out.
-use crate::devices::Pieces;
 use crate::frames::asking::Want::{Done, Fault, Message, Torn};
 use crate::frames::asking::{Bounds, FRAMES, LINES, Want, ask_all, ask_on, limits_of};
+use devices::Pieces;
 use ss_frame::{Form, FrameFault, Limits};
 use std::io::ErrorKind;
 use std::test::Fail;

@@ -1,5 +1,5 @@
 //! Octets and frames written, over writers that take little and writers that refuse.
-use crate::devices::{Paper, Refusal};
+use devices::{Paper, Refusal};
 use ss_frame::{Watched, WriteFault, write_frame, write_octets};
 use std::io::ErrorKind;
 use std::process::Abort;

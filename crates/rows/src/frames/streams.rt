@@ -1,7 +1,7 @@
 //! Streams of frames and of lines, whole and octet by octet.
-use crate::devices::Pieces;
 use crate::frames::asking::Want::{Done, Fault, Message, Torn};
 use crate::frames::asking::{Bounds, FRAMES, Want, ask_all, limits_of};
+use devices::Pieces;
 use ss_frame::{Form, FrameFault, FrameReader, Limits, Step, Watched};
 use std::test::Fail;
 

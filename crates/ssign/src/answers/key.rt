@@ -30,15 +30,16 @@ impl<'a> Key<'a> {
         }
     }
 
-    /// Whether under a payload octets have a valid signature.
-    pub fn yes(payload: &'a [u8], octets: &'a [u8], signature: &'a [u8]) -> Key<'a>
-        ensures { sort_key result ≡ yes_key payload.now octets.now signature.now }
+    /// Whether under a payload octets have a valid signature. The payload is compared last, since it may be as long as
+    /// a log, and all blocks of a session are asked about with the same.
+    pub fn yes(payload: &'a [u8], bytes: &'a [u8], signature: &'a [u8]) -> Key<'a>
+        ensures { sort_key result ≡ yes_key payload.now bytes.now signature.now }
     {
         Key {
             kind: 1,
-            first: payload,
-            second: octets,
-            third: signature,
+            first: bytes,
+            second: signature,
+            third: payload,
         }
     }
 

@@ -10,8 +10,8 @@ use super::fault::SealFault;
 use super::key::Key;
 use super::lines::Lines;
 use super::place::Place;
-use crate::judge::Judge;
 use ss_block::Scheme;
+use ss_review::Judge;
 use std::alloc::{AllocError, Global};
 use std::marker::Model;
 

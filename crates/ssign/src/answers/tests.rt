@@ -3,8 +3,8 @@ ghost use Rattle.std.specs.Prelude.{◌≡◌};
 ghost use Rattle.ssign.specs.Answers.{trusted, valid};
 
 use super::{AnswerFault, Answers, SealFault, read_answers};
-use crate::judge::{Judge, Verifier};
 use ss_frame::Watched;
+use ss_review::{Judge, Verifier};
 use std::io;
 use std::io::{ErrorKind, Read};
 use std::process::Abort;

@@ -1,4 +1,4 @@
-use Rattle.std.proofs.Common.{◌+◌, ◌<◌, ◌≡◌, ◌^◌, ◌∷◌, [], ◌++◌, length, take, drop, sym, ap, ◌∙◌, arith}
+use Rattle.std.proofs.Common.{◌+◌, ◌<◌, ◌^◌, ◌∷◌, [], ◌++◌, length, take, drop, sym, ap, ◌∙◌, arith}
 use Rattle.std.specs.Prelude.{None, unwrap_or, count_by}
 use Rattle.std.specs.BTreeMap.{is_at}
 use Rattle.std.specs.Map.{lookup}

@@ -1,9 +1,9 @@
-use Rattle.std.proofs.Common.{◌≡◌, ◌<◌, ◌++◌, ◌∷◌, [], get_or, length, map, take, sym, ap, ◌∙◌, subst}
+use Rattle.std.proofs.Common.{◌≡◌, ◌++◌, ◌∷◌, [], get_or, map, sym, ap, ◌∙◌, subst}
 use Rattle.std.specs.Prelude.{None, Some, Contains, option_map, option_and_then}
 use Rattle.std.proofs.lemmas.List.{map_more}
 use Rattle.ss_block.specs.declared.hash.Hash.{Hash}
 use Rattle.ss_review.specs.declared.message.NormalMessage.{NormalMessage}
-use Rattle.ss_review.specs.Bearing.{bearer_among, pairs_among}
+use Rattle.ss_review.specs.Bearing.{bearer_among}
 use Rattle.ss_review.proofs.Members.{Has, contains_from_has}
 use Rattle.ss_review.proofs.Searching.{has_at}
 use Rattle.ss_review.proofs.bearers.bearers.Goals as goal

@@ -1,4 +1,4 @@
-use Rattle.std.proofs.Common.{◌≡◌, ◌<◌, length, get_or, map, refl, sym, ap, ◌∙◌, subst, arith, slice_set}
+use Rattle.std.proofs.Common.{◌≡◌, get_or, ap, ◌∙◌, subst, slice_set}
 use Rattle.std.specs.Prelude.{None}
 use Rattle.ss_block.specs.OrderLaws.{hash_cmp_total, hash_cmp_exact}
 use Rattle.ss_review.specs.Bearing.{earlier}

@@ -1,4 +1,4 @@
-use Rattle.std.proofs.Common.{◌≡◌, map, refl, sym, ap, ◌∙◌}
+use Rattle.std.proofs.Common.{◌≡◌, map, refl, ap, ◌∙◌}
 use Rattle.ss_review.specs.Contents.{Contents}
 use Rattle.ss_review.specs.Verified.{answers}
 use Rattle.ss_review.specs.Announced.{rows}

@@ -9,10 +9,9 @@ pub loop-message-init : goal.loop-message-init
 unfolding normals blocks spoilts
 loop-message-init c = λ fits. record {
   count = refl;
-  normal = c.new.ensures.items;
-  places = c.new-2.ensures.items;
-  blocks = c.new-3.ensures.items;
-  spoilt = c.new-4.ensures.items;
+  normal = c.new.ensures;
+  blocks = c.new-2.ensures.items;
+  spoilt = c.new-3.ensures.items;
 }
 
 pub loop-message-preserved : goal.loop-message-preserved

@@ -5,4 +5,4 @@ use Rattle.ss_review.proofs.verified.refused.Given as goal
 
 abbrev pub invariant-loop-block : goal.invariant-loop-block
 invariant-loop-block l = (says : Answers) → l.verified ≡ map (is_verified says l.blocks) l.blocks
-    → l.places ≡ map (λ b. b.place) (filter (λ b. not (is_verified says l.blocks b)) (take (length l.yielded) l.blocks))
+    → l.places.items ≡ map (λ b. b.place) (filter (λ b. not (is_verified says l.blocks b)) (take (length l.yielded) l.blocks))

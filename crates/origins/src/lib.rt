@@ -1,0 +1,13 @@
+//! Tests of what the originator promises, as tables. It holds nothing else.
+#![tactic(auto)]
+
+#[cfg(test)]
+mod scripts;
+#[cfg(test)]
+mod sealing;
+#[cfg(test)]
+mod settings;
+#[cfg(test)]
+mod starts;
+#[cfg(test)]
+mod texts;

@@ -1,0 +1,45 @@
+//! A scheme in which each signature is valid, and what its sealer answers.
+ghost use Rattle.std.specs.Prelude.{true};
+
+use ss_block::Scheme;
+use ss_origin::SealFault;
+use std::alloc::{AllocError, Global};
+
+/// Everything is trusted and valid.
+#[derive(Clone, Copy)]
+pub struct Lenient;
+
+impl Scheme for Lenient {
+    ghost trusted = { λ _ _. true };
+
+    ghost valid = { λ _ _ _ _. true };
+}
+
+/// What a sealer answers.
+#[derive(Clone, Copy, Debug)]
+pub enum Seal {
+    /// A signature of so many octets 0.
+    Zeros(usize),
+    Refused,
+    Memory,
+}
+
+fn zeros(alloc: Global, count: usize) -> Result<Vec<u8>, AllocError> {
+    let mut zeros = Vec::new(alloc);
+    for _ in 0..count {
+        zeros.push(0u8)?;
+    }
+    Ok(zeros)
+}
+
+/// Answers so.
+pub fn answer(alloc: Global, seal: Seal) -> Result<Vec<u8>, SealFault> {
+    match seal {
+        Seal::Refused => Err(SealFault::Refused),
+        Seal::Memory => Err(SealFault::Memory),
+        Seal::Zeros(count) => match zeros(alloc, count) {
+            Ok(signature) => Ok(signature),
+            Err(_) => Err(SealFault::Memory),
+        },
+    }
+}

@@ -1,0 +1,162 @@
+//! What a review asks of a signature scheme.
+use crate::book::{PAYLOAD, SIGN};
+use crate::texts::{Text, octets_of, signed_of};
+use ss_frame::Bytes;
+use ss_review::{Question, Questions, ReviewFault, Reviewer};
+use std::alloc::{AllocError, Global};
+use std::process::Abort;
+use std::test::Fail;
+
+/// A question about the usual payload, and about the usual signature.
+#[derive(Clone, Copy, Debug)]
+enum Asked {
+    Trust,
+    Yes(Text),
+}
+
+/// A log, and what is asked.
+#[derive(Clone, Copy)]
+struct Row {
+    name: &'static str,
+    log: &'static [Text],
+    asked: &'static [Asked],
+}
+
+const ROWS: [Row; 10] = [
+    Row {
+        name: "each block by its place",
+        log: &[Text::Short, Text::Long, Text::Certificate, Text::Both],
+        asked: &[
+            Asked::Trust,
+            Asked::Yes(Text::Certificate),
+            Asked::Yes(Text::Both),
+        ],
+    },
+    Row {
+        name: "a signature block that comes first and again",
+        log: &[Text::Both, Text::Certificate, Text::Short, Text::Both],
+        asked: &[
+            Asked::Trust,
+            Asked::Yes(Text::Both),
+            Asked::Yes(Text::Certificate),
+            Asked::Yes(Text::Both),
+        ],
+    },
+    Row {
+        name: "two sessions",
+        log: &[
+            Text::ShortOfSecondSession,
+            Text::Certificate,
+            Text::SecondSession,
+            Text::ShortBySha256,
+        ],
+        asked: &[
+            Asked::Trust,
+            Asked::Yes(Text::Certificate),
+            Asked::Yes(Text::ShortBySha256),
+            Asked::Trust,
+            Asked::Yes(Text::ShortOfSecondSession),
+            Asked::Yes(Text::SecondSession),
+        ],
+    },
+    Row {
+        name: "hosts before numbers of sessions",
+        log: &[Text::HostI, Text::SecondSession, Text::HostH1],
+        asked: &[
+            Asked::Trust,
+            Asked::Yes(Text::SecondSession),
+            Asked::Trust,
+            Asked::Yes(Text::HostH1),
+            Asked::Trust,
+            Asked::Yes(Text::HostI),
+        ],
+    },
+    Row {
+        name: "fragments, and another element beside a block",
+        log: &[Text::Back, Text::ShortBesideOthers, Text::Front],
+        asked: &[
+            Asked::Trust,
+            Asked::Yes(Text::Back),
+            Asked::Yes(Text::ShortBesideOthers),
+            Asked::Yes(Text::Front),
+        ],
+    },
+    Row {
+        name: "a spoilt block",
+        log: &[Text::PastLastNumber, Text::Certificate],
+        asked: &[Asked::Trust, Asked::Yes(Text::Certificate)],
+    },
+    Row {
+        name: "a fragment is missing",
+        log: &[Text::Short, Text::Back, Text::ShortAlone],
+        asked: &[],
+    },
+    Row {
+        name: "no certificate block",
+        log: &[Text::Both],
+        asked: &[],
+    },
+    Row {
+        name: "two payloads",
+        log: &[Text::Certificate, Text::OtherPayload, Text::ShortAlone],
+        asked: &[],
+    },
+    Row {
+        name: "no payload",
+        log: &[Text::NoPayload],
+        asked: &[],
+    },
+];
+
+/// Whether these octets are a block of which this is signed.
+fn is_signed(alloc: Global, octets: &Bytes, text: Text) -> Result<bool, AllocError> {
+    let signed = signed_of(alloc, text)?;
+    Ok(octets.as_slice() == signed.as_slice())
+}
+
+fn is_asked(alloc: Global, question: &Question, asked: Asked) -> Result<bool, AllocError> {
+    match (question, asked) {
+        (Question::Trust(payload), Asked::Trust) => Ok(payload.as_slice() == PAYLOAD),
+        (Question::Yes(payload, octets, signature), Asked::Yes(text)) => {
+            let usual = payload.as_slice() == PAYLOAD && signature.as_slice() == SIGN;
+            Ok(usual && is_signed(alloc, octets, text)?)
+        }
+        _ => Ok(false),
+    }
+}
+
+fn questions_of(alloc: Global, log: &[Text]) -> Result<Questions, ReviewFault> {
+    let mut reviewer = Reviewer::new(alloc, 16);
+    for text in log {
+        reviewer.feed(octets_of(*text))?;
+    }
+    reviewer.questions()
+}
+
+/// The questions are those, in that order.
+fn sees_questions(
+    rt: &(impl Abort + AllocGlobal),
+    questions: &[Question],
+    row: &Row,
+) -> Result<(), AllocError> {
+    assert_eq!(rt; questions.len(), row.asked.len(), "{}", row.name);
+    for (question, asked) in questions.iter().zip(row.asked) {
+        let is_asked = is_asked(rt.alloc(), question, *asked)?;
+        assert!(rt; is_asked, "{}: {asked:?}", row.name);
+    }
+    Ok(())
+}
+
+fn sees(rt: &(impl Abort + AllocGlobal), row: &Row) -> Result<(), ReviewFault> {
+    let questions = questions_of(rt.alloc(), row.log)?;
+    sees_questions(rt, questions.as_slice(), row)?;
+    Ok(())
+}
+
+#[test]
+fn asking(rt: HostRuntime) -> Result<(), Fail> {
+    for row in &ROWS {
+        sees(&rt, row)?;
+    }
+    Ok(())
+}

@@ -1,0 +1,146 @@
+//! Who answers for signatures in these tests, and the runs that ask.
+ghost use Rattle.std.specs.Prelude.{◌≡◌, ◌&&◌, ◌||◌, false, true, Bool};
+ghost use Rattle.std.specs.Str.{bytes_eq};
+ghost use Rattle.ss_frame.specs.Watched.{has_failed};
+
+use crate::texts::{Text, signed_of};
+use ss_block::Scheme;
+use ss_frame::{Limits, Watched};
+use ss_report::{RunFault, Verdict, run_extract, run_questions, run_review};
+use ss_review::{Judge, Verifier};
+use std::alloc::{AllocError, Global};
+use std::io::{Read, Write};
+
+/// The payload of the certificate blocks.
+pub const PAYLOAD: &[u8] = b"2009-05-03T14:00:39Z K S0VZ";
+
+/// The signature that the blocks carry: `AAAA` in base64.
+pub const SIGN: &[u8] = b"\0\0\0";
+
+/// What is said of payloads and signatures.
+#[derive(Clone, Copy)]
+pub enum Who {
+    /// Yes to everything.
+    All,
+    /// Yes to no payload, and to two texts under the usual one.
+    NoPayload(Text, Text),
+    /// Yes to the payload, and under it to no signature.
+    NoSignature,
+    /// Yes to the payload, and under it to these texts.
+    Only(Text, Text),
+}
+
+/// A scheme in which all is trusted and valid, or one payload is trusted, and two texts have one valid signature under
+/// one payload.
+#[derive(Clone, Copy)]
+pub struct Book<'b> {
+    all: bool,
+    trusted: &'b [u8],
+    payload: &'b [u8],
+    signed: (&'b [u8], &'b [u8]),
+    sign: &'b [u8],
+}
+
+impl<'b> Scheme for Book<'b> {
+    ghost trusted = { λ b p. b.all || bytes_eq p b.trusted.now };
+
+    ghost valid = { λ b p x s. b.all || (bytes_eq p b.payload.now && bytes_eq s b.sign.now
+        && (bytes_eq x b.signed.0.now || bytes_eq x b.signed.1.now)) };
+}
+
+impl<'b> Book<'b> {
+    fn trusts(&self, payload: &[u8]) -> bool
+        ensures { result ≡ (self.now.all || bytes_eq payload.now self.now.trusted.now) }
+    {
+        self.all || payload == self.trusted
+    }
+
+    fn accepts(&self, payload: &[u8], octets: &[u8], sign: &[u8]) -> bool
+        ensures { result ≡ (self.now.all || (bytes_eq payload.now self.now.payload.now && bytes_eq sign.now self.now.sign.now
+            && (bytes_eq octets.now self.now.signed.0.now || bytes_eq octets.now self.now.signed.1.now))) }
+    {
+        self.all
+            || (payload == self.payload
+                && sign == self.sign
+                && (octets == self.signed.0 || octets == self.signed.1))
+    }
+}
+
+/// Which run over a log.
+#[derive(Clone, Copy, Debug)]
+pub enum Job {
+    Review,
+    Questions,
+    Extract,
+}
+
+/// Runs over a log with two closures that answer as `book` says.
+pub fn run_by<R: Read, W: Write>(
+    alloc: Global,
+    job: Job,
+    reader: &mut Watched<R>,
+    writer: &mut Watched<W>,
+    book: &Book<'_>,
+    limits: Limits,
+) -> Result<Verdict, RunFault>
+    requires reader { has_failed reader.old ≡ false }
+    requires writer { has_failed writer.old ≡ false }
+{
+    let trust = |payload: &[u8]| book.trusts(payload);
+    let check = |payload: &[u8], octets: &[u8], sign: &[u8]| book.accepts(payload, octets, sign);
+    let verifier = Verifier::new(book, trust, check);
+    match job {
+        Job::Review => run_review(alloc, reader, writer, &verifier, limits),
+        Job::Questions => run_questions(alloc, reader, writer, limits),
+        Job::Extract => run_extract(alloc, reader, writer, &verifier, limits),
+    }
+}
+
+/// Says yes to everything.
+pub struct Yes;
+
+impl Judge for Yes {
+    ghost sound = { λ _. Unit {0} };
+
+    ghost trusted = { λ _ _. true };
+
+    ghost valid = { λ _ _ _ _. true };
+
+    fn trusts(&self, _payload: &[u8]) -> bool {
+        true
+    }
+
+    fn accepts(&self, _payload: &[u8], _octets: &[u8], _signature: &[u8]) -> bool {
+        true
+    }
+}
+
+/// The two texts whose signatures are valid.
+fn valid_texts(who: Who) -> Option<(Text, Text)> {
+    match who {
+        Who::NoPayload(first, second) | Who::Only(first, second) => Some((first, second)),
+        _ => None,
+    }
+}
+
+/// What is signed of the first text and of the second, or nothing.
+pub fn signed_texts(alloc: Global, who: Who) -> Result<(Vec<u8>, Vec<u8>), AllocError> {
+    match valid_texts(who) {
+        Some((first, second)) => Ok((signed_of(alloc, first)?, signed_of(alloc, second)?)),
+        None => Ok((Vec::new(alloc), Vec::new(alloc))),
+    }
+}
+
+/// The book that says so, where these octets are signed.
+pub fn book_of<'b>(who: Who, signed: (&'b [u8], &'b [u8])) -> Book<'b> {
+    Book {
+        all: matches!(who, Who::All),
+        trusted: match who {
+            Who::NoPayload(..) => b"",
+            _ => PAYLOAD,
+        },
+        payload: PAYLOAD,
+        signed,
+        sign: SIGN,
+    }
+}

@@ -1,0 +1,92 @@
+//! What a reviewer keeps of messages, and how many of them it takes.
+use crate::book::Yes;
+use crate::texts::{Text, octets_of, signed_of};
+use ss_frame::Tail;
+use ss_report::report_text::report_text;
+use ss_review::{ReviewFault, Reviewer};
+use std::alloc::{AllocError, Global};
+use std::process::Abort;
+use std::test::Fail;
+
+/// The lengths of messages, and of what is signed of them.
+const LENGTHS: [(Text, usize, Option<usize>); 17] = [
+    (Text::Short, 3, None),
+    (Text::Long, 56, None),
+    (Text::Certificate, 142, Some(130)),
+    (Text::Both, 159, Some(147)),
+    (Text::Front, 135, Some(123)),
+    (Text::Back, 126, Some(114)),
+    (Text::OtherPayload, 142, Some(130)),
+    (Text::SecondSession, 142, Some(130)),
+    (Text::NoPayload, 114, Some(102)),
+    (Text::ShortTwice, 159, Some(147)),
+    (Text::ShortAlone, 130, Some(118)),
+    (Text::LongAlone, 130, Some(118)),
+    (Text::ShortAtLastNumber, 139, Some(127)),
+    (Text::PastLastNumber, 168, None),
+    (Text::ShortBySha256, 146, Some(134)),
+    (Text::ShortOfSecondSession, 130, Some(118)),
+    (Text::ShortBesideOthers, 177, Some(165)),
+];
+
+fn signed_length(alloc: Global, text: Text) -> Result<usize, AllocError> {
+    Ok(signed_of(alloc, text)?.len())
+}
+
+/// The message has that length, and what is signed of it that one.
+fn sees_lengths(
+    rt: &(impl Abort + AllocGlobal),
+    text: Text,
+    length: usize,
+    signed: Option<usize>,
+) -> Result<(), AllocError> {
+    assert_eq!(rt; octets_of(text).len(), length, "{text:?}");
+    if let Some(signed) = signed {
+        assert_eq!(rt; signed_length(rt.alloc(), text)?, signed, "{text:?}");
+    }
+    Ok(())
+}
+
+/// Messages that a reviewer is fed in turn, and how many octets it keeps then.
+const KEPT: [(Text, u128); 6] = [
+    (Text::Short, 52),
+    (Text::Short, 52),
+    (Text::Certificate, 194),
+    (Text::PastLastNumber, 194),
+    (Text::Long, 246),
+    (Text::Certificate, 388),
+];
+
+fn sees_kept(rt: &(impl Abort + AllocGlobal)) -> Result<(), ReviewFault> {
+    let mut reviewer = Reviewer::new(rt.alloc(), 16);
+    assert_eq!(rt; reviewer.kept(), 0);
+    for (text, kept) in &KEPT {
+        reviewer.feed(octets_of(*text))?;
+        assert_eq!(rt; reviewer.kept(), *kept, "{text:?}");
+    }
+    Ok(())
+}
+
+/// A reviewer that takes one message refuses the next one, and reports the first.
+fn sees_limit(rt: &(impl Abort + AllocGlobal)) -> Result<(), ReviewFault> {
+    let mut reviewer = Reviewer::new(rt.alloc(), 1);
+    reviewer.feed(b"abc")?;
+    assert_eq!(rt; reviewer.feed(b"abc"), Err(ReviewFault::TooManyMessages));
+    let report = reviewer.finish(&Yes)?;
+    let Ok(text) = report_text(rt.alloc(), &report, Tail::Clean) else {
+        return Err(ReviewFault::Memory);
+    };
+    assert_eq!(rt; text.as_slice(), b"unlisted 0\nend 1\n".as_slice());
+    assert!(rt; reviewer.questions()?.as_slice().is_empty());
+    Ok(())
+}
+
+#[test]
+fn keeping(rt: HostRuntime) -> Result<(), Fail> {
+    for (text, length, signed) in &LENGTHS {
+        sees_lengths(&rt, *text, *length, *signed)?;
+    }
+    sees_kept(&rt)?;
+    sees_limit(&rt)?;
+    Ok(())
+}

@@ -1,0 +1,23 @@
+//! Tests of what the runs over a log, and the reviewer under them, promise, as tables. It holds nothing else.
+#![tactic(auto)]
+
+#[cfg(test)]
+mod asking;
+#[cfg(test)]
+mod book;
+#[cfg(test)]
+mod changes;
+#[cfg(test)]
+mod ends;
+#[cfg(test)]
+mod inspections;
+#[cfg(test)]
+mod keeping;
+#[cfg(test)]
+mod rows;
+#[cfg(test)]
+mod run;
+#[cfg(test)]
+mod stops;
+#[cfg(test)]
+mod texts;

@@ -1,0 +1,50 @@
+//! The originators of a session that follow one another.
+ghost use Rattle.ss_origin.specs.BlockLaws.{RunsAreNumbered};
+ghost use Rattle.ss_origin.specs.ChainLaws.{NumbersGoOn, CountersStayInRange, ChainsCanBeResumed, BeginsFirst};
+ghost use Rattle.ss_origin.specs.SentLaws.{SentBlocksAreNumbered, OthersAreSent};
+
+use ss_message::laws::faults_are_of_no_message;
+
+/// Behind the originators of a chain, the next number of a group is one more than how many messages they were given for it.
+pub fn numbers_go_on()
+    ensures { NumbersGoOn }
+{}
+
+/// An originator that begins at counters in their ranges ends at such.
+pub fn counters_stay_in_range()
+    ensures { CountersStayInRange }
+{
+    faults_are_of_no_message();
+}
+
+/// The counters behind a chain are such as `resume` takes.
+pub fn chains_can_be_resumed()
+    ensures { ChainsCanBeResumed }
+{
+    faults_are_of_no_message();
+}
+
+/// A run that a call closes holds the hashes of the messages that the chain was given for its group, from the number on that
+/// its block says is the first.
+pub fn runs_are_numbered()
+    ensures { RunsAreNumbered }
+{}
+
+/// A message that a chain sent and that is read as a signature block is of its configuration, and has the hashes of the
+/// messages that the chain was given for the block's group, from the block's first number on.
+pub fn sent_blocks_are_numbered()
+    ensures { SentBlocksAreNumbered }
+{
+    faults_are_of_no_message();
+}
+
+/// Each message that an originator of a chain was given, and that isn't pending at its end, has a hash in a block that was
+/// sent, at its number.
+pub fn others_are_sent()
+    ensures { OthersAreSent }
+{}
+
+/// `begin` is accepted as the first call of the first originator alone.
+pub fn begins_first()
+    ensures { BeginsFirst }
+{}

@@ -1,0 +1,24 @@
+//! The originator of signed messages (RFC 5848, section 4): messages go in, and the same messages come out in order, with
+//! the certificate blocks of a session in front and a signature block behind each run of a group.
+#![tactic(auto)]
+
+mod blocks;
+mod config;
+mod counters;
+mod fault;
+mod grouping;
+pub mod laws;
+mod originator;
+mod plain;
+mod ranges;
+mod sealer;
+mod sealing;
+mod slots;
+mod unsigned;
+
+pub use config::Config;
+pub use counters::{Counters, NextNumber, NextNumbers};
+pub use fault::OriginFault;
+pub use grouping::{Bounds, Grouping};
+pub use originator::{Emitted, Originator};
+pub use sealer::{SealFault, Sealer, Seals};

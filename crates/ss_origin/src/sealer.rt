@@ -1,0 +1,90 @@
+//! Who signs the block messages of an originator.
+ghost use Rattle.std.specs.Prelude.{◌≡◌, List, ℕ, Bool, true, Result, IfOk};
+ghost use Rattle.ss_payload.specs.Payload.{PayloadValue, payload_text};
+ghost use Rattle.ss_origin.specs.declared.sealer.SealFault.{SealFault};
+ghost use Rattle.ss_origin.specs.Sealing.{answer_of};
+
+use ss_block::{Payload, Scheme};
+use std::alloc::Global;
+
+/// Why octets aren't signed.
+#[derive(Clone, Copy, Debug, PartialEq, Eq)]
+pub enum SealFault {
+    /// The key can't be used, or not for these octets.
+    Refused,
+    /// Memory ran out.
+    Memory,
+}
+
+/// Whoever signs for an originator, with the key of its payload block (RFC 5848, sections 4.2.8 and 5.2).
+pub trait Seals: Drop {
+    /// It may be asked to sign anything, and the signatures that it gives are valid.
+    ghost sound: { Self → Type 0 };
+
+    /// What the originator says of its key.
+    ghost payload: { Self → PayloadValue };
+
+    /// Which signatures are valid: of a payload's text, the octets that are signed, and the signature.
+    ghost valid: { Self → List ℕ → List ℕ → List ℕ → Bool };
+
+    /// What it may answer of octets: a signature, or why there is none.
+    ghost answers: { Self → List ℕ → Result (List ℕ) SealFault → Type 0 };
+
+    /// What the originator says of its key.
+    fn payload_block(&self) -> &Payload
+        ensures { result.now ≡ payload self.now };
+
+    /// A signature of the octets, which is valid under the payload's text.
+    fn seal(&self, alloc: Global, octets: &[u8]) -> Result<Vec<u8>, SealFault>
+        requires { sound self.now }
+        ensures valid { IfOk result (λ v. valid self.now (payload_text (payload self.now)) octets.now v.items ≡ true) }
+        ensures answer { answers self.now octets.now (answer_of result) };
+}
+
+/// Signs for a scheme by a closure: it is given octets, and answers a signature of them. An originator asks that the
+/// closure may be called on any octets, and that what it gives is valid for them under the payload's text in the
+/// scheme.
+#[derive(Drop)]
+pub struct Sealer<'s, S, F> {
+    scheme: &'s S,
+    payload: Payload,
+    seal: F,
+}
+
+impl<'s, S: Scheme, F: Fn(Global, &[u8]) -> Result<Vec<u8>, SealFault>> Sealer<'s, S, F> {
+    /// Keeps the closure beside the scheme and the payload that it signs for. Takes no memory.
+    pub fn new(scheme: &'s S, payload: Payload, seal: F) -> Sealer<'s, S, F>
+        ensures scheme { result.scheme ≡ scheme.entry }
+        ensures payload { result.payload ≡ payload }
+        ensures seal { result.seal ≡ seal }
+    {
+        Sealer {
+            scheme,
+            payload,
+            seal,
+        }
+    }
+}
+
+impl<'s, S: Scheme, F: Fn(Global, &[u8]) -> Result<Vec<u8>, SealFault> + Drop> Seals
+    for Sealer<'s, S, F> {
+    ghost use Rattle.std.specs.Prelude.{◌≡◌, List, ℕ, Result, Ok, true};
+    ghost use Rattle.ss_payload.specs.Payload.{payload_text};
+
+    ghost sound = { λ s. F.IsAlwaysCallable s.seal
+        × ((a p x : _) → F.post s.seal a p x → (v : _) → x ≡ Ok v → S.valid s.scheme.now (payload_text s.payload) p.now v.items ≡ true) };
+
+    ghost payload = { λ s. s.payload };
+
+    ghost valid = { λ s p octets signature. S.valid s.scheme.now p octets signature };
+
+    ghost answers = { λ s octets answer. (a p x : _) × F.post s.seal a p x × (p.now ≡ octets) × (answer_of x ≡ answer) };
+
+    fn payload_block(&self) -> &Payload {
+        &self.payload
+    }
+
+    fn seal(&self, alloc: Global, octets: &[u8]) -> Result<Vec<u8>, SealFault> {
+        (self.seal)(alloc, octets)
+    }
+}

@@ -1,0 +1,227 @@
+//! The groups of an originator, one for each SPRI.
+ghost use Rattle.std.specs.Prelude.{◌≡◌, ◌==◌, ◌<◌, ◌++◌, ◌∷◌, [], length, map, slice_set, IfOk, OnOk, is_ok, if◌then◌else◌};
+ghost use Rattle.ss_origin.specs.State.{spris};
+ghost use Rattle.ss_origin.specs.Step.{group_flushed};
+ghost use Rattle.ss_origin.specs.Slots.{slot_in, slot_from, slot_with, number_if_known, next_numbers};
+ghost use Rattle.ss_origin.specs.Pending.{runs_pending};
+ghost use Rattle.ss_origin.specs.Counting.{names, number_in};
+
+use crate::counters::{NextNumber, NextNumbers};
+use ss_block::Hash;
+use ss_message::NoMemory;
+use std::alloc::Global;
+use std::marker::Model;
+
+/// What is kept of a group. Contracts see the same.
+#[derive(Drop)]
+pub struct Slot {
+    known: bool,
+    number: u64,
+    pending: Vec<Hash>,
+}
+
+impl Model for Slot {
+    ghost use Rattle.ss_origin.specs.State.{GroupState};
+
+    ghost Value = { GroupState };
+
+    ghost view = { λ s. record { known = s.known; number = s.number; pending = s.pending.items } };
+}
+
+// Whether the group is named.
+fn names(numbers: &[NextNumber], spri: u8) -> bool
+    ensures { result ≡ names numbers.now spri }
+{
+    numbers.iter().any(|next| next.spri == spri)
+}
+
+// The next number of a group; 1 where it isn't named.
+fn number_in(numbers: &[NextNumber], spri: u8) -> u64
+    ensures { result ≡ number_in numbers.now spri }
+{
+    for next in numbers {
+        if next.spri == spri {
+            return next.number;
+        }
+    }
+    1
+}
+
+impl Slot {
+    // A group that begins with the next number that is named for it, or 1.
+    fn from_numbers(alloc: Global, numbers: &[NextNumber], spri: u8) -> Slot
+        ensures { result ≡ slot_from numbers.now spri }
+    {
+        Slot {
+            known: names(numbers, spri),
+            number: number_in(numbers, spri),
+            pending: Vec::new(alloc),
+        }
+    }
+
+    /// Whether the group was named at the start or given a message.
+    pub fn is_known(&self) -> bool
+        ensures { result ≡ self.now.known }
+    {
+        self.known
+    }
+
+    /// Its next number.
+    pub fn number(&self) -> u64
+        ensures { result ≡ self.now.number }
+    {
+        self.number
+    }
+
+    /// The hashes that no block has yet.
+    pub fn pending(&self) -> &[Hash]
+        ensures { result.now ≡ self.now.pending }
+    {
+        self.pending.as_slice()
+    }
+
+    // How many runs its hashes make that no block has yet: 1 or 0.
+    fn pending_runs(&self) -> u64
+        ensures { result ≡ (if length self.now.pending == 0 then 0 else 1) }
+    {
+        if self.pending.as_slice().is_empty() {
+            0
+        } else {
+            1
+        }
+    }
+
+    // Takes the hash of its next message. Where memory runs out, it stays as it is.
+    fn push(&mut self, hash: Hash) -> Result<(), NoMemory>
+        requires { self.old.number < 10000000000 }
+        ensures { self.new ≡ (if is_ok result then slot_with self.old (self.old.pending ++ hash ∷ []) else self.old) }
+    {
+        self.pending.push(hash)?;
+        self.known = true;
+        self.number += 1;
+        Ok(())
+    }
+
+    // Takes its next message, with which all its hashes are in blocks.
+    fn close(&mut self)
+        requires { self.old.number < 10000000000 }
+        ensures { self.new ≡ slot_with self.old [] }
+    {
+        self.pending.clear();
+        self.known = true;
+        self.number += 1;
+    }
+
+    // Takes that all its hashes are in blocks.
+    fn clear(&mut self)
+        ensures { self.new ≡ group_flushed self.old }
+    {
+        self.pending.clear();
+    }
+}
+
+/// The groups by SPRI, of which there are 192. Contracts see the list.
+#[derive(Drop)]
+pub struct Slots {
+    slots: Vec<Slot>,
+}
+
+impl Model for Slots {
+    ghost use Rattle.std.specs.Prelude.{List, ◌≡◌, length};
+    ghost use Rattle.ss_origin.specs.State.{GroupState};
+
+    ghost Value = { List GroupState };
+
+    ghost view = { λ s. s.slots.items };
+
+    ghost invariant = { λ s. length s.slots.items ≡ 192 };
+}
+
+impl Slots {
+    /// Groups with nothing pending, each of which begins with the next number that is named for it, or 1.
+    pub fn from_numbers(alloc: Global, numbers: &[NextNumber]) -> Result<Slots, NoMemory>
+        ensures { IfOk result (λ s. s ≡ map (slot_from numbers.now) spris) }
+    {
+        let mut slots = Vec::with_capacity(alloc, 192)?;
+        for spri in 0..192u8 {
+            slots.push(Slot::from_numbers(alloc, numbers, spri))?;
+        }
+        Ok(Slots { slots })
+    }
+
+    /// The group of an SPRI.
+    pub fn slot(&self, spri: u8) -> &Slot
+        requires { spri < 192 }
+        ensures value { result.now ≡ slot_in self.now spri }
+        ensures many { length self.now ≡ 192 }
+    {
+        &self.slots[usize::from(spri)]
+    }
+
+    /// The next numbers of the groups that are known, by rising SPRI.
+    pub fn next_numbers(&self, alloc: Global) -> Result<NextNumbers, NoMemory>
+        ensures { IfOk result (λ v. v ≡ next_numbers self.now spris) }
+    {
+        let mut numbers = Vec::new(alloc);
+        for spri in 0..192u8 {
+            push_known(&mut numbers, spri, self.slot(spri))?;
+        }
+        Ok(NextNumbers::from_vec(numbers))
+    }
+
+    /// How many groups have hashes that no block has yet.
+    pub fn pending_groups(&self) -> u64
+        ensures { result ≡ length (runs_pending self.now spris) }
+    {
+        let mut count = 0;
+        for spri in 0..192u8 {
+            count += self.slot(spri).pending_runs();
+        }
+        count
+    }
+
+    /// Takes the hash of the next message of a group. Where memory runs out, the groups stay as they are.
+    pub fn push(&mut self, spri: u8, hash: Hash) -> Result<(), NoMemory>
+        requires spri { spri < 192 }
+        requires number { (slot_in self.old spri).number < 10000000000 }
+        ensures { self.new ≡ (if is_ok result then slice_set self.old spri (slot_with (slot_in self.old spri) ((slot_in self.old spri).pending ++ hash ∷ [])) else self.old) }
+    {
+        self.slots[usize::from(spri)].push(hash)
+    }
+
+    /// Takes the next message of a group, with which all its hashes are in blocks.
+    pub fn close(&mut self, spri: u8)
+        requires spri { spri < 192 }
+        requires number { (slot_in self.old spri).number < 10000000000 }
+        ensures { self.new ≡ slice_set self.old spri (slot_with (slot_in self.old spri) []) }
+    {
+        self.slots[usize::from(spri)].close();
+    }
+
+    /// Takes that all hashes are in blocks.
+    pub fn clear(&mut self)
+        ensures { self.new ≡ map group_flushed self.old }
+    {
+        clear_all(self.slots.as_mut_slice());
+    }
+}
+
+// Puts the next number of a group behind the others, where it is known.
+fn push_known(numbers: &mut Vec<NextNumber>, spri: u8, slot: &Slot) -> Result<(), NoMemory>
+    ensures { OnOk result (numbers.new.items ≡ numbers.old.items ++ number_if_known spri slot.now) }
+{
+    if !slot.is_known() {
+        return Ok(());
+    }
+    let number = slot.number();
+    numbers.push(NextNumber { spri, number })?;
+    Ok(())
+}
+
+fn clear_all(slots: &mut [Slot])
+    ensures { slots.new ≡ map group_flushed slots.old }
+{
+    for slot in slots.iter_mut() {
+        slot.clear();
+    }
+}

@@ -1,0 +1,55 @@
+-- The runs over a log: what each writes of its messages and its tail, and its verdict.
+use Rattle.std.specs.Prelude.{true, false}
+use Rattle.ss_frame.specs.Frame.{frames}
+use Rattle.ss_frame.specs.Limits.{Allowance}
+use Rattle.ss_frame.specs.Watched.{Source, Sink}
+use Rattle.ss_review.specs.Notes.{notes}
+use Rattle.ss_review.specs.Contents.{blocks}
+use Rattle.ss_review.specs.Verified.{Answers}
+use Rattle.ss_review.specs.Report.{report}
+use Rattle.ss_review.specs.Questions.{questions}
+use Rattle.ss_review.specs.Extract.{extract}
+use Rattle.ss_review.specs.Laws.{ListsWhatIsAnnounced}
+use Rattle.ss_report.specs.Inspection.{inspection}
+use Rattle.ss_report.specs.ReportText.{report_lines}
+use Rattle.ss_report.specs.QuestionText.{question_lines}
+use Rattle.ss_report.specs.Verdict.{end_verdict, report_verdict}
+use Rattle.ss_report.specs.Run.{Job, Runs}
+use Rattle.ss_report.specs.declared.verdict.Verdict.{Verdict}
+
+-- a line a message
+abbrev pub inspecting : Job
+inspecting = record {
+  output = inspection;
+  verdict = λ messages tail. end_verdict tail;
+  reviews = false;
+}
+
+-- the text of the report
+abbrev pub reviewing : Answers → Job
+reviewing says = record {
+  output = λ messages tail. report_lines (report says messages) tail;
+  verdict = λ messages tail. report_verdict (report says messages) tail;
+  reviews = true;
+}
+
+-- what a review asks of a signature scheme
+abbrev pub asking : Job
+asking = record {
+  output = λ messages tail. question_lines (questions (blocks (notes messages)));
+  verdict = λ messages tail. end_verdict tail;
+  reviews = true;
+}
+
+-- the messages that the report lists, in its order, as octet-counted frames whatever the form of the log
+abbrev pub extracting : Answers → Job
+extracting says = record {
+  output = λ messages tail. frames (extract messages (report says messages));
+  verdict = λ messages tail. report_verdict (report says messages) tail;
+  reviews = true;
+}
+
+-- a review that succeeds, and its report lists what is announced
+pub record Reviews (says : Answers) (limits : Allowance) (before after : Source) (was is : Sink) (verdict : Verdict) : Type 0 where
+  pub run : Runs (reviewing says) limits before after was is verdict
+  pub listed : ListsWhatIsAnnounced says run.messages (report says run.messages)

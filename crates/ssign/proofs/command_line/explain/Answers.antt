@@ -1,0 +1,17 @@
+use Rattle.std.proofs.Common.{◌∙◌, ap, codes}
+use Rattle.std.proofs.lemmas.Result.{IfOk-weaker}
+use Rattle.clap.specs.Words.{new_app}
+use Rattle.clap.specs.Simple.{app_of_fields}
+use Rattle.clap.specs.declared.builder.command.Command.{Command}
+use Rattle.clap.specs.declared.builder.command.Command.TheOpen.{Command-F}
+use Rattle.ssign.specs.CommandLine.{IsLocalApp}
+use Rattle.ssign.proofs.Commands.{with_argument}
+use Rattle.ssign.proofs.command_line.explain.Goals as goal
+
+pub returns : goal.returns
+returns c =
+    let bare : IsLocalApp c.about.result (new_app (codes "explain")) = record {
+      shape = ap app_of_fields c.about.ensures ∙ c.new.ensures.app;
+      local = ap (λ (f : Command-F Command). f.has_globals) c.about.ensures ∙ c.new.ensures.local;
+    } in
+    IfOk-weaker c.arg.result _ _ (λ r adds. with_argument adds bare c.code.ensures.rule c.code.ensures.local) c.arg.ensures
