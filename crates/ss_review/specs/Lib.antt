@@ -27,3 +27,6 @@ pub mod Stated
 pub mod Covering
 pub mod Keeping
 pub mod Bearing
+pub mod Delivery
+pub mod DeliveryLaws
+pub mod Delivered

@@ -1,0 +1,45 @@
+//! What stands between what originators sent and what a review says of it.
+ghost use Rattle.ss_review.specs.Delivered.{
+  JoinsOwnPayload,
+  MessagesAreInGroups,
+  NumbersHaveBlocks,
+  OwnBlocksAreSent,
+  RanksAreBelowCounts,
+  SentBlocksAreStored,
+};
+
+/// Each stored block of the session is one that the originators sent, and its signature is valid.
+pub(crate) fn own_blocks_are_sent()
+    ensures { OwnBlocksAreSent }
+{}
+
+/// Each block that the originators sent and that is in the log is stored as one of the session.
+pub(crate) fn sent_blocks_are_stored()
+    ensures { SentBlocksAreStored }
+{}
+
+/// The session is joined under the originators' payload where all of it arrived, and else incomplete.
+pub(crate) fn joins_own_payload()
+    ensures { JoinsOwnPayload }
+{
+    own_blocks_are_sent();
+    sent_blocks_are_stored();
+}
+
+/// Each submitted message was given to one group.
+pub(crate) fn messages_are_in_groups()
+    ensures { MessagesAreInGroups }
+{}
+
+/// Fewer smaller numbers have a message with the same hashes than such messages were submitted.
+pub(crate) fn ranks_are_below_counts()
+    ensures { RanksAreBelowCounts }
+{
+    messages_are_in_groups();
+}
+
+/// Where no message is pending at an originator's end and each block arrived, each number that the originators gave a
+/// message has a block in the log.
+pub(crate) fn numbers_have_blocks()
+    ensures { NumbersHaveBlocks }
+{}

@@ -1,0 +1,70 @@
+//! What holds between the two ends: of the review of a log that delivers from originators of one session, whatever was
+//! lost, repeated or reordered on the way, and however often the originators were resumed.
+ghost use Rattle.ss_review.specs.DeliveryLaws.{
+  AnnouncedByBlocks,
+  JoinedByFragments,
+  ListedByRank,
+  ListedWhereStored,
+  NothingIsDisputed,
+  WholeDeliveriesAreClean,
+};
+
+use crate::laws::delivered::{
+    joins_own_payload, numbers_have_blocks, own_blocks_are_sent, ranks_are_below_counts,
+    sent_blocks_are_stored,
+};
+
+/// No message that was sent is spoilt, and no number of the session is disputed.
+pub fn nothing_is_disputed()
+    ensures { NothingIsDisputed }
+{
+    own_blocks_are_sent();
+    announced_by_blocks();
+}
+
+/// The session is joined exactly where `begin` was accepted and each fragment of the payload has a copy in the log.
+pub fn joined_by_fragments()
+    ensures { JoinedByFragments }
+{
+    own_blocks_are_sent();
+    sent_blocks_are_stored();
+    joins_own_payload();
+}
+
+/// A number is announced exactly where the session is joined and a block with a hash for it is in the log, and then with
+/// the hash of the message which the originators gave this number, and no other.
+pub fn announced_by_blocks()
+    ensures { AnnouncedByBlocks }
+{
+    own_blocks_are_sent();
+    sent_blocks_are_stored();
+    joins_own_payload();
+}
+
+/// An announced number is listed exactly where its rank, among the announced numbers whose messages have the same hashes,
+/// is below the number of stored messages with these hashes.
+pub fn listed_by_rank()
+    ensures { ListedByRank }
+{
+    announced_by_blocks();
+}
+
+/// Where no two submitted messages have equal hashes, an announced number is listed exactly where its message is stored.
+pub fn listed_where_stored()
+    ensures { ListedWhereStored }
+{
+    listed_by_rank();
+    ranks_are_below_counts();
+}
+
+/// Where everything that was sent is stored, and nothing else, the session is joined and the report is clean.
+pub fn whole_deliveries_are_clean()
+    ensures { WholeDeliveriesAreClean }
+{
+    own_blocks_are_sent();
+    joined_by_fragments();
+    announced_by_blocks();
+    listed_by_rank();
+    ranks_are_below_counts();
+    numbers_have_blocks();
+}
