@@ -1,11 +1,11 @@
 -- What stands between what originators sent and what a review says of it.
 use Rattle.std.specs.Prelude.{◌≡◌, ℕ, ◌+◌, ◌<◌, ◌≤◌, ◌⊎◌, Bool, true, false, List, length, count_by, Contains, Some, Ok, Err}
-use Rattle.std.specs.List.{sum_by}
+use Rattle.std.specs.List.{sum_by, range_with_len}
 use Rattle.ss_block.specs.Hashes.{pair}
 use Rattle.ss_payload.specs.Payload.{payload_text}
 use Rattle.ss_origin.specs.declared.config.Config.{Config}
-use Rattle.ss_origin.specs.Groups.{is_grouping, group_of}
-use Rattle.ss_origin.specs.State.{spris}
+use Rattle.ss_origin.specs.Groups.{group_of}
+use Rattle.ss_origin.specs.Calls.{spri_in}
 use Rattle.ss_origin.specs.Chain.{Turn, emitted_by, given_to}
 use Rattle.ss_review.specs.declared.session_report.SessionState.TheVariants as states
 use Rattle.ss_review.specs.declared.message.BlockMessage.{BlockMessage}
@@ -53,10 +53,11 @@ JoinsOwnPayload = (x : Case) → IsCase x
 
 -- ---- messages
 
--- each submitted message was given to one group
+-- each submitted message was given to one group, where the groups have SPRIs below so many
 abbrev pub MessagesAreInGroups : Type 0
-MessagesAreInGroups = (c : Config) (chain : List (List Turn)) (test : List ℕ → Bool) → is_grouping c.grouping ≡ true
-    → count_by test (submitted_to chain) ≡ sum_by (λ spri. count_by test (given_to c spri chain)) spris
+MessagesAreInGroups = (c : Config) (chain : List (List Turn)) (test : List ℕ → Bool) (groups : ℕ)
+    → ((m : List ℕ) → spri_in c.grouping m < groups)
+    → count_by test (submitted_to chain) ≡ sum_by (λ spri. count_by test (given_to c spri chain)) (range_with_len 0 groups)
 
 -- fewer smaller numbers have a message with these hashes than messages with them were submitted
 abbrev pub RanksAreBelowCounts : Type 0
