@@ -41,3 +41,4 @@ pub mod EntriesMeant
 pub mod SameReports
 pub mod OneReport
 pub mod Sorting
+pub mod NumbersCovered

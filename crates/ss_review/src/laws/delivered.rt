@@ -8,6 +8,8 @@ ghost use Rattle.ss_review.specs.Delivered.{
   SentBlocksAreStored,
 };
 
+use ss_origin::laws::chains::others_are_sent;
+
 /// Each stored block of the session is one that the originators sent, and its signature is valid.
 pub(crate) fn own_blocks_are_sent()
     ensures { OwnBlocksAreSent }
@@ -42,4 +44,6 @@ pub(crate) fn ranks_are_below_counts()
 /// message has a block in the log.
 pub(crate) fn numbers_have_blocks()
     ensures { NumbersHaveBlocks }
-{}
+{
+    others_are_sent();
+}
