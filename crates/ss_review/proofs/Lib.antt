@@ -42,3 +42,5 @@ pub mod SameReports
 pub mod OneReport
 pub mod Sorting
 pub mod NumbersCovered
+pub mod EqualCounts
+pub mod FullPlaces
