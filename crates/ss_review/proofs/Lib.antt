@@ -43,3 +43,5 @@ pub mod OneReport
 pub mod Sorting
 pub mod Sums
 pub mod GroupCounts
+pub mod Given
+pub mod OwnKeys
