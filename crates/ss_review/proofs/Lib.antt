@@ -45,3 +45,4 @@ pub mod Sums
 pub mod GroupCounts
 pub mod Given
 pub mod OwnKeys
+pub mod OwnRanks

@@ -61,14 +61,6 @@ some_bearer ms alg q h =
     let w = some_found (λ (m : NormalMessage). has_hash (pair_hash q.pair alg) m.pair) ms q h (has_own_hash alg q.pair) in
     (w.0.pair, ap (option_map (λ (m : NormalMessage). m.pair)) w.1)
 
--- ---- entries
-
-listed_at : (rs : List Row) (k : Key) (ps : List ℕ) (i : ℕ) → is_listed (entry_with rs k (slice_get ps i)) ≡ nat_lt i (length ps)
-listed_at rs k ps i = elim (slice_get_cases ps i).1 [
-  | inl w ↦ (ap (λ (o : Option ℕ). is_listed (entry_with rs k o)) w.2 ∙ sym (lt-ltb i (length ps) w.1))
-  | inr w ↦ (ap (λ (o : Option ℕ). is_listed (entry_with rs k o)) w.1 ∙ sym (le-ltb i (length ps) w.0))
-]
-
 -- ---- sessions
 
 pub same_session-is : (a b : Session) → same_session a b ≡ true → a ≡ b
@@ -113,7 +105,7 @@ module _ (by_blocks : AnnouncedByBlocks) (x : Case) (is : IsCase x) where
       wants_bearer = ap (wanted_with (normals_in x)) (its_hash k own h).hashes
 
       -- they want nothing but the hashes of their message
-      wants_own : (p : HashPair) → wanted (normals_in x) (rows_in x) k ≡ Some p → p ≡ pair its_message
+      pub wants_own : (p : HashPair) → wanted (normals_in x) (rows_in x) k ≡ Some p → p ≡ pair its_message
       wants_own p e =
           let bears : pair_of_bearer (normals_in x) (hash_of x.s.config.alg its_message) ≡ Some p = sym wants_bearer ∙ e in
           let b = bearer_of (normals_in x) (hash_of x.s.config.alg its_message) p bears in
@@ -121,7 +113,7 @@ module _ (by_blocks : AnnouncedByBlocks) (x : Case) (is : IsCase x) where
           sym b.2 ∙ stored_pair its_message b.0 (is_submitted k its_message (its_hash k own h).given) found.0 found.1
 
       -- and want these where a message has them
-      wants_stored : (q : NormalMessage) → Has (normals_in x) q → q.pair ≡ pair its_message → wanted (normals_in x) (rows_in x) k ≡ Some (pair its_message)
+      pub wants_stored : (q : NormalMessage) → Has (normals_in x) q → q.pair ≡ pair its_message → wanted (normals_in x) (rows_in x) k ≡ Some (pair its_message)
       wants_stored q stored e =
           let some = some_bearer (normals_in x) x.s.config.alg q stored in
           let w : wanted (normals_in x) (rows_in x) k ≡ Some some.0
