@@ -44,3 +44,8 @@ pub mod Sorting
 pub mod NumbersCovered
 pub mod EqualCounts
 pub mod FullPlaces
+pub mod Sums
+pub mod GroupCounts
+pub mod Given
+pub mod OwnKeys
+pub mod OwnRanks
