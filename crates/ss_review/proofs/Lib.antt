@@ -41,3 +41,5 @@ pub mod EntriesMeant
 pub mod SameReports
 pub mod OneReport
 pub mod Sorting
+pub mod SentMessages
+pub mod StoredBlocks
