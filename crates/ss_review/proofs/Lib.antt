@@ -49,3 +49,5 @@ pub mod GroupCounts
 pub mod Given
 pub mod OwnKeys
 pub mod OwnRanks
+pub mod SentMessages
+pub mod StoredBlocks
