@@ -1,4 +1,4 @@
--- Counts over lists: by tests that agree, by the part of a test, and by any test where texts stand equally often.
+-- Counts over lists: by the parts of a test, and by any test where texts stand equally often.
 use Rattle.std.proofs.Common.{◌≡◌, ◌⊎◌, inl, inr, ℕ, ◌+◌, Bool, true, false, cond, not, ◌&&◌, List, [], ◌∷◌, length, refl, sym, ap, ◌∙◌, arith}
 use Rattle.std.specs.Prelude.{count_by}
 use Rattle.std.specs.Str.{bytes_eq}
@@ -6,40 +6,24 @@ use Rattle.std.proofs.lemmas.Bool.{and_parts}
 use Rattle.std.proofs.lemmas.Slice.Eq.{bytes_eq-Decides}
 use Rattle.ss_review.proofs.Counting.{count_by-cons}
 use Rattle.ss_review.proofs.Members.{Has}
+use Rattle.ss_review.proofs.Sums.{sum_by-added, sum_by-same, sum_by-none, count_by-same}
 
 -- ---- tests
 
-module _ {X : Type 0} (f g : X → Bool) where
-  -- tests that agree on all members count the same
-  pub count_by-agree : (xs : List X) → ((x : X) → Has xs x → f x ≡ g x) → count_by f xs ≡ count_by g xs
-  count_by-agree [] e = refl
-  count_by-agree (x ∷ xs) e =
-      count_by-cons f x xs
-      ∙ (λ i. cond (e x (inl refl) i) 1 0 + count_by-agree xs (λ y h. e y (inr h)) i)
-      ∙ sym (count_by-cons g x xs)
+both_parts : (b c : Bool) → cond c 1 0 ≡ cond (b && c) 1 0 + cond (not b && c) 1 0
+both_parts true true = refl
+both_parts true false = refl
+both_parts false true = refl
+both_parts false false = refl
 
-  -- those that pass another test too, and those that don't
-  both_parts : (b c : Bool) → cond c 1 0 ≡ cond (b && c) 1 0 + cond (not b && c) 1 0
-  both_parts true true = refl
-  both_parts true false = refl
-  both_parts false true = refl
-  both_parts false false = refl
-
-  pub count_by-parts : (xs : List X) → count_by f xs ≡ count_by (λ x. g x && f x) xs + count_by (λ x. not (g x) && f x) xs
-  count_by-parts [] = refl
-  count_by-parts (x ∷ xs) =
-      let all = count_by-cons f x xs in
-      let part = count_by-cons (λ y. g y && f y) x xs in
-      let other = count_by-cons (λ y. not (g y) && f y) x xs in
-      let here : cond (f x) 1 0 ≡ cond (g x && f x) 1 0 + cond (not (g x) && f x) 1 0 = both_parts (g x) (f x) in
-      let rest : count_by f xs ≡ count_by (λ y. g y && f y) xs + count_by (λ y. not (g y) && f y) xs = count_by-parts xs in
-      omega (arith, all, part, other, here, rest)
+-- those that pass another test too, and those that don't
+pub count_by-parts : {X : Type 0} (f g : X → Bool) (xs : List X) → count_by f xs ≡ count_by (λ x. g x && f x) xs + count_by (λ x. not (g x) && f x) xs
+count_by-parts f g xs =
+    sum_by-same (λ x. cond (f x) 1 0) (λ x. cond (g x && f x) 1 0 + cond (not (g x) && f x) 1 0) xs (λ x h. both_parts (g x) (f x))
+    ∙ sum_by-added (λ x. cond (g x && f x) 1 0) (λ x. cond (not (g x) && f x) 1 0) xs
 
 pub count_by-none : {X : Type 0} (f : X → Bool) (xs : List X) → ((x : X) → Has xs x → f x ≡ false) → count_by f xs ≡ 0
-count_by-none f [] e = refl
-count_by-none f (x ∷ xs) e =
-    count_by-cons f x xs
-    ∙ (λ i. cond (e x (inl refl) i) 1 0 + count_by-none f xs (λ y h. e y (inr h)) i)
+count_by-none f xs e = count_by-same f (λ x. false) xs e ∙ sum_by-none xs
 
 pub count_by-all : {X : Type 0} (xs : List X) → count_by (λ x. true) xs ≡ length xs
 count_by-all [] = refl
@@ -51,7 +35,7 @@ count_by-all {X} (x ∷ xs) =
 
 -- those that are one text
 count_of : (test : List ℕ → Bool) (text : List ℕ) (b : Bool) → test text ≡ b → (xs : List (List ℕ)) → count_by (λ m. bytes_eq text m && test m) xs ≡ cond b (count_by (bytes_eq text) xs) 0
-count_of test text true e xs = count_by-agree (λ m. bytes_eq text m && test m) (bytes_eq text) xs (λ m h. at m (bytes_eq text m) refl)
+count_of test text true e xs = count_by-same (λ m. bytes_eq text m && test m) (bytes_eq text) xs (λ m h. at m (bytes_eq text m) refl)
   where
     at : (m : List ℕ) (b : Bool) → bytes_eq text m ≡ b → (bytes_eq text m && test m) ≡ bytes_eq text m
     at m true same =

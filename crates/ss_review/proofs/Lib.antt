@@ -51,3 +51,9 @@ pub mod OwnKeys
 pub mod OwnRanks
 pub mod SentMessages
 pub mod StoredBlocks
+pub mod SentKinds
+pub mod NormalCounts
+pub mod WholeBlocks
+pub mod WholeNumbers
+pub mod WholeMessages
+pub mod WholeListings

@@ -79,7 +79,7 @@ plain_reading (readings.Certificate b) e = absurd (cc)
 plain_reading (readings.Spoilt cause) e = absurd (cc)
 
 -- it is a message without a block
-plain_first : (c : Config) (old : State) (call : Call) (m : List ℕ) → fault_of c old call ≡ None → Has (sent_first call) m → reading m ≡ readings.Plain
+pub plain_first : (c : Config) (old : State) (call : Call) (m : List ℕ) → fault_of c old call ≡ None → Has (sent_first call) m → reading m ≡ readings.Plain
 plain_first c old (Begin stamp) m e h = absurd h
 plain_first c old (Submit message stamp) m e (inl i) =
     let plain = (none_apply (faults_of c old (Submit message stamp)) e).1.1.0 in
@@ -136,7 +136,7 @@ from_has-replicate zero x y h = absurd h
 from_has-replicate (suc n) x y (inl e) = e
 from_has-replicate (suc n) x y (inr h) = from_has-replicate n x y h
 
-from_has-copies : {X : Type 0} (n : ℕ) (xs : List X) (y : X) → Has (flat_map (λ x. replicate n x) xs) y → Has xs y
+pub from_has-copies : {X : Type 0} (n : ℕ) (xs : List X) (y : X) → Has (flat_map (λ x. replicate n x) xs) y → Has xs y
 from_has-copies {X} n xs y h =
     let w = from_has-flat_map (λ (x : X). replicate n x) xs y h in
     subst (Has xs) (from_has-replicate n w.0 y w.2) w.1
@@ -156,7 +156,7 @@ module _ (s : Setting) (old : State) (m : List ℕ) where
       (let w = from_has-map (certificate_of s.config (payload_text s.payload)) cuts d i in
       of_certificate s stamp w.0 m (subst (λ b. IsSealed s stamp b m) (sym w.2) sealed))) h
 
-  own_block : (call : Call) (emitted : List (List ℕ)) (e : EmitsFrom s old call emitted) → Has e.sent.messages m → IsOwnBlock s m
+  pub own_block : (call : Call) (emitted : List (List ℕ)) (e : EmitsFrom s old call emitted) → Has e.sent.messages m → IsOwnBlock s m
   own_block (Begin stamp) emitted e h = of_pieces stamp e.are_due.0 e.sent.messages (subst (λ due. AllZip (IsSealed s stamp) due e.sent.messages) e.are_due.2 e.sent.sealed) h
   own_block (Submit message stamp) emitted e h = of_blocks stamp (Submit message stamp) e.sent.messages (subst (λ due. AllZip (IsSealed s stamp) due e.sent.messages) e.are_due e.sent.sealed) h
   own_block (Flush stamp) emitted e h = of_blocks stamp (Flush stamp) e.sent.messages (subst (λ due. AllZip (IsSealed s stamp) due e.sent.messages) e.are_due e.sent.sealed) h

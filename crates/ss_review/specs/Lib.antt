@@ -30,3 +30,4 @@ pub mod Bearing
 pub mod Delivery
 pub mod DeliveryLaws
 pub mod Delivered
+pub mod Whole

@@ -3,3 +3,4 @@
 mod delivered;
 pub mod deliveries;
 pub mod reports;
+mod whole;
