@@ -57,3 +57,4 @@ pub mod WholeBlocks
 pub mod WholeNumbers
 pub mod WholeMessages
 pub mod WholeListings
+pub mod CleanReports

@@ -10,8 +10,12 @@ ghost use Rattle.ss_review.specs.DeliveryLaws.{
 };
 
 use crate::laws::delivered::{
-    joins_own_payload, numbers_have_blocks, own_blocks_are_sent, ranks_are_below_counts,
-    sent_blocks_are_stored,
+    joins_own_payload, own_blocks_are_sent, ranks_are_below_counts, sent_blocks_are_stored,
+};
+use crate::laws::reports::one_report;
+use crate::laws::whole::{
+    blocks_are_verified, groups_have_no_hole, messages_are_listed, nothing_is_spoilt,
+    numbers_are_listed, payloads_arrive,
 };
 
 /// No message that was sent is spoilt, and no number of the session is disputed.
@@ -61,10 +65,12 @@ pub fn listed_where_stored()
 pub fn whole_deliveries_are_clean()
     ensures { WholeDeliveriesAreClean }
 {
-    own_blocks_are_sent();
+    one_report();
     joined_by_fragments();
-    announced_by_blocks();
-    listed_by_rank();
-    ranks_are_below_counts();
-    numbers_have_blocks();
+    payloads_arrive();
+    blocks_are_verified();
+    nothing_is_spoilt();
+    groups_have_no_hole();
+    numbers_are_listed();
+    messages_are_listed();
 }
