@@ -1,6 +1,6 @@
 -- A report is clean where each block is verified, no group has a hole, each announced number has a message, each message
 -- without a block a number, and nothing is spoilt.
-use Rattle.std.proofs.Common.{◌≡◌, inl, inr, ℕ, Bool, true, false, ◌&&◌, List, [], ◌∷◌, refl, sym, ap, ◌∙◌}
+use Rattle.std.proofs.Common.{◌≡◌, inl, ℕ, Bool, true, ◌&&◌, List, [], ◌∷◌, refl, sym, ap, ◌∙◌}
 use Rattle.std.specs.Prelude.{Option, Some, None, Result, Ok, Err, Contains}
 use Rattle.std.specs.List.{list_all}
 use Rattle.std.proofs.lemmas.Bool.{and_from}
@@ -15,7 +15,6 @@ use Rattle.ss_review.specs.declared.message.NormalMessage.{NormalMessage}
 use Rattle.ss_review.specs.declared.report.Report.{Report}
 use Rattle.ss_review.specs.declared.session_report.SessionReport.{SessionReport}
 use Rattle.ss_review.specs.declared.session_report.SessionState.{SessionState}
-use Rattle.ss_review.specs.declared.session_report.SessionState.TheVariants as states
 use Rattle.ss_review.specs.Contents.{Contents}
 use Rattle.ss_review.specs.Sessions.{of_session}
 use Rattle.ss_review.specs.Verified.{Answers, joined, state_in, is_valid_in, is_verified}
@@ -24,10 +23,10 @@ use Rattle.ss_review.specs.Assigned.{assigned, is_taken}
 use Rattle.ss_review.specs.Entries.{entry_with, entry_of}
 use Rattle.ss_review.specs.Verdict.{is_joined, is_listed, is_none, is_clean}
 use Rattle.ss_review.specs.Announcing.{IsAnnounced}
-use Rattle.ss_review.specs.Meaning.{IsHole, Tells, IsEntry, IsUnlisted, IsRefused, IsReport}
+use Rattle.ss_review.specs.Meaning.{IsHole, IsEntry, IsUnlisted, IsRefused, IsReport}
 use Rattle.ss_review.proofs.Announcements.{has-announced_key}
 use Rattle.ss_review.proofs.Leftovers.{taken_by}
-use Rattle.ss_review.proofs.Members.{Has, has_from_contains, contains_from_has}
+use Rattle.ss_review.proofs.Members.{Has, contains_from_has}
 use Rattle.ss_review.proofs.Tests.{member_all}
 
 -- ---- parts

@@ -1,5 +1,5 @@
 -- Each number that a chain gave a message is in a block that it sent, where nothing is left pending.
-use Rattle.std.proofs.Common.{◌≡◌, inl, inr, ℕ, ◌+◌, ◌-◌, ◌<◌, ◌≤◌, false, List, [], ◌∷◌, ◌++◌, length, refl, sym, ap, ◌∙◌, subst, arith, length-append}
+use Rattle.std.proofs.Common.{◌≡◌, inl, inr, ℕ, ◌+◌, ◌-◌, ◌<◌, ◌≤◌, false, List, [], ◌∷◌, ◌++◌, length, refl, sym, ap, subst, arith, length-append}
 use Rattle.std.specs.Prelude.{Contains}
 use Rattle.std.specs.List.{flat_map}
 use Rattle.std.proofs.lemmas.Bool.{cases_lt}
@@ -8,14 +8,12 @@ use Rattle.ss_block.specs.declared.reading.Reading.{Reading}
 use Rattle.ss_block.specs.declared.reading.Reading.TheVariants as readings
 use Rattle.ss_block.specs.Block as block
 use Rattle.ss_block.specs.Reading.{reading}
-use Rattle.ss_origin.specs.Groups.{group_of}
 use Rattle.ss_origin.specs.Calls.{messages_of, pending_of}
 use Rattle.ss_origin.specs.Setting.{Setting}
 use Rattle.ss_origin.specs.Chain.{Turn, calls_of, IsChain, emitted_by, given_to}
 use Rattle.ss_origin.specs.SentLaws.{HasSentBlock, OthersAreSent}
 use Rattle.ss_review.specs.Notes.{noted, note}
-use Rattle.ss_review.specs.Delivery.{own_session, is_normal}
-use Rattle.ss_review.specs.DeliveryLaws.{Case, HasBlock}
+use Rattle.ss_review.specs.Delivery.{is_normal}
 use Rattle.ss_review.specs.Delivered.{NumbersHaveBlocks}
 use Rattle.ss_review.proofs.Members.{Has, has_from_contains, contains_from_has, has-append_right, has-flat_map}
 

@@ -1,15 +1,13 @@
 -- What the originators of a chain sent by kind: messages that they were given, which have no block, and block messages.
-use Rattle.std.proofs.Common.{◌≡◌, ◌⊎◌, inl, inr, ℕ, true, List, [], ◌∷◌, replicate, refl, sym, ap, ◌∙◌, subst}
-use Rattle.std.specs.Prelude.{None}
+use Rattle.std.proofs.Common.{◌≡◌, ◌⊎◌, inl, inr, ℕ, true, List, replicate, refl, sym, ap, subst}
 use Rattle.std.specs.List.{Contains, flat_map}
 use Rattle.ss_block.specs.declared.reading.Reading.{Reading}
 use Rattle.ss_block.specs.declared.reading.Reading.TheVariants as readings
 use Rattle.ss_block.specs.Reading.{reading}
 use Rattle.ss_block.specs.Hashes.{pair}
 use Rattle.ss_origin.specs.Calls.{Call, Begin, Submit, Flush}
-use Rattle.ss_origin.specs.State.{State}
 use Rattle.ss_origin.specs.Setting.{Setting}
-use Rattle.ss_origin.specs.Emission.{sent_first, EmitsFrom}
+use Rattle.ss_origin.specs.Emission.{sent_first}
 use Rattle.ss_origin.specs.Chain.{Turn, AreChained, emitted_by}
 use Rattle.ss_review.specs.Notes.{Normal, Block, noted, note}
 use Rattle.ss_review.specs.Delivery.{submitted_in, submitted_to, is_begin, HasBegun}

@@ -1,6 +1,6 @@
 -- Where everything that was sent is in the log, and nothing else: the payload arrived, and each block is verified.
 use Rattle.std.proofs.Common.{◌≡◌, inl, inr, ℕ, true, false, List, [], ◌∷◌, refl, sym, ap, ◌∙◌}
-use Rattle.std.specs.Prelude.{Some, Result, Ok, Contains}
+use Rattle.std.specs.Prelude.{Result, Ok, Contains}
 use Rattle.std.proofs.lemmas.Option.{same_Some}
 use Rattle.ss_block.specs.declared.session.Session.{Session}
 use Rattle.ss_block.specs.Session.{session}

@@ -1,12 +1,12 @@
 -- Where everything that was sent is in the log, and nothing else: each submitted message stands there as often, and each
 -- announced number has a message.
-use Rattle.std.proofs.Common.{◌≡◌, inl, inr, ℕ, ◌+◌, ◌<◌, Bool, true, false, ◌&&◌, List, length, refl, sym, ap, ◌∙◌, arith}
-use Rattle.std.specs.Prelude.{count_by, Contains}
+use Rattle.std.proofs.Common.{◌≡◌, inl, inr, ℕ, Bool, true, false, ◌&&◌, List, length, sym, ap, ◌∙◌, arith}
+use Rattle.std.specs.Prelude.{count_by}
 use Rattle.std.proofs.lemmas.Bool.{and_parts, lt-ltb}
 use Rattle.ss_block.specs.declared.hash.HashPair.{HashPair}
 use Rattle.ss_block.specs.Hashes.{pair}
 use Rattle.ss_review.specs.Notes.{note}
-use Rattle.ss_review.specs.Announced.{Key, keys}
+use Rattle.ss_review.specs.Announced.{keys}
 use Rattle.ss_review.specs.Assigned.{same_pair, places_with}
 use Rattle.ss_review.specs.Delivery.{own_session, is_normal, submitted_to}
 use Rattle.ss_review.specs.DeliveryLaws.{Case, normals_in, rows_in, rank_in, OthersWantOthers, AnnouncedByBlocks, ListedByRank}

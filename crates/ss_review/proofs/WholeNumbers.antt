@@ -1,21 +1,17 @@
 -- Where everything that was sent is in the log, and nothing else: each number is announced, and no group has a hole.
-use Rattle.std.proofs.Common.{◌≡◌, ℕ, ◌+◌, ◌-◌, ◌<◌, ◌≤◌, true, List, length, refl, sym, ap, ◌∙◌, subst, arith}
+use Rattle.std.proofs.Common.{◌≡◌, ◌+◌, ◌-◌, ◌<◌, true, length, refl, sym, ◌∙◌, subst, arith}
 use Rattle.std.specs.Prelude.{Contains}
 use Rattle.std.proofs.lemmas.Bool.{and_parts}
 use Rattle.std.proofs.lemmas.Option.{slice_get_within}
-use Rattle.ss_block.specs.declared.block.Group.{Group}
-use Rattle.ss_block.specs.declared.session.Session.{Session}
 use Rattle.ss_origin.specs.declared.config.Config.{Config}
 use Rattle.ss_origin.specs.Groups.{group_of, is_grouping}
 use Rattle.ss_origin.specs.GroupLaws.{SprisAreSmall}
-use Rattle.ss_origin.specs.Configs.{is_between, is_config}
+use Rattle.ss_origin.specs.Configs.{is_config}
 use Rattle.ss_origin.specs.Calls.{spri_in}
 use Rattle.ss_origin.specs.Chain.{given_to}
 use Rattle.ss_review.specs.Notes.{notes}
 use Rattle.ss_review.specs.Contents.{blocks}
 use Rattle.ss_review.specs.Announced.{Key, keys}
-use Rattle.ss_review.specs.Announcing.{IsAnnounced}
-use Rattle.ss_review.specs.Meaning.{IsHole}
 use Rattle.ss_review.specs.Delivery.{own_session}
 use Rattle.ss_review.specs.DeliveryLaws.{Case, says, rows_in, JoinedByFragments, AnnouncedByBlocks}
 use Rattle.ss_review.specs.Delivered.{NumbersHaveBlocks}

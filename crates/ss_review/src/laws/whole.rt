@@ -10,13 +10,12 @@ ghost use Rattle.ss_review.specs.Whole.{
   PayloadsArrive,
 };
 
-use ss_origin::laws::groups::spris_are_small;
-
 use crate::laws::delivered::{
     joins_own_payload, messages_are_in_groups, numbers_have_blocks, own_blocks_are_sent,
     ranks_are_below_counts, sent_blocks_are_stored,
 };
 use crate::laws::deliveries::{announced_by_blocks, joined_by_fragments, listed_by_rank};
+use ss_origin::laws::groups::spris_are_small;
 
 /// Each fragment of the payload is in the log.
 pub(crate) fn payloads_arrive()
