@@ -46,3 +46,5 @@ pub mod GroupCounts
 pub mod Given
 pub mod OwnKeys
 pub mod OwnRanks
+pub mod CountsWithin
+pub mod OwnNumbers

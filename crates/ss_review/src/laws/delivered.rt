@@ -8,6 +8,9 @@ ghost use Rattle.ss_review.specs.Delivered.{
   SentBlocksAreStored,
 };
 
+use crate::laws::deliveries::announced_by_blocks;
+use ss_origin::laws::groups::spris_are_small;
+
 /// Each stored block of the session is one that the originators sent, and its signature is valid.
 pub(crate) fn own_blocks_are_sent()
     ensures { OwnBlocksAreSent }
@@ -35,7 +38,9 @@ pub(crate) fn messages_are_in_groups()
 pub(crate) fn ranks_are_below_counts()
     ensures { RanksAreBelowCounts }
 {
+    announced_by_blocks();
     messages_are_in_groups();
+    spris_are_small();
 }
 
 /// Where no message is pending at an originator's end and each block arrived, each number that the originators gave a
