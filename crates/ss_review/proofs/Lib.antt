@@ -48,3 +48,4 @@ pub mod OwnKeys
 pub mod OwnRanks
 pub mod CountsWithin
 pub mod OwnNumbers
+pub mod DifferentPairs
