@@ -1,8 +1,8 @@
 -- The numbers that originators gave messages, and how many of them have messages with two hashes.
-use Rattle.std.proofs.Common.{◌≡◌, inl, inr, ℕ, ◌+◌, ◌-◌, ◌<◌, ◌≤◌, Bool, true, false, cond, ◌&&◌, List, [], ◌∷◌, length, map, refl, sym, ap, ◌∙◌, subst, arith}
-use Rattle.std.specs.Prelude.{Option, Some, None, slice_get, count_by}
+use Rattle.std.proofs.Common.{◌≡◌, ℕ, ◌+◌, ◌-◌, ◌<◌, ◌≤◌, Bool, true, ◌&&◌, List, map, sym, ap, ◌∙◌, subst, arith}
+use Rattle.std.specs.Prelude.{Option, Some, slice_get, count_by}
 use Rattle.std.specs.Ordering.{is_lt, is_eq}
-use Rattle.std.specs.List.{sum_by, flat_map, enumerate_from, range_with_len}
+use Rattle.std.specs.List.{flat_map, enumerate_from, range_with_len}
 use Rattle.std.proofs.lemmas.Bool.{and_parts, and_from}
 use Rattle.std.proofs.lemmas.Cmp.{tied_itself}
 use Rattle.ss_block.specs.declared.hash.HashPair.{HashPair}
@@ -21,7 +21,7 @@ use Rattle.ss_review.specs.Delivery.{own_session, submitted_to}
 use Rattle.ss_review.specs.Delivered.{MessagesAreInGroups}
 use Rattle.ss_review.specs.DeliveryLaws.{Case, IsCase, rows_in, AnnouncedByBlocks, message_of, pair_of, rank_in}
 use Rattle.ss_review.proofs.Announcements.{numbered_from, has-numbered, keys-rise}
-use Rattle.ss_review.proofs.Counting.{count_by-map, same_itself}
+use Rattle.ss_review.proofs.Counting.{count_by-map}
 use Rattle.ss_review.proofs.CountsWithin.{count_within}
 use Rattle.ss_review.proofs.Given.{is_given}
 use Rattle.ss_review.proofs.Keyed.{has-slice_get}
