@@ -24,24 +24,25 @@ apart_from_first m texts differ n h same =
 differ_behind : (m : List ℕ) (texts : List (List ℕ)) → PairsDiffer (m ∷ texts) → PairsDiffer texts
 differ_behind m texts differ i j d low high = differ (suc i) (suc j) d (omega (arith, low)) (omega (arith, high))
 
-module _ (p : HashPair) where
-  abbrev text_has_pair : List ℕ → Bool
-  text_has_pair m = same_pair (pair m) p
+-- the text has these two hashes
+abbrev pub text_has_pair : HashPair → List ℕ → Bool
+text_has_pair p m = same_pair (pair m) p
 
-  none_behind : (m : List ℕ) (texts : List (List ℕ)) → PairsDiffer (m ∷ texts) → text_has_pair m ≡ true → count_by text_has_pair texts ≡ 0
+module _ (p : HashPair) where
+  none_behind : (m : List ℕ) (texts : List (List ℕ)) → PairsDiffer (m ∷ texts) → text_has_pair p m ≡ true → count_by (text_has_pair p) texts ≡ 0
   none_behind m texts differ its =
-      count_by-same text_has_pair (λ n. false) texts
-      (λ n h. false_from_ne_true (text_has_pair n) (λ t. apart_from_first m texts differ n h (same_pair-is (pair m) p its ∙ sym (same_pair-is (pair n) p t))))
+      count_by-same (text_has_pair p) (λ n. false) texts
+      (λ n h. false_from_ne_true (text_has_pair p n) (λ t. apart_from_first m texts differ n h (same_pair-is (pair m) p its ∙ sym (same_pair-is (pair n) p t))))
       ∙ sum_by-none texts
 
-  one_with : (b : Bool) (m : List ℕ) (texts : List (List ℕ)) → PairsDiffer (m ∷ texts) → text_has_pair m ≡ b → count_by text_has_pair texts ≤ 1 → count_by text_has_pair (m ∷ texts) ≤ 1
-  one_with true m texts differ e rest = omega (arith, count_by-cons text_has_pair m texts, ap {B = ℕ} (λ b. cond b 1 0) e, none_behind m texts differ e)
-  one_with false m texts differ e rest = omega (arith, count_by-cons text_has_pair m texts, ap {B = ℕ} (λ b. cond b 1 0) e, rest)
+  one_with : (b : Bool) (m : List ℕ) (texts : List (List ℕ)) → PairsDiffer (m ∷ texts) → text_has_pair p m ≡ b → count_by (text_has_pair p) texts ≤ 1 → count_by (text_has_pair p) (m ∷ texts) ≤ 1
+  one_with true m texts differ e rest = omega (arith, count_by-cons (text_has_pair p) m texts, ap {B = ℕ} (λ b. cond b 1 0) e, none_behind m texts differ e)
+  one_with false m texts differ e rest = omega (arith, count_by-cons (text_has_pair p) m texts, ap {B = ℕ} (λ b. cond b 1 0) e, rest)
 
   -- at most one has a pair
   pub at_most_one : (texts : List (List ℕ)) → AllPairs (λ m n. pair m ≢ pair n) texts → count_by (λ m. same_pair (pair m) p) texts ≤ 1
   at_most_one [] differ = omega arith
-  at_most_one (m ∷ texts) differ = one_with (text_has_pair m) m texts differ refl (at_most_one texts (differ_behind m texts differ))
+  at_most_one (m ∷ texts) differ = one_with (text_has_pair p m) m texts differ refl (at_most_one texts (differ_behind m texts differ))
 
   -- ---- stored messages
 

@@ -6,7 +6,6 @@ use Rattle.std.specs.List.{flat_map, enumerate_from, range_with_len}
 use Rattle.std.proofs.lemmas.Bool.{and_parts, and_from}
 use Rattle.std.proofs.lemmas.Cmp.{tied_itself}
 use Rattle.ss_block.specs.declared.hash.HashPair.{HashPair}
-use Rattle.ss_block.specs.Hashes.{pair}
 use Rattle.ss_block.specs.OrderLaws.{session_cmp_total}
 use Rattle.ss_origin.specs.declared.config.Config.{Config}
 use Rattle.ss_origin.specs.Configs.{is_config}
@@ -16,13 +15,14 @@ use Rattle.ss_origin.specs.Chain.{given_to}
 use Rattle.ss_origin.specs.GroupLaws.{SprisAreSmall}
 use Rattle.ss_review.specs.Sessions.{same_session}
 use Rattle.ss_review.specs.Announced.{Key, key_cmp, keys}
-use Rattle.ss_review.specs.Assigned.{same_pair, is_pair}
+use Rattle.ss_review.specs.Assigned.{is_pair}
 use Rattle.ss_review.specs.Delivery.{own_session, submitted_to}
 use Rattle.ss_review.specs.Delivered.{MessagesAreInGroups}
 use Rattle.ss_review.specs.DeliveryLaws.{Case, IsCase, rows_in, AnnouncedByBlocks, message_of, pair_of, rank_in}
 use Rattle.ss_review.proofs.Announcements.{numbered_from, has-numbered, keys-rise}
 use Rattle.ss_review.proofs.Counting.{count_by-map}
 use Rattle.ss_review.proofs.CountsWithin.{count_within}
+use Rattle.ss_review.proofs.DifferentPairs.{text_has_pair}
 use Rattle.ss_review.proofs.Given.{is_given}
 use Rattle.ss_review.proofs.Keyed.{has-slice_get}
 use Rattle.ss_review.proofs.Members.{Has, has-map, has-flat_map}
@@ -32,7 +32,8 @@ use Rattle.ss_review.proofs.Sums.{sum_by-same, count_by-same, count_by-flat_map,
 use Rattle.ss_review.proofs.Tests.{in_range}
 use Rattle.ss_review.proofs.TotalOrders.{key_cmp_total}
 
-grouping_of : (c : Config) → is_config c ≡ true → is_grouping c.grouping ≡ true
+-- the groups of a configuration are in their ranges
+pub grouping_of : (c : Config) → is_config c ≡ true → is_grouping c.grouping ≡ true
 unfolding is_config
 grouping_of c e = (and_parts _ _ e).1
 
@@ -40,9 +41,6 @@ module _ (x : Case) (p : HashPair) where
   -- a number of the session whose message has these hashes
   abbrev has_pair : Key → Bool
   has_pair j = same_session j.session (own_session x.s) && is_pair p (pair_of (message_of x j))
-
-  abbrev text_has_pair : List ℕ → Bool
-  text_has_pair m = same_pair (pair m) p
 
   -- ---- all numbers with messages
 
@@ -55,7 +53,7 @@ module _ (x : Case) (p : HashPair) where
   abbrev all_numbers : List Key
   all_numbers = flat_map numbers_of (range_with_len 0 192)
 
-  has_pair_at : (spri : ℕ) (n : ℕ × List ℕ) → Has (enumerate_from 1 (given_to x.s.config spri x.chain)) n → has_pair (key_at spri n.0) ≡ text_has_pair n.1
+  has_pair_at : (spri : ℕ) (n : ℕ × List ℕ) → Has (enumerate_from 1 (given_to x.s.config spri x.chain)) n → has_pair (key_at spri n.0) ≡ text_has_pair p n.1
   has_pair_at spri n h =
       let w = numbered_from 1 (given_to x.s.config spri x.chain) n h in
       let at : n.0 - 1 ≡ w.0 = omega (arith, w.1) in
@@ -64,23 +62,23 @@ module _ (x : Case) (p : HashPair) where
       ap (λ b. b && is_pair p (pair_of (message_of x (key_at spri n.0)))) own
       ∙ ap (λ (o : Option (List ℕ)). is_pair p (pair_of o)) message
 
-  counted_of : (spri : ℕ) → count_by has_pair (numbers_of spri) ≡ count_by text_has_pair (given_to x.s.config spri x.chain)
+  counted_of : (spri : ℕ) → count_by has_pair (numbers_of spri) ≡ count_by (text_has_pair p) (given_to x.s.config spri x.chain)
   counted_of spri =
       let given = given_to x.s.config spri x.chain in
       count_by-map has_pair (λ (n : ℕ × List ℕ). key_at spri n.0) (enumerate_from 1 given)
-      ∙ count_by-same (λ (n : ℕ × List ℕ). has_pair (key_at spri n.0)) (λ (n : ℕ × List ℕ). text_has_pair n.1) (enumerate_from 1 given) (has_pair_at spri)
-      ∙ count_by-numbered text_has_pair 1 given
+      ∙ count_by-same (λ (n : ℕ × List ℕ). has_pair (key_at spri n.0)) (λ (n : ℕ × List ℕ). text_has_pair p n.1) (enumerate_from 1 given) (has_pair_at spri)
+      ∙ count_by-numbered (text_has_pair p) 1 given
 
   module _ (small : SprisAreSmall) (in_groups : MessagesAreInGroups) (by_blocks : AnnouncedByBlocks) (is : IsCase x) where
     below : (m : List ℕ) → spri_in x.s.config.grouping m < 192
     below m = small x.s.config.grouping m (grouping_of x.s.config is.chain.setting.fit.config)
 
     -- as many numbers as messages have these hashes
-    pub counted_all : count_by has_pair all_numbers ≡ count_by text_has_pair (submitted_to x.chain)
+    pub counted_all : count_by has_pair all_numbers ≡ count_by (text_has_pair p) (submitted_to x.chain)
     counted_all =
         count_by-flat_map has_pair numbers_of (range_with_len 0 192)
-        ∙ sum_by-same (λ spri. count_by has_pair (numbers_of spri)) (λ spri. count_by text_has_pair (given_to x.s.config spri x.chain)) (range_with_len 0 192) (λ spri h. counted_of spri)
-        ∙ sym (in_groups x.s.config x.chain text_has_pair 192 below)
+        ∙ sum_by-same (λ spri. count_by has_pair (numbers_of spri)) (λ spri. count_by (text_has_pair p) (given_to x.s.config spri x.chain)) (range_with_len 0 192) (λ spri h. counted_of spri)
+        ∙ sym (in_groups x.s.config x.chain (text_has_pair p) 192 below)
 
     -- an announced number of the session is one of them
     pub is_number : (j : Key) → j.session ≡ own_session x.s → Has (keys (rows_in x)) j → Has all_numbers j
@@ -97,7 +95,7 @@ module _ (x : Case) (p : HashPair) where
         (in_range 0 192 spri (omega arith) (omega (arith, below i.message, g.1)))
         (subst (Has (numbers_of spri)) that here)
 
-    counted_announced : count_by has_pair (keys (rows_in x)) ≤ count_by text_has_pair (submitted_to x.chain)
+    counted_announced : count_by has_pair (keys (rows_in x)) ≤ count_by (text_has_pair p) (submitted_to x.chain)
     counted_announced =
         omega (
           arith,
@@ -107,7 +105,7 @@ module _ (x : Case) (p : HashPair) where
         )
 
     -- fewer smaller numbers than messages have these hashes, where the number's own message has them
-    pub rank_below_count : (k : Key) → k.session ≡ own_session x.s → Has (keys (rows_in x)) k → is_pair p (pair_of (message_of x k)) ≡ true → rank_in x k p + 1 ≤ count_by text_has_pair (submitted_to x.chain)
+    pub rank_below_count : (k : Key) → k.session ≡ own_session x.s → Has (keys (rows_in x)) k → is_pair p (pair_of (message_of x k)) ≡ true → rank_in x k p + 1 ≤ count_by (text_has_pair p) (submitted_to x.chain)
     rank_below_count k own h its =
         let mine : same_session k.session (own_session x.s) ≡ true = ap (same_session k.session) (sym own) ∙ ap is_eq (tied_itself session_cmp_total k.session) in
         let fewer : rank_in x k p < count_by has_pair (keys (rows_in x))
