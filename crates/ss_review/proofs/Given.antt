@@ -1,5 +1,5 @@
 -- The messages that originators were given for a group: each was submitted, and is of this group.
-use Rattle.std.proofs.Common.{◌≡◌, ℕ, inl, inr, Bool, true, false, cond, eqb, List, [], ◌∷◌, ◌++◌, refl, sym, ap, ◌∙◌, subst, arith}
+use Rattle.std.proofs.Common.{◌≡◌, ℕ, inl, inr, Bool, true, false, cond, eqb, List, [], ◌∷◌, ◌++◌, refl, sym, ap, ◌∙◌}
 use Rattle.std.specs.List.{flat_map}
 use Rattle.std.proofs.lemmas.Bool.{eqb-true}
 use Rattle.ss_origin.specs.declared.config.Config.{Config}
@@ -8,13 +8,14 @@ use Rattle.ss_origin.specs.Chain.{Turn, calls_of, given_to}
 use Rattle.ss_review.specs.Delivery.{submitted_in, submitted_to}
 use Rattle.ss_review.proofs.Members.{Has, has-append_left, has-append_right, has-append_cases}
 
+-- what one originator was given
+abbrev pub submitted_by : List Turn → List (List ℕ)
+submitted_by turns = flat_map (λ (t : Turn). submitted_in t.call) turns
+
 module _ (c : Config) (spri : ℕ) where
   -- in some messages, and of the group
   abbrev IsGiven : List (List ℕ) → List ℕ → Type 0
   IsGiven messages m = Has messages m × (spri_in c.grouping m ≡ spri)
-
-  abbrev submitted_by : List Turn → List (List ℕ)
-  submitted_by turns = flat_map (λ (t : Turn). submitted_in t.call) turns
 
   kept_if : (b : Bool) (m n : List ℕ) → Has (cond b (n ∷ []) []) m → (b ≡ true) × (n ≡ m)
   kept_if true m n (inl e) = (refl, e)

@@ -1,11 +1,12 @@
 -- The messages that originators were given, group by group: each was given to one.
 use Rattle.std.proofs.Common.{◌≡◌, ℕ, ◌+◌, ◌<◌, Bool, true, false, cond, eqb, List, [], ◌∷◌, ◌++◌, refl, sym, ◌∙◌, arith}
 use Rattle.std.specs.Prelude.{count_by}
-use Rattle.std.specs.List.{sum_by, flat_map, range_with_len}
+use Rattle.std.specs.List.{sum_by, range_with_len}
 use Rattle.ss_origin.specs.declared.config.Config.{Config}
 use Rattle.ss_origin.specs.Calls.{Call, Begin, Submit, Flush, spri_in, if_in, messages_of}
 use Rattle.ss_origin.specs.Chain.{Turn, calls_of, given_to}
 use Rattle.ss_review.specs.Delivery.{submitted_in, submitted_to}
+use Rattle.ss_review.proofs.Given.{submitted_by}
 use Rattle.ss_review.proofs.Sums.{sum_by-added, sum_by-same, sum_by-none, one_is, count_by-append}
 
 module _ (c : Config) (test : List ℕ → Bool) (groups : ℕ) (small : (m : List ℕ) → spri_in c.grouping m < groups) where
@@ -13,9 +14,6 @@ module _ (c : Config) (test : List ℕ → Bool) (groups : ℕ) (small : (m : Li
 
   abbrev in_groups : List Call → ℕ
   in_groups calls = sum_by (λ spri. count_by test (messages_of c.grouping spri calls)) (range_with_len 0 groups)
-
-  abbrev submitted_by : List Turn → List (List ℕ)
-  submitted_by turns = flat_map (λ (t : Turn). submitted_in t.call) turns
 
   counted_if : (b : Bool) (m : List ℕ) → count_by test (cond b (m ∷ []) []) ≡ cond b (count_by test (m ∷ [])) 0
   counted_if true m = refl

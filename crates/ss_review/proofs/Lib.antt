@@ -58,3 +58,6 @@ pub mod WholeNumbers
 pub mod WholeMessages
 pub mod WholeListings
 pub mod CleanReports
+pub mod CountsWithin
+pub mod OwnNumbers
+pub mod DifferentPairs

@@ -1,13 +1,10 @@
 -- The announced numbers of the originators' session: what they want, and which of them want the same.
-use Rattle.std.proofs.Common.{◌≡◌, ◌⊎◌, inl, inr, ℕ, ◌-◌, ◌<◌, ◌≤◌, Bool, true, false, cond, ◌&&◌, List, [], ◌∷◌, ◌++◌, length, filter, refl, sym, ap, ◌∙◌, subst, arith}
-use Rattle.std.specs.Prelude.{◌≢◌, Option, Some, None, Contains, nat_lt, slice_get, option_map, find, count_by}
-use Rattle.std.specs.Ordering.{is_lt, is_eq}
+use Rattle.std.proofs.Common.{◌≡◌, inl, inr, ℕ, ◌-◌, Bool, true, false, cond, List, [], ◌∷◌, ◌++◌, filter, refl, sym, ap, ◌∙◌}
+use Rattle.std.specs.Prelude.{Some, option_map, find}
 use Rattle.std.specs.Cmp.{Equal-is}
-use Rattle.std.proofs.lemmas.Bool.{and_parts, cases_Bool, false_from_ne_true, lt-ltb, le-ltb}
-use Rattle.std.proofs.lemmas.Option.{slice_get_cases}
+use Rattle.std.proofs.lemmas.Bool.{and_parts}
 use Rattle.ss_block.specs.declared.hash.Alg.{Alg}
 use Rattle.ss_block.specs.declared.hash.Alg.TheVariants as algs
-use Rattle.ss_block.specs.declared.hash.Hash.{Hash}
 use Rattle.ss_block.specs.declared.hash.HashPair.{HashPair}
 use Rattle.ss_block.specs.declared.session.Session.{Session}
 use Rattle.ss_block.specs.Block as block
@@ -16,23 +13,18 @@ use Rattle.ss_block.specs.Order.{session_cmp}
 use Rattle.ss_block.specs.OrderLaws.{session_cmp_exact}
 use Rattle.ss_origin.specs.Chain.{given_to}
 use Rattle.ss_review.specs.declared.message.NormalMessage.{NormalMessage}
-use Rattle.ss_review.specs.Notes.{Note, Normal, note, notes}
-use Rattle.ss_review.specs.Contents.{normals}
+use Rattle.ss_review.specs.Notes.{note}
 use Rattle.ss_review.specs.Sessions.{same_session}
-use Rattle.ss_review.specs.Announced.{Key, Row, key_cmp, keys, hashes_for}
-use Rattle.ss_review.specs.Assigned.{has_hash, same_pair, is_pair, pair_of_bearer, places_with, wanted_with, wanted, rank, place_of, assigned}
-use Rattle.ss_review.specs.Entries.{entry_with, entry_of}
-use Rattle.ss_review.specs.Verdict.{is_listed}
+use Rattle.ss_review.specs.Announced.{Key, keys}
+use Rattle.ss_review.specs.Assigned.{has_hash, pair_of_bearer, wanted_with, wanted}
 use Rattle.ss_review.specs.Delivery.{own_session, is_normal, submitted_to}
-use Rattle.ss_review.specs.DeliveryLaws.{Case, IsCase, normals_in, rows_in, AnnouncedByBlocks, HasItsHash, message_of, pair_of, rank_in, HashesTellPairs, OthersWantOthers}
-use Rattle.ss_review.proofs.Counting.{same_pair-is, same_itself}
+use Rattle.ss_review.specs.DeliveryLaws.{Case, IsCase, normals_in, rows_in, AnnouncedByBlocks, HasItsHash, message_of, HashesTellPairs}
+use Rattle.ss_review.proofs.Counting.{same_itself}
 use Rattle.ss_review.proofs.Finding.{find_some, bearer_of}
 use Rattle.ss_review.proofs.Given.{is_given}
 use Rattle.ss_review.proofs.Keyed.{has-slice_get}
-use Rattle.ss_review.proofs.Members.{Has, has_from_contains, contains_from_has, has-append_left, has-append_right, has-filter}
-use Rattle.ss_review.proofs.OnePlaceOneKey.{assigned_cases, from_has-places_with}
-use Rattle.ss_review.proofs.Sums.{count_by-same}
-use Rattle.ss_review.proofs.Witnesses.{stored_normal, hash_is, bearer_has}
+use Rattle.ss_review.proofs.Members.{Has, contains_from_has, has-append_left, has-append_right, has-filter}
+use Rattle.ss_review.proofs.Witnesses.{stored_normal, hash_is}
 
 -- ---- the bearer of a hash
 

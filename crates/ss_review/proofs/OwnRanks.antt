@@ -1,14 +1,13 @@
 -- The rank of an announced number of the originators' session, and where it is listed.
-use Rattle.std.proofs.Common.{◌≡◌, ◌⊎◌, inl, inr, ℕ, ◌-◌, ◌<◌, ◌≤◌, Bool, true, false, cond, ◌&&◌, List, [], ◌∷◌, ◌++◌, length, refl, sym, ap, ◌∙◌, subst, arith}
-use Rattle.std.specs.Prelude.{◌≢◌, Option, Some, None, nat_lt, slice_get, count_by}
+use Rattle.std.proofs.Common.{◌≡◌, inl, inr, ℕ, ◌-◌, Bool, true, false, ◌&&◌, List, [], ◌∷◌, length, refl, sym, ap, ◌∙◌, subst, arith}
+use Rattle.std.specs.Prelude.{◌≢◌, Option, Some, None, nat_lt, slice_get}
 use Rattle.std.specs.Ordering.{is_lt, is_eq}
-use Rattle.std.proofs.lemmas.Bool.{and_parts, cases_Bool, false_from_ne_true, lt-ltb, le-ltb}
+use Rattle.std.proofs.lemmas.Bool.{false_from_ne_true, lt-ltb, le-ltb}
 use Rattle.std.proofs.lemmas.Cmp.{tied_itself}
 use Rattle.std.proofs.lemmas.Option.{slice_get_cases}
 use Rattle.ss_block.specs.declared.hash.HashPair.{HashPair}
 use Rattle.ss_block.specs.declared.session.Session.{Session}
 use Rattle.ss_block.specs.Hashes.{pair}
-use Rattle.ss_block.specs.Order.{session_cmp}
 use Rattle.ss_block.specs.OrderLaws.{session_cmp_total}
 use Rattle.ss_review.specs.declared.message.NormalMessage.{NormalMessage}
 use Rattle.ss_review.specs.Sessions.{same_session}
@@ -18,11 +17,11 @@ use Rattle.ss_review.specs.Entries.{entry_with, entry_of}
 use Rattle.ss_review.specs.Verdict.{is_listed}
 use Rattle.ss_review.specs.Delivery.{own_session, submitted_to}
 use Rattle.ss_review.specs.DeliveryLaws.{Case, IsCase, normals_in, rows_in, AnnouncedByBlocks, message_of, pair_of, rank_in, HashesTellPairs, OthersWantOthers}
-use Rattle.ss_review.proofs.Counting.{same_pair-is, same_itself}
+use Rattle.ss_review.proofs.Counting.{same_pair-is}
 use Rattle.ss_review.proofs.Keyed.{has-slice_get}
-use Rattle.ss_review.proofs.Members.{Has, contains_from_has, has_from_contains}
+use Rattle.ss_review.proofs.Members.{Has, contains_from_has}
 use Rattle.ss_review.proofs.OnePlaceOneKey.{assigned_cases, from_has-places_with}
-use Rattle.ss_review.proofs.OwnKeys.{same_session-is, is_submitted, its_hash, wants_own, wants_stored}
+use Rattle.ss_review.proofs.OwnKeys.{same_session-is, its_hash, wants_own, wants_stored}
 use Rattle.ss_review.proofs.Sums.{count_by-same}
 
 -- ---- entries

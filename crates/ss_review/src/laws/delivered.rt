@@ -9,6 +9,9 @@ ghost use Rattle.ss_review.specs.Delivered.{
 };
 
 use ss_origin::laws::chains::others_are_sent;
+use ss_origin::laws::groups::spris_are_small;
+
+use crate::laws::deliveries::announced_by_blocks;
 
 /// Each stored block of the session is one that the originators sent, and its signature is valid.
 pub(crate) fn own_blocks_are_sent()
@@ -37,7 +40,9 @@ pub(crate) fn messages_are_in_groups()
 pub(crate) fn ranks_are_below_counts()
     ensures { RanksAreBelowCounts }
 {
+    announced_by_blocks();
     messages_are_in_groups();
+    spris_are_small();
 }
 
 /// Where no message is pending at an originator's end and each block arrived, each number that the originators gave a
