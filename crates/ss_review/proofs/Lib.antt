@@ -43,3 +43,4 @@ pub mod OneReport
 pub mod Sorting
 pub mod SentMessages
 pub mod StoredBlocks
+pub mod OwnNumbers

@@ -13,6 +13,7 @@ use crate::laws::delivered::{
     joins_own_payload, numbers_have_blocks, own_blocks_are_sent, ranks_are_below_counts,
     sent_blocks_are_stored,
 };
+use ss_origin::laws::chains::sent_blocks_are_numbered;
 
 /// No message that was sent is spoilt, and no number of the session is disputed.
 pub fn nothing_is_disputed()
@@ -39,6 +40,7 @@ pub fn announced_by_blocks()
     own_blocks_are_sent();
     sent_blocks_are_stored();
     joins_own_payload();
+    sent_blocks_are_numbered();
 }
 
 /// An announced number is listed exactly where its rank, among the announced numbers whose messages have the same hashes,
