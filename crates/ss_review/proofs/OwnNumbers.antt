@@ -1,6 +1,6 @@
 -- Which numbers of the session are announced, and with which hash.
 use Rattle.std.proofs.Common.{◌≡◌, inl, inr, ℕ, zero, suc, ◌+◌, ◌-◌, ◌<◌, ◌≤◌, true, false, List, [], ◌∷◌, ◌++◌, length, refl, sym, ap, ◌∙◌, subst, arith}
-use Rattle.std.specs.Prelude.{Some, Result, Ok, slice_get}
+use Rattle.std.specs.Prelude.{nat_lt, Some, Result, Ok, slice_get}
 use Rattle.std.specs.List.{Contains}
 use Rattle.std.specs.List.Sorted.{IsStrictlySortedBy}
 use Rattle.std.specs.declared.cmp.Ordering.TheVariants.{Less}
@@ -27,21 +27,22 @@ use Rattle.ss_review.specs.declared.message.Said.TheVariants.{Hashes}
 use Rattle.ss_review.specs.declared.session_report.SessionReport.{SessionReport}
 use Rattle.ss_review.specs.declared.session_report.SessionState.{SessionState}
 use Rattle.ss_review.specs.declared.session_report.SessionState.TheVariants as states
-use Rattle.ss_review.specs.Announced.{Key, keys, hashes_for}
+use Rattle.ss_review.specs.Announced.{Key, Row, keys, hashes_for, is_disputed_key}
 use Rattle.ss_review.specs.Announcing.{Announces, IsAnnounced}
 use Rattle.ss_review.specs.Contents.{said_in, blocks}
 use Rattle.ss_review.specs.Delivered.{IsSentBlock, OwnBlocksAreSent, SentBlocksAreStored, JoinsOwnPayload}
 use Rattle.ss_review.specs.Delivery.{own_session, is_normal}
-use Rattle.ss_review.specs.DeliveryLaws.{Case, IsCase, says, report_in, rows_in, IsListedAsJoined, HasBlock, message_of, HasItsHash, AnnouncedByBlocks}
+use Rattle.ss_review.specs.DeliveryLaws.{Case, IsCase, says, report_in, rows_in, NothingIsDisputed, IsListedAsJoined, HasBlock, message_of, HasItsHash, AnnouncedByBlocks}
 use Rattle.ss_review.specs.Notes.{noted, note, notes}
 use Rattle.ss_review.specs.Sessions.{of_session}
 use Rattle.ss_review.specs.Verified.{joined, state_in, is_valid_in, is_verified}
-use Rattle.ss_review.proofs.Announcements.{announced_row, announced_key, has-announced_key, from_has-hashes_for, has-hashes_for, hashes_for-rise, rows-rise, has-rows}
+use Rattle.ss_review.proofs.Announcements.{announced_row, announced_key, has-announced_key, has-keys, from_has-hashes_for, has-hashes_for, hashes_for-rise, rows-rise, has-rows}
 use Rattle.ss_review.proofs.Members.{Has, has_from_contains, contains_from_has}
 use Rattle.ss_review.proofs.NotesTold.{block_read}
 use Rattle.ss_review.proofs.OneReport.{is_report}
 use Rattle.ss_review.proofs.Rising.{below_all, not_less_itself}
 use Rattle.ss_review.proofs.SentMessages.{sent_by}
+use Rattle.ss_review.proofs.StoredBlocks.{none_spoilt}
 use Rattle.ss_review.proofs.Witnesses.{got_map, said_signature, verified_cases}
 
 -- ---- elements by index
@@ -265,4 +266,20 @@ announced_by_blocks sent stored joins of x is k own = (
     λ b. contains_from_has (keys (rows_in x)) k (has-announced_key (says x) (blocks (notes x.log)) k (announced_by x is sent stored joins k own b.0 b.1)),
   ),
   its_hash x is sent of k own,
+)
+
+-- ---- no number is disputed
+
+none_disputed : (rs : List Row) (k : Key) (hs : List Hash) → hashes_for rs k ≡ hs → ((h : Hash) → Has hs h → (g : Hash) × (hs ≡ g ∷ [])) → is_disputed_key rs k ≡ false
+none_disputed rs k [] e f = ap (λ hs. nat_lt 1 (length hs)) e
+none_disputed rs k (h ∷ hs) e f = let one = f h (inl refl) in ap (λ gs. nat_lt 1 (length gs)) (e ∙ one.1)
+
+-- no message that was sent is spoilt, and for no number of the session two hashes are announced
+pub nothing_is_disputed : AnnouncedByBlocks → NothingIsDisputed
+nothing_is_disputed announces x is = (
+  λ m c. none_spoilt x.s x.chain m is.chain c,
+  λ k own. none_disputed (rows_in x) k (hashes_for (rows_in x) k) refl (λ h i.
+      (let c = contains_from_has (keys (rows_in x)) k (has-keys (rows_in x) (record { key = k; hash = h }) (from_has-hashes_for (rows_in x) k h i)) in
+      let its = (announces x is k own).1 c in
+      (hash_of x.s.config.alg its.message, its.hashes))),
 )

@@ -19,7 +19,6 @@ use ss_origin::laws::chains::sent_blocks_are_numbered;
 pub fn nothing_is_disputed()
     ensures { NothingIsDisputed }
 {
-    own_blocks_are_sent();
     announced_by_blocks();
 }
 
