@@ -61,3 +61,4 @@ pub mod CleanReports
 pub mod CountsWithin
 pub mod OwnNumbers
 pub mod DifferentPairs
+pub mod AnnouncedNumbers

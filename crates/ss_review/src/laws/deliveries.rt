@@ -17,12 +17,12 @@ use crate::laws::whole::{
     blocks_are_verified, groups_have_no_hole, messages_are_listed, nothing_is_spoilt,
     numbers_are_listed, payloads_arrive,
 };
+use ss_origin::laws::chains::sent_blocks_are_numbered;
 
 /// No message that was sent is spoilt, and no number of the session is disputed.
 pub fn nothing_is_disputed()
     ensures { NothingIsDisputed }
 {
-    own_blocks_are_sent();
     announced_by_blocks();
 }
 
@@ -43,6 +43,7 @@ pub fn announced_by_blocks()
     own_blocks_are_sent();
     sent_blocks_are_stored();
     joins_own_payload();
+    sent_blocks_are_numbered();
 }
 
 /// An announced number is listed exactly where its rank, among the announced numbers whose messages have the same hashes,
