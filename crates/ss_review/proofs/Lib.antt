@@ -43,3 +43,5 @@ pub mod OneReport
 pub mod Sorting
 pub mod SentMessages
 pub mod StoredBlocks
+pub mod PiecesStated
+pub mod Beginnings
