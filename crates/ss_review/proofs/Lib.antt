@@ -43,5 +43,6 @@ pub mod OneReport
 pub mod Sorting
 pub mod SentMessages
 pub mod StoredBlocks
+pub mod Paired
 pub mod PiecesStated
 pub mod Beginnings

@@ -79,7 +79,7 @@ plain_reading (readings.Certificate b) e = absurd (cc)
 plain_reading (readings.Spoilt cause) e = absurd (cc)
 
 -- it is a message without a block
-plain_first : (c : Config) (old : State) (call : Call) (m : List ℕ) → fault_of c old call ≡ None → Has (sent_first call) m → reading m ≡ readings.Plain
+pub plain_first : (c : Config) (old : State) (call : Call) (m : List ℕ) → fault_of c old call ≡ None → Has (sent_first call) m → reading m ≡ readings.Plain
 plain_first c old (Begin stamp) m e h = absurd h
 plain_first c old (Submit message stamp) m e (inl i) =
     let plain = (none_apply (faults_of c old (Submit message stamp)) e).1.1.0 in
@@ -136,7 +136,7 @@ from_has-replicate zero x y h = absurd h
 from_has-replicate (suc n) x y (inl e) = e
 from_has-replicate (suc n) x y (inr h) = from_has-replicate n x y h
 
-from_has-copies : {X : Type 0} (n : ℕ) (xs : List X) (y : X) → Has (flat_map (λ x. replicate n x) xs) y → Has xs y
+pub from_has-copies : {X : Type 0} (n : ℕ) (xs : List X) (y : X) → Has (flat_map (λ x. replicate n x) xs) y → Has xs y
 from_has-copies {X} n xs y h =
     let w = from_has-flat_map (λ (x : X). replicate n x) xs y h in
     subst (Has xs) (from_has-replicate n w.0 y w.2) w.1
