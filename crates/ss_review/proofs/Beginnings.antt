@@ -159,21 +159,27 @@ module _ (s : Setting) (emitted : List (List ℕ)) (b : Beginning s emitted) whe
         fragment = refl;
       }
 
-  -- a block that it sent has a piece of the text
+  -- a message that it sent is that of a piece
+  pub piece_of_message : (m : List ℕ) → Has emitted m → (cut : Cut) × Has b.cuts cut × ArePaired b.cuts b.messages cut m
+  piece_of_message m h =
+      let w = pair_of_right IsSealedPiece b.cuts b.messages m b.sealed (from_has-copies s.config.copies b.messages m (subst (λ l. Has l m) b.sent h)) in
+      (w.0, paired_left b.cuts b.messages w.0 m w.1, w.1)
+
+  -- and is read as the block of this piece
   pub is_piece : (m : List ℕ) (c : block.Certificate) → Has emitted m → reading m ≡ readings.Certificate c → (p : IsPiece text b.cuts c) × ArePaired b.cuts b.messages p.cut m
   is_piece m c h e =
-      let w = pair_of_right IsSealedPiece b.cuts b.messages m b.sealed (from_has-copies s.config.copies b.messages m (subst (λ l. Has l m) b.sent h)) in
-      let r = read_piece w.0 m w.1 in
+      let w = piece_of_message m h in
+      let r = read_piece w.0 m w.2 in
       let both : readings.Certificate r.block ≡ readings.Certificate c = sym r.read ∙ e in
       let same : r.block ≡ c = cc in (
         record {
           cut = w.0;
-          of_cuts = paired_left b.cuts b.messages w.0 m w.1;
+          of_cuts = w.1;
           total = sym (ap (λ (x : block.Certificate). x.total) same) ∙ r.total;
           index = sym (ap (λ (x : block.Certificate). x.index) same) ∙ r.index;
           fragment = sym (ap (λ (x : block.Certificate). x.fragment) same) ∙ r.fragment;
         },
-        w.1,
+        w.2,
       )
 
   -- and each piece has a block

@@ -46,3 +46,4 @@ pub mod StoredBlocks
 pub mod Paired
 pub mod PiecesStated
 pub mod Beginnings
+pub mod OwnPayload
