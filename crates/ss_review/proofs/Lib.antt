@@ -47,3 +47,4 @@ pub mod Paired
 pub mod PiecesStated
 pub mod Beginnings
 pub mod OwnPayload
+pub mod JoinedByFragments

@@ -13,6 +13,7 @@ use crate::laws::delivered::{
     joins_own_payload, numbers_have_blocks, own_blocks_are_sent, ranks_are_below_counts,
     sent_blocks_are_stored,
 };
+use crate::laws::reports::one_report;
 
 /// No message that was sent is spoilt, and no number of the session is disputed.
 pub fn nothing_is_disputed()
@@ -26,9 +27,8 @@ pub fn nothing_is_disputed()
 pub fn joined_by_fragments()
     ensures { JoinedByFragments }
 {
-    own_blocks_are_sent();
-    sent_blocks_are_stored();
     joins_own_payload();
+    one_report();
 }
 
 /// A number is announced exactly where the session is joined and a block with a hash for it is in the log, and then with
