@@ -1,5 +1,5 @@
 -- The turn in which the originators of a session began, and the certificate blocks that it sent.
-use Rattle.std.proofs.Common.{◌≡◌, inl, inr, ℕ, ◌+◌, ◌<◌, ◌≤◌, true, List, [], ◌∷◌, ◌++◌, length, map, replicate, refl, sym, ap, ◌∙◌, subst, arith}
+use Rattle.std.proofs.Common.{◌≡◌, inl, inr, ℕ, ◌<◌, ◌≤◌, true, List, [], ◌∷◌, ◌++◌, length, map, replicate, refl, sym, ap, ◌∙◌, subst, arith}
 use Rattle.std.specs.Prelude.{Option, None}
 use Rattle.std.specs.List.{AllZip, flat_map, enumerate_from}
 use Rattle.std.proofs.lemmas.List.{append_assoc}
@@ -223,7 +223,7 @@ certificate_call s old (Submit message stamp) emitted m c faultless e h read =
     elim (has-append_cases (message ∷ []) copies m (subst (λ l. Has l m) e.sent.sent_are h)) [
       | inl l ↦ (let plain : readings.Plain ≡ readings.Certificate c = sym (plain_first s.config old (Submit message stamp) m faultless l) ∙ read in absurd (cc))
       | inr r ↦ absurd (no_certificate_sealed s old stamp runs e.sent.messages m c
-        (subst (λ due. AllZip (IsSealed s stamp) due e.sent.messages) e.are_due e.sent.sealed) (from_has-copies s.config.copies e.sent.messages m r) read)
+          (subst (λ due. AllZip (IsSealed s stamp) due e.sent.messages) e.are_due e.sent.sealed) (from_has-copies s.config.copies e.sent.messages m r) read)
     ]
 certificate_call s old (Flush stamp) emitted m c faultless e h read =
     let runs = enumerate_from old.gbc (runs_closed s.config (pending_in old) (Flush stamp)) in

@@ -1,6 +1,6 @@
 -- The payload that the certificate blocks of a session state in a log that delivers from its originators.
-use Rattle.std.proofs.Common.{◌≡◌, ◌⊎◌, inl, inr, ℕ, ◌+◌, ◌<◌, ◌≤◌, Bool, true, false, cond, ◌&&◌, not, List, [], ◌∷◌, length, map, filter, refl, sym, ap, ◌∙◌, subst, arith}
-use Rattle.std.specs.Prelude.{Option, Some, None, Ok, Err, nat_le}
+use Rattle.std.proofs.Common.{◌≡◌, inl, inr, ℕ, ◌≤◌, true, false, cond, ◌&&◌, not, List, [], ◌∷◌, length, map, refl, sym, ap, ◌∙◌, subst, arith}
+use Rattle.std.specs.Prelude.{Some, Ok, Err, nat_le}
 use Rattle.std.specs.List.{Contains, flat_map}
 use Rattle.std.specs.Ordering.{is_eq}
 use Rattle.std.specs.Cmp.{Equal-is}
@@ -27,13 +27,13 @@ use Rattle.ss_review.specs.declared.message.BlockMessage.{BlockMessage}
 use Rattle.ss_review.specs.declared.message.Said.{Said}
 use Rattle.ss_review.specs.declared.message.Said.TheVariants.{Fragment}
 use Rattle.ss_review.specs.declared.session_report.SessionState.TheVariants as states
-use Rattle.ss_review.specs.Notes.{noted, note, notes}
+use Rattle.ss_review.specs.Notes.{note, notes}
 use Rattle.ss_review.specs.Contents.{said_in, blocks}
 use Rattle.ss_review.specs.Sessions.{same_session, of_session}
 use Rattle.ss_review.specs.Payloads.{certificate_of, certificates, is_disputed, cover, lacks_some, joined_text, payload_or_malformed, stated_payload}
 use Rattle.ss_review.specs.Stated.{stated_in_turn}
-use Rattle.ss_review.specs.Verified.{Answers, is_valid, is_accepted, judged, joined}
-use Rattle.ss_review.specs.Delivery.{own_session, is_normal, is_begin, HasPayload}
+use Rattle.ss_review.specs.Verified.{is_valid, is_accepted, judged, joined}
+use Rattle.ss_review.specs.Delivery.{own_session, is_normal, HasPayload}
 use Rattle.ss_review.specs.DeliveryLaws.{Case, IsCase, says}
 use Rattle.ss_review.specs.Delivered.{OwnBlocksAreSent, SentBlocksAreStored, IsSentBlock, JoinsOwnPayload}
 use Rattle.ss_review.proofs.Beginnings.{IsBeginning, one_beginning, Beginning, beginning, certificate_begins, piece_of_message, is_piece, block_of_piece, one_message}
@@ -45,7 +45,7 @@ use Rattle.ss_review.proofs.Rising.{all_below}
 use Rattle.ss_review.proofs.Sections.{keeps_all}
 use Rattle.ss_review.proofs.SentMessages.{turn_of_chain, sent_by}
 use Rattle.ss_review.proofs.StatesTold.{fragment_of, payload_ok}
-use Rattle.ss_review.proofs.Stating.{IsStatedBy, not_disputed, not_lacking, whole_payload, stated_in_turn-IsStatedBy}
+use Rattle.ss_review.proofs.Stating.{not_disputed, not_lacking, whole_payload, stated_in_turn-IsStatedBy}
 use Rattle.ss_review.proofs.StoredBlocks.{noted_block}
 
 -- ---- configurations
@@ -92,11 +92,12 @@ module _ (laws : Laws) (x : Case) (is : IsCase x) where
   abbrev text : List ℕ
   text = payload_text x.s.payload
 
-  abbrev own : List BlockMessage
-  own = of_session (blocks (notes x.log)) (own_session x.s)
+  -- the stored blocks of the session, and the certificate blocks among them
+  abbrev own_blocks : List BlockMessage
+  own_blocks = of_session (blocks (notes x.log)) (own_session x.s)
 
-  abbrev cs : List block.Certificate
-  cs = certificates own
+  abbrev own_certificates : List block.Certificate
+  own_certificates = certificates own_blocks
 
   some : (1 ≤ x.s.config.copies) × (1 ≤ x.s.config.frag)
   some = some_of_each x.s.config is.chain.setting.fit.config
@@ -105,7 +106,7 @@ module _ (laws : Laws) (x : Case) (is : IsCase x) where
   octet = let three = laws.octets x.s.payload in omega arith
 
   -- a stored block of the session
-  own_block : (b : BlockMessage) → Has own b → IsSentBlock x b
+  own_block : (b : BlockMessage) → Has own_blocks b → IsSentBlock x b
   own_block b h =
       let f = from_has-filter (λ (d : BlockMessage). same_session d.session (own_session x.s)) (blocks (notes x.log)) b h in
       laws.sent x is b (contains_from_has (blocks (notes x.log)) b f.0)
@@ -120,9 +121,9 @@ module _ (laws : Laws) (x : Case) (is : IsCase x) where
     in_turn : Has turn.emitted message
     read : reading message ≡ readings.Certificate c
 
-  from_beginning : (c : block.Certificate) → Has cs c → IsFromBeginning c
+  from_beginning : (c : block.Certificate) → Has own_certificates c → IsFromBeginning c
   from_beginning c h =
-      let w : (b : BlockMessage) × Has own b × (certificate_of b.said ≡ Some c) = from_has-filter_map (λ (b : BlockMessage). certificate_of b.said) own c h in
+      let w : (b : BlockMessage) × Has own_blocks b × (certificate_of b.said ≡ Some c) = from_has-filter_map (λ (b : BlockMessage). certificate_of b.said) own_blocks c h in
       let s = own_block w.0 w.1 in
       let read = said_certificate (reading s.message) c ((block_read w.0.place s.message w.0 s.read).said_is ∙ ap (λ (said : Said). Some said) (fragment_of w.0.said c w.2)) in
       let by = sent_by x.chain s.message s.sent in
@@ -137,26 +138,26 @@ module _ (laws : Laws) (x : Case) (is : IsCase x) where
       }
 
   module _ (t : Turn) (begun : IsBeginning x.chain t) where
-    b : Beginning x.s t.emitted
-    b = beginning x.s t (turn_of_chain x.s x.chain begun.turns t is.chain.chained begun.of_chain begun.of_turns) begun.begins
+    opening : Beginning x.s t.emitted
+    opening = beginning x.s t (turn_of_chain x.s x.chain begun.turns t is.chain.chained begun.of_chain begun.of_turns) begun.begins
 
     sent_by_it : (c : block.Certificate) (f : IsFromBeginning c) → Has t.emitted f.message
     sent_by_it c f =
         subst (λ (u : Turn). Has u.emitted f.message) (one_beginning laws.begins_first x.s x.chain is.chain f.turn t f.is_beginning begun) f.in_turn
 
     -- each certificate block has a piece of the payload
-    each_piece : (c : block.Certificate) → Has cs c → IsPiece text b.cuts c
-    each_piece c h = let f = from_beginning c h in (is_piece x.s t.emitted b f.message c (sent_by_it c f) f.read).0
+    each_piece : (c : block.Certificate) → Has own_certificates c → IsPiece text opening.cuts c
+    each_piece c h = let f = from_beginning c h in (is_piece x.s t.emitted opening f.message c (sent_by_it c f) f.read).0
 
-    own_undisputed : is_disputed cs ≡ false
+    own_undisputed : is_disputed own_certificates ≡ false
     own_undisputed =
-        not_disputed cs (stated_in_turn cs) (stated_in_turn-IsStatedBy cs)
-        (undisputed laws.within text x.s.config.frag b.cuts some.1 b.are_cuts laws.stay laws.whole octet cs each_piece)
+        not_disputed own_certificates (stated_in_turn own_certificates) (stated_in_turn-IsStatedBy own_certificates)
+        (undisputed laws.within text x.s.config.frag opening.cuts some.1 opening.are_cuts laws.stay laws.whole octet own_certificates each_piece)
 
     -- where the messages of the turn are in the log, each piece is there
-    pieces_arrive : ((m : List ℕ) → Contains t.emitted m → Contains x.log m) → (cut : Cut) → Has b.cuts cut → Has (map cut_in cs) cut
+    pieces_arrive : ((m : List ℕ) → Contains t.emitted m → Contains x.log m) → (cut : Cut) → Has opening.cuts cut → Has (map cut_in own_certificates) cut
     pieces_arrive copies cut h =
-        let w = block_of_piece x.s t.emitted b some.0 cut h in
+        let w = block_of_piece x.s t.emitted opening some.0 cut h in
         let m = w.0 in
         let in_turn : Contains t.emitted m = contains_from_has t.emitted m w.1 in
         let in_chain : Contains (emitted_by x.chain) m
@@ -166,66 +167,67 @@ module _ (laws : Laws) (x : Case) (is : IsCase x) where
         let said : s.stored_block.said ≡ Fragment w.2 = same_Some _ _ (sym (block_read s.stored_block.place m s.stored_block s.read).said_is ∙ ap said_in w.3) in
         let same : same_session s.stored_block.session (own_session x.s) ≡ true
         = ap (λ o. same_session o (own_session x.s)) s.own ∙ ap is_eq (tied_itself session_cmp_total (own_session x.s)) in
-        let of_own : Has own s.stored_block
+        let of_own : Has own_blocks s.stored_block
         = has-filter (λ (d : BlockMessage). same_session d.session (own_session x.s)) (blocks (notes x.log)) s.stored_block (has_from_contains (blocks (notes x.log)) s.stored_block s.stored) same in
-        let there : Has cs w.2 = has-filter_map (λ (d : BlockMessage). certificate_of d.said) own s.stored_block w.2 of_own (ap certificate_of said) in
-        subst (Has (map cut_in cs)) (cut_is laws.within text x.s.config.frag b.cuts some.1 b.are_cuts w.2 w.4 ∙ w.5) (has-map cut_in cs w.2 there)
+        let there : Has own_certificates w.2 = has-filter_map (λ (d : BlockMessage). certificate_of d.said) own_blocks s.stored_block w.2 of_own (ap certificate_of said) in
+        subst (Has (map cut_in own_certificates)) (cut_is laws.within text x.s.config.frag opening.cuts some.1 opening.are_cuts w.2 w.4 ∙ w.5) (has-map cut_in own_certificates w.2 there)
 
     -- where all is covered, each piece is there, and each message of the turn is in the log
-    piece_covered : cover cs (length text) ≡ true → (cut : Cut) → Has b.cuts cut → (c : block.Certificate) × Has cs c × (cut_in c ≡ cut)
+    piece_covered : cover own_certificates (length text) ≡ true → (cut : Cut) → Has opening.cuts cut → (c : block.Certificate) × Has own_certificates c × (cut_in c ≡ cut)
     piece_covered all cut h =
-        let l = laws.within (length text) x.s.config.frag b.cuts cut some.1 b.are_cuts (contains_from_has b.cuts cut h) in
-        piece_there laws.within text x.s.config.frag b.cuts some.1 b.are_cuts laws.apart cs each_piece cut h
-        (index_covered cs (length text) cut.index all l.some_index (omega (arith, l.end, l.some_octet)))
+        let l = laws.within (length text) x.s.config.frag opening.cuts cut some.1 opening.are_cuts (contains_from_has opening.cuts cut h) in
+        piece_there laws.within text x.s.config.frag opening.cuts some.1 opening.are_cuts laws.apart own_certificates each_piece cut h
+        (index_covered own_certificates (length text) cut.index all l.some_index (omega (arith, l.end, l.some_octet)))
 
-    messages_arrived : cover cs (length text) ≡ true → (m : List ℕ) → Contains t.emitted m → Contains x.log m
+    messages_arrived : cover own_certificates (length text) ≡ true → (m : List ℕ) → Contains t.emitted m → Contains x.log m
     messages_arrived all m h =
-        let w = piece_of_message x.s t.emitted b m (has_from_contains t.emitted m h) in
+        let w = piece_of_message x.s t.emitted opening m (has_from_contains t.emitted m h) in
         let p = piece_covered all w.0 w.1 in
         let f = from_beginning p.0 p.1 in
-        let q = is_piece x.s t.emitted b f.message p.0 (sent_by_it p.0 f) f.read in
-        let same : q.0.cut ≡ w.0 = sym (cut_is laws.within text x.s.config.frag b.cuts some.1 b.are_cuts p.0 q.0) ∙ p.2 in
+        let q = is_piece x.s t.emitted opening f.message p.0 (sent_by_it p.0 f) f.read in
+        let same : q.0.cut ≡ w.0 = sym (cut_is laws.within text x.s.config.frag opening.cuts some.1 opening.are_cuts p.0 q.0) ∙ p.2 in
         let one : m ≡ f.message
-        = one_message x.s t.emitted b laws.within some.1 w.0 m f.message w.2 (subst (λ (cut : Cut). ArePaired b.cuts b.messages cut f.message) same q.1) in
+        = one_message x.s t.emitted opening laws.within some.1 w.0 m f.message w.2 (subst (λ (cut : Cut). ArePaired opening.cuts opening.messages cut f.message) same q.1) in
         subst (Contains x.log) (sym one) f.in_log
 
     -- where each piece is there, the payload is stated, and nothing is lacking
-    text_stated : ((cut : Cut) → Has b.cuts cut → Has (map cut_in cs) cut) → (stated_payload cs ≡ Ok text) × (lacks_some cs ≡ false)
+    text_stated : ((cut : Cut) → Has opening.cuts cut → Has (map cut_in own_certificates) cut) → (stated_payload own_certificates ≡ Ok text) × (lacks_some own_certificates ≡ false)
     text_stated each =
-        let told = all_pieces laws.within text x.s.config.frag b.cuts some.1 b.are_cuts laws.whole octet cs each_piece each in
-        let by = stated_in_turn-IsStatedBy cs in (
-          whole_payload cs (stated_in_turn cs) by told.0 text told.1 ∙ payload_ok text (x.s.payload, laws.read x.s.payload is.chain.setting.payload),
-          not_lacking cs (stated_in_turn cs) by told.0.1,
+        let told = all_pieces laws.within text x.s.config.frag opening.cuts some.1 opening.are_cuts laws.whole octet own_certificates each_piece each in
+        let by = stated_in_turn-IsStatedBy own_certificates in (
+          whole_payload own_certificates (stated_in_turn own_certificates) by told.0 text told.1 ∙ payload_ok text (x.s.payload, laws.read x.s.payload is.chain.setting.payload),
+          not_lacking own_certificates (stated_in_turn own_certificates) by told.0.1,
         )
 
-    all_covered : lacks_some cs ≡ false → cover cs (length text) ≡ true
-    all_covered e = covered cs (length text) (λ c h. (each_piece c h).total) e
+    all_covered : lacks_some own_certificates ≡ false → cover own_certificates (length text) ≡ true
+    all_covered e = covered own_certificates (length text) (λ c h. (each_piece c h).total) e
 
   -- ---- joined
 
   -- the payload is trusted, and all blocks are valid under it
-  judged_own : cover cs (length text) ≡ true → judged (says x) own (Ok text) ≡ Ok text
+  judged_own : cover own_certificates (length text) ≡ true → judged (says x) own_blocks (Ok text) ≡ Ok text
   judged_own all =
-      let valid = keeps_all (is_valid (says x) text) own (all_below (λ d. is_valid (says x) text d ≡ true) own (λ d h. (own_block d h).valid)) in
-      let accepted : is_accepted (says x) own text ≡ true = ap (λ ds. cover (certificates ds) (length text)) valid ∙ all in
-      ap (λ t. cond (not t) (Err states.Untrusted) (cond (is_accepted (says x) own text) (Ok text) (Err states.Unaccepted))) is.trusts
+      let valid = keeps_all (is_valid (says x) text) own_blocks (all_below (λ d. is_valid (says x) text d ≡ true) own_blocks (λ d h. (own_block d h).valid)) in
+      let accepted : is_accepted (says x) own_blocks text ≡ true = ap (λ ds. cover (certificates ds) (length text)) valid ∙ all in
+      ap (λ t. cond (not t) (Err states.Untrusted) (cond (is_accepted (says x) own_blocks text) (Ok text) (Err states.Unaccepted))) is.trusts
       ∙ ap (λ t. cond t (Ok text) (Err states.Unaccepted)) accepted
 
-  -- what certificate blocks there are, they come from the turn that began, so they aren't disputed
-  undisputed_with : (ds : List block.Certificate) → ds ≡ cs → is_disputed ds ≡ false
+  -- all certificate blocks come from the turn that began, so they aren't disputed
+  undisputed_with : (ds : List block.Certificate) → ds ≡ own_certificates → is_disputed ds ≡ false
   unfolding is_disputed
   undisputed_with [] e = refl
   undisputed_with (c ∷ ds) e =
       let f = from_beginning c (subst (λ l. Has l c) e (inl refl)) in
       ap is_disputed e ∙ own_undisputed f.turn f.is_beginning
 
-  incomplete : lacks_some cs ≡ true → joined (says x) own ≡ Err states.Incomplete
+  -- where an index is lacking, the session is incomplete, and not all of the payload arrived
+  incomplete : lacks_some own_certificates ≡ true → joined (says x) own_blocks ≡ Err states.Incomplete
   unfolding joined stated_payload
   incomplete lacks =
-      ap (λ t. judged (says x) own (cond t (Err states.Disputed) (cond (lacks_some cs) (Err states.Incomplete) (payload_or_malformed (joined_text cs))))) (undisputed_with cs refl)
-      ∙ ap (λ t. judged (says x) own (cond t (Err states.Incomplete) (payload_or_malformed (joined_text cs)))) lacks
+      ap (λ t. judged (says x) own_blocks (cond t (Err states.Disputed) (cond (lacks_some own_certificates) (Err states.Incomplete) (payload_or_malformed (joined_text own_certificates))))) (undisputed_with own_certificates refl)
+      ∙ ap (λ t. judged (says x) own_blocks (cond t (Err states.Incomplete) (payload_or_malformed (joined_text own_certificates)))) lacks
 
-  not_arrived : lacks_some cs ≡ true → ¬ HasPayload x.chain x.log
+  not_arrived : lacks_some own_certificates ≡ true → ¬ HasPayload x.chain x.log
   not_arrived lacks = λ p.
       let t = p.begun.turn in
       let begun : IsBeginning x.chain t = record {
@@ -241,16 +243,17 @@ module _ (laws : Laws) (x : Case) (is : IsCase x) where
   some_certificate [] e = absurd (true≢false e)
   some_certificate (c ∷ ds) e = (c, inl refl)
 
-  arrived : lacks_some cs ≡ false → HasPayload x.chain x.log × (joined (says x) own ≡ Ok text)
+  -- where none is, all of it arrived, and the session is joined
+  arrived : lacks_some own_certificates ≡ false → HasPayload x.chain x.log × (joined (says x) own_blocks ≡ Ok text)
   unfolding joined
   arrived e =
-      let w = some_certificate cs e in
+      let w = some_certificate own_certificates e in
       let f = from_beginning w.0 w.1 in
       let t = f.turn in
       let begun = f.is_beginning in
       let all = all_covered t begun e in
-      let each : (cut : Cut) → Has (b t begun).cuts cut → Has (map cut_in cs) cut
-      = λ cut h. (let p = piece_covered t begun all cut h in subst (Has (map cut_in cs)) p.2 (has-map cut_in cs p.0 p.1)) in (
+      let each : (cut : Cut) → Has (opening t begun).cuts cut → Has (map cut_in own_certificates) cut
+      = λ cut h. (let p = piece_covered t begun all cut h in subst (Has (map cut_in own_certificates)) p.2 (has-map cut_in own_certificates p.0 p.1)) in (
         record {
           begun = record {
             turns = begun.turns;
@@ -261,7 +264,7 @@ module _ (laws : Laws) (x : Case) (is : IsCase x) where
           };
           copies = messages_arrived t begun all;
         },
-        ap (λ r. judged (says x) own r) (text_stated t begun each).0 ∙ judged_own all,
+        ap (λ r. judged (says x) own_blocks r) (text_stated t begun each).0 ∙ judged_own all,
       )
 
 -- the session is joined under its originators' payload where all of it arrived, and else incomplete

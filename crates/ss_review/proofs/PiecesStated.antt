@@ -1,5 +1,5 @@
 -- What certificate blocks state together whose fragments are pieces of one text.
-use Rattle.std.proofs.Common.{◌≡◌, ◌⊎◌, inl, inr, ℕ, ◌+◌, ◌-◌, ◌<◌, ◌≤◌, Bool, true, false, ◌&&◌, not, List, [], ◌∷◌, ◌++◌, length, take, drop, map, fold, refl, sym, ap, ◌∙◌, subst, arith}
+use Rattle.std.proofs.Common.{◌≡◌, inl, inr, ℕ, ◌+◌, ◌-◌, ◌≤◌, true, false, ◌&&◌, List, [], ◌∷◌, ◌++◌, length, drop, map, fold, refl, sym, ap, ◌∙◌, subst, arith}
 use Rattle.std.specs.Prelude.{nat_le, nat_lt}
 use Rattle.std.specs.List.{range_with_len}
 use Rattle.std.proofs.lemmas.Bool.{leb-true, ltb-true, and_parts, not-false}
@@ -9,13 +9,13 @@ use Rattle.ss_payload.specs.declared.cuts.Cut.{Cut}
 use Rattle.ss_payload.specs.declared.joiner.JoinState.TheVariants.{Whole}
 use Rattle.ss_payload.specs.Cuts.{AreCuts, piece_of}
 use Rattle.ss_payload.specs.CuttingLaws.{LiesWithin, PiecesLieWithin, PiecesAreApart}
-use Rattle.ss_payload.specs.Fragments.{Fragment, stated_by, fragment_of}
+use Rattle.ss_payload.specs.Fragments.{Fragment, fragment_of}
 use Rattle.ss_payload.specs.Joining.{Stated, nothing_stated, with_fragment, IsDisputed, HasState, IsPayload}
 use Rattle.ss_payload.specs.JoiningLaws.{DisputesStay, PiecesAreWhole}
 use Rattle.ss_block.specs.Block as block
 use Rattle.ss_review.specs.Payloads.{has_index, cover, lacks_some}
 use Rattle.ss_review.specs.Stated.{stated_after, stated_in_turn}
-use Rattle.ss_review.proofs.Members.{Has, has_from_contains, contains_from_has, has-append_right, has-append_cases, has-map, from_has-map}
+use Rattle.ss_review.proofs.Members.{Has, has_from_contains, contains_from_has, has-append_right, has-append_cases, from_has-map}
 use Rattle.ss_review.proofs.Tests.{any_member, all_member, in_range}
 
 -- the fragment is a piece of the text, which is cut so
