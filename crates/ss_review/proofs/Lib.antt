@@ -62,3 +62,8 @@ pub mod CountsWithin
 pub mod OwnNumbers
 pub mod DifferentPairs
 pub mod AnnouncedNumbers
+pub mod Paired
+pub mod PiecesStated
+pub mod Beginnings
+pub mod OwnPayload
+pub mod JoinedByFragments

@@ -46,7 +46,7 @@ not_spoilt text (readings.Certificate b) said e n = cc
 not_spoilt text (readings.Spoilt cause) said e n = unsaid said e
 
 -- a text that says something is a block
-noted_block : (text : List ℕ) (r : Reading) (said : Said) → said_in r ≡ Some said → noted text r ≡ Block text
+pub noted_block : (text : List ℕ) (r : Reading) (said : Said) → said_in r ≡ Some said → noted text r ≡ Block text
 noted_block text readings.Plain said e = absurd (unsaid said e)
 noted_block text (readings.Unparsed part pos) said e = absurd (unsaid said e)
 noted_block text (readings.Signature b) said e = refl

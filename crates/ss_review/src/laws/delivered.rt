@@ -8,8 +8,11 @@ ghost use Rattle.ss_review.specs.Delivered.{
   SentBlocksAreStored,
 };
 
-use ss_origin::laws::chains::others_are_sent;
+use ss_origin::laws::chains::{begins_first, others_are_sent};
 use ss_origin::laws::groups::spris_are_small;
+use ss_payload::laws::cutting::{pieces_are_apart, pieces_lie_within};
+use ss_payload::laws::joining::{disputes_stay, pieces_are_whole};
+use ss_payload::laws::payloads::{texts_are_read, texts_have_octets};
 
 use crate::laws::deliveries::announced_by_blocks;
 
@@ -29,6 +32,13 @@ pub(crate) fn joins_own_payload()
 {
     own_blocks_are_sent();
     sent_blocks_are_stored();
+    begins_first();
+    pieces_lie_within();
+    pieces_are_apart();
+    disputes_stay();
+    pieces_are_whole();
+    texts_are_read();
+    texts_have_octets();
 }
 
 /// Each submitted message was given to one group.
