@@ -26,10 +26,10 @@ use Rattle.ss_review.proofs.Leftovers.{takes}
 use Rattle.ss_review.proofs.Members.{Has, has_from_contains, has-map, from_has-map, from_has-flat_map}
 use Rattle.ss_review.proofs.NormalCounts.{normal_counts}
 use Rattle.ss_review.proofs.OnePlaceOneKey.{assigned_cases, from_has-places_with, one_key}
+use Rattle.ss_review.proofs.OwnNumbers.{grouping_of}
 use Rattle.ss_review.proofs.PlacesRise.{normals_rise}
 use Rattle.ss_review.proofs.Sums.{sum_by-same}
 use Rattle.ss_review.proofs.Tests.{from_in_range}
-use Rattle.ss_review.proofs.WholeNumbers.{grouping_fits}
 
 -- ---- all numbers
 
@@ -127,5 +127,5 @@ module _ (x : Case) where
 pub messages_are_listed : MessagesAreStored → NumbersAreAnnounced → NumbersAreListed → MessagesAreInGroups → SprisAreSmall → MessagesAreListed
 messages_are_listed stored numbers listed in_groups spris x w m c =
     listed_in x 192 w stored listed in_groups
-    (λ n. spris x.s.config.grouping n (grouping_fits x.s.config w.case.chain.setting.fit.config))
+    (λ n. spris x.s.config.grouping n (grouping_of x.s.config w.case.chain.setting.fit.config))
     (numbers x w) m (has_from_contains (normals_in x) m c)

@@ -1,12 +1,9 @@
 -- Where everything that was sent is in the log, and nothing else: each number is announced, and no group has a hole.
-use Rattle.std.proofs.Common.{◌≡◌, ◌+◌, ◌-◌, ◌<◌, true, length, refl, sym, ◌∙◌, subst, arith}
+use Rattle.std.proofs.Common.{◌≡◌, ◌+◌, ◌-◌, ◌<◌, length, refl, sym, ◌∙◌, subst, arith}
 use Rattle.std.specs.Prelude.{Contains}
-use Rattle.std.proofs.lemmas.Bool.{and_parts}
 use Rattle.std.proofs.lemmas.Option.{slice_get_within}
-use Rattle.ss_origin.specs.declared.config.Config.{Config}
-use Rattle.ss_origin.specs.Groups.{group_of, is_grouping}
+use Rattle.ss_origin.specs.Groups.{group_of}
 use Rattle.ss_origin.specs.GroupLaws.{SprisAreSmall}
-use Rattle.ss_origin.specs.Configs.{is_config}
 use Rattle.ss_origin.specs.Calls.{spri_in}
 use Rattle.ss_origin.specs.Chain.{given_to}
 use Rattle.ss_review.specs.Notes.{notes}
@@ -20,6 +17,7 @@ use Rattle.ss_review.proofs.Announcements.{announced_key, has-announced_key}
 use Rattle.ss_review.proofs.Given.{is_given}
 use Rattle.ss_review.proofs.Keyed.{has-slice_get}
 use Rattle.ss_review.proofs.Members.{Has, has_from_contains, contains_from_has}
+use Rattle.ss_review.proofs.OwnNumbers.{grouping_of}
 
 pub numbers_are_announced : PayloadsArrive → JoinedByFragments → AnnouncedByBlocks → NumbersHaveBlocks → NumbersAreAnnounced
 numbers_are_announced arrive joined announced have x w spri number small some most =
@@ -32,11 +30,6 @@ own_key verified x w k h =
     let a = (announced_key (says x) (blocks (notes x.log)) k h).1 in
     sym a.session_is ∙ (verified x w a.message a.stored).0
 
--- the groups of a configuration
-pub grouping_fits : (c : Config) → is_config c ≡ true → is_grouping c.grouping ≡ true
-unfolding is_config
-grouping_fits c is = (and_parts _ (is_grouping c.grouping) is).1
-
 pub groups_have_no_hole : BlocksAreVerified → AnnouncedByBlocks → NumbersAreAnnounced → SprisAreSmall → GroupsHaveNoHole
 groups_have_no_hole verified announced numbers spris x w s g first last hole =
     let behind : Key = record { session = s; group = g; number = last + 1 } in
@@ -46,7 +39,7 @@ groups_have_no_hole verified announced numbers spris x w s g first last hole =
     let given = given_to x.s.config g.spri x.chain in
     let within : last + 1 - 1 < length given = slice_get_within given (last + 1 - 1) its.message its.given in
     let of_group : spri_in x.s.config.grouping its.message ≡ g.spri = (is_given x.s.config g.spri x.chain its.message (has-slice_get given (last + 1 - 1) its.message its.given)).1 in
-    let small : g.spri < 192 = omega (arith, of_group, spris x.s.config.grouping its.message (grouping_fits x.s.config w.case.chain.setting.fit.config)) in
+    let small : g.spri < 192 = omega (arith, of_group, spris x.s.config.grouping its.message (grouping_of x.s.config w.case.chain.setting.fit.config)) in
     let there : Contains (keys (rows_in x)) (record { session = own_session x.s; group = group_of x.s.config.grouping g.spri; number = first })
     = numbers x w g.spri first small hole.some_first (omega (arith, within, hole.some_number)) in
     let here : Has (keys (rows_in x)) (record { session = s; group = g; number = first })

@@ -8,13 +8,12 @@ ghost use Rattle.ss_review.specs.Delivered.{
   SentBlocksAreStored,
 };
 
+use crate::laws::deliveries::announced_by_blocks;
 use ss_origin::laws::chains::{begins_first, others_are_sent};
 use ss_origin::laws::groups::spris_are_small;
 use ss_payload::laws::cutting::{pieces_are_apart, pieces_lie_within};
 use ss_payload::laws::joining::{disputes_stay, pieces_are_whole};
 use ss_payload::laws::payloads::{texts_are_read, texts_have_octets};
-
-use crate::laws::deliveries::announced_by_blocks;
 
 /// Each stored block of the session is one that the originators sent, and its signature is valid.
 pub(crate) fn own_blocks_are_sent()

@@ -9,8 +9,6 @@ ghost use Rattle.ss_review.specs.DeliveryLaws.{
   WholeDeliveriesAreClean,
 };
 
-use ss_origin::laws::chains::sent_blocks_are_numbered;
-
 use crate::laws::delivered::{
     joins_own_payload, own_blocks_are_sent, ranks_are_below_counts, sent_blocks_are_stored,
 };
@@ -19,6 +17,7 @@ use crate::laws::whole::{
     blocks_are_verified, groups_have_no_hole, messages_are_listed, nothing_is_spoilt,
     numbers_are_listed, payloads_arrive,
 };
+use ss_origin::laws::chains::sent_blocks_are_numbered;
 
 /// No message that was sent is spoilt, and no number of the session is disputed.
 pub fn nothing_is_disputed()
