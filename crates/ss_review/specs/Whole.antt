@@ -45,17 +45,22 @@ MessagesAreStored = (x : Case) → IsWhole x → (test : List ℕ → Bool)
 
 -- each number of a message is announced
 abbrev pub NumbersAreAnnounced : Type 0
-NumbersAreAnnounced = (x : Case) → IsWhole x → (spri number : ℕ) → spri < 192 → 1 ≤ number → number ≤ length (given_to x.s.config spri x.chain)
-    → Contains (keys (rows_in x)) (record { session = own_session x.s; group = group_of x.s.config.grouping spri; number = number })
+NumbersAreAnnounced = (x : Case) → IsWhole x
+    → (spri number : ℕ) → spri < 192 → 1 ≤ number → number ≤ length (given_to x.s.config spri x.chain)
+    → let group = group_of x.s.config.grouping spri in
+    Contains (keys (rows_in x)) (record { session = own_session x.s; group = group; number = number })
 
 abbrev pub GroupsHaveNoHole : Type 0
 GroupsHaveNoHole = (x : Case) → IsWhole x → (s : Session) (g : Group) (first last : ℕ)
-    → ¬ IsHole (λ n. IsAnnounced (says x) (blocks (notes x.log)) (record { session = s; group = g; number = n })) first last
+    → let is_announced = λ (n : ℕ). IsAnnounced (says x) (blocks (notes x.log)) (record { session = s; group = g; number = n }) in
+    ¬ IsHole is_announced first last
 
 -- each announced number has a message
 abbrev pub NumbersAreListed : Type 0
-NumbersAreListed = (x : Case) → IsWhole x → (k : Key) → Contains (keys (rows_in x)) k → is_listed (entry_of (normals_in x) (rows_in x) k) ≡ true
+NumbersAreListed = (x : Case) → IsWhole x → (k : Key) → Contains (keys (rows_in x)) k
+    → is_listed (entry_of (normals_in x) (rows_in x) k) ≡ true
 
 -- and each message without a block a number
 abbrev pub MessagesAreListed : Type 0
-MessagesAreListed = (x : Case) → IsWhole x → (m : NormalMessage) → Contains (normals_in x) m → is_taken (normals_in x) (rows_in x) m.place ≡ true
+MessagesAreListed = (x : Case) → IsWhole x → (m : NormalMessage) → Contains (normals_in x) m
+    → is_taken (normals_in x) (rows_in x) m.place ≡ true
