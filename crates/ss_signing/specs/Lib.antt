@@ -1,0 +1,4 @@
+pub mod Accepted
+pub mod Wants
+pub mod Run
+pub mod Jobs
