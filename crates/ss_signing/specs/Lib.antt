@@ -2,3 +2,4 @@ pub mod Accepted
 pub mod Wants
 pub mod Run
 pub mod Jobs
+pub mod Sending

@@ -16,5 +16,5 @@ unfoldable pub want_of : List ℕ → List ℕ
 want_of message = line_if_signed (signed message)
 
 -- the whole text
-unfoldable pub want_lines : List (List ℕ) → List ℕ
+abbrev pub want_lines : List (List ℕ) → List ℕ
 want_lines messages = flat_map want_of messages

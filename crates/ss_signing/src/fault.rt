@@ -1,7 +1,9 @@
 //! Why a log was neither planned nor signed.
 ghost use Rattle.std.specs.Prelude.{◌≡◌};
 ghost use Rattle.ss_signing.specs.declared.fault.SignFault.TheVariants.{Run};
+ghost use Rattle.ss_report.specs.declared.fault.RunFault.TheVariants.{Memory};
 
+use ss_message::NoMemory;
 use ss_origin::OriginFault;
 use ss_report::RunFault;
 use std::error::Error;
@@ -41,6 +43,14 @@ impl fmt::Display for SignFault {
 }
 
 impl Error for SignFault {}
+
+impl From<NoMemory> for SignFault {
+    ghost from_gives = { λ _ e. e ≡ Run Memory };
+
+    fn from(_e: NoMemory) -> SignFault {
+        SignFault::Run(RunFault::Memory)
+    }
+}
 
 impl From<RunFault> for SignFault {
     ghost from_gives = { λ f e. e ≡ Run f };

@@ -2,8 +2,13 @@
 //! frames, or what has to be signed of it as lines.
 #![tactic(auto)]
 
+mod blank;
+mod calls;
 mod fault;
+mod log;
+mod output;
 mod plan;
+mod send;
 mod sign;
 
 pub use fault::SignFault;
