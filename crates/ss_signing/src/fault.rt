@@ -22,8 +22,8 @@ pub enum SignFault {
     Origin {
         /// Why.
         fault: OriginFault,
-        /// The place in the log of the message that was refused, counted from 0; none where the originator wasn't made,
-        /// and for its first and its last block messages.
+        /// The place in the log of the message that was refused, counted from 0; none where the originator wasn't
+        /// made, and for its first and its last block messages.
         place: Option<u32>,
     },
 }

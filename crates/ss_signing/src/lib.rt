@@ -1,5 +1,5 @@
-//! The runs that sign a log: its messages are read to their end and given to an originator, and what it emits is written as
-//! frames, or what has to be signed of it as lines.
+//! The runs that sign a log: its messages are read to their end and given to an originator, and what it emits is
+//! written as frames, or what has to be signed of it as lines.
 #![tactic(auto)]
 
 mod blank;
