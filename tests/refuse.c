@@ -1,5 +1,5 @@
-// A library that is loaded in front of a program: it refuses the allocation whose number, from 1, the variable REFUSED has,
-// and writes behind the program's end how many there were. tests/memory.sh compiles it.
+// A library that is loaded in front of a program: it refuses the allocation whose number, from 1, the variable REFUSED
+// has, and writes behind the program's end how many there were. tests/memory.sh compiles it.
 #define _GNU_SOURCE
 #include <dlfcn.h>
 #include <errno.h>

@@ -12,7 +12,7 @@ use ss_message::NoMemory;
 use std::alloc::Global;
 use std::marker::Model;
 
-/// How many hashes can be pending in a group at most: one less than a block has.
+// How many hashes can be pending in a group at most: one more fills the largest block.
 const MOST_PENDING: usize = 98;
 
 /// What is kept of a group. Contracts see the same. There is room for at most twice as many hashes as are pending.
@@ -54,7 +54,7 @@ fn number_in(numbers: &[NextNumber], spri: u8) -> u64
     1
 }
 
-// Makes room for one hash more. Room is doubled, so that a group's hashes are moved a few times and not at each message.
+// Makes room for one hash more. Room is doubled, so that a group's hashes are moved a few times and not at each one.
 fn make_room(pending: &mut Vec<Hash>) -> Result<(), NoMemory>
     requires few { vec_len pending.old < 98 }
     requires room { IsRoom (vec_capacity pending.old) (vec_len pending.old) }
