@@ -9,7 +9,7 @@ ghost use Rattle.ssign.specs.SigningOptions.{AreVersions, Kept};
 ghost use Rattle.ssign.specs.CommandLine.{FlagIs, HasNumber, IsLocalApp, IsNoCommand, limits_with, name_of, text_of, with_limits};
 
 use crate::signing::Signing;
-use crate::signing_options::{VERSIONS, with_signing_options};
+use crate::signing_options::{versions, with_signing_options};
 use crate::task::Task;
 use clap::{Arg, ArgAction, ArgMatches, Command};
 use ss_frame::Limits;
@@ -33,7 +33,7 @@ pub enum Order {
 pub fn command<'a>(alloc: Global) -> Result<Command<'a>, AllocError>
     ensures { IfOk result (λ c. (versions : Kept) × AreVersions versions × (app_of c ≡ ssign_app versions)) }
 {
-    let versions: &[&str] = &VERSIONS;
+    let versions = versions();
     bare(alloc)
         .subcommand(review(alloc)?)?
         .subcommand(questions(alloc)?)?

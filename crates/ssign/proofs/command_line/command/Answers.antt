@@ -10,4 +10,4 @@ returns c =
     let four = with_command c.in_ok-subcommand-4.ensures three c.in_ok-inspect.ensures in
     let five = with_command c.in_ok-subcommand-5.ensures four c.in_ok-plan.ensures in
     let six = with_command c.in_ok-subcommand-6.ensures five c.in_ok-sign.ensures in
-    IfOk-weaker c.subcommand-7.result _ _ (λ r adds. (c.args.versions, ?, (with_command adds six c.in_ok-explain.ensures).shape)) c.subcommand-7.ensures
+    IfOk-weaker c.subcommand-7.result _ _ (λ r adds. (c.versions-versions.result, c.versions-versions.ensures, (with_command adds six c.in_ok-explain.ensures).shape)) c.subcommand-7.ensures
