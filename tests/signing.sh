@@ -91,7 +91,7 @@ run sign --answers "$seals" "${given[@]}" "${header[@]}" <"$log"
 expect 'sign: a message that is none of RFC 5424' 2 '' 'ssign: O2 0'
 run sign "${given[@]}" "${header[@]}" <"$log"
 expect 'sign: the certificate blocks come before the messages' 2 '' 'ssign: O6'
-{ frame '<13>1 - - - - - - a'; frame '<13>1 - - - - - - [ssign]'; } >"$log"
+{ frame '<13>1 - - - - - - a'; frame '<13>1 - - - - - [ssign]'; } >"$log"
 run plan "${given[@]}" <"$log"
 expect 'plan: a block' 2 '' 'ssign: O3 1'
 run sign --answers "$seals" "${given[@]}" "${header[@]}" <"$log"
@@ -156,9 +156,9 @@ for text in '' One ones 190 1,1,191 2,1,191 191,191 192 1,192 1,,191 ,191 191, 0
     refused "--groups '$text'" 'ssign: P2' "${given[@]}" --groups "$text"
 done
 for option in host:255 app:48 procid:128 msgid:32; do
-    name=${option%:*} most=${option#*:}
+    field=${option%:*} most=${option#*:}
     for text in '' 'a b' $'a\tb' $'\xc3\xa9' "$(long $((most + 1)))"; do
-        refused "--$name '${text:0:40}'" 'ssign: P2' "${given[@]}" "--$name" "$text"
+        refused "--$field '${text:0:40}'" 'ssign: P2' "${given[@]}" "--$field" "$text"
     done
 done
 
@@ -202,7 +202,7 @@ for command in plan sign; do
     run "$command" --lines "${answers[@]}" "${given[@]}" <"$scratch/lines"
     wrote "$command: --lines" "$scratch/wanted"
 done
-run plan "${given[@]}" --max-len 29 --max-messages 120 <"$log"
+run plan "${given[@]}" --max-len 30 --max-messages 120 <"$log"
 wrote 'as many messages and octets as may be' "$scratch/nine"
 
 # ---- seals
