@@ -1,6 +1,7 @@
 #!/usr/bin/env bash
-# `plan` and `sign`: what they write is what the originator of tests/signing_model.py does, for each option at both ends of
-# its range; what they refuse, and in which order; and that a log that was planned, sealed and signed is reviewed as clean.
+# `plan` and `sign`: what they write is what the originator of tests/signing_model.py does, for each option at both ends
+# of its range; what they refuse, and in which order; and that a log that was planned, sealed and signed is reviewed as
+# clean.
 # shellcheck source=tests/lib.sh
 . "$(dirname -- "$0")/lib.sh"
 need_program
@@ -29,12 +30,15 @@ wrote() {
     local fault=''
     [[ $status == 0 ]] || fault+="    status $status"$'\n'
     [[ ! -s $scratch/err ]] || fault+="    stderr: $(head -c 300 "$scratch/err")"$'\n'
-    cmp -s -- "$2" "$scratch/out" || fault+="    stdout: $(head -c 300 "$scratch/out" | cat -v)"$'\n'"    and not: $(head -c 300 "$2" | cat -v)"$'\n'
+    if ! cmp -s -- "$2" "$scratch/out"; then
+        fault+="    stdout: $(head -c 300 "$scratch/out" | cat -v)"$'\n'
+        fault+="    and not: $(head -c 300 "$2" | cat -v)"$'\n'
+    fi
     tell "$1" "$fault"
 }
 
-# both WHAT OPTION..: a plan and a signed log of the file `log`, as the model has them. The plan's lines, with a signature
-# each, are the answers of `sign`.
+# both WHAT OPTION..: a plan and a signed log of the file `log`, as the model has them. The plan's lines, with a
+# signature each, are the answers of `sign`.
 both() {
     local what=$1
     shift
@@ -61,11 +65,8 @@ refused() {
 : >"$log"
 printf 'seal %s AAAA\n' "$octets" >"$seals"
 run sign --answers "$seals" "${given[@]}" "${header[@]}" <"$log"
-expect_block() {
-    [[ $status == 0 && $(<"$scratch/out") == "$block" && ! -s $scratch/err ]] && fault='' || fault="    $(head -c 300 "$scratch/out" "$scratch/err")"
-    tell "$1" "$fault"
-}
-expect_block 'an empty log is signed'
+printf %s "$block" >"$scratch/block"
+wrote 'an empty log is signed' "$scratch/block"
 run plan "${given[@]}" "${header[@]}" <"$log"
 expect 'an empty log is planned' 0 "want $octets" ''
 run sign "${given[@]}" "${header[@]}" <"$log"
@@ -121,10 +122,10 @@ mistaken() {
 mistaken 'no --payload' --rsid 1
 mistaken 'no --rsid' --payload "$payload"
 mistaken '--payload without a value' --rsid 1 --payload
-for option in '--rsid 10000000000' '--rsid x' '--rsid 1 --pri 192' '--rsid 1 --count 0' '--rsid 1 --count 100' '--rsid 1 --frag 0' \
-    '--rsid 1 --frag 10000' '--rsid 1 --copies 0' '--rsid 1 --copies 10' '--rsid 1 --ver 0112' '--rsid 1 --ver 111' \
-    '--rsid 1 --max-len 0' '--rsid 1 --max-len 1048577' '--rsid 1 --max-messages 0' '--rsid 1 --max-messages 10000001' \
-    '--rsid 1 --lines=1' '--rsid 1 --group one' '--rsid 1 log'; do
+for option in '--rsid 10000000000' '--rsid x' '--rsid 1 --pri 192' '--rsid 1 --count 0' '--rsid 1 --count 100' \
+    '--rsid 1 --frag 0' '--rsid 1 --frag 10000' '--rsid 1 --copies 0' '--rsid 1 --copies 10' '--rsid 1 --ver 0112' \
+    '--rsid 1 --ver 111' '--rsid 1 --max-len 0' '--rsid 1 --max-len 1048577' '--rsid 1 --max-messages 0' \
+    '--rsid 1 --max-messages 10000001' '--rsid 1 --lines=1' '--rsid 1 --group one' '--rsid 1 log'; do
     # shellcheck disable=SC2086 # options and their values
     mistaken "$option" --payload "$payload" $option
 done
@@ -133,7 +134,8 @@ expect 'a plan has no answers' 2 '' 'SOME TEXT'
 for command in plan sign; do
     run "$command" --help </dev/null
     expect "$command --help" 0 'SOME TEXT' ''
-    for option in payload rsid stamp pri host app procid msgid ver groups count frag copies lines max-len max-messages; do
+    for option in payload rsid stamp pri host app procid msgid ver groups count frag copies \
+        lines max-len max-messages; do
         holds "$command --help has --$option" grep -q -- "--$option " "$scratch/out"
     done
 done
@@ -144,15 +146,16 @@ long() {
     printf 'a%.0s' $(seq "$1")
 }
 time=2009-05-03T14:00:39Z
-for text in x '' "$payload " "$payload=" "$time K" "$time K " "$time K S0V" "$time N S0VZ" "$time N  " "$time X S0VZ" "$time  K S0VZ" \
-    '2009-05-03T14:00:60Z K S0VZ' "${payload,,}"; do
+for text in x '' "$payload " "$payload=" "$time K" "$time K " "$time K S0V" "$time N S0VZ" "$time N  " \
+    "$time X S0VZ" "$time  K S0VZ" '2009-05-03T14:00:60Z K S0VZ' "${payload,,}"; do
     refused "--payload '$text'" 'ssign: P2' --rsid 1 --payload "$text"
 done
-for text in x '' 2009-05-03 2009-05-03t14:00:39Z 2009-02-29T14:00:39Z 2009-05-03T14:00:39.1234567Z 2009-05-03T14:00:39; do
+for text in x '' 2009-05-03 2009-05-03t14:00:39Z 2009-02-29T14:00:39Z 2009-05-03T14:00:39.1234567Z \
+    2009-05-03T14:00:39; do
     refused "--stamp '$text'" 'ssign: P2' "${given[@]}" --stamp "$text"
 done
-for text in '' One ones 190 1,1,191 2,1,191 191,191 192 1,192 1,,191 ,191 191, 01,191 1,0191 +1,191 ' 1,191' '1, 191' '1 191' one,191 191,one \
-    256,191 1,447 18446744073709551616,191; do
+for text in '' One ones 190 1,1,191 2,1,191 191,191 192 1,192 1,,191 ,191 191, 01,191 1,0191 +1,191 ' 1,191' \
+    '1, 191' '1 191' one,191 191,one 256,191 1,447 18446744073709551616,191; do
     refused "--groups '$text'" 'ssign: P2' "${given[@]}" --groups "$text"
 done
 for option in host:255 app:48 procid:128 msgid:32; do
@@ -171,11 +174,13 @@ for option in '--rsid 0' '--rsid 9999999999'; do
     # shellcheck disable=SC2086 # an option and its value
     both "$option" --payload "$payload" $option
 done
-for option in '--stamp -' '--stamp 0000-01-01T00:00:00Z' '--stamp 9999-12-31T23:59:59.999999-23:59' '--pri 0' '--pri 191' \
-    '--host -' '--app -' '--procid -' '--msgid -' '--host h' '--app s' '--procid p' '--msgid m' "--host $(long 255)" "--app $(long 48)" \
-    "--procid $(long 128)" "--msgid $(long 32)" '--ver 0111' '--ver 0121' '--groups one' '--groups pri' '--groups 191' '--groups 0,191' \
-    '--groups 9,10,99,100,190,191' "--groups $(seq -s , 0 191)" '--count 1' '--count 99' '--frag 1' '--frag 9999' '--copies 1' '--copies 9' \
-    '--host !~ --app " --procid ] --msgid =' '--groups pri --count 2 --copies 2 --pri 13 --ver 0121' '--groups 100,191 --count 7 --frag 20'; do
+for option in '--stamp -' '--stamp 0000-01-01T00:00:00Z' '--stamp 9999-12-31T23:59:59.999999-23:59' '--pri 0' \
+    '--pri 191' '--host -' '--app -' '--procid -' '--msgid -' '--host h' '--app s' '--procid p' '--msgid m' \
+    "--host $(long 255)" "--app $(long 48)" "--procid $(long 128)" "--msgid $(long 32)" '--ver 0111' '--ver 0121' \
+    '--groups one' '--groups pri' '--groups 191' '--groups 0,191' '--groups 9,10,99,100,190,191' \
+    "--groups $(seq -s , 0 191)" '--count 1' '--count 99' '--frag 1' '--frag 9999' '--copies 1' '--copies 9' \
+    '--host !~ --app " --procid ] --msgid =' '--groups pri --count 2 --copies 2 --pri 13 --ver 0121' \
+    '--groups 100,191 --count 7 --frag 20'; do
     # shellcheck disable=SC2086 # an option and its value
     both "$option" "${given[@]}" $option
 done
