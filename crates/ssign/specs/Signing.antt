@@ -1,5 +1,5 @@
 -- What is made of a log that is to be signed, and who seals.
-use Rattle.std.specs.Prelude.{◌≡◌, ℕ, Bool, true, List, Option, Some, None, Ok, Err}
+use Rattle.std.specs.Prelude.{◌≡◌, true, List, Option, Some, None, Ok, Err}
 use Rattle.ss_origin.specs.declared.sealer.SealFault.TheVariants.{Refused, Memory}
 use Rattle.ss_origin.specs.Setting.{Setting}
 use Rattle.ss_origin.specs.Sealing.{Answers}

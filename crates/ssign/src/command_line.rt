@@ -89,10 +89,7 @@ fn inspect<'a>(alloc: Global) -> Result<Command<'a>, AllocError>
     limited(alloc, over_log(alloc, "inspect", about, usage))
 }
 
-fn plan<'a>(
-    alloc: Global,
-    versions: &'a [&'a str],
-) -> Result<Command<'a>, AllocError>
+fn plan<'a>(alloc: Global, versions: &'a [&'a str]) -> Result<Command<'a>, AllocError>
     ensures { IfOk result (λ c. IsLocalApp c (plan_app versions.entry)) }
 {
     let about = "Writes what a signer has to sign for a log, as a line want OCTETS for each block";
@@ -101,10 +98,7 @@ fn plan<'a>(
     limited(alloc, with_signing_options(alloc, plan, versions)?)
 }
 
-fn sign<'a>(
-    alloc: Global,
-    versions: &'a [&'a str],
-) -> Result<Command<'a>, AllocError>
+fn sign<'a>(alloc: Global, versions: &'a [&'a str]) -> Result<Command<'a>, AllocError>
     ensures { IfOk result (λ c. IsLocalApp c (sign_app versions.entry)) }
 {
     let about = "Writes a log with the blocks that sign it, as octet-counted frames";

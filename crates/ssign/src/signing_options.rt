@@ -34,12 +34,12 @@ pub fn with_signing_options<'a>(
 fn with_key_options<'a>(alloc: Global, command: Command<'a>) -> Result<Command<'a>, AllocError>
     ensures { (app : App) → IsLocalApp command.entry app → IfOk result (λ c. IsLocalApp c (with_key_options app)) }
 {
-    let payload = text(alloc, "payload", "TEXT")
-        .required(true)
-        .help("The payload block: TIMESTAMP, SP, type of key, SP, key in base64");
-    let rsid = number(alloc, "rsid", 0, 9_999_999_999)
-        .required(true)
-        .help("The reboot session, 0 to 9999999999: greater at each use of the key, or always 0");
+    let payload = text(alloc, "payload", "TEXT").required(true).help(
+        "The payload block: TIMESTAMP, SP, type of key, SP, key in base64",
+    );
+    let rsid = number(alloc, "rsid", 0, 9_999_999_999).required(true).help(
+        "The reboot session, 0 to 9999999999: greater at each use of the key, or always 0",
+    );
     let stamp = text(alloc, "stamp", "TEXT")
         .default_value("-")
         .help("TIMESTAMP of all block messages");
@@ -83,18 +83,18 @@ fn with_block_options<'a>(
         .value_parser(versions)
         .default_value("0111")
         .help("The version of the blocks: hashes by SHA-1 (0111) or SHA-256 (0121)");
-    let groups = text(alloc, "groups", "TEXT")
-        .default_value("one")
-        .help("The groups of messages: one, pri (one for each PRI), or the highest PRI of each, as 63,127,191");
-    let count = number(alloc, "count", 1, 99)
-        .default_value("10")
-        .help("The most messages that a signature block announces, 1 to 99");
-    let frag = number(alloc, "frag", 1, 9_999)
-        .default_value("500")
-        .help("The most octets of the payload in a certificate block, 1 to 9999");
-    let copies = number(alloc, "copies", 1, 9)
-        .default_value("1")
-        .help("How often each block message is written, 1 to 9; a plan has each once");
+    let groups = text(alloc, "groups", "TEXT").default_value("one").help(
+        "The groups of messages: one, pri (one for each PRI), or the highest PRI of each, as 63,127,191",
+    );
+    let count = number(alloc, "count", 1, 99).default_value("10").help(
+        "The most messages that a signature block announces, 1 to 99",
+    );
+    let frag = number(alloc, "frag", 1, 9_999).default_value("500").help(
+        "The most octets of the payload in a certificate block, 1 to 9999",
+    );
+    let copies = number(alloc, "copies", 1, 9).default_value("1").help(
+        "How often each block message is written, 1 to 9; a plan has each once",
+    );
     command
         .arg(version)?
         .arg(groups)?
