@@ -142,7 +142,23 @@ no 'a number that breaks off' "yes $payload $octets $(in_base64 "${numbers:0:-2}
 no 'numbers that are 0' "yes $payload $octets $(in_base64 00000000)" "yes $payload $octets $(in_base64 "$(mpi "$r")0000")"
 no 'a long number' "yes $payload $octets $(in_base64 "$(mpi "$r")$(mpi "$(printf 'ff%.0s' {1..999})")")"
 no 'a number with more bits than it says' "yes $payload $octets $(in_base64 "$(mpi "$r")0099$(printf 'ff%.0s' {1..20})")"
-no 'a signature of 100,000 octets' "yes $payload $octets $(head -c 100000 /dev/zero | base64 -w 0)"
+# what is long is a million octets here, which takes time by its length and not by the square of it
+long() {
+    yes "$1" | tr -d '\n' | head -c 1000000
+}
+no_long() {
+    do_script answer.sh keys/public-key.pem
+    expect "$1" 0 '' ''
+}
+no_long 'a long signature' < <(printf 'yes %s %s ' "$payload" "$octets" && head -c 999999 /dev/zero | base64 -w 0)
+behind() {
+    printf 'yes %s ' "$payload"
+    cat <(base64 -d <<<"$octets") <(printf ' ') - | base64 -w 0
+    printf ' %s\n' "$signature"
+}
+no_long 'a long MSG' < <(long '][' | behind)
+no_long 'a MSG of octets 0' < <(head -c 1000000 /dev/zero | behind)
+no_long 'a long payload' < <(printf 'trust %s\n' "$(cat <(printf -- '- K ') <(head -c 999999 /dev/zero | base64 -w 0) | base64 -w 0)")
 spelled=$(printf '00a0%040s00a0%040s' "$r" "$s" | tr ' ' 0)
 do_script answer.sh keys/public-key.pem <<<"yes $payload $octets $(in_base64 "$spelled")"
 expect 'numbers that are said to have 160 bits, as in RFC 5848' 0 "yes $payload $octets $(in_base64 "$spelled")" ''
@@ -168,7 +184,6 @@ no_payload 'the key as openssl has it' "$stamp K $(openssl pkey -pubin -in keys/
 no_payload 'more than the key' "$stamp K $(base64 -d <<<"$blob" | cat - <(hex 000101) | base64 -w 0)"
 no_payload 'less than the key' "$stamp K $(base64 -d <<<"$blob" | head -c -1 | base64 -w 0)"
 no_payload 'no payload' "$stamp  K $blob" " $stated" "$stated " "$stated"$'\n'"- K $blob" "K $blob" "$blob"
-no_payload 'a long payload' "- K $(head -c 100000 /dev/zero | base64 -w 0)"
 for it in "- K $blob" "2009-05-03T14:00:39.519005+02:00 K $blob"; do
     do_script answer.sh keys/public-key.pem < <(payloads "$it")
     holds "the key with the time ${it%% *}" cmp out <(payloads "$it")
@@ -248,6 +263,8 @@ for line in '' 'trust' 'trust ' 'trust S0V' 'trust S0VZ ' ' trust S0VZ' 'trust  
     'yes S0VZ S0VZ' 'yes S0VZ S0VZ AAAA AAAA' 'yes S0VZ S0VZ AAA' 'seal S0VZ AAAA' 'want S0VZ'; do
     bad answer.sh keys/public-key.pem "'$line'" "$wrong" "$line"
 done
+refuses 'a long line of spaces' "line 1$wrong" answer.sh keys/public-key.pem < <(long ' ')
+refuses 'a long line that is no base64' "line 1$wrong" answer.sh keys/public-key.pem < <(printf 'trust '; long 'A'; echo '!')
 bad answer.sh keys/public-key.pem 'octets that are no block' ': the octets are no block of VER 0111 or 0121' "yes $payload S0VZ AAAA"
 
 # An openssl that can't do it, and none at all
@@ -265,7 +282,7 @@ PATH=$scratch/empty:$saved
 refuses 'an openssl that makes no key' 'openssl makes no DSA key of 1024 bits here' make-key.sh empty
 holds 'and why' grep -qx 'no DSA here' err
 rm empty/openssl
-for tool in bash dirname base64 od mktemp rm cat timeout date; do
+for tool in bash dirname base64 od tr mktemp rm cat timeout date; do
     ln -s -- "$(PATH=$saved command -v "$tool")" empty/
 done
 PATH=$scratch/empty
@@ -273,7 +290,7 @@ for script in make-key.sh seal.sh answer.sh; do
     timeout 9 "$scripts/$script" keys >out 2>err
     status=$?
     PATH=$saved
-    expect "$script without openssl" 2 '' "$script: there is no command openssl here: install it (base64, od and mktemp are coreutils)"
+    expect "$script without openssl" 2 '' "$script: there is no command openssl here: install it (all but openssl are of coreutils)"
     PATH=$scratch/empty
 done
 PATH=$saved

@@ -36,13 +36,15 @@ is_the_key() {
 }
 
 states_the_key() {
-    local pieces
+    local pieces blob
     ((${#1} <= longest_payload)) || return 1
     base64 -d <<<"$1" >"$room/payload" || fail "line $line_number: the payload is no base64"
     # one piece, since the text of a payload holds no octet 0
     mapfile -d '' -t pieces <"$room/payload"
-    [[ ${#pieces[@]} == 1 && ${pieces[0]} =~ ^[^\ ]+\ K\ ([A-Za-z0-9+/]+=*)$ ]] && is_base64 "${BASH_REMATCH[1]}" || return 1
-    from_base64 "${BASH_REMATCH[1]}"
+    [[ ${#pieces[@]} == 1 && ${pieces[0]} =~ ^[^\ ]+\ K\ ([A-Za-z0-9+/]+=*)$ ]] || return 1
+    blob=${BASH_REMATCH[1]}
+    is_base64 "$blob" || return 1
+    from_base64 "$blob"
     from_mpi "$octets" && [[ ${numbers[*]} == "${key[*]}" ]]
 }
 

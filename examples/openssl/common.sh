@@ -4,7 +4,8 @@
 # commands of coreutils.
 #
 # Numbers are hexadecimal digits here, two for each octet, without a leading octet of zeros. A function that makes
-# something leaves it in a variable, which its comment names, and starts no process for it.
+# something leaves it in a variable, which its comment names, and starts no process for it. A line may be long, so
+# nothing of one is cut off by a pattern (`${line#...}`), for which bash takes time by the square of the length.
 # shellcheck disable=SC2034
 set -u
 LC_ALL=C
@@ -23,8 +24,8 @@ fail_with_errors() {
 }
 
 ((BASH_VERSINFO[0] * 100 + BASH_VERSINFO[1] >= 404)) || fail "this bash is $BASH_VERSION; it has to be 4.4 or newer"
-for tool in openssl base64 od mktemp; do
-    command -v "$tool" >/dev/null || fail "there is no command $tool here: install it (base64, od and mktemp are coreutils)"
+for tool in openssl base64 od tr mktemp; do
+    command -v "$tool" >/dev/null || fail "there is no command $tool here: install it (all but openssl are of coreutils)"
 done
 room=$(mktemp -d) || fail 'mktemp can make no folder for passing files: look at TMPDIR'
 trap 'rm -rf -- "$room"' EXIT
@@ -53,8 +54,11 @@ to_base64() {
 
 # is_base64 TEXT
 is_base64() {
-    local text=${1%=}
-    [[ $1 && $((${#1} % 4)) == 0 && ${text%=} != *[!A-Za-z0-9+/]* ]]
+    local size=${#1} end
+    for ((end = size; end > size - 2 && end > 0; end--)); do
+        [[ ${1:end-1:1} == '=' ]] || break
+    done
+    [[ $size != 0 && $((size % 4)) == 0 && ! ${1:0:end} =~ [^A-Za-z0-9+/] ]]
 }
 
 # from_base64 TEXT: $octets are the octets that a text of base64 spells.
@@ -186,16 +190,30 @@ read_key() {
 # take_block TEXT: the file $room/block holds the octets of a block that a text of base64 spells, and $version is the VER
 # of the block; false where there is none.
 take_block() {
-    local pieces text
+    local front='' before='' text=$room/block pieces piece
     base64 -d <<<"$1" >"$room/block" || return 1
-    # an octet 0 isn't part of what is looked for, and no text of bash can hold it
-    mapfile -d '' -t pieces <"$room/block"
-    text=${pieces[*]}
-    # What stands in front is skipped, since HOSTNAME and APP-NAME could be spelled like the front of an element. Behind
-    # it nothing but an element begins so: in a value each `"` is escaped, and MSG stands behind the elements.
-    [[ $text =~ ^\<[0-9]+\>1(\ [^\ ]+){5}\ (\[.*)$ ]] || return 1
-    [[ "]${BASH_REMATCH[2]}" =~ ]\[(ssign|ssign-cert)\ VER=\"(0111|0121)\"\  ]] || return 1
-    version=${BASH_REMATCH[2]}
+    # no text of bash holds an octet 0, and none is part of what is looked for
+    if IFS= read -r -d '' piece <"$text"; then
+        tr '\0' ' ' <"$text" >"$room/text"
+        text=$room/text
+    fi
+    mapfile -d '[' -t pieces <"$text"
+    # Up to the first element stands the header, in which `[` may stand too, even a HOSTNAME and an APP-NAME that are
+    # spelled like the front of a block. Behind it nothing but an element begins so: in a value each `"` is escaped, and
+    # MSG stands behind the elements.
+    for piece in "${pieces[@]}"; do
+        if [[ $before == *']' ]]; then
+            [[ $piece =~ ^(ssign|ssign-cert)' VER="'(0111|0121)'" ' ]] && version=${BASH_REMATCH[2]} && return
+        elif [[ ! $before ]]; then
+            front+=$piece
+            ((${#front} <= 600)) || return 1
+            [[ $front =~ ^\<[0-9]+\>1(\ [^\ ]+){5}\ $ ]] && before=']'
+            front+='['
+            continue
+        fi
+        before=$piece
+    done
+    return 1
 }
 
 declare -A hash=([0111]=sha1 [0121]=sha256) hash_bits=([0111]=160 [0121]=256)

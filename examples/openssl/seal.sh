@@ -31,7 +31,7 @@ sign() {
 line_number=0
 while IFS= read -r line || [[ $line ]]; do
     line_number=$((line_number + 1))
-    wanted=${line#want }
+    wanted=${line:5}
     if [[ $line != 'want '* ]] || ! is_base64 "$wanted"; then
         fail "line $line_number is no line \`want OCTETS\` of ssign plan"
     fi
