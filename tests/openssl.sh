@@ -42,8 +42,12 @@ expect 'a key pair' 0 '' ''
 holds 'its files' cmp <(cd keys && ls) <(printf '%s\n' payload private-key.pem public-key.pem)
 holds 'the private key is for its owner alone' test "$(stat -c %a keys/private-key.pem)" = 600
 holds 'the payload' grep -Eqx '[0-9]{4}-[0-9]{2}-[0-9]{2}T[0-9]{2}:[0-9]{2}:[0-9]{2}Z K [A-Za-z0-9+/]+={0,2}' keys/payload
+holds 'it states the key' signatures payload keys/payload keys/public-key.pem
 do_script make-key.sh others 0121
 expect 'a key pair for 0121 alone' 0 '' ''
+holds 'its payload states the key' signatures payload others/payload others/public-key.pem
+holds 'the sizes of the first' test "$(signatures sizes keys/public-key.pem)" = '1024 160'
+holds 'the sizes of the second' test "$(signatures sizes others/public-key.pem)" = '2048 256'
 openssl genpkey -algorithm RSA -pkeyopt rsa_keygen_bits:1024 -out rsa.pem 2>/dev/null
 openssl pkey -in rsa.pem -pubout -out rsa-public.pem
 openssl pkey -in keys/private-key.pem -aes128 -passout pass:secret -out locked.pem
@@ -123,7 +127,10 @@ hex() {
 in_base64() {
     hex "$1" | base64 -w 0
 }
-read -r _ octets signature < <(head -n 1 seals)
+# a seal whose first number has no fewer bits than its octets could
+while read -r _ octets signature; do
+    [[ $(base64 -d <<<"$octets") == *0111* && $(base64 -d <<<"$signature" | od -An -N 2 -t x1) == ' 00 a0' ]] && break
+done <seals
 read -r _ octets_0121 signature_0121 < <(sed -n 2p seals)
 numbers=$(base64 -d <<<"$signature" | od -An -v -t x1 | tr -d ' \n')
 size=$((((16#${numbers:0:4} + 7) >> 3) << 1))
@@ -141,7 +148,7 @@ no 'three numbers' "yes $payload $octets $(in_base64 "$numbers$(mpi 01)")" "yes 
 no 'a number that breaks off' "yes $payload $octets $(in_base64 "${numbers:0:-2}")"
 no 'numbers that are 0' "yes $payload $octets $(in_base64 00000000)" "yes $payload $octets $(in_base64 "$(mpi "$r")0000")"
 no 'a long number' "yes $payload $octets $(in_base64 "$(mpi "$r")$(mpi "$(printf 'ff%.0s' {1..999})")")"
-no 'a number with more bits than it says' "yes $payload $octets $(in_base64 "$(mpi "$r")0099$(printf 'ff%.0s' {1..20})")"
+no 'a number with more bits than it says' "yes $payload $octets $(in_base64 "0099${numbers:4}")"
 # what is long is a million octets here, which takes time by its length and not by the square of it
 long() {
     yes "$1" | tr -d '\n' | head -c 1000000
@@ -179,6 +186,7 @@ no_payload() {
     expect "$1" 0 '' ''
 }
 no_payload 'another key' "$(<others/payload)"
+no_payload 'another key of the same p, q and g' "$stamp K $(signatures twin keys/public-key.pem)"
 no_payload 'another type of key' "$stamp C $blob" "$stamp U $blob" "$stamp P $blob" "$stamp N"
 no_payload 'the key as openssl has it' "$stamp K $(openssl pkey -pubin -in keys/public-key.pem -outform DER | base64 -w 0)"
 no_payload 'more than the key' "$stamp K $(base64 -d <<<"$blob" | cat - <(hex 000101) | base64 -w 0)"

@@ -5,6 +5,9 @@ tests/openssl.sh and tests/examples.sh compare the scripts of examples/openssl w
     signatures.py log FRAMES ANSWERS KEY   the blocks of the log are signed by the key in the file of PEM, their payload
                                            states it, and the answers are those of a checker that has it
     signatures.py seals WANTS SEALS KEY    the lines of SEALS are a valid signature for each line of WANTS
+    signatures.py payload PAYLOAD KEY      the file PAYLOAD states the key
+    signatures.py sizes KEY                prints how many bits p and q of the key have
+    signatures.py twin KEY                 prints the key blob of another key with the same p, q and g
     signatures.py rfc FOLDER               writes the two blocks that RFC 5848 shows (sections 4.2.9 and 5.3.2.9) as a log,
                                            FOLDER/log, and the key that the second one states, FOLDER/public-key.pem
 """
@@ -64,6 +67,10 @@ def numbers(octets):
         want(found[-1].bit_length() == bits, "a number hasn't the bits that it says")
         octets = octets[2 + size:]
     return found
+
+
+def spell(key):
+    return b"".join(it.bit_length().to_bytes(2, "big") + it.to_bytes((it.bit_length() + 7) // 8, "big") for it in key)
 
 
 # ---- keys as openssl has them: SubjectPublicKeyInfo (RFC 3279, section 2.3.2), in DER (X.690)
@@ -130,6 +137,28 @@ def is_signed(key, octets, signature):
     return pow(g, hashed * inverse % q, p) * pow(y, r * inverse % q, p) % p % q == r
 
 
+def states(payload, key):
+    """Whether a payload (RFC 5848, section 5.2.1) is of the type K and has this key."""
+    fields = payload.split(b" ")
+    return len(fields) == 3 and fields[1] == b"K" and numbers(unbase(fields[2])) == list(key)
+
+
+def check_payload(path, key_file):
+    with open(path, "rb") as file:
+        lines = file.read().split(b"\n")
+    want(lines[1:] == [b""] and states(lines[0], read_key(key_file)), "the payload doesn't state the key")
+
+
+def print_sizes(key_file):
+    p, q, _, _ = read_key(key_file)
+    print(p.bit_length(), q.bit_length())
+
+
+def print_twin(key_file):
+    p, q, g, y = read_key(key_file)
+    print(base64.b64encode(spell([p, q, g, y * g % p])).decode())
+
+
 def check_log(frames, answers, key_file):
     key = read_key(key_file)
     with open(frames, "rb") as file:
@@ -138,8 +167,7 @@ def check_log(frames, answers, key_file):
     asked = question_text(questions(Log(messages)))
     want(len(asked) > 1, "the log asks nothing")
     for word, payload, *rest in (it.encode().split(b" ") for it in asked):
-        stated = unbase(payload).split(b" ")
-        want(stated[1] == b"K" and numbers(unbase(stated[2])) == list(key), "a payload doesn't state the key")
+        want(states(unbase(payload), key), "a payload doesn't state the key")
         want(not rest or is_signed(key, *map(unbase, rest)), "a signature isn't valid")
     with open(answers) as file:
         want(file.read().splitlines() == asked, "the answers aren't all that is asked")
@@ -165,4 +193,7 @@ def write_rfc(folder):
 
 
 if __name__ == "__main__":
-    {"log": check_log, "seals": check_seals, "rfc": write_rfc}[sys.argv[1]](*sys.argv[2:])
+    {
+        "log": check_log, "seals": check_seals, "payload": check_payload, "sizes": print_sizes, "twin": print_twin,
+        "rfc": write_rfc,
+    }[sys.argv[1]](*sys.argv[2:])
