@@ -250,6 +250,23 @@ refuses 'the private key to check with' 'openssl finds no public key in keys/pri
 refuses 'a key of RSA' 'the key in rsa.pem is no DSA key' seal.sh rsa.pem
 refuses 'a key of RSA to check with' 'the key in rsa-public.pem is no DSA key' answer.sh rsa-public.pem
 
+cp -- "$scripts/seal.sh" alone.sh
+./alone.sh keys/private-key.pem <wants >out 2>err
+status=$?
+holds 'a script without the file that it shares' test "$status.$(tail -n 1 err)" = \
+    '2.alone.sh: the file common.sh has to stand beside this script'
+ln -s -- "$scripts/seal.sh" linked.sh
+./linked.sh keys/private-key.pem <wants >out
+holds 'a script by a link to it' test "$(wc -l <out)" = 40
+if [[ -c /dev/full ]]; then
+    "$scripts/seal.sh" keys/private-key.pem <wants >/dev/full 2>err
+    status=$?
+    holds 'seals to a full disk' test "$status.$(tail -n 1 err)" = "2.seal.sh: standard output can't be written"
+    "$scripts/answer.sh" keys/public-key.pem <questions >/dev/full 2>err
+    status=$?
+    holds 'answers to a full disk' test "$status.$(tail -n 1 err)" = "2.answer.sh: standard output can't be written"
+fi
+
 # bad SCRIPT KEY WHAT SENTENCE LINE: a line that isn't what it must be.
 bad() {
     refuses "$1: $3" "line 1$4" "$1" "$2" < <(printf '%b\n' "$5")
@@ -290,7 +307,7 @@ PATH=$scratch/empty:$saved
 refuses 'an openssl that makes no key' 'openssl makes no DSA key of 1024 bits here' make-key.sh empty
 holds 'and why' grep -qx 'no DSA here' err
 rm empty/openssl
-for tool in bash dirname base64 od tr mktemp rm cat timeout date; do
+for tool in bash dirname readlink base64 od tr mktemp rm cat timeout date; do
     ln -s -- "$(PATH=$saved command -v "$tool")" empty/
 done
 PATH=$scratch/empty

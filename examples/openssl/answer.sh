@@ -12,7 +12,10 @@
 #
 # A yes under another payload is left out, since nothing trusts that. The hash is that which VER of the block names.
 # shellcheck source=examples/openssl/common.sh
-. "$(dirname -- "${BASH_SOURCE[0]}")/common.sh"
+. "$(dirname -- "$(readlink -f -- "${BASH_SOURCE[0]}")")/common.sh" || {
+    echo "${0##*/}: the file common.sh has to stand beside this script" >&2
+    exit 2
+}
 
 [[ $# == 1 ]] || fail 'usage: answer.sh PUBLIC-KEY < QUESTIONS > ANSWERS'
 public_key=$1

@@ -14,7 +14,10 @@
 # cut to 160 bits. The sizes are those of RFC 4880, section 13.6, for SHA-1. They are small for today: with 0121 as second
 # word q has 256 bits and p 2048, and the key is for VER 0121 alone.
 # shellcheck source=examples/openssl/common.sh
-. "$(dirname -- "${BASH_SOURCE[0]}")/common.sh"
+. "$(dirname -- "$(readlink -f -- "${BASH_SOURCE[0]}")")/common.sh" || {
+    echo "${0##*/}: the file common.sh has to stand beside this script" >&2
+    exit 2
+}
 
 sizes=(1024 160)
 [[ ${2-} == 0121 ]] && sizes=(2048 256)

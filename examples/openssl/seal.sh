@@ -8,7 +8,10 @@
 # what RFC 5848, section 4.2.8, asks for: over the hash that VER of the block names, SHA-1 or SHA-256, the numbers r and s
 # in OpenPGP's spelling. Signatures hold a random part, so each run gives others.
 # shellcheck source=examples/openssl/common.sh
-. "$(dirname -- "${BASH_SOURCE[0]}")/common.sh"
+. "$(dirname -- "$(readlink -f -- "${BASH_SOURCE[0]}")")/common.sh" || {
+    echo "${0##*/}: the file common.sh has to stand beside this script" >&2
+    exit 2
+}
 
 [[ $# == 1 ]] || fail 'usage: seal.sh PRIVATE-KEY < WANTS > SEALS'
 private_key=$1
