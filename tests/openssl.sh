@@ -197,8 +197,8 @@ for it in "- K $blob" "2009-05-03T14:00:39.519005+02:00 K $blob"; do
     holds "the key with the time ${it%% *}" cmp out <(payloads "$it")
 done
 
-# VER is that of the block's element, wherever else such octets stand: each text is signed and answered under its version.
-# hides VERSION TEXT: a check of a text whose block has this version.
+# VER is that of the block's element, wherever else such octets stand: each text is signed and answered under its
+# version. hides VERSION TEXT: a check of a text whose block has this version.
 hides() {
     local algorithm=sha1 text
     [[ $1 == 0121 ]] && algorithm=sha256

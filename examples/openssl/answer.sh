@@ -4,8 +4,8 @@
 #     answer.sh PUBLIC-KEY < QUESTIONS > ANSWERS
 #
 # QUESTIONS are the lines of `ssign questions`, ANSWERS those of them that hold, for --answers of `ssign review` and
-# `ssign extract`. PUBLIC-KEY is the originator's DSA key in a form that openssl reads, which the reviewer got by a way of
-# its own and not out of the log.
+# `ssign extract`. PUBLIC-KEY is the originator's DSA key in a form that openssl reads, which the reviewer got by a way
+# of its own and not out of the log.
 #
 #     trust PAYLOAD                  holds where the payload is of the type K and its key is PUBLIC-KEY
 #     yes PAYLOAD OCTETS SIGNATURE   holds where the same is so, and the signature of the octets is valid under that key
@@ -25,8 +25,8 @@ to_mpi "${key[@]}"
 longest_payload=$((${#mpis} * 2 + 100))
 longest_signature=$((2 * (2 + (key_bits + 7) / 8) * 4 / 3 + 3))
 
-# is_the_key PAYLOAD: whether the payload, in base64, states PUBLIC-KEY. That of the last payload is remembered, since the
-# questions about one stand together.
+# is_the_key PAYLOAD: whether the payload, in base64, states PUBLIC-KEY. That of the last payload is remembered, since
+# the questions about one stand together.
 asked=
 has_the_key=
 is_the_key() {

@@ -25,7 +25,8 @@ fail_with_errors() {
 
 ((BASH_VERSINFO[0] * 100 + BASH_VERSINFO[1] >= 404)) || fail "this bash is $BASH_VERSION; it has to be 4.4 or newer"
 for tool in openssl base64 od tr mktemp; do
-    command -v "$tool" >/dev/null || fail "there is no command $tool here: install it (all but openssl are of coreutils)"
+    command -v "$tool" >/dev/null ||
+        fail "there is no command $tool here: install it (all but openssl are of coreutils)"
 done
 room=$(mktemp -d) || fail 'mktemp can make no folder for passing files: look at TMPDIR'
 trap 'rm -rf -- "$room"' EXIT
@@ -44,7 +45,8 @@ to_base64() {
     in_base64=
     for ((place = 0; place < ${#1}; place += 6)); do
         bits=$((16#${padded:place:6}))
-        in_base64+=${alphabet:bits >> 18:1}${alphabet:bits >> 12 & 63:1}${alphabet:bits >> 6 & 63:1}${alphabet:bits & 63:1}
+        in_base64+=${alphabet:bits >> 18:1}${alphabet:bits >> 12 & 63:1}
+        in_base64+=${alphabet:bits >> 6 & 63:1}${alphabet:bits & 63:1}
     done
     case $((${#1} % 6)) in
     2) in_base64=${in_base64%??}== ;;
@@ -105,8 +107,8 @@ to_mpi() {
     done
 }
 
-# from_mpi OCTETS: $numbers are the numbers that stand there; false where the octets are no such spelling. A count may be
-# greater than the number needs, as it is in the examples of RFC 5848, which always say 160.
+# from_mpi OCTETS: $numbers are the numbers that stand there; false where the octets are no such spelling. A count may
+# be greater than the number needs, as it is in the examples of RFC 5848, which always say 160.
 from_mpi() {
     local place stated digits
     numbers=()
@@ -184,11 +186,12 @@ read_key() {
     key+=("${numbers[@]}")
     count_bits "${key[1]}"
     key_bits=$bits
-    ((key_bits >= 160 && key_bits <= 256)) || fail "the number q of the key in $file has $key_bits bits, and not 160 to 256"
+    ((key_bits >= 160 && key_bits <= 256)) ||
+        fail "the number q of the key in $file has $key_bits bits, and not 160 to 256"
 }
 
-# take_block TEXT: the file $room/block holds the octets of a block that a text of base64 spells, and $version is the VER
-# of the block; false where there is none.
+# take_block TEXT: the file $room/block holds the octets of a block that a text of base64 spells, and $version is the
+# VER of the block; false where there is none.
 take_block() {
     local front='' before='' text=$room/block pieces piece
     base64 -d <<<"$1" >"$room/block" || return 1
