@@ -222,6 +222,8 @@ hides 0111 "<110>1 - [ssign VER=\"0121\" - - $sha1_block"
 hides 0121 "<110>1 - [ssign-cert VER=\"0111\" - - $sha256_block"
 hides 0111 "<110>1 - h s - - [x[ssign VER=\"0121\" a=\"b\"]$sha1_block"
 hides 0121 "<110>1 - h s - - [ssign@1 VER=\"0111\" a=\"\\\\\\\\][ssign-cert VER=\"]$sha256_block"
+hides 0111 "<110>1 - h s - - [[x a=\"[[\"][[[ssign VER=\"0121\" a=\"[\"]$sha1_block"
+hides 0121 "<110>1 - [[ [ [[ - [x a=\"[\"]$sha256_block"
 hides 0111 "<110>1 - h s - - $sha1_block ][ssign VER=\"0121\" RSID"
 hides 0121 "<110>1 - h s - - [x@1 a=\"\\0000\\nb\"]${sha256_block}[y@1] ][ssign VER=\"0111\" \\0000 \\n "
 

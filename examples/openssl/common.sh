@@ -193,7 +193,7 @@ read_key() {
 # take_block TEXT: the file $room/block holds the octets of a block that a text of base64 spells, and $version is the
 # VER of the block; false where there is none.
 take_block() {
-    local front='' before='' text=$room/block pieces piece
+    local front='' before='' is_header=yes text=$room/block pieces piece
     base64 -d <<<"$1" >"$room/block" || return 1
     # no text of bash holds an octet 0, and none is part of what is looked for
     if IFS= read -r -d '' piece <"$text"; then
@@ -205,14 +205,16 @@ take_block() {
     # spelled like the front of a block. Behind it nothing but an element begins so: in a value each `"` is escaped, and
     # MSG stands behind the elements.
     for piece in "${pieces[@]}"; do
-        if [[ $before == *']' ]]; then
-            [[ $piece =~ ^(ssign|ssign-cert)' VER="'(0111|0121)'" ' ]] && version=${BASH_REMATCH[2]} && return
-        elif [[ ! $before ]]; then
+        if [[ $is_header ]]; then
             front+=$piece
             ((${#front} <= 600)) || return 1
-            [[ $front =~ ^\<[0-9]+\>1(\ [^\ ]+){5}\ $ ]] && before=']'
+            [[ $front =~ ^\<[0-9]+\>1(\ [^\ ]+){5}\ $ ]] && is_header='' before=']'
             front+='['
             continue
+        fi
+        if [[ $before == *']' && $piece =~ ^(ssign|ssign-cert)' VER="'(0111|0121)'" ' ]]; then
+            version=${BASH_REMATCH[2]}
+            return
         fi
         before=$piece
     done
