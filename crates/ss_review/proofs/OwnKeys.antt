@@ -18,7 +18,8 @@ use Rattle.ss_review.specs.Sessions.{same_session}
 use Rattle.ss_review.specs.Announced.{Key, keys}
 use Rattle.ss_review.specs.Assigned.{has_hash, pair_of_bearer, wanted_with, wanted}
 use Rattle.ss_review.specs.Delivery.{own_session, is_normal, submitted_to}
-use Rattle.ss_review.specs.DeliveryLaws.{Case, IsCase, normals_in, rows_in, AnnouncedByBlocks, HasItsHash, message_of, HashesTellPairs}
+use Rattle.ss_review.specs.DeliveryLaws.{Case, IsCase, normals_in, rows_in, message_of, HashesTellPairs}
+use Rattle.ss_review.specs.Delivered.{KeysHaveBlocks, HasOneHash}
 use Rattle.ss_review.proofs.Counting.{same_itself}
 use Rattle.ss_review.proofs.Finding.{find_some, bearer_of}
 use Rattle.ss_review.proofs.Given.{is_given}
@@ -58,7 +59,7 @@ some_bearer ms alg q h =
 pub same_session-is : (a b : Session) → same_session a b ≡ true → a ≡ b
 same_session-is a b e = session_cmp_exact a b ((Equal-is (session_cmp a b)).0 e)
 
-module _ (by_blocks : AnnouncedByBlocks) (x : Case) (is : IsCase x) where
+module _ (by_blocks : KeysHaveBlocks) (x : Case) (is : IsCase x) where
   -- ---- messages of numbers
 
   -- the message of a number was submitted
@@ -66,7 +67,7 @@ module _ (by_blocks : AnnouncedByBlocks) (x : Case) (is : IsCase x) where
   is_submitted k m e =
       (is_given x.s.config k.group.spri x.chain m (has-slice_get (given_to x.s.config k.group.spri x.chain) (k.number - 1) m e)).0
 
-  pub its_hash : (k : Key) → k.session ≡ own_session x.s → Has (keys (rows_in x)) k → HasItsHash x k
+  pub its_hash : (k : Key) → k.session ≡ own_session x.s → Has (keys (rows_in x)) k → HasOneHash x k
   its_hash k own h = (by_blocks x is k own).1 (contains_from_has (keys (rows_in x)) k h)
 
   -- ---- what they want

@@ -16,7 +16,8 @@ use Rattle.ss_review.specs.Assigned.{same_pair, is_pair, places_with, wanted, ra
 use Rattle.ss_review.specs.Entries.{entry_with, entry_of}
 use Rattle.ss_review.specs.Verdict.{is_listed}
 use Rattle.ss_review.specs.Delivery.{own_session, submitted_to}
-use Rattle.ss_review.specs.DeliveryLaws.{Case, IsCase, normals_in, rows_in, AnnouncedByBlocks, message_of, pair_of, rank_in, HashesTellPairs, OthersWantOthers}
+use Rattle.ss_review.specs.DeliveryLaws.{Case, IsCase, normals_in, rows_in, message_of, pair_of, rank_in, HashesTellPairs, OthersWantOthers}
+use Rattle.ss_review.specs.Delivered.{KeysHaveBlocks}
 use Rattle.ss_review.proofs.Counting.{same_pair-is}
 use Rattle.ss_review.proofs.Keyed.{has-slice_get}
 use Rattle.ss_review.proofs.Members.{Has, contains_from_has}
@@ -54,7 +55,7 @@ apart_from a b e same =
     let ties : same_session a b ≡ true = ap (same_session a) (sym same) ∙ ap is_eq (tied_itself session_cmp_total a) in
     absurd (cc)
 
-module _ (by_blocks : AnnouncedByBlocks) (x : Case) (is : IsCase x) (tell : HashesTellPairs x) (others : OthersWantOthers x) (m : List ℕ) (submitted : Has (submitted_to x.chain) m) where
+module _ (by_blocks : KeysHaveBlocks) (x : Case) (is : IsCase x) (tell : HashesTellPairs x) (others : OthersWantOthers x) (m : List ℕ) (submitted : Has (submitted_to x.chain) m) where
   -- ---- where some message with these hashes is stored
 
   module _ (q : NormalMessage) (stored : Has (normals_in x) q) (its : q.pair ≡ pair m) where

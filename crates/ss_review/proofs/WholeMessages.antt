@@ -9,8 +9,8 @@ use Rattle.ss_review.specs.Notes.{note}
 use Rattle.ss_review.specs.Announced.{keys}
 use Rattle.ss_review.specs.Assigned.{same_pair, places_with}
 use Rattle.ss_review.specs.Delivery.{own_session, is_normal, submitted_to}
-use Rattle.ss_review.specs.DeliveryLaws.{Case, normals_in, rows_in, rank_in, OthersWantOthers, AnnouncedByBlocks, ListedByRank}
-use Rattle.ss_review.specs.Delivered.{RanksAreBelowCounts}
+use Rattle.ss_review.specs.DeliveryLaws.{Case, normals_in, rows_in, rank_in, OthersWantOthers}
+use Rattle.ss_review.specs.Delivered.{RanksAreBelowCounts, KeysHaveBlocks, EntriesAreByRank}
 use Rattle.ss_review.specs.Whole.{IsWhole, BlocksAreVerified, MessagesAreStored, NumbersAreListed}
 use Rattle.ss_review.proofs.EqualCounts.{same_counts}
 use Rattle.ss_review.proofs.Members.{Has, has_from_contains, contains_from_has}
@@ -41,7 +41,7 @@ places_of stored x w p =
     ∙ normal_counts (λ q. same_pair q p) x.log
     ∙ stored x w (λ n. same_pair (pair n) p)
 
-pub numbers_are_listed : BlocksAreVerified → MessagesAreStored → AnnouncedByBlocks → ListedByRank → RanksAreBelowCounts → NumbersAreListed
+pub numbers_are_listed : BlocksAreVerified → MessagesAreStored → KeysHaveBlocks → EntriesAreByRank → RanksAreBelowCounts → NumbersAreListed
 numbers_are_listed verified stored announced by_rank below x w k c =
     let own : k.session ≡ own_session x.s = own_key verified x w k (has_from_contains (keys (rows_in x)) k c) in
     let its = (announced x w.case k own).1 c in
