@@ -1,12 +1,14 @@
 -- What a review says of a log that delivers from originators of one session: exactly what the copies that are there allow.
-use Rattle.std.specs.Prelude.{◌≡◌, ◌≢◌, ◌↔◌, ℕ, ◌+◌, ◌-◌, ◌<◌, ◌≤◌, ◌&&◌, Bool, true, false, List, ◌++◌, length, filter, count_by, slice_get, Contains, Option, Some, None}
+use Rattle.std.specs.Prelude.{◌≡◌, ◌≢◌, ◌↔◌, ℕ, ◌+◌, ◌-◌, ◌<◌, ◌≤◌, ◌&&◌, true, false, List, length, count_by, slice_get, Contains, Option, Some, None}
 use Rattle.std.specs.List.{AllPairs}
+use Rattle.std.specs.declared.cmp.Ordering.TheVariants.{Less}
 use Rattle.std.specs.Ordering.{is_lt}
 use Rattle.ss_block.specs.declared.reading.Reading.TheVariants as readings
 use Rattle.ss_block.specs.declared.hash.Hash.{Hash}
 use Rattle.ss_block.specs.declared.hash.HashPair.{HashPair}
 use Rattle.ss_block.specs.Block as block
 use Rattle.ss_block.specs.Hashes.{pair, hash_of}
+use Rattle.ss_block.specs.Order.{session_cmp}
 use Rattle.ss_block.specs.Reading.{reading}
 use Rattle.ss_payload.specs.Payload.{payload_text}
 use Rattle.ss_origin.specs.Groups.{sg_of}
@@ -29,22 +31,23 @@ use Rattle.ss_review.specs.Report.{report}
 use Rattle.ss_review.specs.Verdict.{is_clean}
 use Rattle.ss_review.specs.Delivery.{own_session, is_normal, is_spoilt, Delivers, submitted_to, HasBegun, HasPayload, NothingPending, IsWholeDelivery}
 
--- Originators of one session that follow one another, a log, and which payloads are trusted.
+-- Originators of one session that follow one another, a log, and what is answered of payloads and signatures.
 pub record Case : Type 0 where
   pub s : Setting
-  pub trusted : List ℕ → Bool
+  pub answers : Answers
   pub chain : List (List Turn)
   pub log : List (List ℕ)
 
--- the log delivers from the originators, and whoever answers trusts their payload
+abbrev pub says : Case → Answers
+says x = x.answers
+
+-- The log delivers from the originators, their payload is trusted, and what is valid under it in their own scheme is
+-- answered to be valid.
 pub record IsCase (x : Case) : Type 0 where
   pub chain : IsChain x.s x.chain
   pub delivers : Delivers x.s x.chain x.log
-  pub trusts : x.trusted (payload_text x.s.payload) ≡ true
-
--- whoever answers says of signatures what holds in the originators' own scheme
-abbrev pub says : Case → Answers
-says x = record { trusted = x.trusted; valid = x.s.valid }
+  pub trusts : (says x).trusted (payload_text x.s.payload) ≡ true
+  pub accepts : (octets signature : List ℕ) → x.s.valid (payload_text x.s.payload) octets signature ≡ true → (says x).valid (payload_text x.s.payload) octets signature ≡ true
 
 abbrev pub report_in : Case → Report
 report_in x = report (says x) x.log
@@ -118,16 +121,14 @@ pair_of (Some m) = Some (pair m)
 abbrev pub rank_in : Case → Key → HashPair → ℕ
 rank_in x k p = count_by (λ j. is_lt (key_cmp j k) && same_session j.session (own_session x.s) && is_pair p (pair_of (message_of x j))) (keys (rows_in x))
 
--- among the submitted messages and those of the log without a block, equal hashes go with equal pairs
+-- a submitted message and one of the log without a block have equal pairs where they have equal hashes
 abbrev pub HashesTellPairs : Case → Type 0
-HashesTellPairs x = (m n : List ℕ)
-    → Contains (submitted_to x.chain ++ filter (λ t. is_normal (note t)) x.log) m
-    → Contains (submitted_to x.chain ++ filter (λ t. is_normal (note t)) x.log) n
+HashesTellPairs x = (m n : List ℕ) → Contains (submitted_to x.chain) m → Contains x.log n → is_normal (note n) ≡ true
     → hash_of x.s.config.alg m ≡ hash_of x.s.config.alg n → pair m ≡ pair n
 
--- no number of another session wants the hashes of a submitted message
+-- no number of a session that stands before the originators' wants the hashes of a submitted message
 abbrev pub OthersWantOthers : Case → Type 0
-OthersWantOthers x = (k : Key) (m : List ℕ) → Contains (keys (rows_in x)) k → k.session ≢ own_session x.s
+OthersWantOthers x = (k : Key) (m : List ℕ) → Contains (keys (rows_in x)) k → session_cmp k.session (own_session x.s) ≡ Less
     → Contains (submitted_to x.chain) m → wanted (normals_in x) (rows_in x) k ≢ Some (pair m)
 
 -- the report lists a message under the number
