@@ -1,6 +1,6 @@
 -- Which numbers of the session are announced, and with which hash.
 use Rattle.std.proofs.Common.{◌≡◌, inl, inr, ℕ, zero, suc, ◌+◌, ◌-◌, ◌<◌, ◌≤◌, true, false, List, [], ◌∷◌, ◌++◌, length, refl, sym, ap, ◌∙◌, subst, arith}
-use Rattle.std.specs.Prelude.{nat_lt, Some, Result, Ok, slice_get}
+use Rattle.std.specs.Prelude.{Some, Result, Ok, slice_get}
 use Rattle.std.specs.List.{Contains}
 use Rattle.std.specs.List.Sorted.{IsStrictlySortedBy}
 use Rattle.std.specs.declared.cmp.Ordering.TheVariants.{Less}
@@ -27,22 +27,21 @@ use Rattle.ss_review.specs.declared.message.Said.TheVariants.{Hashes}
 use Rattle.ss_review.specs.declared.session_report.SessionReport.{SessionReport}
 use Rattle.ss_review.specs.declared.session_report.SessionState.{SessionState}
 use Rattle.ss_review.specs.declared.session_report.SessionState.TheVariants as states
-use Rattle.ss_review.specs.Announced.{Key, Row, keys, hashes_for, is_disputed_key}
+use Rattle.ss_review.specs.Announced.{Key, keys, hashes_for}
 use Rattle.ss_review.specs.Announcing.{Announces, IsAnnounced}
 use Rattle.ss_review.specs.Contents.{said_in, blocks}
-use Rattle.ss_review.specs.Delivered.{IsSentBlock, OwnBlocksAreSent, SentBlocksAreStored, JoinsOwnPayload}
+use Rattle.ss_review.specs.Delivered.{IsSentBlock, OwnBlocksAreSent, SentBlocksAreStored, JoinsOwnPayload, HasOneHash, KeysHaveBlocks}
 use Rattle.ss_review.specs.Delivery.{own_session, is_normal}
-use Rattle.ss_review.specs.DeliveryLaws.{Case, IsCase, says, report_in, rows_in, NothingIsDisputed, IsListedAsJoined, HasBlock, message_of, HasItsHash, AnnouncedByBlocks}
+use Rattle.ss_review.specs.DeliveryLaws.{Case, IsCase, says, report_in, rows_in, IsListedAsJoined, HasBlock, message_of}
 use Rattle.ss_review.specs.Notes.{noted, note, notes}
 use Rattle.ss_review.specs.Sessions.{of_session}
 use Rattle.ss_review.specs.Verified.{joined, state_in, is_valid_in, is_verified}
-use Rattle.ss_review.proofs.Announcements.{announced_row, announced_key, has-announced_key, has-keys, from_has-hashes_for, has-hashes_for, hashes_for-rise, rows-rise, has-rows}
+use Rattle.ss_review.proofs.Announcements.{announced_row, announced_key, has-announced_key, from_has-hashes_for, has-hashes_for, hashes_for-rise, rows-rise, has-rows}
 use Rattle.ss_review.proofs.Members.{Has, has_from_contains, contains_from_has}
 use Rattle.ss_review.proofs.NotesTold.{block_read}
 use Rattle.ss_review.proofs.OneReport.{is_report}
 use Rattle.ss_review.proofs.Rising.{below_all, not_less_itself}
 use Rattle.ss_review.proofs.SentMessages.{sent_by}
-use Rattle.ss_review.proofs.StoredBlocks.{none_spoilt}
 use Rattle.ss_review.proofs.Witnesses.{got_map, said_signature, verified_cases}
 
 -- ---- elements by index
@@ -239,7 +238,7 @@ module _ (x : Case) (is : IsCase x) where
   announced : (k : Key) → Contains (keys (rows_in x)) k → IsAnnounced (says x) stored_blocks k
   announced k c = announced_key (says x) stored_blocks k (has_from_contains (keys (rows_in x)) k c)
 
-  its_hash : OwnBlocksAreSent → SentBlocksAreNumbered → (k : Key) → k.session ≡ own_session x.s → Contains (keys (rows_in x)) k → HasItsHash x k
+  its_hash : OwnBlocksAreSent → SentBlocksAreNumbered → (k : Key) → k.session ≡ own_session x.s → Contains (keys (rows_in x)) k → HasOneHash x k
   its_hash sent of k own c =
       let a = announced k c in
       let n = numbered sent of k a.0 own a.1 in
@@ -259,27 +258,11 @@ module _ (x : Case) (is : IsCase x) where
       }
 
 -- a number is announced exactly where the session is joined and a block has a hash for it, and then with its message's
-pub announced_by_blocks : OwnBlocksAreSent → SentBlocksAreStored → JoinsOwnPayload → SentBlocksAreNumbered → AnnouncedByBlocks
-announced_by_blocks sent stored joins of x is k own = (
+pub keys_have_blocks : OwnBlocksAreSent → SentBlocksAreStored → JoinsOwnPayload → SentBlocksAreNumbered → KeysHaveBlocks
+keys_have_blocks sent stored joins of x is k own = (
   (
     λ c. (let a = announced x is k c in (is_listed_as_joined x is sent k own a.0 a.1, has_block x is sent k own a.0 a.1)),
     λ b. contains_from_has (keys (rows_in x)) k (has-announced_key (says x) (blocks (notes x.log)) k (announced_by x is sent stored joins k own b.0 b.1)),
   ),
   its_hash x is sent of k own,
-)
-
--- ---- no number is disputed
-
-none_disputed : (rs : List Row) (k : Key) (hs : List Hash) → hashes_for rs k ≡ hs → ((h : Hash) → Has hs h → (g : Hash) × (hs ≡ g ∷ [])) → is_disputed_key rs k ≡ false
-none_disputed rs k [] e f = ap (λ hs. nat_lt 1 (length hs)) e
-none_disputed rs k (h ∷ hs) e f = let one = f h (inl refl) in ap (λ gs. nat_lt 1 (length gs)) (e ∙ one.1)
-
--- no message that was sent is spoilt, and for no number of the session two hashes are announced
-pub nothing_is_disputed : AnnouncedByBlocks → NothingIsDisputed
-nothing_is_disputed announces x is = (
-  λ m c. none_spoilt x.s x.chain m is.chain c,
-  λ k own. none_disputed (rows_in x) k (hashes_for (rows_in x) k) refl (λ h i.
-      (let c = contains_from_has (keys (rows_in x)) k (has-keys (rows_in x) (record { key = k; hash = h }) (from_has-hashes_for (rows_in x) k h i)) in
-      let its = (announces x is k own).1 c in
-      (hash_of x.s.config.alg its.message, its.hashes))),
 )

@@ -67,3 +67,5 @@ pub mod PiecesStated
 pub mod Beginnings
 pub mod OwnPayload
 pub mod JoinedByFragments
+pub mod ToldNumbers
+pub mod StoredPairs

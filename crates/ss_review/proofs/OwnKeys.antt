@@ -1,5 +1,5 @@
 -- The announced numbers of the originators' session: what they want, and which of them want the same.
-use Rattle.std.proofs.Common.{◌≡◌, inl, inr, ℕ, ◌-◌, Bool, true, false, cond, List, [], ◌∷◌, ◌++◌, filter, refl, sym, ap, ◌∙◌}
+use Rattle.std.proofs.Common.{◌≡◌, inl, inr, ℕ, ◌-◌, Bool, true, false, cond, List, [], ◌∷◌, refl, sym, ap, ◌∙◌}
 use Rattle.std.specs.Prelude.{Some, option_map, find}
 use Rattle.std.specs.Cmp.{Equal-is}
 use Rattle.std.proofs.lemmas.Bool.{and_parts}
@@ -13,17 +13,17 @@ use Rattle.ss_block.specs.Order.{session_cmp}
 use Rattle.ss_block.specs.OrderLaws.{session_cmp_exact}
 use Rattle.ss_origin.specs.Chain.{given_to}
 use Rattle.ss_review.specs.declared.message.NormalMessage.{NormalMessage}
-use Rattle.ss_review.specs.Notes.{note}
 use Rattle.ss_review.specs.Sessions.{same_session}
 use Rattle.ss_review.specs.Announced.{Key, keys}
 use Rattle.ss_review.specs.Assigned.{has_hash, pair_of_bearer, wanted_with, wanted}
 use Rattle.ss_review.specs.Delivery.{own_session, is_normal, submitted_to}
-use Rattle.ss_review.specs.DeliveryLaws.{Case, IsCase, normals_in, rows_in, AnnouncedByBlocks, HasItsHash, message_of, HashesTellPairs}
+use Rattle.ss_review.specs.DeliveryLaws.{Case, IsCase, normals_in, rows_in, message_of, HashesTellPairs}
+use Rattle.ss_review.specs.Delivered.{KeysHaveBlocks, HasOneHash}
 use Rattle.ss_review.proofs.Counting.{same_itself}
 use Rattle.ss_review.proofs.Finding.{find_some, bearer_of}
 use Rattle.ss_review.proofs.Given.{is_given}
 use Rattle.ss_review.proofs.Keyed.{has-slice_get}
-use Rattle.ss_review.proofs.Members.{Has, contains_from_has, has-append_left, has-append_right, has-filter}
+use Rattle.ss_review.proofs.Members.{Has, contains_from_has}
 use Rattle.ss_review.proofs.Witnesses.{stored_normal, hash_is}
 
 -- ---- the bearer of a hash
@@ -58,7 +58,7 @@ some_bearer ms alg q h =
 pub same_session-is : (a b : Session) → same_session a b ≡ true → a ≡ b
 same_session-is a b e = session_cmp_exact a b ((Equal-is (session_cmp a b)).0 e)
 
-module _ (by_blocks : AnnouncedByBlocks) (x : Case) (is : IsCase x) where
+module _ (by_blocks : KeysHaveBlocks) (x : Case) (is : IsCase x) where
   -- ---- messages of numbers
 
   -- the message of a number was submitted
@@ -66,26 +66,23 @@ module _ (by_blocks : AnnouncedByBlocks) (x : Case) (is : IsCase x) where
   is_submitted k m e =
       (is_given x.s.config k.group.spri x.chain m (has-slice_get (given_to x.s.config k.group.spri x.chain) (k.number - 1) m e)).0
 
-  pub its_hash : (k : Key) → k.session ≡ own_session x.s → Has (keys (rows_in x)) k → HasItsHash x k
+  pub its_hash : (k : Key) → k.session ≡ own_session x.s → Has (keys (rows_in x)) k → HasOneHash x k
   its_hash k own h = (by_blocks x is k own).1 (contains_from_has (keys (rows_in x)) k h)
 
   -- ---- what they want
 
   module _ (tell : HashesTellPairs x) where
-    abbrev told_about : List (List ℕ)
-    told_about = submitted_to x.chain ++ filter (λ t. is_normal (note t)) x.log
-
     -- a stored message with the hash of a submitted one has its pair
     stored_pair : (m : List ℕ) (q : NormalMessage) → Has (submitted_to x.chain) m → Has (normals_in x) q → has_hash (hash_of x.s.config.alg m) q.pair ≡ true → q.pair ≡ pair m
     stored_pair m q submitted h has =
         let t = stored_normal x.log q h in
         let its : has_hash (hash_of x.s.config.alg m) (pair t.0) ≡ true = ap (has_hash (hash_of x.s.config.alg m)) t.3 ∙ has in
         let same : hash_of x.s.config.alg m ≡ hash_of x.s.config.alg t.0 = hash_is x.s.config.alg (hash_of x.s.config.alg m) t.0 (own_alg x.s.config.alg (pair m)) its in
-        let kept : Has (filter (λ t. is_normal (note t)) x.log) t.0 = has-filter (λ t. is_normal (note t)) x.log t.0 (has-slice_get x.log q.place t.0 t.1) (ap is_normal t.2) in
         sym t.3
         ∙ sym (tell m t.0
-        (contains_from_has told_about m (has-append_left (submitted_to x.chain) (filter (λ t. is_normal (note t)) x.log) m submitted))
-        (contains_from_has told_about t.0 (has-append_right (submitted_to x.chain) (filter (λ t. is_normal (note t)) x.log) t.0 kept))
+        (contains_from_has (submitted_to x.chain) m submitted)
+        (contains_from_has x.log t.0 (has-slice_get x.log q.place t.0 t.1))
+        (ap is_normal t.2)
         same)
 
     module _ (k : Key) (own : k.session ≡ own_session x.s) (h : Has (keys (rows_in x)) k) where

@@ -17,8 +17,8 @@ use Rattle.ss_review.specs.Sessions.{same_session}
 use Rattle.ss_review.specs.Announced.{Key, key_cmp, keys}
 use Rattle.ss_review.specs.Assigned.{is_pair}
 use Rattle.ss_review.specs.Delivery.{own_session, submitted_to}
-use Rattle.ss_review.specs.Delivered.{MessagesAreInGroups}
-use Rattle.ss_review.specs.DeliveryLaws.{Case, IsCase, rows_in, AnnouncedByBlocks, message_of, pair_of, rank_in}
+use Rattle.ss_review.specs.Delivered.{MessagesAreInGroups, KeysHaveBlocks}
+use Rattle.ss_review.specs.DeliveryLaws.{Case, IsCase, rows_in, message_of, pair_of, rank_in}
 use Rattle.ss_review.proofs.Announcements.{numbered_from, has-numbered, keys-rise}
 use Rattle.ss_review.proofs.Counting.{count_by-map}
 use Rattle.ss_review.proofs.CountsWithin.{count_within}
@@ -69,7 +69,7 @@ module _ (x : Case) (p : HashPair) where
       ∙ count_by-same (λ (n : ℕ × List ℕ). has_pair (key_at spri n.0)) (λ (n : ℕ × List ℕ). text_has_pair p n.1) (enumerate_from 1 given) (has_pair_at spri)
       ∙ count_by-numbered (text_has_pair p) 1 given
 
-  module _ (small : SprisAreSmall) (in_groups : MessagesAreInGroups) (by_blocks : AnnouncedByBlocks) (is : IsCase x) where
+  module _ (small : SprisAreSmall) (in_groups : MessagesAreInGroups) (by_blocks : KeysHaveBlocks) (is : IsCase x) where
     below : (m : List ℕ) → spri_in x.s.config.grouping m < 192
     below m = small x.s.config.grouping m (grouping_of x.s.config is.chain.setting.fit.config)
 

@@ -1,14 +1,14 @@
 -- The rank of an announced number of the originators' session, and where it is listed.
 use Rattle.std.proofs.Common.{◌≡◌, inl, inr, ℕ, Bool, true, false, ◌&&◌, List, [], ◌∷◌, length, refl, sym, ap, ◌∙◌, subst, arith}
-use Rattle.std.specs.Prelude.{◌≢◌, Option, Some, None, nat_lt, slice_get}
-use Rattle.std.specs.Ordering.{is_lt, is_eq}
+use Rattle.std.specs.Prelude.{Option, Some, None, nat_lt, slice_get}
+use Rattle.std.specs.declared.cmp.Ordering.{Ordering}
+use Rattle.std.specs.declared.cmp.Ordering.TheVariants.{Less, Equal, Greater}
+use Rattle.std.specs.Ordering.{nat_cmp, ordering_then, is_lt, is_eq}
 use Rattle.std.proofs.lemmas.Bool.{false_from_ne_true, lt-ltb, le-ltb}
-use Rattle.std.proofs.lemmas.Cmp.{tied_itself}
 use Rattle.std.proofs.lemmas.Option.{slice_get_cases}
 use Rattle.ss_block.specs.declared.hash.HashPair.{HashPair}
-use Rattle.ss_block.specs.declared.session.Session.{Session}
 use Rattle.ss_block.specs.Hashes.{pair}
-use Rattle.ss_block.specs.OrderLaws.{session_cmp_total}
+use Rattle.ss_block.specs.Order.{session_cmp, group_cmp}
 use Rattle.ss_review.specs.declared.message.NormalMessage.{NormalMessage}
 use Rattle.ss_review.specs.Sessions.{same_session}
 use Rattle.ss_review.specs.Announced.{Key, Row, key_cmp, keys}
@@ -16,7 +16,8 @@ use Rattle.ss_review.specs.Assigned.{same_pair, is_pair, places_with, wanted, ra
 use Rattle.ss_review.specs.Entries.{entry_with, entry_of}
 use Rattle.ss_review.specs.Verdict.{is_listed}
 use Rattle.ss_review.specs.Delivery.{own_session, submitted_to}
-use Rattle.ss_review.specs.DeliveryLaws.{Case, IsCase, normals_in, rows_in, AnnouncedByBlocks, message_of, pair_of, rank_in, HashesTellPairs, OthersWantOthers}
+use Rattle.ss_review.specs.DeliveryLaws.{Case, IsCase, normals_in, rows_in, message_of, pair_of, rank_in, HashesTellPairs, OthersWantOthers}
+use Rattle.ss_review.specs.Delivered.{KeysHaveBlocks}
 use Rattle.ss_review.proofs.Counting.{same_pair-is}
 use Rattle.ss_review.proofs.Keyed.{has-slice_get}
 use Rattle.ss_review.proofs.Members.{Has, contains_from_has}
@@ -45,44 +46,50 @@ not_pair : (p : HashPair) (w : Option HashPair) → (w ≡ Some p → ⊥) → i
 not_pair p None apart = refl
 not_pair p (Some q) apart = false_from_ne_true (same_pair q p) (λ t. apart (ap (λ (r : HashPair). Some r) (same_pair-is q p t)))
 
-and_alike : (a b c d : Bool) → b ≡ (c && d) → (a && b) ≡ (a && c && d)
-and_alike true b c d e = e
+and_alike : (a b c d : Bool) → (a ≡ true → b ≡ (c && d)) → (a && b) ≡ (a && c && d)
+and_alike true b c d e = e refl
 and_alike false b c d e = refl
 
-apart_from : (a b : Session) → same_session a b ≡ false → a ≢ b
-apart_from a b e same =
-    let ties : same_session a b ≡ true = ap (same_session a) (sym same) ∙ ap is_eq (tied_itself session_cmp_total a) in
-    absurd (cc)
+-- a smaller key of another session has a session that stands before
+session_before : (j k : Key) → is_lt (key_cmp j k) ≡ true → same_session j.session k.session ≡ false → session_cmp j.session k.session ≡ Less
+session_before j k less apart = before (session_cmp j.session k.session) (ordering_then (group_cmp j.group k.group) (nat_cmp j.number k.number)) less apart
+  where
+    before : (c d : Ordering) → is_lt (ordering_then c d) ≡ true → is_eq c ≡ false → c ≡ Less
+    before Less d l a = refl
+    before Equal d l a = absurd (cc)
+    before Greater d l a = absurd (cc)
 
-module _ (by_blocks : AnnouncedByBlocks) (x : Case) (is : IsCase x) (tell : HashesTellPairs x) (others : OthersWantOthers x) (m : List ℕ) (submitted : Has (submitted_to x.chain) m) where
+module _ (by_blocks : KeysHaveBlocks) (x : Case) (is : IsCase x) (tell : HashesTellPairs x) (others : OthersWantOthers x) (m : List ℕ) (submitted : Has (submitted_to x.chain) m) where
   -- ---- where some message with these hashes is stored
 
   module _ (q : NormalMessage) (stored : Has (normals_in x) q) (its : q.pair ≡ pair m) where
-    -- a number wants them where its own message has them
-    wants_alike : (j : Key) → Has (keys (rows_in x)) j → (b : Bool) → same_session j.session (own_session x.s) ≡ b
+    -- a number below one of the session wants them where its own message has them
+    wants_alike : (j k : Key) → k.session ≡ own_session x.s → Has (keys (rows_in x)) j → is_lt (key_cmp j k) ≡ true → (b : Bool) → same_session j.session (own_session x.s) ≡ b
         → is_pair (pair m) (wanted (normals_in x) (rows_in x) j) ≡ (b && is_pair (pair m) (pair_of (message_of x j)))
-    wants_alike j h true e =
+    wants_alike j k mine h less true e =
         let own = same_session-is j.session (own_session x.s) e in
         let i = its_hash by_blocks x is j own h in
         is_pair_at (pair m) (pair i.message) (wanted (normals_in x) (rows_in x) j)
         (wants_own by_blocks x is tell j own h)
         (λ same. wants_stored by_blocks x is tell j own h q stored (its ∙ sym same))
         ∙ sym (ap (λ (o : Option (List ℕ)). is_pair (pair m) (pair_of o)) i.given)
-    wants_alike j h false e =
+    wants_alike j k mine h less false e =
         not_pair (pair m) (wanted (normals_in x) (rows_in x) j)
-        (others j m (contains_from_has (keys (rows_in x)) j h) (apart_from j.session (own_session x.s) e) (contains_from_has (submitted_to x.chain) m submitted))
+        (others j m (contains_from_has (keys (rows_in x)) j h)
+        (ap (session_cmp j.session) (sym mine) ∙ session_before j k less (ap (same_session j.session) mine ∙ e))
+        (contains_from_has (submitted_to x.chain) m submitted))
 
     -- so as many smaller keys want them as smaller numbers have such a message
-    rank_is : (k : Key) → rank (normals_in x) (rows_in x) k (pair m) ≡ rank_in x k (pair m)
+    rank_is : (k : Key) → k.session ≡ own_session x.s → rank (normals_in x) (rows_in x) k (pair m) ≡ rank_in x k (pair m)
     unfolding rank
-    rank_is k =
+    rank_is k mine =
         count_by-same
         (λ j. is_lt (key_cmp j k) && is_pair (pair m) (wanted (normals_in x) (rows_in x) j))
         (λ j. is_lt (key_cmp j k) && same_session j.session (own_session x.s) && is_pair (pair m) (pair_of (message_of x j)))
         (keys (rows_in x))
         (λ j h.
         (let own = same_session j.session (own_session x.s) in
-        and_alike (is_lt (key_cmp j k)) (is_pair (pair m) (wanted (normals_in x) (rows_in x) j)) own (is_pair (pair m) (pair_of (message_of x j))) (wants_alike j h own refl)))
+        and_alike (is_lt (key_cmp j k)) (is_pair (pair m) (wanted (normals_in x) (rows_in x) j)) own (is_pair (pair m) (pair_of (message_of x j))) (λ less. wants_alike j k mine h less own refl)))
 
   -- ---- a number with this message
 
@@ -106,7 +113,7 @@ module _ (by_blocks : AnnouncedByBlocks) (x : Case) (is : IsCase x) (tell : Hash
         let wants : wanted (normals_in x) (rows_in x) k ≡ Some (pair m)
         = wants_stored by_blocks x is tell k own h q stored (its ∙ ap pair (sym its_is)) ∙ ap (λ (n : List ℕ). Some (pair n)) its_is in
         ap (place_of (normals_in x) (rows_in x) k) wants
-        ∙ ap (slice_get (places_with (normals_in x) (pair m))) (rank_is q stored its k)
+        ∙ ap (slice_get (places_with (normals_in x) (pair m))) (rank_is q stored its k own)
 
     by_places : (ps : List ℕ) → places_with (normals_in x) (pair m) ≡ ps → is_listed (entry_of (normals_in x) (rows_in x) k) ≡ nat_lt (rank_in x k (pair m)) (length (places_with (normals_in x) (pair m)))
     by_places [] e =

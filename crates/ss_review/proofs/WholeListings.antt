@@ -1,6 +1,6 @@
 -- Where everything that was sent is in the log, and nothing else: each message without a block is listed.
-use Rattle.std.proofs.Common.{◌≡◌, ℕ, ◌<◌, ◌≤◌, true, List, length, map, refl, sym, ap, ◌∙◌, subst, arith}
-use Rattle.std.specs.Prelude.{Option, Some, None, count_by, Contains}
+use Rattle.std.proofs.Common.{◌≡◌, ℕ, ◌<◌, ◌≤◌, true, List, length, map, sym, ap, ◌∙◌, subst, arith}
+use Rattle.std.specs.Prelude.{Some, count_by, Contains}
 use Rattle.std.specs.List.{flat_map, range_with_len}
 use Rattle.std.proofs.lemmas.List.{length-map}
 use Rattle.std.proofs.lemmas.List.Concat.{length-flat_map}
@@ -11,9 +11,9 @@ use Rattle.ss_origin.specs.Calls.{spri_in}
 use Rattle.ss_origin.specs.Chain.{given_to}
 use Rattle.ss_review.specs.declared.message.NormalMessage.{NormalMessage}
 use Rattle.ss_review.specs.Notes.{notes}
-use Rattle.ss_review.specs.Announced.{Key, Row, keys}
+use Rattle.ss_review.specs.Announced.{Key, keys}
 use Rattle.ss_review.specs.Assigned.{assigned, places_with, rank, is_taken}
-use Rattle.ss_review.specs.Entries.{entry_with, entry_of}
+use Rattle.ss_review.specs.Entries.{entry_of}
 use Rattle.ss_review.specs.Verdict.{is_listed}
 use Rattle.ss_review.specs.Delivery.{own_session, submitted_to}
 use Rattle.ss_review.specs.DeliveryLaws.{Case, normals_in, rows_in}
@@ -30,6 +30,7 @@ use Rattle.ss_review.proofs.OwnNumbers.{grouping_of}
 use Rattle.ss_review.proofs.PlacesRise.{normals_rise}
 use Rattle.ss_review.proofs.Sums.{sum_by-same}
 use Rattle.ss_review.proofs.Tests.{from_in_range}
+use Rattle.ss_review.proofs.ToldNumbers.{place_listed}
 
 -- ---- all numbers
 
@@ -85,10 +86,6 @@ module _ (x : Case) where
         subst (Contains (keys (rows_in x))) n.2 (numbers s.0 n.0 (omega (arith, small.1)) within.0 (omega (arith, within.1)))
 
 -- ---- their places
-
-place_listed : (rs : List Row) (k : Key) (o : Option ℕ) → is_listed (entry_with rs k o) ≡ true → (place : ℕ) × (o ≡ Some place)
-place_listed rs k None e = absurd (cc)
-place_listed rs k (Some place) e = (place, refl)
 
 module _ (x : Case) where
   abbrev place_of : NormalMessage → ℕ

@@ -4,16 +4,20 @@ use Rattle.std.proofs.Common.{◌≡◌, inl, inr, ℕ, Bool, true, false, ◌&&
 use Rattle.std.specs.Prelude.{count_by}
 use Rattle.std.proofs.lemmas.Bool.{and_parts, lt-ltb}
 use Rattle.ss_block.specs.declared.hash.HashPair.{HashPair}
+use Rattle.ss_block.specs.declared.session.Session.{Session}
 use Rattle.ss_block.specs.Hashes.{pair}
+use Rattle.ss_block.specs.Order.{session_cmp}
+use Rattle.ss_block.specs.OrderLaws.{session_cmp_total}
 use Rattle.ss_review.specs.Notes.{note}
 use Rattle.ss_review.specs.Announced.{keys}
 use Rattle.ss_review.specs.Assigned.{same_pair, places_with}
 use Rattle.ss_review.specs.Delivery.{own_session, is_normal, submitted_to}
-use Rattle.ss_review.specs.DeliveryLaws.{Case, normals_in, rows_in, rank_in, OthersWantOthers, AnnouncedByBlocks, ListedByRank}
-use Rattle.ss_review.specs.Delivered.{RanksAreBelowCounts}
+use Rattle.ss_review.specs.DeliveryLaws.{Case, normals_in, rows_in, rank_in, OthersWantOthers}
+use Rattle.ss_review.specs.Delivered.{RanksAreBelowCounts, KeysHaveBlocks, EntriesAreByRank}
 use Rattle.ss_review.specs.Whole.{IsWhole, BlocksAreVerified, MessagesAreStored, NumbersAreListed}
 use Rattle.ss_review.proofs.EqualCounts.{same_counts}
 use Rattle.ss_review.proofs.Members.{Has, has_from_contains, contains_from_has}
+use Rattle.ss_review.proofs.Rising.{not_less_itself}
 use Rattle.ss_review.proofs.NormalCounts.{normal_counts, length-places_with}
 use Rattle.ss_review.proofs.SentKinds.{sent_kinds, submitted_note}
 use Rattle.ss_review.proofs.Sums.{count_by-same}
@@ -41,11 +45,11 @@ places_of stored x w p =
     ∙ normal_counts (λ q. same_pair q p) x.log
     ∙ stored x w (λ n. same_pair (pair n) p)
 
-pub numbers_are_listed : BlocksAreVerified → MessagesAreStored → AnnouncedByBlocks → ListedByRank → RanksAreBelowCounts → NumbersAreListed
+pub numbers_are_listed : BlocksAreVerified → MessagesAreStored → KeysHaveBlocks → EntriesAreByRank → RanksAreBelowCounts → NumbersAreListed
 numbers_are_listed verified stored announced by_rank below x w k c =
     let own : k.session ≡ own_session x.s = own_key verified x w k (has_from_contains (keys (rows_in x)) k c) in
     let its = (announced x w.case k own).1 c in
-    let others : OthersWantOthers x = λ j m there apart submitted e. apart (own_key verified x w j (has_from_contains (keys (rows_in x)) j there)) in
+    let others : OthersWantOthers x = λ j m there before submitted e. not_less_itself session_cmp_total (own_session x.s) (ap (λ (s : Session). session_cmp s (own_session x.s)) (sym (own_key verified x w j (has_from_contains (keys (rows_in x)) j there))) ∙ before) in
     let p = pair its.message in
     let rank = rank_in x k p in
     let fewer = below x w.case k its.message own c its.given in

@@ -10,8 +10,8 @@ use Rattle.ss_review.specs.Notes.{notes}
 use Rattle.ss_review.specs.Contents.{blocks}
 use Rattle.ss_review.specs.Announced.{Key, keys}
 use Rattle.ss_review.specs.Delivery.{own_session}
-use Rattle.ss_review.specs.DeliveryLaws.{Case, says, rows_in, JoinedByFragments, AnnouncedByBlocks}
-use Rattle.ss_review.specs.Delivered.{NumbersHaveBlocks}
+use Rattle.ss_review.specs.DeliveryLaws.{Case, says, rows_in, JoinedByFragments}
+use Rattle.ss_review.specs.Delivered.{NumbersHaveBlocks, KeysHaveBlocks}
 use Rattle.ss_review.specs.Whole.{IsWhole, PayloadsArrive, BlocksAreVerified, NumbersAreAnnounced, GroupsHaveNoHole}
 use Rattle.ss_review.proofs.Announcements.{announced_key, has-announced_key}
 use Rattle.ss_review.proofs.Given.{is_given}
@@ -19,7 +19,7 @@ use Rattle.ss_review.proofs.Keyed.{has-slice_get}
 use Rattle.ss_review.proofs.Members.{Has, has_from_contains, contains_from_has}
 use Rattle.ss_review.proofs.OwnNumbers.{grouping_of}
 
-pub numbers_are_announced : PayloadsArrive → JoinedByFragments → AnnouncedByBlocks → NumbersHaveBlocks → NumbersAreAnnounced
+pub numbers_are_announced : PayloadsArrive → JoinedByFragments → KeysHaveBlocks → NumbersHaveBlocks → NumbersAreAnnounced
 numbers_are_announced arrive joined announced have x w spri number small some most =
     (announced x w.case (record { session = own_session x.s; group = group_of x.s.config.grouping spri; number = number }) refl).0.1
     ((joined x w.case).1 (arrive x w), have x w.case w.complete w.delivered.blocks spri number small some most)
@@ -30,7 +30,7 @@ own_key verified x w k h =
     let a = (announced_key (says x) (blocks (notes x.log)) k h).1 in
     sym a.session_is ∙ (verified x w a.message a.stored).0
 
-pub groups_have_no_hole : BlocksAreVerified → AnnouncedByBlocks → NumbersAreAnnounced → SprisAreSmall → GroupsHaveNoHole
+pub groups_have_no_hole : BlocksAreVerified → KeysHaveBlocks → NumbersAreAnnounced → SprisAreSmall → GroupsHaveNoHole
 groups_have_no_hole verified announced numbers spris x w s g first last hole =
     let behind : Key = record { session = s; group = g; number = last + 1 } in
     let h : Has (keys (rows_in x)) behind = has-announced_key (says x) (blocks (notes x.log)) behind hole.behind in

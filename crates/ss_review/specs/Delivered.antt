@@ -1,10 +1,10 @@
 -- What stands between what originators sent and what a review says of it.
-use Rattle.std.specs.Prelude.{◌≡◌, ℕ, ◌+◌, ◌<◌, ◌≤◌, ◌⊎◌, Bool, true, false, List, length, count_by, Contains, Some, Ok, Err}
+use Rattle.std.specs.Prelude.{◌≡◌, ◌↔◌, ℕ, ◌+◌, ◌<◌, ◌≤◌, ◌⊎◌, Bool, true, false, nat_lt, List, [], ◌∷◌, length, count_by, Contains, Some, Ok, Err}
 use Rattle.std.specs.List.{sum_by, range_with_len}
-use Rattle.ss_block.specs.Hashes.{pair}
+use Rattle.ss_block.specs.Hashes.{pair, hash_of}
 use Rattle.ss_payload.specs.Payload.{payload_text}
 use Rattle.ss_origin.specs.declared.config.Config.{Config}
-use Rattle.ss_origin.specs.Groups.{group_of}
+use Rattle.ss_origin.specs.Groups.{sg_of, group_of}
 use Rattle.ss_origin.specs.Calls.{spri_in}
 use Rattle.ss_origin.specs.Chain.{Turn, emitted_by, given_to}
 use Rattle.ss_review.specs.declared.session_report.SessionState.TheVariants as states
@@ -13,10 +13,12 @@ use Rattle.ss_review.specs.Notes.{note, notes}
 use Rattle.ss_review.specs.Contents.{block_in, blocks}
 use Rattle.ss_review.specs.Sessions.{of_session}
 use Rattle.ss_review.specs.Verified.{is_valid, joined}
-use Rattle.ss_review.specs.Announced.{Key, keys}
-use Rattle.ss_review.specs.Assigned.{same_pair}
+use Rattle.ss_review.specs.Announced.{Key, keys, hashes_for}
+use Rattle.ss_review.specs.Assigned.{same_pair, places_with}
+use Rattle.ss_review.specs.Entries.{entry_of}
+use Rattle.ss_review.specs.Verdict.{is_listed}
 use Rattle.ss_review.specs.Delivery.{own_session, is_normal, submitted_to, HasPayload, NothingPending}
-use Rattle.ss_review.specs.DeliveryLaws.{Case, IsCase, says, rows_in, HasBlock, message_of, rank_in}
+use Rattle.ss_review.specs.DeliveryLaws.{Case, IsCase, says, normals_in, rows_in, IsListedAsJoined, HasBlock, message_of, rank_in, HashesTellPairs, OthersWantOthers}
 
 -- ---- blocks
 
@@ -50,6 +52,28 @@ abbrev pub JoinsOwnPayload : Type 0
 JoinsOwnPayload = (x : Case) → IsCase x
     → (HasPayload x.chain x.log × (joined (says x) (of_session (blocks (notes x.log)) (own_session x.s)) ≡ Ok (payload_text x.s.payload)))
     ⊎ ((¬ (HasPayload x.chain x.log)) × (joined (says x) (of_session (blocks (notes x.log)) (own_session x.s)) ≡ Err states.Incomplete))
+
+-- ---- numbers
+
+-- the one hash that is announced for a key is that of the message which the chain gave the number
+pub record HasOneHash (x : Case) (k : Key) : Type 0 where
+  pub message : List ℕ
+  pub given : message_of x k ≡ Some message
+  pub hashes : hashes_for (rows_in x) k ≡ hash_of x.s.config.alg message ∷ []
+  pub number : 1 ≤ k.number
+  pub group : k.group.sg ≡ sg_of x.s.config.grouping
+
+-- a key is announced exactly where the session is joined and a block has a hash for it, and then with one
+abbrev pub KeysHaveBlocks : Type 0
+KeysHaveBlocks = (x : Case) → IsCase x → (k : Key) → k.session ≡ own_session x.s
+    → (Contains (keys (rows_in x)) k ↔ (IsListedAsJoined x × HasBlock x k))
+    × (Contains (keys (rows_in x)) k → HasOneHash x k)
+
+-- the entry of a key is a listed message exactly where its rank is below the number of places with its message's hashes
+abbrev pub EntriesAreByRank : Type 0
+EntriesAreByRank = (x : Case) → IsCase x → HashesTellPairs x → OthersWantOthers x
+    → (k : Key) (m : List ℕ) → k.session ≡ own_session x.s → Contains (keys (rows_in x)) k → message_of x k ≡ Some m
+    → is_listed (entry_of (normals_in x) (rows_in x) k) ≡ nat_lt (rank_in x k (pair m)) (length (places_with (normals_in x) (pair m)))
 
 -- ---- messages
 

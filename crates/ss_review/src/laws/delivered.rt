@@ -1,6 +1,8 @@
 //! What stands between what originators sent and what a review says of it.
 ghost use Rattle.ss_review.specs.Delivered.{
+  EntriesAreByRank,
   JoinsOwnPayload,
+  KeysHaveBlocks,
   MessagesAreInGroups,
   NumbersHaveBlocks,
   OwnBlocksAreSent,
@@ -8,8 +10,7 @@ ghost use Rattle.ss_review.specs.Delivered.{
   SentBlocksAreStored,
 };
 
-use crate::laws::deliveries::announced_by_blocks;
-use ss_origin::laws::chains::{begins_first, others_are_sent};
+use ss_origin::laws::chains::{begins_first, others_are_sent, sent_blocks_are_numbered};
 use ss_origin::laws::groups::spris_are_small;
 use ss_payload::laws::cutting::{pieces_are_apart, pieces_lie_within};
 use ss_payload::laws::joining::{disputes_stay, pieces_are_whole};
@@ -40,6 +41,24 @@ pub(crate) fn joins_own_payload()
     texts_have_octets();
 }
 
+/// A number has a row exactly where the session is joined and a block with a hash for it is in the log, and then one row.
+pub(crate) fn keys_have_blocks()
+    ensures { KeysHaveBlocks }
+{
+    own_blocks_are_sent();
+    sent_blocks_are_stored();
+    joins_own_payload();
+    sent_blocks_are_numbered();
+}
+
+/// The entry of a number is a listed message exactly where its rank is below the number of places with its message's
+/// hashes.
+pub(crate) fn entries_are_by_rank()
+    ensures { EntriesAreByRank }
+{
+    keys_have_blocks();
+}
+
 /// Each submitted message was given to one group.
 pub(crate) fn messages_are_in_groups()
     ensures { MessagesAreInGroups }
@@ -49,7 +68,7 @@ pub(crate) fn messages_are_in_groups()
 pub(crate) fn ranks_are_below_counts()
     ensures { RanksAreBelowCounts }
 {
-    announced_by_blocks();
+    keys_have_blocks();
     messages_are_in_groups();
     spris_are_small();
 }

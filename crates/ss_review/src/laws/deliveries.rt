@@ -10,19 +10,21 @@ ghost use Rattle.ss_review.specs.DeliveryLaws.{
 };
 
 use crate::laws::delivered::{
-    joins_own_payload, own_blocks_are_sent, ranks_are_below_counts, sent_blocks_are_stored,
+    entries_are_by_rank, joins_own_payload, keys_have_blocks, ranks_are_below_counts,
 };
-use crate::laws::reports::one_report;
+use crate::laws::reports::{
+    announced_are_told, keys_are_announced, listed_are_assigned, one_report,
+};
 use crate::laws::whole::{
     blocks_are_verified, groups_have_no_hole, messages_are_listed, nothing_is_spoilt,
     numbers_are_listed, payloads_arrive,
 };
-use ss_origin::laws::chains::sent_blocks_are_numbered;
 
-/// No message that was sent is spoilt, and no number of the session is disputed.
+/// No message that was sent is spoilt, and no number of the session is a gap for a dispute.
 pub fn nothing_is_disputed()
     ensures { NothingIsDisputed }
 {
+    one_report();
     announced_by_blocks();
 }
 
@@ -34,15 +36,14 @@ pub fn joined_by_fragments()
     one_report();
 }
 
-/// A number is announced exactly where the session is joined and a block with a hash for it is in the log, and then with
-/// the hash of the message which the originators gave this number, and no other.
+/// A number is listed or a gap exactly where the session is joined and a block with a hash for it is in the log, and then
+/// it is announced with the hash of the message which the originators gave this number, and no other.
 pub fn announced_by_blocks()
     ensures { AnnouncedByBlocks }
 {
-    own_blocks_are_sent();
-    sent_blocks_are_stored();
-    joins_own_payload();
-    sent_blocks_are_numbered();
+    keys_have_blocks();
+    announced_are_told();
+    keys_are_announced();
 }
 
 /// An announced number is listed exactly where its rank, among the announced numbers whose messages have the same hashes,
@@ -50,15 +51,21 @@ pub fn announced_by_blocks()
 pub fn listed_by_rank()
     ensures { ListedByRank }
 {
-    announced_by_blocks();
+    entries_are_by_rank();
+    listed_are_assigned();
+    announced_are_told();
+    keys_are_announced();
 }
 
-/// Where no two submitted messages have equal hashes, an announced number is listed exactly where its message is stored.
+/// Where no two submitted messages have equal pairs of hashes, an announced number is listed exactly where a message with
+/// its message's pair is stored.
 pub fn listed_where_stored()
     ensures { ListedWhereStored }
 {
     listed_by_rank();
     ranks_are_below_counts();
+    announced_are_told();
+    keys_are_announced();
 }
 
 /// Where everything that was sent is stored, and nothing else, the session is joined and the report is clean.

@@ -11,10 +11,10 @@ ghost use Rattle.ss_review.specs.Whole.{
 };
 
 use crate::laws::delivered::{
-    joins_own_payload, messages_are_in_groups, numbers_have_blocks, own_blocks_are_sent,
-    ranks_are_below_counts, sent_blocks_are_stored,
+    entries_are_by_rank, joins_own_payload, keys_have_blocks, messages_are_in_groups,
+    numbers_have_blocks, own_blocks_are_sent, ranks_are_below_counts, sent_blocks_are_stored,
 };
-use crate::laws::deliveries::{announced_by_blocks, joined_by_fragments, listed_by_rank};
+use crate::laws::deliveries::joined_by_fragments;
 use ss_origin::laws::groups::spris_are_small;
 
 /// Each fragment of the payload is in the log.
@@ -48,7 +48,7 @@ pub(crate) fn numbers_are_announced()
 {
     payloads_arrive();
     joined_by_fragments();
-    announced_by_blocks();
+    keys_have_blocks();
     numbers_have_blocks();
 }
 
@@ -57,7 +57,7 @@ pub(crate) fn groups_have_no_hole()
     ensures { GroupsHaveNoHole }
 {
     blocks_are_verified();
-    announced_by_blocks();
+    keys_have_blocks();
     numbers_are_announced();
     spris_are_small();
 }
@@ -68,8 +68,8 @@ pub(crate) fn numbers_are_listed()
 {
     blocks_are_verified();
     messages_are_stored();
-    announced_by_blocks();
-    listed_by_rank();
+    keys_have_blocks();
+    entries_are_by_rank();
     ranks_are_below_counts();
 }
 

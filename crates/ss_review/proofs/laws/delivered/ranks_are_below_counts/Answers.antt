@@ -10,6 +10,6 @@ use Rattle.ss_review.proofs.laws.delivered.ranks_are_below_counts.Goals as goal
 
 pub returns : goal.returns
 returns c = λ x is k m own announced given.
-    rank_below_count x (pair m) c.spris_are_small.ensures c.messages_are_in_groups.ensures c.announced_by_blocks.ensures is k own
+    rank_below_count x (pair m) c.spris_are_small.ensures c.messages_are_in_groups.ensures c.keys_have_blocks.ensures is k own
     (has_from_contains (keys (rows_in x)) k announced)
     (ap (λ o. is_pair (pair m) (pair_of o)) given ∙ same_itself (pair m))

@@ -1,10 +1,5 @@
-use Rattle.ss_review.specs.Announced.{keys}
-use Rattle.ss_review.specs.DeliveryLaws.{rows_in}
-use Rattle.ss_review.proofs.Members.{has_from_contains}
-use Rattle.ss_review.proofs.OwnKeys.{is_submitted}
-use Rattle.ss_review.proofs.OwnRanks.{listed_by_its_rank}
+use Rattle.ss_review.proofs.ToldNumbers.{listed_by_rank}
 use Rattle.ss_review.proofs.laws.deliveries.listed_by_rank.Goals as goal
 
 pub returns : goal.returns
-returns c = λ x is tell others k m own announced given.
-    listed_by_its_rank c.announced_by_blocks.ensures x is tell others m (is_submitted c.announced_by_blocks.ensures x is k m given) k own (has_from_contains (keys (rows_in x)) k announced) given
+returns c = listed_by_rank c.entries_are_by_rank.ensures c.listed_are_assigned.ensures c.announced_are_told.ensures c.keys_are_announced.ensures
