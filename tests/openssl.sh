@@ -197,6 +197,14 @@ for it in "- K $blob" "2009-05-03T14:00:39.519005+02:00 K $blob"; do
     holds "the key with the time ${it%% *}" cmp out <(payloads "$it")
 done
 
+# what holds among what doesn't
+other=$(printf '%s' "$(<others/payload)" | base64 -w 0)
+good=$(payloads "$stated")
+bad_yes="yes $payload $octets_0121 $signature"
+do_script answer.sh keys/public-key.pem < <(printf '%s\n' "trust $other" "$good" "$bad_yes" "$bad_yes" "$good" "trust $other" \
+    "yes $other $octets $signature" "$good" "$bad_yes")
+expect 'the questions that hold among others' 0 "$good"$'\n'"$good"$'\n'"$good" ''
+
 # VER is that of the block's element, wherever else such octets stand: each text is signed and answered under its
 # version. hides VERSION TEXT: a check of a text whose block has this version.
 hides() {
