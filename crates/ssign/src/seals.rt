@@ -25,14 +25,13 @@ impl GivenSeals {
 }
 
 impl Seals for GivenSeals {
-    ghost use Rattle.std.specs.Prelude.{true};
-    ghost use Rattle.ssign.specs.Signing.{seals_of};
+    ghost use Rattle.ssign.specs.Signing.{is_given, seals_of};
 
     ghost sound = { λ _. Unit {0} };
 
     ghost payload = { λ s. s.payload };
 
-    ghost valid = { λ _ _ _ _. true };
+    ghost valid = { λ s _ octets signature. is_given s.answers octets signature };
 
     ghost answers = { λ s octets answer. seals_of s.answers octets answer };
 
