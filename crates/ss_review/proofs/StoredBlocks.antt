@@ -53,6 +53,11 @@ noted_block text (readings.Signature b) said e = refl
 noted_block text (readings.Certificate b) said e = refl
 noted_block text (readings.Spoilt cause) said e = absurd (unsaid said e)
 
+-- and none without a block
+pub block_not_normal : (m : List ℕ) (said : Said) → said_in (reading m) ≡ Some said → is_normal (note m) ≡ false
+unfolding note
+block_not_normal m said e = ap is_normal (noted_block m (reading m) said e)
+
 -- ---- blocks of the session
 
 -- such a block as a message of a log

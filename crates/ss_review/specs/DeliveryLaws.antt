@@ -104,8 +104,8 @@ pub record HasItsHash (x : Case) (k : Key) : Type 0 where
   pub number : 1 ≤ k.number
   pub group : k.group.sg ≡ sg_of x.s.config.grouping
 
--- A number is listed or a gap exactly where the session is joined and a block with a hash for it is in the log, and then
--- it is announced with the hash of the message which the chain gave this number, and no other.
+-- A number is listed or a gap exactly where the session is joined and a block with a hash for it is in the log. It is
+-- then announced with the hash of the message which the chain gave this number, and with no other.
 abbrev pub AnnouncedByBlocks : Type 0
 AnnouncedByBlocks = (x : Case) → IsCase x → (k : Key) → k.session ≡ own_session x.s
     → (IsTold (report_in x) k ↔ (IsListedAsJoined x × HasBlock x k))
