@@ -93,20 +93,20 @@ def frame(kind, octets=b""):
     return b"%d %s%s" % (len(octets) + 1, kind, octets)
 
 
-def told(log, chains, trusted):
-    """A log as the program reads it; each payload is trusted or none, and each signature of a sent block is valid."""
+def told(log, chains, trusted, valid):
+    """A log as the program reads it; each payload is trusted or none, and each signature of a sent block is valid or none."""
     frames = []
     for chain in chains:
         frames += [frame(b"t", chain.payload)] * trusted + [frame(b"p", chain.payload)]
-        for block in chain.sent_blocks():
+        for block in chain.sent_blocks() * valid:
             octets, signature = signed(block)
             frames += [frame(b"o", octets), frame(b"s", signature)]
     return b"".join(frames + [frame(b"m", text) for text in log] + [frame(b".")])
 
 
-def reports(program, cases, trusted=True):
+def reports(program, cases, trusted=True, valid=True):
     """The lines of each report, by both reviewers."""
-    done = subprocess.run([program], input=b"".join(told(log, chains, trusted) for log, chains in cases), stdout=subprocess.PIPE, timeout=300, check=True)
+    done = subprocess.run([program], input=b"".join(told(log, chains, trusted, valid) for log, chains in cases), stdout=subprocess.PIPE, timeout=300, check=True)
     found = []
     for line in done.stdout.decode().splitlines():
         if line in ("pairs", "whole"):
@@ -159,28 +159,35 @@ LOGS = [
 ]
 
 
-# What goes wrong without a premise of the law: scripts, a log by the script and the number of the message that it sent, whether
-# the payload is trusted, and the report.
+# What goes wrong without a premise of the law: scripts, a log by the script and the number of the message that it sent, what
+# isn't answered of payloads and signatures, and the report.
 CONFIG, BEGIN, FLUSH = SCRIPT[0], SCRIPT[2], SCRIPT[-1]
 SUBMIT_A, SUBMIT_E = SCRIPT[3], SCRIPT[7]
 FIRST = CONFIG.replace(" h s ", " a s ")
+OTHER_KEY = CONFIG.replace(b"S0VZ".hex(), b"S0Va".hex())
 OWN = "session 68 73 - 1 "
 WITHOUT = [
-    ("a block of the session that somebody else sent", [[CONFIG, "new"], [CONFIG, "new", BEGIN]], [(1, 0), (1, 1)], True, [OWN + "joined", "count 2"]),
-    ("a payload that isn't trusted", [[CONFIG, "new", BEGIN]], [(0, 0), (0, 1)], False, [OWN + "untrusted", "refused 0", "refused 1", "count 2"]),
+    ("a block of the session that somebody else sent", [[CONFIG, "new"], [CONFIG, "new", BEGIN]], [(1, 0), (1, 1)], {}, [OWN + "joined", "count 2"]),
+    ("a payload that isn't trusted", [[CONFIG, "new", BEGIN]], [(0, 0), (0, 1)], {"trusted": False}, [OWN + "untrusted", "refused 0", "refused 1", "count 2"]),
+    ("a checker that says yes to nothing", [[CONFIG, "new", BEGIN, SUBMIT_A, FLUSH]], [(0, it) for it in range(4)], {"valid": False},
+     [OWN + "unaccepted", "unlisted 2", "refused 0", "refused 1", "refused 3", "count 4"]),
     ("another session that announces the same message, and stands before", [[CONFIG, "new", BEGIN, SUBMIT_A, FLUSH], [FIRST, "new", BEGIN, SUBMIT_A, FLUSH]],
-     [(0, 0), (0, 1), (0, 2), (0, 3), (1, 0), (1, 1), (1, 3)], True,
+     [(0, 0), (0, 1), (0, 2), (0, 3), (1, 0), (1, 1), (1, 3)], {},
      ["session 61 73 - 1 joined", "group 1 13", "listed 1 2", OWN + "joined", "group 1 13", "gap 1 lost", "count 7"]),
-    ("equal messages, of which one is lost", [[CONFIG, "new", BEGIN, SUBMIT_A, SUBMIT_A]], [(0, 0), (0, 1), (0, 2), (0, 4)], True,
+    ("equal messages, of which one is lost", [[CONFIG, "new", BEGIN, SUBMIT_A, SUBMIT_A]], [(0, 0), (0, 1), (0, 2), (0, 4)], {},
      [OWN + "joined", "group 1 13", "listed 1 2", "gap 2 lost", "count 4"]),
-    ("a message that is pending", [[CONFIG, "new", BEGIN, SUBMIT_A]], [(0, 0), (0, 1), (0, 2)], True, [OWN + "joined", "unlisted 2", "count 3"]),
-    ("no `begin`", [[CONFIG, "resume 0", SUBMIT_A, FLUSH]], [(0, 0), (0, 1)], True, [OWN + "incomplete", "unlisted 0", "refused 1", "count 2"]),
-    ("a lost message", [[CONFIG, "new", BEGIN, SUBMIT_A, FLUSH]], [(0, 0), (0, 1), (0, 3)], True, [OWN + "joined", "group 1 13", "gap 1 lost", "count 3"]),
-    ("a message once too often", [[CONFIG, "new", BEGIN, SUBMIT_A, FLUSH]], [(0, 0), (0, 1), (0, 2), (0, 2), (0, 3)], True,
+    ("a message that is pending", [[CONFIG, "new", BEGIN, SUBMIT_A]], [(0, 0), (0, 1), (0, 2)], {}, [OWN + "joined", "unlisted 2", "count 3"]),
+    ("no `begin`", [[CONFIG, "resume 0", SUBMIT_A, FLUSH]], [(0, 0), (0, 1)], {}, [OWN + "incomplete", "unlisted 0", "refused 1", "count 2"]),
+    ("a lost message", [[CONFIG, "new", BEGIN, SUBMIT_A, FLUSH]], [(0, 0), (0, 1), (0, 3)], {}, [OWN + "joined", "group 1 13", "gap 1 lost", "count 3"]),
+    ("a message once too often", [[CONFIG, "new", BEGIN, SUBMIT_A, FLUSH]], [(0, 0), (0, 1), (0, 2), (0, 2), (0, 3)], {},
      [OWN + "joined", "group 1 13", "listed 1 2", "unlisted 3", "count 5"]),
-    ("a lost block", [[CONFIG, "new", BEGIN, SUBMIT_A, FLUSH]], [(0, 0), (0, 1), (0, 2)], True, [OWN + "joined", "unlisted 2", "count 3"]),
-    ("an originator that is resumed elsewhere", [[CONFIG, "new", BEGIN, SUBMIT_A, FLUSH, "resume 0", SUBMIT_E, FLUSH]], [(0, it) for it in range(6)], True,
+    ("a lost block", [[CONFIG, "new", BEGIN, SUBMIT_A, FLUSH]], [(0, 0), (0, 1), (0, 2)], {}, [OWN + "joined", "unlisted 2", "count 3"]),
+    ("an originator that is resumed elsewhere", [[CONFIG, "new", BEGIN, SUBMIT_A, FLUSH, "resume 0", SUBMIT_E, FLUSH]], [(0, it) for it in range(6)], {},
      [OWN + "joined", "group 1 13", "gap 1 disputed", "unlisted 2", "unlisted 4", "count 6"]),
+    ("an originator that is resumed with another payload", [[CONFIG, "new", BEGIN, SUBMIT_A, FLUSH], [OTHER_KEY, "resume 1 13:2", SUBMIT_E, FLUSH]],
+     [(0, 0), (0, 1), (0, 2), (0, 3), (1, 0), (1, 1)], {}, [OWN + "joined", "group 1 13", "listed 1 2", "unlisted 4", "refused 5", "count 6"]),
+    ("a second new originator of the session, with another payload", [[CONFIG, "new", BEGIN], [OTHER_KEY, "new", BEGIN]], [(0, 0), (0, 1), (1, 0), (1, 1)], {},
+     [OWN + "disputed", "refused 0", "refused 1", "refused 2", "refused 3", "count 4"]),
 ]
 
 
@@ -201,11 +208,11 @@ def worked_logs(originated, reviewed):
 
 def premises(originated, reviewed):
     """What a review says where a premise of the law doesn't hold."""
-    for name, scripts_of_it, numbers, trusted, wanted in WITHOUT:
+    for name, scripts_of_it, numbers, unanswered, wanted in WITHOUT:
         answers = play(originated, scripts_of_it)
         sent = list(map(sent_in_order, answers))
         chains = list(map(chain_of, scripts_of_it, answers))
-        (both,) = reports(reviewed, [([sent[script][number] for script, number in numbers], chains)], trusted)
+        (both,) = reports(reviewed, [([sent[script][number] for script, number in numbers], chains)], **unanswered)
         for report in both:
             tell(name, wanted, report)
 

@@ -1,5 +1,5 @@
 -- Which numbers of the session are announced, and with which hash.
-use Rattle.std.proofs.Common.{◌≡◌, inl, inr, ℕ, zero, suc, ◌+◌, ◌-◌, ◌<◌, ◌≤◌, true, false, List, [], ◌∷◌, ◌++◌, length, refl, sym, ap, ◌∙◌, subst, arith}
+use Rattle.std.proofs.Common.{◌≡◌, inl, inr, ℕ, zero, suc, ◌+◌, ◌-◌, ◌<◌, ◌≤◌, true, List, [], ◌∷◌, ◌++◌, length, refl, sym, ap, ◌∙◌, subst, arith}
 use Rattle.std.specs.Prelude.{Some, Result, Ok, slice_get}
 use Rattle.std.specs.List.{Contains}
 use Rattle.std.specs.List.Sorted.{IsStrictlySortedBy}
@@ -31,9 +31,9 @@ use Rattle.ss_review.specs.Announced.{Key, keys, hashes_for}
 use Rattle.ss_review.specs.Announcing.{Announces, IsAnnounced}
 use Rattle.ss_review.specs.Contents.{said_in, blocks}
 use Rattle.ss_review.specs.Delivered.{IsSentBlock, OwnBlocksAreSent, SentBlocksAreStored, JoinsOwnPayload, HasOneHash, KeysHaveBlocks}
-use Rattle.ss_review.specs.Delivery.{own_session, is_normal}
+use Rattle.ss_review.specs.Delivery.{own_session}
 use Rattle.ss_review.specs.DeliveryLaws.{Case, IsCase, says, report_in, rows_in, IsListedAsJoined, HasBlock, message_of}
-use Rattle.ss_review.specs.Notes.{noted, note, notes}
+use Rattle.ss_review.specs.Notes.{notes}
 use Rattle.ss_review.specs.Sessions.{of_session}
 use Rattle.ss_review.specs.Verified.{joined, state_in, is_valid_in, is_verified}
 use Rattle.ss_review.proofs.Announcements.{announced_row, announced_key, has-announced_key, from_has-hashes_for, has-hashes_for, hashes_for-rise, rows-rise, has-rows}
@@ -41,7 +41,9 @@ use Rattle.ss_review.proofs.Members.{Has, has_from_contains, contains_from_has}
 use Rattle.ss_review.proofs.NotesTold.{block_read}
 use Rattle.ss_review.proofs.OneReport.{is_report}
 use Rattle.ss_review.proofs.Rising.{below_all, not_less_itself}
+use Rattle.ss_review.proofs.Paired.{parted}
 use Rattle.ss_review.proofs.SentMessages.{sent_by}
+use Rattle.ss_review.proofs.StoredBlocks.{block_not_normal}
 use Rattle.ss_review.proofs.Witnesses.{got_map, said_signature, verified_cases}
 
 -- ---- elements by index
@@ -75,22 +77,16 @@ numbered_message c messages first hashes are i h e =
       sym w.2,
     )
 
--- a member stands between others
-pub split_at : {X : Type 0} (xs : List X) (x : X) → Has xs x → (front : List X) × (back : List X) × (xs ≡ front ++ x ∷ back)
-split_at [] x h = absurd h
-split_at (y ∷ ys) x (inl e) = ([], ys, ap (λ z. z ∷ ys) e)
-split_at (y ∷ ys) x (inr h) = let w = split_at ys x h in (y ∷ w.0, w.1, ap (λ zs. y ∷ zs) w.2)
-
 -- a signature block that the chain sent is of the chain
 pub of_chain : SentBlocksAreNumbered → (s : Setting) (chain : List (List Turn)) → IsChain s chain → (m : List ℕ) → Contains (emitted_by chain) m → (b : block.Signature) → reading m ≡ readings.Signature b → IsOfChain s chain b
 of_chain numbered s chain is m c b read =
     let sent = sent_by chain m c in
-    let o = split_at chain sent.turns sent.of_chain in
-    let t = split_at sent.turns sent.turn sent.of_originator in
-    let whole : chain ≡ o.0 ++ (t.0 ++ sent.turn ∷ t.1) ∷ o.1 = o.2 ∙ ap (λ turns. o.0 ++ turns ∷ o.1) t.2 in
-    let all = numbered s o.0 o.1 t.0 t.1 sent.turn (subst (IsChain s) whole is) in
+    let o = parted chain sent.turns sent.of_chain in
+    let t = parted sent.turns sent.turn sent.of_originator in
+    let whole : chain ≡ o.front ++ (t.front ++ sent.turn ∷ t.behind) ∷ o.behind = o.parts ∙ ap (λ turns. o.front ++ turns ∷ o.behind) t.parts in
+    let all = numbered s o.front o.behind t.front t.behind sent.turn (subst (IsChain s) whole is) in
     subst (λ ts. IsOfChain s ts b) (sym whole)
-    (below_all (λ n. (d : block.Signature) → reading n ≡ readings.Signature d → IsOfChain s (o.0 ++ (t.0 ++ sent.turn ∷ t.1) ∷ o.1) d) sent.turn.emitted m all sent.sent b read)
+    (below_all (λ n. (d : block.Signature) → reading n ≡ readings.Signature d → IsOfChain s (o.front ++ (t.front ++ sent.turn ∷ t.behind) ∷ o.behind) d) sent.turn.emitted m all sent.sent b read)
 
 -- ---- one hash
 
@@ -107,10 +103,6 @@ one_only (x ∷ y ∷ hs) h up i f =
 
 no_state : states.Incomplete ≡ states.Joined → ⊥
 no_state e = cc
-
-signature_noted : (m : List ℕ) (b : block.Signature) → reading m ≡ readings.Signature b → is_normal (note m) ≡ false
-unfolding note
-signature_noted m b e = ap (λ r. is_normal (noted m r)) e
 
 module _ (x : Case) (is : IsCase x) where
   abbrev stored_blocks : List BlockMessage
@@ -197,7 +189,8 @@ module _ (x : Case) (is : IsCase x) where
 
   -- ---- the number of a block
 
-  verified_by : OwnBlocksAreSent → (b : BlockMessage) → Contains stored_blocks b → b.session ≡ own_session x.s → own_joined ≡ Ok (payload_text x.s.payload) → is_verified (says x) stored_blocks b ≡ true
+  -- a block of the session is verified where the session is joined under the originators' payload
+  pub verified_by : OwnBlocksAreSent → (b : BlockMessage) → Contains stored_blocks b → b.session ≡ own_session x.s → own_joined ≡ Ok (payload_text x.s.payload) → is_verified (says x) stored_blocks b ≡ true
   unfolding is_verified
   verified_by sent b c own e =
       ap (λ s. is_valid_in (says x) (joined (says x) (of_session stored_blocks s)) b) own
@@ -213,7 +206,7 @@ module _ (x : Case) (is : IsCase x) where
 
   announced_by : OwnBlocksAreSent → SentBlocksAreStored → JoinsOwnPayload → (k : Key) → k.session ≡ own_session x.s → IsListedAsJoined x → HasBlock x k → IsAnnounced (says x) stored_blocks k
   announced_by sent stored joins k own l b =
-      let t = stored x is b.message b.stored b.sent (signature_noted b.message b.block b.read) in
+      let t = stored x is b.message b.stored b.sent (block_not_normal b.message (Hashes b.block) (ap said_in b.read)) in
       let said : Hashes b.block ≡ t.stored_block.said
       = same_Some _ _ (sym (ap said_in b.read) ∙ (block_read t.stored_block.place b.message t.stored_block t.read).said_is) in
       let at : k.number ≡ b.block.first + (k.number - b.block.first) = omega (arith, b.first) in

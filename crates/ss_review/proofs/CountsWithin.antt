@@ -7,16 +7,9 @@ use Rattle.std.specs.Cmp.{IsTotalOrder}
 use Rattle.std.specs.List.Sorted.{IsStrictlySortedBy}
 use Rattle.ss_review.proofs.Counting.{count_by-cons}
 use Rattle.ss_review.proofs.Members.{Has, has-append_left, has-append_right, has-append_cases}
+use Rattle.ss_review.proofs.Paired.{parted}
 use Rattle.ss_review.proofs.Rising.{below_all, not_less_itself}
 use Rattle.ss_review.proofs.Sums.{count_by-append}
-
--- what stands before a member and behind it
-split_at : {X : Type 0} (ys : List X) (x : X) → Has ys x → (front : List X) × (back : List X) × (ys ≡ front ++ x ∷ back)
-split_at [] x h = absurd h
-split_at {X} (y ∷ ys) x (inl e) = ([], ys, ap (λ (z : X). z ∷ ys) e)
-split_at {X} (y ∷ ys) x (inr h) =
-    let w : (front : List X) × (back : List X) × (ys ≡ front ++ x ∷ back) = split_at ys x h in
-    (y ∷ w.0, w.1, ap (λ (zs : List X). y ∷ zs) w.2)
 
 module _ {K : Type 0} {R : K → K → Ordering} (o : IsTotalOrder R) (f : K → Bool) where
   -- a member that is above another isn't that one
@@ -36,10 +29,10 @@ module _ {K : Type 0} {R : K → K → Ordering} (o : IsTotalOrder R) (f : K →
   counted_at false x xs ys e up within rest =
       omega (arith, count_by-cons f x xs, ap {B = ℕ} (λ b. cond b 1 0) e, rest ys (λ q h t. within q (inr h) t))
   counted_at true x xs ys e up within rest =
-      let w = split_at ys x (within x (inl refl) e) in
-      let fewer : count_by f xs ≤ count_by f (w.0 ++ w.1)
-      = rest (w.0 ++ w.1) (λ q h t. still_has w.0 x w.1 q (below_all (λ y. R x y ≡ Less) xs q up.0 h) (subst (λ zs. Has zs q) w.2 (within q (inr h) t))) in
-      omega (arith, fewer, ap (count_by f) w.2, count_by-append f w.0 (x ∷ w.1), count_by-append f w.0 w.1, count_by-cons f x w.1, count_by-cons f x xs, ap {B = ℕ} (λ b. cond b 1 0) e)
+      let w = parted ys x (within x (inl refl) e) in
+      let fewer : count_by f xs ≤ count_by f (w.front ++ w.behind)
+      = rest (w.front ++ w.behind) (λ q h t. still_has w.front x w.behind q (below_all (λ y. R x y ≡ Less) xs q up.0 h) (subst (λ zs. Has zs q) w.parts (within q (inr h) t))) in
+      omega (arith, fewer, ap (count_by f) w.parts, count_by-append f w.front (x ∷ w.behind), count_by-append f w.front w.behind, count_by-cons f x w.behind, count_by-cons f x xs, ap {B = ℕ} (λ b. cond b 1 0) e)
 
   -- the members that pass are no more than those of a list that has them
   pub count_within : (xs ys : List K) → IsStrictlySortedBy R xs → ((q : K) → Has xs q → f q ≡ true → Has ys q) → count_by f xs ≤ count_by f ys

@@ -1,20 +1,17 @@
 -- Each number that a chain gave a message is in a block that it sent, where nothing is left pending.
-use Rattle.std.proofs.Common.{◌≡◌, inl, inr, ℕ, ◌+◌, ◌-◌, ◌<◌, ◌≤◌, false, List, [], ◌∷◌, ◌++◌, length, refl, sym, ap, subst, arith, length-append}
+use Rattle.std.proofs.Common.{◌≡◌, inl, inr, ℕ, ◌+◌, ◌-◌, ◌<◌, ◌≤◌, List, [], ◌∷◌, ◌++◌, length, refl, sym, ap, subst, arith, length-append}
 use Rattle.std.specs.Prelude.{Contains}
 use Rattle.std.specs.List.{flat_map}
 use Rattle.std.proofs.lemmas.Bool.{cases_lt}
 use Rattle.std.proofs.lemmas.List.{append_assoc}
-use Rattle.ss_block.specs.declared.reading.Reading.{Reading}
-use Rattle.ss_block.specs.declared.reading.Reading.TheVariants as readings
-use Rattle.ss_block.specs.Block as block
-use Rattle.ss_block.specs.Reading.{reading}
 use Rattle.ss_origin.specs.Calls.{messages_of, pending_of}
 use Rattle.ss_origin.specs.Setting.{Setting}
 use Rattle.ss_origin.specs.Chain.{Turn, calls_of, IsChain, emitted_by, given_to}
 use Rattle.ss_origin.specs.SentLaws.{HasSentBlock, OthersAreSent}
-use Rattle.ss_review.specs.Notes.{noted, note}
-use Rattle.ss_review.specs.Delivery.{is_normal}
 use Rattle.ss_review.specs.Delivered.{NumbersHaveBlocks}
+use Rattle.ss_review.specs.declared.message.Said.TheVariants.{Hashes}
+use Rattle.ss_review.specs.Contents.{said_in}
+use Rattle.ss_review.proofs.StoredBlocks.{block_not_normal}
 use Rattle.ss_review.proofs.Members.{Has, has_from_contains, contains_from_has, has-append_right, has-flat_map}
 
 -- a message that a turn of an originator of a chain sent is one that the chain sent
@@ -22,14 +19,6 @@ pub sent_by_turn : (chain : List (List Turn)) (turns : List Turn) (t : Turn) (m 
 sent_by_turn chain turns t m h i j =
     has-flat_map (λ ts. flat_map (λ (u : Turn). u.emitted) ts) chain turns m h
     (has-flat_map (λ (u : Turn). u.emitted) turns t m i j)
-
--- the note of a signature block is none of a message without a block
-noted_block : (m : List ℕ) (r : Reading) (b : block.Signature) → r ≡ readings.Signature b → is_normal (noted m r) ≡ false
-noted_block m r b e = ap (λ (q : Reading). is_normal (noted m q)) e
-
-block_not_normal : (m : List ℕ) (b : block.Signature) → reading m ≡ readings.Signature b → is_normal (note m) ≡ false
-unfolding note
-block_not_normal m b e = noted_block m (reading m) b e
 
 -- one of the originators sent a block that has the number
 record IsCovered (s : Setting) (chain : List (List Turn)) (spri number : ℕ) : Type 0 where
@@ -75,7 +64,7 @@ numbers_have_blocks others x is none stored spri number small some most =
     record {
       message = b.message;
       block = b.block;
-      stored = stored b.message emitted (block_not_normal b.message b.block b.read);
+      stored = stored b.message emitted (block_not_normal b.message (Hashes b.block) (ap said_in b.read));
       sent = emitted;
       read = b.read;
       group = b.group;

@@ -27,13 +27,13 @@ use Rattle.ss_review.specs.declared.message.BlockMessage.{BlockMessage}
 use Rattle.ss_review.specs.declared.message.Said.{Said}
 use Rattle.ss_review.specs.declared.message.Said.TheVariants.{Fragment}
 use Rattle.ss_review.specs.declared.session_report.SessionState.TheVariants as states
-use Rattle.ss_review.specs.Notes.{note, notes}
+use Rattle.ss_review.specs.Notes.{notes}
 use Rattle.ss_review.specs.Contents.{said_in, blocks}
 use Rattle.ss_review.specs.Sessions.{same_session, of_session}
 use Rattle.ss_review.specs.Payloads.{certificate_of, certificates, is_disputed, cover, lacks_some, joined_text, payload_or_malformed, stated_payload}
 use Rattle.ss_review.specs.Stated.{stated_in_turn}
 use Rattle.ss_review.specs.Verified.{is_valid, is_accepted, judged, joined}
-use Rattle.ss_review.specs.Delivery.{own_session, is_normal, HasPayload}
+use Rattle.ss_review.specs.Delivery.{own_session, HasPayload}
 use Rattle.ss_review.specs.DeliveryLaws.{Case, IsCase, says}
 use Rattle.ss_review.specs.Delivered.{OwnBlocksAreSent, SentBlocksAreStored, IsSentBlock, JoinsOwnPayload}
 use Rattle.ss_review.proofs.Beginnings.{IsBeginning, one_beginning, Beginning, beginning, certificate_begins, piece_of_message, is_piece, block_of_piece, one_message}
@@ -46,7 +46,7 @@ use Rattle.ss_review.proofs.Sections.{keeps_all}
 use Rattle.ss_review.proofs.SentMessages.{turn_of_chain, sent_by}
 use Rattle.ss_review.proofs.StatesTold.{fragment_of, payload_ok}
 use Rattle.ss_review.proofs.Stating.{not_disputed, not_lacking, whole_payload, stated_in_turn-IsStatedBy}
-use Rattle.ss_review.proofs.StoredBlocks.{noted_block}
+use Rattle.ss_review.proofs.StoredBlocks.{block_not_normal}
 
 -- ---- configurations
 
@@ -69,10 +69,6 @@ said_certificate (readings.Unparsed part pos) c e = absurd (cc)
 said_certificate (readings.Signature b) c e = absurd (cc)
 said_certificate (readings.Certificate d) c e = let same : d ≡ c = cc in ap (λ (x : block.Certificate). readings.Certificate x) same
 said_certificate (readings.Spoilt cause) c e = absurd (cc)
-
-certificate_not_normal : (m : List ℕ) (c : block.Certificate) → reading m ≡ readings.Certificate c → is_normal (note m) ≡ false
-unfolding note
-certificate_not_normal m c e = ap is_normal (noted_block m (reading m) (Fragment c) (ap said_in e))
 
 -- ---- what the stored blocks of a case state
 
@@ -163,7 +159,7 @@ module _ (laws : Laws) (x : Case) (is : IsCase x) where
         let in_chain : Contains (emitted_by x.chain) m
         = contains_from_has (emitted_by x.chain) m (has-flat_map (λ (turns : List Turn). flat_map (λ (u : Turn). u.emitted) turns) x.chain begun.turns m begun.of_chain
         (has-flat_map (λ (u : Turn). u.emitted) begun.turns t m begun.of_turns w.1)) in
-        let s = laws.stored x is m (copies m in_turn) in_chain (certificate_not_normal m w.2 w.3) in
+        let s = laws.stored x is m (copies m in_turn) in_chain (block_not_normal m (Fragment w.2) (ap said_in w.3)) in
         let said : s.stored_block.said ≡ Fragment w.2 = same_Some _ _ (sym (block_read s.stored_block.place m s.stored_block s.read).said_is ∙ ap said_in w.3) in
         let same : same_session s.stored_block.session (own_session x.s) ≡ true
         = ap (λ o. same_session o (own_session x.s)) s.own ∙ ap is_eq (tied_itself session_cmp_total (own_session x.s)) in

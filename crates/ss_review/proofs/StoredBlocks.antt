@@ -53,6 +53,11 @@ noted_block text (readings.Signature b) said e = refl
 noted_block text (readings.Certificate b) said e = refl
 noted_block text (readings.Spoilt cause) said e = absurd (unsaid said e)
 
+-- and none without a block
+pub block_not_normal : (m : List ℕ) (said : Said) → said_in (reading m) ≡ Some said → is_normal (note m) ≡ false
+unfolding note
+block_not_normal m said e = ap is_normal (noted_block m (reading m) said e)
+
 -- ---- blocks of the session
 
 -- such a block as a message of a log
@@ -90,11 +95,11 @@ module _ (x : Case) (b : BlockMessage) (text : List ℕ) (told : IsBlockOf b.pla
   unfolding block_in
   read_of = λ i. block_with b.place (told.said_is i) (told.session_is i) (told.signed_is i)
 
-  valid_of : IsCase x → IsOwnBlock x.s text → is_valid (says x) (payload_text x.s.payload) b ≡ true
-  valid_of case is =
+  valid_of : IsCase x → Contains x.log text → Contains (emitted_by x.chain) text → IsOwnBlock x.s text → is_valid (says x) (payload_text x.s.payload) b ≡ true
+  valid_of case stored c is =
       let octets : is.octets ≡ b.signed = same_Some _ _ (sym is.signed_is ∙ told.signed_is) in
       let said : is.said ≡ b.said = same_Some _ _ (sym is.read ∙ told.said_is) in
-      sym (λ i. (says x).valid (payload_text x.s.payload) (octets i) (signature_of (said i))) ∙ case.accepts is.octets (signature_of is.said) is.valid
+      sym (λ i. (says x).valid (payload_text x.s.payload) (octets i) (signature_of (said i))) ∙ case.accepts text is.octets is.said stored c is.read is.signed_is is.valid
 
   note_not_normal : is_normal (note text) ≡ true → ⊥
   unfolding note
@@ -111,7 +116,7 @@ module _ (x : Case) (b : BlockMessage) (text : List ℕ) (told : IsBlockOf b.pla
   of_delivered is stored own (sent c) =
       elim (sent_as x.s x.chain text is.chain c) [
         | inl plain ↦ absurd (not_plain plain)
-        | inr own_one ↦ record { message = text; stored = stored; sent = c; read = read_of; valid = valid_of is own_one }
+        | inr own_one ↦ record { message = text; stored = stored; sent = c; read = read_of; valid = valid_of is stored c own_one }
       ]
   of_delivered is stored own (normal n) = absurd (note_not_normal n)
   of_delivered is stored own (spoilt n) = absurd (note_not_spoilt n)

@@ -1,22 +1,21 @@
 -- Where everything that was sent is in the log, and nothing else: the payload arrived, and each block is verified.
 use Rattle.std.proofs.Common.{◌≡◌, inl, inr, ℕ, true, false, List, [], ◌∷◌, refl, sym, ap, ◌∙◌}
-use Rattle.std.specs.Prelude.{Result, Ok, Contains}
+use Rattle.std.specs.Prelude.{Ok, Contains}
 use Rattle.std.proofs.lemmas.Option.{same_Some}
-use Rattle.ss_block.specs.declared.session.Session.{Session}
 use Rattle.ss_block.specs.Session.{session}
 use Rattle.ss_payload.specs.Payload.{payload_text}
 use Rattle.ss_origin.specs.Chain.{emitted_by}
-use Rattle.ss_review.specs.declared.session_report.SessionState.{SessionState}
 use Rattle.ss_review.specs.declared.message.BlockMessage.{BlockMessage}
 use Rattle.ss_review.specs.declared.spoilt.SpoiltPlace.{SpoiltPlace}
 use Rattle.ss_review.specs.Notes.{Block, Spoilt, note, notes}
 use Rattle.ss_review.specs.Contents.{blocks, spoilts}
 use Rattle.ss_review.specs.Sessions.{of_session}
-use Rattle.ss_review.specs.Verified.{joined, is_valid_in, is_verified}
+use Rattle.ss_review.specs.Verified.{joined}
 use Rattle.ss_review.specs.Delivery.{own_session, is_normal, is_spoilt}
 use Rattle.ss_review.specs.DeliveryLaws.{Case, says}
 use Rattle.ss_review.specs.Delivered.{OwnBlocksAreSent, SentBlocksAreStored, JoinsOwnPayload}
 use Rattle.ss_review.specs.Whole.{IsWhole, PayloadsArrive, BlocksAreVerified, NothingIsSpoilt}
+use Rattle.ss_review.proofs.AnnouncedNumbers.{verified_by}
 use Rattle.ss_review.proofs.Keyed.{has-slice_get}
 use Rattle.ss_review.proofs.Members.{Has, has_from_contains, contains_from_has}
 use Rattle.ss_review.proofs.NotesTold.{block_read, block_noted, spoilt_noted}
@@ -48,8 +47,7 @@ own_block sent_stored x w b h =
     ∙ as_block.own
 
 pub blocks_are_verified : PayloadsArrive → OwnBlocksAreSent → SentBlocksAreStored → JoinsOwnPayload → BlocksAreVerified
-unfolding is_verified
-blocks_are_verified arrive own_sent sent_stored joins x w b c = (own, verified)
+blocks_are_verified arrive own_sent sent_stored joins x w b c = (own, verified_by x w.case own_sent b c own whole)
   where
     own : b.session ≡ own_session x.s
     own = own_block sent_stored x w b (has_from_contains (blocks (notes x.log)) b c)
@@ -59,12 +57,6 @@ blocks_are_verified arrive own_sent sent_stored joins x w b c = (own, verified)
       | inl j ↦ j.1
       | inr n ↦ absurd (n.0 (arrive x w))
     ]
-
-    verified : is_verified (says x) (blocks (notes x.log)) b ≡ true
-    verified =
-        ap (λ (s : Session). is_valid_in (says x) (joined (says x) (of_session (blocks (notes x.log)) s)) b) own
-        ∙ ap (λ (j : Result (List ℕ) SessionState). is_valid_in (says x) j b) whole
-        ∙ (own_sent x w.case b c own).valid
 
 none_of : {X : Type 0} (xs : List X) → ((x : X) → Has xs x → ⊥) → xs ≡ []
 none_of [] none = refl

@@ -10,6 +10,7 @@ use Rattle.ss_block.specs.Block as block
 use Rattle.ss_block.specs.Hashes.{pair, hash_of}
 use Rattle.ss_block.specs.Order.{session_cmp}
 use Rattle.ss_block.specs.Reading.{reading}
+use Rattle.ss_block.specs.Signed.{signed}
 use Rattle.ss_payload.specs.Payload.{payload_text}
 use Rattle.ss_origin.specs.Groups.{sg_of}
 use Rattle.ss_origin.specs.Setting.{Setting}
@@ -20,9 +21,10 @@ use Rattle.ss_review.specs.declared.session_report.SessionState.TheVariants as s
 use Rattle.ss_review.specs.declared.entry.Why.TheVariants as whys
 use Rattle.ss_review.specs.declared.message.NormalMessage.{NormalMessage}
 use Rattle.ss_review.specs.Notes.{note, notes}
-use Rattle.ss_review.specs.Contents.{normals, blocks}
+use Rattle.ss_review.specs.declared.message.Said.{Said}
+use Rattle.ss_review.specs.Contents.{said_in, normals, blocks}
 use Rattle.ss_review.specs.Sessions.{same_session}
-use Rattle.ss_review.specs.Verified.{Answers}
+use Rattle.ss_review.specs.Verified.{Answers, signature_of}
 use Rattle.ss_review.specs.Announced.{Key, Row, key_cmp, rows, keys}
 use Rattle.ss_review.specs.Announcing.{Announces}
 use Rattle.ss_review.specs.Assigned.{places_with, wanted, is_pair}
@@ -41,13 +43,19 @@ pub record Case : Type 0 where
 abbrev pub says : Case → Answers
 says x = x.answers
 
--- The log delivers from the originators, their payload is trusted, and what is valid under it in their own scheme is
--- answered to be valid.
+-- the answer to a block message of the originators in the log is yes where it is valid in their own scheme
+abbrev pub AcceptsSent : Case → Type 0
+AcceptsSent x = (m octets : List ℕ) (said : Said) → Contains x.log m → Contains (emitted_by x.chain) m
+    → said_in (reading m) ≡ Some said → signed m ≡ Some octets
+    → x.s.valid (payload_text x.s.payload) octets (signature_of said) ≡ true
+    → (says x).valid (payload_text x.s.payload) octets (signature_of said) ≡ true
+
+-- the log delivers from the originators, their payload is trusted, and their blocks are accepted
 pub record IsCase (x : Case) : Type 0 where
   pub chain : IsChain x.s x.chain
   pub delivers : Delivers x.s x.chain x.log
   pub trusts : (says x).trusted (payload_text x.s.payload) ≡ true
-  pub accepts : (octets signature : List ℕ) → x.s.valid (payload_text x.s.payload) octets signature ≡ true → (says x).valid (payload_text x.s.payload) octets signature ≡ true
+  pub accepts : AcceptsSent x
 
 abbrev pub report_in : Case → Report
 report_in x = report (says x) x.log
@@ -104,8 +112,8 @@ pub record HasItsHash (x : Case) (k : Key) : Type 0 where
   pub number : 1 ≤ k.number
   pub group : k.group.sg ≡ sg_of x.s.config.grouping
 
--- A number is listed or a gap exactly where the session is joined and a block with a hash for it is in the log, and then
--- it is announced with the hash of the message which the chain gave this number, and no other.
+-- A number is listed or a gap exactly where the session is joined and a block with a hash for it is in the log. It is
+-- then announced with the hash of the message which the chain gave this number, and with no other.
 abbrev pub AnnouncedByBlocks : Type 0
 AnnouncedByBlocks = (x : Case) → IsCase x → (k : Key) → k.session ≡ own_session x.s
     → (IsTold (report_in x) k ↔ (IsListedAsJoined x × HasBlock x k))

@@ -41,7 +41,7 @@ pub(crate) fn joins_own_payload()
     texts_have_octets();
 }
 
-/// A number has a row exactly where the session is joined and a block with a hash for it is in the log, and then one row.
+/// A number has a row exactly where the session is joined and a block with a hash for it is in the log, and then one.
 pub(crate) fn keys_have_blocks()
     ensures { KeysHaveBlocks }
 {

@@ -36,8 +36,8 @@ pub fn joined_by_fragments()
     one_report();
 }
 
-/// A number is listed or a gap exactly where the session is joined and a block with a hash for it is in the log, and then
-/// it is announced with the hash of the message which the originators gave this number, and no other.
+/// A number is listed or a gap exactly where the session is joined and a block with a hash for it is in the log. It is
+/// then announced with the hash of the message which the originators gave this number, and with no other.
 pub fn announced_by_blocks()
     ensures { AnnouncedByBlocks }
 {
@@ -57,8 +57,8 @@ pub fn listed_by_rank()
     keys_are_announced();
 }
 
-/// Where no two submitted messages have equal pairs of hashes, an announced number is listed exactly where a message with
-/// its message's pair is stored.
+/// Where no two submitted messages have equal pairs of hashes, an announced number is listed exactly where a message
+/// with its message's pair is stored.
 pub fn listed_where_stored()
     ensures { ListedWhereStored }
 {
