@@ -9,7 +9,7 @@ use Rattle.ss_block.specs.declared.hash.HashPair.{HashPair}
 use Rattle.ss_block.specs.OrderLaws.{session_cmp_total}
 use Rattle.ss_origin.specs.declared.config.Config.{Config}
 use Rattle.ss_origin.specs.Configs.{is_config}
-use Rattle.ss_origin.specs.Groups.{is_grouping, group_of}
+use Rattle.ss_origin.specs.Groups.{is_grouping}
 use Rattle.ss_origin.specs.Calls.{spri_in}
 use Rattle.ss_origin.specs.Chain.{given_to}
 use Rattle.ss_origin.specs.GroupLaws.{SprisAreSmall}
@@ -17,7 +17,7 @@ use Rattle.ss_review.specs.Sessions.{same_session}
 use Rattle.ss_review.specs.Announced.{Key, key_cmp, keys}
 use Rattle.ss_review.specs.Assigned.{is_pair}
 use Rattle.ss_review.specs.Delivery.{own_session, submitted_to}
-use Rattle.ss_review.specs.Delivered.{MessagesAreInGroups, KeysHaveBlocks}
+use Rattle.ss_review.specs.Delivered.{MessagesAreInGroups, own_number, KeysHaveBlocks}
 use Rattle.ss_review.specs.DeliveryLaws.{Case, IsCase, rows_in, message_of, pair_of, rank_in}
 use Rattle.ss_review.proofs.Announcements.{numbered_from, has-numbered, keys-rise}
 use Rattle.ss_review.proofs.Counting.{count_by-map}
@@ -44,29 +44,26 @@ module _ (x : Case) (p : HashPair) where
 
   -- ---- all numbers with messages
 
-  abbrev key_at : ℕ → ℕ → Key
-  key_at spri number = record { session = own_session x.s; group = group_of x.s.config.grouping spri; number = number }
-
   abbrev numbers_of : ℕ → List Key
-  numbers_of spri = map (λ (n : ℕ × List ℕ). key_at spri n.0) (enumerate_from 1 (given_to x.s.config spri x.chain))
+  numbers_of spri = map (λ (n : ℕ × List ℕ). own_number x spri n.0) (enumerate_from 1 (given_to x.s.config spri x.chain))
 
   abbrev all_numbers : List Key
   all_numbers = flat_map numbers_of (range_with_len 0 192)
 
-  has_pair_at : (spri : ℕ) (n : ℕ × List ℕ) → Has (enumerate_from 1 (given_to x.s.config spri x.chain)) n → has_pair (key_at spri n.0) ≡ text_has_pair p n.1
+  has_pair_at : (spri : ℕ) (n : ℕ × List ℕ) → Has (enumerate_from 1 (given_to x.s.config spri x.chain)) n → has_pair (own_number x spri n.0) ≡ text_has_pair p n.1
   has_pair_at spri n h =
       let w = numbered_from 1 (given_to x.s.config spri x.chain) n h in
       let at : n.0 - 1 ≡ w.0 = omega (arith, w.1) in
-      let message : message_of x (key_at spri n.0) ≡ Some n.1 = ap (slice_get (given_to x.s.config spri x.chain)) at ∙ w.2 in
+      let message : message_of x (own_number x spri n.0) ≡ Some n.1 = ap (slice_get (given_to x.s.config spri x.chain)) at ∙ w.2 in
       let own : same_session (own_session x.s) (own_session x.s) ≡ true = ap is_eq (tied_itself session_cmp_total (own_session x.s)) in
-      ap (λ b. b && is_pair p (pair_of (message_of x (key_at spri n.0)))) own
+      ap (λ b. b && is_pair p (pair_of (message_of x (own_number x spri n.0)))) own
       ∙ ap (λ (o : Option (List ℕ)). is_pair p (pair_of o)) message
 
   counted_of : (spri : ℕ) → count_by has_pair (numbers_of spri) ≡ count_by (text_has_pair p) (given_to x.s.config spri x.chain)
   counted_of spri =
       let given = given_to x.s.config spri x.chain in
-      count_by-map has_pair (λ (n : ℕ × List ℕ). key_at spri n.0) (enumerate_from 1 given)
-      ∙ count_by-same (λ (n : ℕ × List ℕ). has_pair (key_at spri n.0)) (λ (n : ℕ × List ℕ). text_has_pair p n.1) (enumerate_from 1 given) (has_pair_at spri)
+      count_by-map has_pair (λ (n : ℕ × List ℕ). own_number x spri n.0) (enumerate_from 1 given)
+      ∙ count_by-same (λ (n : ℕ × List ℕ). has_pair (own_number x spri n.0)) (λ (n : ℕ × List ℕ). text_has_pair p n.1) (enumerate_from 1 given) (has_pair_at spri)
       ∙ count_by-numbered (text_has_pair p) 1 given
 
   module _ (small : SprisAreSmall) (in_groups : MessagesAreInGroups) (by_blocks : KeysHaveBlocks) (is : IsCase x) where
@@ -88,9 +85,9 @@ module _ (x : Case) (p : HashPair) where
         let given = given_to x.s.config spri x.chain in
         let g = is_given x.s.config spri x.chain i.message (has-slice_get given (j.number - 1) i.message i.given) in
         let at : 1 + (j.number - 1) ≡ j.number = omega (arith, i.number) in
-        let here : Has (numbers_of spri) (key_at spri (1 + (j.number - 1)))
-        = has-map (λ (n : ℕ × List ℕ). key_at spri n.0) (enumerate_from 1 given) (1 + (j.number - 1), i.message) (has-numbered 1 given (j.number - 1) i.message i.given) in
-        let that : key_at spri (1 + (j.number - 1)) ≡ j = λ t. record { session = sym own t; group = record { sg = sym i.group t; spri = spri }; number = at t } in
+        let here : Has (numbers_of spri) (own_number x spri (1 + (j.number - 1)))
+        = has-map (λ (n : ℕ × List ℕ). own_number x spri n.0) (enumerate_from 1 given) (1 + (j.number - 1), i.message) (has-numbered 1 given (j.number - 1) i.message i.given) in
+        let that : own_number x spri (1 + (j.number - 1)) ≡ j = λ t. record { session = sym own t; group = record { sg = sym i.group t; spri = spri }; number = at t } in
         has-flat_map numbers_of (range_with_len 0 192) spri j
         (in_range 0 192 spri (omega arith) (omega (arith, below i.message, g.1)))
         (subst (Has (numbers_of spri)) that here)

@@ -6,7 +6,6 @@ use Rattle.std.proofs.lemmas.List.{length-map}
 use Rattle.std.proofs.lemmas.List.Concat.{length-flat_map}
 use Rattle.std.proofs.lemmas.List.FromFn.{length-map-range_with_len}
 use Rattle.ss_origin.specs.GroupLaws.{SprisAreSmall}
-use Rattle.ss_origin.specs.Groups.{group_of}
 use Rattle.ss_origin.specs.Calls.{spri_in}
 use Rattle.ss_origin.specs.Chain.{given_to}
 use Rattle.ss_review.specs.declared.message.NormalMessage.{NormalMessage}
@@ -15,9 +14,9 @@ use Rattle.ss_review.specs.Announced.{Key, keys}
 use Rattle.ss_review.specs.Assigned.{assigned, places_with, rank, is_taken}
 use Rattle.ss_review.specs.Entries.{entry_of}
 use Rattle.ss_review.specs.Verdict.{is_listed}
-use Rattle.ss_review.specs.Delivery.{own_session, submitted_to}
+use Rattle.ss_review.specs.Delivery.{submitted_to}
 use Rattle.ss_review.specs.DeliveryLaws.{Case, normals_in, rows_in}
-use Rattle.ss_review.specs.Delivered.{MessagesAreInGroups}
+use Rattle.ss_review.specs.Delivered.{MessagesAreInGroups, own_number}
 use Rattle.ss_review.specs.Whole.{IsWhole, MessagesAreStored, NumbersAreAnnounced, NumbersAreListed, MessagesAreListed}
 use Rattle.ss_review.proofs.EqualCounts.{count_by-all}
 use Rattle.ss_review.proofs.FullPlaces.{AreDistinct, distinct-map, distinct-flat_map, distinct-range, all_taken}
@@ -35,9 +34,6 @@ use Rattle.ss_review.proofs.ToldNumbers.{place_listed}
 -- ---- all numbers
 
 module _ (x : Case) where
-  abbrev key_at : ℕ → ℕ → Key
-  key_at spri number = record { session = own_session x.s; group = group_of x.s.config.grouping spri; number = number }
-
   abbrev given : ℕ → List (List ℕ)
   given spri = given_to x.s.config spri x.chain
 
@@ -45,7 +41,7 @@ module _ (x : Case) where
   numbers_of spri = range_with_len 1 (length (given spri))
 
   abbrev keys_at : ℕ → List Key
-  keys_at spri = map (key_at spri) (numbers_of spri)
+  keys_at spri = map (own_number x spri) (numbers_of spri)
 
   -- the numbers of all messages that the originators were given, where the groups have SPRIs below so many
   abbrev all_keys : ℕ → List Key
@@ -53,12 +49,12 @@ module _ (x : Case) where
 
   distinct_at : (spri : ℕ) → AreDistinct (keys_at spri)
   distinct_at spri =
-      distinct-map (key_at spri) (λ n m e. ap (λ (k : Key). k.number) e) (numbers_of spri) (distinct-range 1 (length (given spri)))
+      distinct-map (own_number x spri) (λ n m e. ap (λ (k : Key). k.number) e) (numbers_of spri) (distinct-range 1 (length (given spri)))
 
   one_group : (spri other : ℕ) (k : Key) → Has (keys_at spri) k → Has (keys_at other) k → spri ≡ other
   one_group spri other k h i =
-      let a = from_has-map (key_at spri) (numbers_of spri) k h in
-      let b = from_has-map (key_at other) (numbers_of other) k i in
+      let a = from_has-map (own_number x spri) (numbers_of spri) k h in
+      let b = from_has-map (own_number x other) (numbers_of other) k i in
       ap (λ (j : Key). j.group.spri) (a.2 ∙ sym b.2)
 
   all_distinct : (groups : ℕ) → AreDistinct (all_keys groups)
@@ -70,17 +66,17 @@ module _ (x : Case) where
     length-all small in_groups =
         length-flat_map keys_at (range_with_len 0 groups)
         ∙ sum_by-same (λ spri. length (keys_at spri)) (λ spri. count_by (λ m. true) (given spri)) (range_with_len 0 groups)
-        (λ spri h. length-map-range_with_len (key_at spri) 1 (length (given spri)) ∙ sym (count_by-all (given spri)))
+        (λ spri h. length-map-range_with_len (own_number x spri) 1 (length (given spri)) ∙ sym (count_by-all (given spri)))
         ∙ sym (in_groups x.s.config x.chain (λ m. true) groups small)
         ∙ count_by-all (submitted_to x.chain)
 
     abbrev AreAnnounced : Type 0
-    AreAnnounced = (spri number : ℕ) → spri < groups → 1 ≤ number → number ≤ length (given spri) → Contains (keys (rows_in x)) (key_at spri number)
+    AreAnnounced = (spri number : ℕ) → spri < groups → 1 ≤ number → number ≤ length (given spri) → Contains (keys (rows_in x)) (own_number x spri number)
 
     all_announced : AreAnnounced → (k : Key) → Has (all_keys groups) k → Contains (keys (rows_in x)) k
     all_announced numbers k h =
         let s = from_has-flat_map keys_at (range_with_len 0 groups) k h in
-        let n = from_has-map (key_at s.0) (numbers_of s.0) k s.2 in
+        let n = from_has-map (own_number x s.0) (numbers_of s.0) k s.2 in
         let small = from_in_range 0 groups s.0 s.1 in
         let within = from_in_range 1 (length (given s.0)) n.0 n.1 in
         subst (Contains (keys (rows_in x))) n.2 (numbers s.0 n.0 (omega (arith, small.1)) within.0 (omega (arith, within.1)))

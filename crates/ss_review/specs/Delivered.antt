@@ -88,10 +88,14 @@ abbrev pub RanksAreBelowCounts : Type 0
 RanksAreBelowCounts = (x : Case) → IsCase x → (k : Key) (m : List ℕ) → k.session ≡ own_session x.s → Contains (keys (rows_in x)) k → message_of x k ≡ Some m
     → rank_in x k (pair m) + 1 ≤ count_by (λ n. same_pair (pair n) (pair m)) (submitted_to x.chain)
 
+-- a number of a group of the originators' session
+abbrev pub own_number : Case → ℕ → ℕ → Key
+own_number x spri number = record { session = own_session x.s; group = group_of x.s.config.grouping spri; number = number }
+
 -- Where no message is pending at an originator's end and each block arrived, each number that the chain gave a message
 -- has a block in the log.
 abbrev pub NumbersHaveBlocks : Type 0
 NumbersHaveBlocks = (x : Case) → IsCase x → NothingPending x.s.config x.chain
     → ((m : List ℕ) → Contains (emitted_by x.chain) m → is_normal (note m) ≡ false → Contains x.log m)
     → (spri number : ℕ) → spri < 192 → 1 ≤ number → number ≤ length (given_to x.s.config spri x.chain)
-    → HasBlock x (record { session = own_session x.s; group = group_of x.s.config.grouping spri; number = number })
+    → HasBlock x (own_number x spri number)

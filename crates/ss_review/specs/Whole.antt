@@ -2,7 +2,6 @@
 use Rattle.std.specs.Prelude.{◌≡◌, ℕ, ◌<◌, ◌≤◌, ◌&&◌, Bool, true, List, [], length, count_by, Contains}
 use Rattle.ss_block.specs.declared.block.Group.{Group}
 use Rattle.ss_block.specs.declared.session.Session.{Session}
-use Rattle.ss_origin.specs.Groups.{group_of}
 use Rattle.ss_origin.specs.Chain.{given_to}
 use Rattle.ss_review.specs.declared.message.NormalMessage.{NormalMessage}
 use Rattle.ss_review.specs.declared.message.BlockMessage.{BlockMessage}
@@ -16,6 +15,7 @@ use Rattle.ss_review.specs.Verdict.{is_listed}
 use Rattle.ss_review.specs.Announcing.{IsAnnounced}
 use Rattle.ss_review.specs.Meaning.{IsHole}
 use Rattle.ss_review.specs.Delivery.{own_session, is_normal, submitted_to, HasBegun, HasPayload, NothingPending, IsWholeDelivery}
+use Rattle.ss_review.specs.Delivered.{own_number}
 use Rattle.ss_review.specs.DeliveryLaws.{Case, IsCase, says, normals_in, rows_in, HashesTellPairs}
 
 -- the premises under which a report is clean
@@ -47,8 +47,7 @@ MessagesAreStored = (x : Case) → IsWhole x → (test : List ℕ → Bool)
 abbrev pub NumbersAreAnnounced : Type 0
 NumbersAreAnnounced = (x : Case) → IsWhole x
     → (spri number : ℕ) → spri < 192 → 1 ≤ number → number ≤ length (given_to x.s.config spri x.chain)
-    → let group = group_of x.s.config.grouping spri in
-    Contains (keys (rows_in x)) (record { session = own_session x.s; group = group; number = number })
+    → Contains (keys (rows_in x)) (own_number x spri number)
 
 abbrev pub GroupsHaveNoHole : Type 0
 GroupsHaveNoHole = (x : Case) → IsWhole x → (s : Session) (g : Group) (first last : ℕ)
