@@ -100,7 +100,14 @@ fn sees(
 ) -> Result<(), AllocError> {
     let source = Pieces::new(log, 4_096);
     let limits = limits_of(Form::Frames);
-    let done = run(rt.alloc(), Job::Review, source, Paper::new(1024), Who::All, limits)?;
+    let done = run(
+        rt.alloc(),
+        Job::Review,
+        source,
+        Paper::new(1024),
+        Who::All,
+        limits,
+    )?;
     assert_eq!(rt; done.said, Ok(verdict), "{name}");
     assert_eq!(rt; done.paper.text(), text, "{name}");
     Ok(())

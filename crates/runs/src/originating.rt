@@ -8,9 +8,13 @@ use ss_origin::{Config, Emitted, Grouping, OriginFault, Originator, SealFault, S
 use std::alloc::{AllocError, Global};
 
 pub const A: &[u8] = b"<13>1 - - - - - - a";
+
 pub const B: &[u8] = b"<14>1 - - - - - - b";
+
 pub const C: &[u8] = b"<13>1 - - - - - - c";
+
 pub const D: &[u8] = b"<14>1 - - - - - - d";
+
 pub const E: &[u8] = b"<13>1 - - - - - - e";
 
 /// A call to an originator, or that another one goes on behind it.

@@ -86,7 +86,7 @@ pub static REFUSALS: [Explanation; 26] = [
     Explanation {
         code: "P2",
         text: "A text of the command line is out of its form: --payload (a time stamp or -, a letter for the kind of \
-            key, and the key in base64, with one space between two), --stamp (a time stamp or -), --groups (one, \
+            key, and but for the kind N the key in base64, with one space between two), --stamp (a time stamp or -), --groups (one, \
             pri, or numbers that rise to 191, joined by commas), or --host, --app, --procid or --msgid (visible \
             ASCII, at most 255, 48, 128 or 32 octets, or -). Quote it, so that the shell passes it on whole, and \
             compare it with its form.",
@@ -94,8 +94,8 @@ pub static REFUSALS: [Explanation; 26] = [
     Explanation {
         code: "O1",
         text: "An originator was set up with a number out of its range, or with a payload of more than 99999999 \
-            octets. ssign never prints this, since it refuses such options before; the library tells it to other \
-            programs.",
+            octets. ssign refuses such numbers before, and few systems let an option be so long: give a shorter \
+            payload. The library tells it to other programs.",
     },
     Explanation {
         code: "O2",
