@@ -1,6 +1,6 @@
 -- The bearer of a hash is the earliest of the first messages with two hashes, one of which is this one.
 use Rattle.std.proofs.Common.{◌≡◌, inl, inr, ℕ, ◌≤◌, Bool, true, false, cond, List, [], ◌∷◌, ◌++◌, map, fold, refl, sym, ap, ◌∙◌, subst, arith, nat_lt}
-use Rattle.std.specs.Prelude.{Option, Some, None, option_map, option_and_then, filter_map, find, filter, slice_get}
+use Rattle.std.specs.Prelude.{Option, Some, None, option_and_then, filter_map, find, filter, slice_get}
 use Rattle.std.specs.Ordering.{is_eq, nat_cmp}
 use Rattle.std.specs.List.{cons_option}
 use Rattle.std.proofs.lemmas.Bool.{ltb-true, ltb-false}
@@ -15,9 +15,9 @@ use Rattle.ss_block.specs.Order.{hash_cmp}
 use Rattle.ss_block.specs.OrderLaws.{hash_cmp_total, hash_cmp_exact}
 use Rattle.ss_review.specs.declared.by_hash.ByHash.{ByHash}
 use Rattle.ss_review.specs.declared.message.NormalMessage.{NormalMessage}
-use Rattle.ss_review.specs.Assigned.{has_hash, same_pair, pair_of_bearer, places_with}
-use Rattle.ss_review.specs.Bearing.{earlier, earliest, first_with, candidate, bearer_among, pairs_among}
-use Rattle.ss_review.specs.Assigning.{pairs_wanted}
+use Rattle.ss_review.specs.Assigned.{has_hash, same_pair, places_with}
+use Rattle.ss_review.specs.Bearing.{earlier, earliest, first_with, candidate, bearer_among, bearers_among}
+use Rattle.ss_review.specs.Assigning.{bearers_wanted}
 use Rattle.std.specs.declared.cmp.Ordering.TheVariants.{Less}
 use Rattle.std.specs.BTreeMap as tree
 use Rattle.std.proofs.lemmas.Map.Views.{btree_map_get_iff}
@@ -197,9 +197,8 @@ module _ (index : ByHash) (ms : List NormalMessage) (k : KeepsNormal index ms) (
       (let near = has_candidate n i t in
       omega (arith, first.2.least near.0 (subst (λ xs. Has xs near.0) f near.1), near.2))))
 
-  pub bearer_is : option_map (λ (m : NormalMessage). m.pair) (bearer_among index.pairs.entries h) ≡ pair_of_bearer ms h
-  unfolding pair_of_bearer
-  bearer_is = ap (option_map (λ (m : NormalMessage). m.pair)) (earliest_is (filter_map (candidate h) index.pairs.entries) refl)
+  pub bearer_is : bearer_among index.pairs.entries h ≡ find (λ m. has_hash h m.pair) ms
+  bearer_is = earliest_is (filter_map (candidate h) index.pairs.entries) refl
 
-pub wanted_are : (index : ByHash) (ms : List NormalMessage) → KeepsNormal index ms → tree.IsOrdered pair_cmp index.pairs → IsStrictlySortedBy nat_cmp (map (λ (m : NormalMessage). m.place) ms) → (hs : List (Option Hash)) → pairs_among index.pairs.entries hs ≡ pairs_wanted ms hs
+pub wanted_are : (index : ByHash) (ms : List NormalMessage) → KeepsNormal index ms → tree.IsOrdered pair_cmp index.pairs → IsStrictlySortedBy nat_cmp (map (λ (m : NormalMessage). m.place) ms) → (hs : List (Option Hash)) → bearers_among index.pairs.entries hs ≡ bearers_wanted ms hs
 wanted_are index ms k rise up hs = ap (λ f. map (option_and_then f) hs) (λ i g. bearer_is index ms k rise up g i)

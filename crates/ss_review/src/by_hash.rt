@@ -71,7 +71,7 @@ impl Index for ByHash {
         &self,
         alloc: Global,
         hashes: &[Option<Hash>],
-    ) -> Result<Vec<Option<HashPair>>, NoMemory> {
+    ) -> Result<Vec<Option<NormalMessage>>, NoMemory> {
         bearers(alloc, &self.pairs, hashes)
     }
 
