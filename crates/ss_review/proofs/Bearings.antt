@@ -61,10 +61,6 @@ cond_candidate : (b : Bool) (o : Option NormalMessage) (m : NormalMessage) → f
 cond_candidate true o m = refl
 cond_candidate false o m = refl
 
-no_candidate : (b : Bool) (o : Option NormalMessage) → fold earlier o (cons_option (cond b None None) []) ≡ o
-no_candidate true o = refl
-no_candidate false o = refl
-
 first_told : (es : List (HashPair × List ℕ)) (p : HashPair) (place : ℕ) (places : List ℕ) (h : Hash)
     → with_one (hashes.Sha256 p.sha256) (record { place = place; pair = p }) (with_one (hashes.Sha1 p.sha1) (record { place = place; pair = p }) (bearer_among es)) h
     ≡ bearer_among (es ++ (p, place ∷ places) ∷ []) h
@@ -81,10 +77,6 @@ told_pair es p place (n ∷ ns) h e =
     let one : place ≡ n = cc in
     subst (λ m. with_one (hashes.Sha256 p.sha256) (record { place = m; pair = p }) (with_one (hashes.Sha1 p.sha1) (record { place = m; pair = p }) (bearer_among es)) h ≡ bearer_among (es ++ (p, n ∷ ns) ∷ []) h) (sym one)
     (first_told es p n ns h)
-
-pub told_none : (es : List (HashPair × List ℕ)) (p : HashPair) (places : List ℕ) (h : Hash) → None ≡ slice_get places 0 → bearer_among es h ≡ bearer_among (es ++ (p, places) ∷ []) h
-told_none es p [] h e = sym (no_candidate (has_hash h p) (bearer_among es h)) ∙ sym (bearer_more es (p, []) h)
-told_none es p (n ∷ ns) h e = absurd (cc)
 
 pub map_all : {X : Type 0} (f g : Hash → X) (hs : List Hash) → ((h : Hash) → f h ≡ g h) → map f hs ≡ map g hs
 map_all f g hs e = ap (λ k. map k hs) (λ i h. e h i)

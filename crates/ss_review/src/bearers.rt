@@ -9,9 +9,9 @@ ghost use Rattle.ss_block.specs.Order.{hash_cmp, pair_cmp};
 ghost use Rattle.ss_review.specs.declared.message.NormalMessage.{NormalMessage};
 ghost use Rattle.ss_review.specs.Bearing.{earlier, bearer_among, bearers_among};
 
+use crate::equal_places::EqualPlaces;
 use crate::message::NormalMessage;
 use crate::ordered::put_in_order;
-use crate::places::Places;
 use crate::pushing::push_some;
 use ss_block::laws::orders::hashes_rise_by_algorithm;
 use ss_block::{Hash, HashPair};
@@ -57,38 +57,33 @@ fn tell_pair(
     announced: &[Hash],
     found: &mut [Option<NormalMessage>],
     pair: &HashPair,
-    places: &[u32],
+    places: &EqualPlaces,
 )
     requires { IsStrictlySortedBy hash_cmp announced.now }
     ensures { (es : List (HashPair × List ℕ))
         → found.old ≡ map (bearer_among es) announced.now
         → found.new ≡ map (bearer_among (es ++ (pair.now, places.now) ∷ [])) announced.now }
 {
-    match places.first() {
-        Some(place) => {
-            let message = NormalMessage {
-                place: *place,
-                pair: *pair,
-            };
-            tell_hash(announced, found, Hash::Sha1(pair.sha1), message);
-            tell_hash(announced, found, Hash::Sha256(pair.sha256), message);
-        }
-        None => {}
-    }
+    let message = NormalMessage {
+        place: places.first(),
+        pair: *pair,
+    };
+    tell_hash(announced, found, Hash::Sha1(pair.sha1), message);
+    tell_hash(announced, found, Hash::Sha256(pair.sha256), message);
 }
 
 /// Of each announced hash the first message that has it, from the places under each two hashes.
 fn all_bearers(
     alloc: Global,
     announced: &[Hash],
-    pairs: &BTreeMap<HashPair, Places>,
+    pairs: &BTreeMap<HashPair, EqualPlaces>,
 ) -> Result<Vec<Option<NormalMessage>>, NoMemory>
     requires { IsStrictlySortedBy hash_cmp announced.now }
     ensures { IfOk result (λ v. v.items ≡ map (bearer_among pairs.now.entries) announced.now) }
 {
     let mut found = nothing_found(alloc, announced)?;
     for (pair, places) in pairs.iter() {
-        tell_pair(announced, found.as_mut_slice(), pair, places.as_slice());
+        tell_pair(announced, found.as_mut_slice(), pair, places);
     }
     Ok(found)
 }
@@ -164,7 +159,7 @@ fn wanted(
 /// For each hash that is there, its bearer, from the places under each two hashes, which stand in order.
 pub(crate) fn bearers(
     alloc: Global,
-    pairs: &BTreeMap<HashPair, Places>,
+    pairs: &BTreeMap<HashPair, EqualPlaces>,
     hashes: &[Option<Hash>],
 ) -> Result<Vec<Option<NormalMessage>>, NoMemory>
     ensures bearers { IfOk result (λ v. v.items ≡ bearers_among pairs.now.entries hashes.now) }

@@ -11,7 +11,7 @@ use crate::bearers::bearers;
 use crate::index::Index;
 use crate::message::NormalMessage;
 use crate::pairs::add_place;
-use crate::places::Places;
+use crate::equal_places::EqualPlaces;
 use ss_block::{Hash, HashPair};
 use ss_message::NoMemory;
 use std::alloc::Global;
@@ -22,7 +22,7 @@ use std::collections::BTreeMap;
 #[derive(Drop)]
 pub(crate) struct ByHash {
     places: Vec<u32>,
-    pairs: BTreeMap<HashPair, Places>,
+    pairs: BTreeMap<HashPair, EqualPlaces>,
 }
 
 impl ByHash {
@@ -77,7 +77,7 @@ impl Index for ByHash {
 
     fn place(&self, pair: &HashPair, number: usize) -> Option<u32> {
         match self.pairs.get(pair) {
-            Some(places) => places.as_slice().get(number).copied(),
+            Some(places) => places.get(number),
             None => None,
         }
     }
