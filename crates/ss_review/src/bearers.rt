@@ -114,11 +114,7 @@ fn distinct(alloc: Global, hashes: &[Option<Hash>]) -> Result<Vec<Hash>, NoMemor
 }
 
 /// The message that was found for an announced hash.
-fn bearer(
-    announced: &[Hash],
-    found: &[Option<NormalMessage>],
-    hash: &Hash,
-) -> Option<NormalMessage>
+fn bearer(announced: &[Hash], found: &[Option<NormalMessage>], hash: &Hash) -> Option<NormalMessage>
     requires { IsStrictlySortedBy hash_cmp announced.now }
     ensures { (f : Hash → Option NormalMessage)
         → found.now ≡ map f announced.now

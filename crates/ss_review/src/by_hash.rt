@@ -8,10 +8,10 @@ ghost use Rattle.ss_review.specs.declared.message.NormalMessage.{NormalMessage};
 ghost use Rattle.ss_review.specs.Keeping.{KeepsNormal};
 
 use crate::bearers::bearers;
+use crate::equal_places::EqualPlaces;
 use crate::index::Index;
 use crate::message::NormalMessage;
 use crate::pairs::add_place;
-use crate::equal_places::EqualPlaces;
 use ss_block::{Hash, HashPair};
 use ss_message::NoMemory;
 use std::alloc::Global;
