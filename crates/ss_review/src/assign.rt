@@ -36,8 +36,8 @@ fn place_at<I: Index>(index: &I, bearer: &NormalMessage, number: u64) -> Option<
     }
 }
 
-/// The place of the next key, which wants the hashes of this bearer, or none. `taken` has how often each bearer was wanted
-/// before, which is less often than there are keys, and has it with this key after the call.
+/// The place of the next key, which wants the hashes of this bearer, or none. `taken` has how often each bearer was
+/// wanted before, which is less often than there are keys, and has it with this key after the call.
 fn next_place<I: Index>(
     index: &I,
     taken: &mut BTreeMap<u32, u64>,
