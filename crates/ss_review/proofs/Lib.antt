@@ -10,6 +10,7 @@ pub mod Bounds
 pub mod TextsTold
 pub mod Searching
 pub mod Finding
+pub mod BearersWanted
 pub mod Bearings
 pub mod Sections
 pub mod BySession
