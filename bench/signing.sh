@@ -25,13 +25,21 @@ from signed_log import PAYLOAD, b64, message
 
 work, program, *rest = sys.argv[1:]
 part, word, mark = int(rest[0]) if rest else 1, rest[1] if rest[1:] else "", rest[2:]
-LOG, ANSWERS, PLAN, ERR = (f"{work}/{name}" for name in ("log", "answers", "plan", "err"))
+PLAN, ERR = f"{work}/plan", f"{work}/err"
 GIVEN = ["--payload", PAYLOAD.decode(), "--rsid", "7"]
 
 
-def run(words, out=os.devnull):
+def log_of(count):
+    return f"{work}/log.{count}"
+
+
+def answers_of(count):
+    return f"{work}/answers.{count}"
+
+
+def run(words, count, out=os.devnull):
     """Processor seconds and most memory in MiB."""
-    with open(LOG, "rb") as log, open(out, "wb") as written, open(ERR, "wb") as complaints:
+    with open(log_of(count), "rb") as log, open(out, "wb") as written, open(ERR, "wb") as complaints:
         process = subprocess.Popen(words, stdin=log, stdout=written, stderr=complaints)
         _, status, usage = os.wait4(process.pid, 0)
     if status != 0:
@@ -40,78 +48,79 @@ def run(words, out=os.devnull):
     return usage.ru_utime + usage.ru_stime, usage.ru_maxrss / 1024
 
 
-def best(*runs):
-    """The best of three runs of each, by turns: so a load of the machine meets all of them."""
-    rounds = [[run(words) for words in runs] for _ in range(3)]
-    return [min(results) for results in zip(*rounds)]
+def best(runs):
+    """The best of three of each run, by turns: so a load of the machine meets all of them."""
+    rounds = [[run(words, count) for (_, count), words in runs.items()] for _ in range(3)]
+    return dict(zip(runs, (min(results) for results in zip(*rounds))))
 
 
-def put_frames(messages):
-    with open(LOG, "wb", 1 << 20) as log:
+def put_frames(count, messages):
+    with open(log_of(count), "wb", 1 << 20) as log:
         log.writelines(b"%d %s" % (len(text), text) for text in messages)
 
 
-def put_seals():
+def put_seals(count, words):
     """A seal line for each line of the plan."""
-    with open(PLAN, "rb") as plan, open(ANSWERS, "wb", 1 << 20) as answers:
+    run([program, "plan", *words], count, PLAN)
+    with open(PLAN, "rb") as plan, open(answers_of(count), "wb", 1 << 20) as answers:
         answers.writelines(b"seal %s AAAA\n" % line.split()[1] for line in plan)
 
 
 # ---- inputs, each of about so many messages or lines, and the options
 
 def messages(count):
-    put_frames(message(i) for i in range(count))
-    return ["--count", "10"]
+    put_frames(count, (message(i) for i in range(count)))
+    words = [*GIVEN, "--count", "10"]
+    put_seals(count, words)
+    return words
 
 
 def groups(count):
-    put_frames(message(i).replace(b"<13>", b"<%d>" % (i * 7919 % 192), 1) for i in range(count))
-    return ["--groups", "pri"]
+    put_frames(count, (message(i).replace(b"<13>", b"<%d>" % (i * 7919 % 192), 1) for i in range(count)))
+    words = [*GIVEN, "--groups", "pri"]
+    put_seals(count, words)
+    return words
 
 
 def seals(count):
     """Lines with fields of one octet, none of which is asked for; the last line is."""
-    put_frames([])
-    plan = [program, "plan", *GIVEN]
-    run(plan, PLAN)
-    put_seals()
-    fields = [b64(bytes([i * 167 % 256])) for i in range(256)]
-    with open(ANSWERS, "rb") as answers:
+    put_frames(count, [])
+    put_seals(count, GIVEN)
+    with open(answers_of(count), "rb") as answers:
         last = answers.read()
-    with open(ANSWERS, "wb", 1 << 20) as answers:
+    fields = [b64(bytes([i * 167 % 256])) for i in range(256)]
+    with open(answers_of(count), "wb", 1 << 20) as answers:
         answers.writelines(b"seal %s %s\n" % (fields[i % 256], fields[i // 256 % 256]) for i in range(count))
         answers.write(last)
-    return []
+    return GIVEN
 
 
-def times(make, count):
-    """What each command took: the mark, plan and sign."""
-    words = GIVEN + make(count)
-    plan, sign = [program, "plan", *words], [program, "sign", "--answers", ANSWERS, *words]
-    if make is seals:
-        return {"sign": best(sign)[0]}
-    run(plan, PLAN)
-    put_seals()
-    runs = {"plan": plan, "sign": sign}
-    if mark:
-        runs["mark"] = [*mark, LOG]
-    return dict(zip(runs, best(*runs.values())))
+def runs_of(make, count):
+    """The runs over an input of so many, by their names."""
+    words = make(count)
+    runs = {("sign", count): [program, "sign", "--answers", answers_of(count), *words]}
+    if make is not seals:
+        runs["plan", count] = [program, "plan", *words]
+    if make is not seals and mark:
+        runs["mark", count] = [*mark, log_of(count)]
+    return runs
+
+
+def tell(make, half, told):
+    for (command, count), (seconds, peak) in told.items():
+        line = "%-8s %9d %s %8.3f s %8.1f MiB" % (make.__name__, count, command, seconds, peak)
+        if ("mark", count) in told and command != "mark":
+            line += ", ratio %.2f" % (seconds / told["mark", count][0])
+        if count != half:
+            line += ", %.2f times its half" % (seconds / max(told[command, half][0], 0.001))
+        print(line, flush=True)
 
 
 for make, half in ((messages, 1_000_000), (groups, 150_000), (seals, 5_000_000)):
-    if word not in make.__name__:
-        continue
-    half = max(half // part, 1)
-    before = {}
-    for count in (half, 2 * half):
-        told = times(make, count)
-        for command in (name for name in told if name != "mark"):
-            seconds, peak = told[command]
-            line = "%-8s %9d %s %8.3f s %8.1f MiB" % (make.__name__, count, command, seconds, peak)
-            if mark and make is not seals:
-                line += ", %.2f of %.3f s of %s" % (seconds / told["mark"][0], told["mark"][0], " ".join(mark))
-            if command in before:
-                line += ", %.2f times its half" % (seconds / before[command])
-            print(line, flush=True)
-            before[command] = seconds
+    if word in make.__name__:
+        half = max(half // part, 1)
+        tell(make, half, best(runs_of(make, half) | runs_of(make, 2 * half)))
+        for count in (half, 2 * half):
+            os.remove(log_of(count))
+            os.remove(answers_of(count))
 P
