@@ -5,6 +5,8 @@ four-messages.frames   two messages, a certificate block and a signature block o
 four-messages.answers  what a signature checker says about that log that accepts all of it
 torn.frames            the first 100 octets of that log, as a crash leaves them
 kinds.frames           a message of each kind that `inspect` tells, and a torn end
+one-message.log        a message, as a line
+one-message.seals      what a signer says who gives every block of that log the same signature
 
 The two messages are the samples of FIPS 180, whose hashes are published, and the signatures are the three octets 0:
 these files show the layout, and nothing in them is signed by a real key (for that see openssl/ beside this file).
@@ -19,6 +21,7 @@ SAMPLES = {
     b"abcdbcdecdefdefgefghfghighijhijkijkljklmklmnlmnomnopnopq": "84983e441c3bd26ebaae4aa1f95129e5e54670f1",
 }
 FIRST, SECOND = SAMPLES
+ONE = b"<13>1 - - - - - - abc"
 HEADER = b"<110>1 - h s - - "
 # RFC 5848, section 5.2.1: a time stamp, the kind of key (K, a public key), the key in base64 (here the text KEY)
 PAYLOAD = b"2009-05-03T14:00:39Z K S0VZ"
@@ -63,25 +66,30 @@ def certificate_block():
     )
 
 
-def signature_block():
-    hashes = b" ".join(in_base64(sha1(it)) for it in (FIRST, SECOND))
+def signature_block(*hashes):
     return block(
         b"ssign", (b"VER", b"0111"), (b"RSID", b"1"), (b"SG", b"0"), (b"SPRI", b"0"),
-        (b"GBC", b"0"), (b"FMN", b"1"), (b"CNT", b"2"), (b"HB", hashes),
+        (b"GBC", b"0"), (b"FMN", b"1"), (b"CNT", b"%d" % len(hashes)), (b"HB", b" ".join(map(in_base64, hashes))),
     )
 
 
 def kinds():
     """A plain message, one that isn't RFC 5424's, a block of each kind, a spoilt one, and the front of a frame."""
-    certificate, signature = map(signed, (certificate_block(), signature_block()))
+    certificate, signature = map(signed, (certificate_block(), signature_block(sha1(FIRST), sha1(SECOND))))
     plain = b"<13>1 2009-05-03T14:00:39Z h s - - - a job was done"
     spoilt = signature.replace(b'VER="0111"', b'VER="0211"')
     return b"".join(map(frame, [plain, FIRST, certificate, signature, spoilt])) + frame(SECOND)[:-1]
 
 
+def seals():
+    """The seal of each block that signing the one message makes."""
+    texts = [certificate_block(), signature_block(hashlib.sha1(ONE).digest())]
+    return b"".join(b"seal %s %s\n" % (in_base64(it), in_base64(SIGNATURE)) for it in texts)
+
+
 def main():
     folder = sys.argv[1] if len(sys.argv) > 1 else os.path.dirname(os.path.abspath(__file__))
-    texts = [certificate_block(), signature_block()]
+    texts = [certificate_block(), signature_block(sha1(FIRST), sha1(SECOND))]
     messages = [FIRST, SECOND, *map(signed, texts)]
     want([len(it) for it in messages], [3, 56, 142, 159])
     want([len(it) for it in texts], [130, 147])
@@ -90,7 +98,10 @@ def main():
     payload = in_base64(PAYLOAD)
     answers = [b"trust %s\n" % payload]
     answers += [b"yes %s %s %s\n" % (payload, in_base64(it), in_base64(SIGNATURE)) for it in texts]
-    made = {"four-messages.frames": log, "four-messages.answers": b"".join(answers), "torn.frames": log[:100], "kinds.frames": kinds()}
+    made = {
+        "four-messages.frames": log, "four-messages.answers": b"".join(answers), "torn.frames": log[:100],
+        "kinds.frames": kinds(), "one-message.log": ONE + b"\n", "one-message.seals": seals(),
+    }
     for name, octets in made.items():
         with open(os.path.join(folder, name), "wb") as file:
             file.write(octets)

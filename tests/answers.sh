@@ -60,10 +60,18 @@ expect 'no answers' 1 $'session h s - 1 untrusted\n'"$refused" ''
 run review --answers "$answers" </dev/null
 expect 'answers, and an empty log' 0 'end 0' ''
 run review --answers "$root/examples/openssl/signed.answers" <"$root/examples/openssl/signed.frames"
-expect 'real signatures, and what openssl said of them' 0 'session h s - 1 joined
-ok h s - 1 0 0 1 1
-ok h s - 1 0 0 2 2
-end 4' ''
+expect 'real signatures, and what openssl said of them' 0 'session gate.example.org signer - 1 joined
+ok gate.example.org signer - 1 0 0 1 2
+ok gate.example.org signer - 1 0 0 2 3
+ok gate.example.org signer - 1 0 0 3 4
+ok gate.example.org signer - 1 0 0 4 5
+ok gate.example.org signer - 1 0 0 5 7
+ok gate.example.org signer - 1 0 0 6 8
+ok gate.example.org signer - 1 0 0 7 9
+ok gate.example.org signer - 1 0 0 8 10
+ok gate.example.org signer - 1 0 0 9 12
+ok gate.example.org signer - 1 0 0 10 13
+end 15' ''
 
 # Files that are refused
 bad() {

@@ -33,9 +33,8 @@ gives 'a torn end' 1 "$both" --answers "$answers" < <(cat -- "$log" && printf 12
 gives 'no answers' 1 '' <"$log"
 gives 'an empty log' 0 '' </dev/null
 gives 'messages with octets that are no text' 1 '' < <(printf '3 \000\n]')
-# behind a first frame of 1342 octets, `114 ` and `118 ` and their messages
 gives 'real signatures, and what openssl said of them' 0 \
-    "$(tail -c +1348 -- "$root/examples/openssl/signed.frames" | head -c 240)" \
+    "$(while IFS= read -r message; do frame "$message"; done <"$root/examples/openssl/ten-messages.log")" \
     --answers "$root/examples/openssl/signed.answers" <"$root/examples/openssl/signed.frames"
 run extract --answers "$answers" <"$log"
 cp -- "$scratch/out" "$scratch/extract"

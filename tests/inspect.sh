@@ -32,11 +32,22 @@ certificate 2 h s - 1 0 0 27 1 27
 signature 3 h s - 1 0 0 0 1 2
 end 4' ''
 run inspect <"$root/examples/openssl/signed.frames"
-expect 'real signatures' 0 'certificate 0 h s - 1 0 0 '"$(grep -o -a 'TPBL="[0-9]*"' "$root/examples/openssl/signed.frames" | tr -dc 0-9) 1 $(grep -o -a 'FLEN="[0-9]*"' "$root/examples/openssl/signed.frames" | tr -dc 0-9)"'
-plain 1
+expect 'real signatures' 0 'certificate 0 gate.example.org signer - 1 0 0 575 1 500
+certificate 1 gate.example.org signer - 1 0 0 575 501 75
 plain 2
-signature 3 h s - 1 0 0 0 1 2
-end 4' ''
+plain 3
+plain 4
+plain 5
+signature 6 gate.example.org signer - 1 0 0 0 1 4
+plain 7
+plain 8
+plain 9
+plain 10
+signature 11 gate.example.org signer - 1 0 0 1 5 4
+plain 12
+plain 13
+signature 14 gate.example.org signer - 1 0 0 2 9 2
+end 15' ''
 run inspect </dev/null
 expect 'an empty log' 0 'end 0' ''
 

@@ -41,10 +41,18 @@ refused 3
 end 4' ''
 as_lines "$root/examples/openssl/signed.frames" >"$scratch/signed"
 run review --answers "$root/examples/openssl/signed.answers" --lines <"$scratch/signed"
-expect 'real signatures, and what openssl said of them' 0 'session h s - 1 joined
-ok h s - 1 0 0 1 1
-ok h s - 1 0 0 2 2
-end 4' ''
+expect 'real signatures, and what openssl said of them' 0 'session gate.example.org signer - 1 joined
+ok gate.example.org signer - 1 0 0 1 2
+ok gate.example.org signer - 1 0 0 2 3
+ok gate.example.org signer - 1 0 0 3 4
+ok gate.example.org signer - 1 0 0 4 5
+ok gate.example.org signer - 1 0 0 5 7
+ok gate.example.org signer - 1 0 0 6 8
+ok gate.example.org signer - 1 0 0 7 9
+ok gate.example.org signer - 1 0 0 8 10
+ok gate.example.org signer - 1 0 0 9 12
+ok gate.example.org signer - 1 0 0 10 13
+end 15' ''
 run review --lines --answers "$root/examples/four-messages.answers" < <(head -c -1 -- "$log")
 expect 'the last line without its LF, which leaves one block' 1 'session h s - 1 joined
 unlisted 0

@@ -1,6 +1,7 @@
 #!/usr/bin/env bash
 # The examples of README.md and docs/guide.md: a block that is one line with `./ssign` is a command, the block behind it
-# is what the program prints, and between the two stands `status N`.
+# is what the program prints, and between the two stands `status N`. Where the command has `./ssign` twice, the last one
+# prints.
 # shellcheck source=tests/lib.sh
 . "$(dirname -- "$0")/lib.sh"
 need_program
@@ -16,7 +17,9 @@ example() {
         return
     fi
     local wanted=${BASH_REMATCH[1]}
-    eval "${command/.\/ssign /run }"
+    # shellcheck disable=SC2016
+    command=${command//.\/ssign /'"$program" '}
+    eval "${command%'"$program" '*}run ${command##*'"$program" '}"
     expect "$file: $command" "$wanted" "$output" ''
 }
 

@@ -30,12 +30,23 @@ expect 'the same, an octet at a time' 1 "$untrusted" ''
 run review <"$root/examples/torn.frames"
 expect 'a log that is torn in its third frame' 1 $'unlisted 0\nunlisted 1\ntorn 64\nend 2' ''
 run review <"$root/examples/openssl/signed.frames"
-expect 'a log with real signatures, nothing trusted' 1 'session h s - 1 untrusted
-unlisted 1
+expect 'a log with real signatures, nothing trusted' 1 'session gate.example.org signer - 1 untrusted
 unlisted 2
+unlisted 3
+unlisted 4
+unlisted 5
+unlisted 7
+unlisted 8
+unlisted 9
+unlisted 10
+unlisted 12
+unlisted 13
 refused 0
-refused 3
-end 4' ''
+refused 1
+refused 6
+refused 11
+refused 14
+end 15' ''
 octets '12' review
 expect 'a torn length' 1 $'torn 0\nend 0' ''
 octets '3 ab' review

@@ -2,29 +2,33 @@
 use super::sealing::{Lenient, Seal, answer};
 use super::settings::{At, Groups, Setting, are, config, counters, payload};
 use super::texts::{
-    A, A_FLUSHED, B, B_ALONE, BACK, BY_SHA256, C, C_AND_E, D, E, FIRST_OF_13, FIRST_OF_14, FRONT,
-    LAST_OF_ALL, RANGE_TO_13, RANGE_TO_191, THIRD_OF_13, WHOLE_BY_SHA256,
+    A, A_FLUSHED, A_UNSTAMPED, B, B_ALONE, B_STAMPED, BACK, BY_SHA256, C, C_AND_E, C_STAMPED, D, E,
+    FIRST_OF_13, FIRST_OF_14, FRONT, LAST_OF_ALL, RANGE_TO_13, RANGE_TO_191, THIRD_OF_13, WHOLE,
+    WHOLE_BY_SHA256, WHOLE_STAMPED,
 };
-use Call::{Begin, Flush, Submit};
+use Call::{Begin, BeginAt, Flush, FlushAt, Submit, SubmitAt};
 use OriginFault::{
     AlreadyBegun, CounterSpent, HasBlock, Memory, NotBegun, NotSyslog, NumbersSpent, SealRefused,
     SignatureLength,
 };
 use Step::{Counters, Lengths, Refused, Sent};
 use ss_block::{Alg, Session};
-use ss_message::Field;
+use ss_message::{Field, NoMemory, Stamp};
 use ss_origin::{Emitted, OriginFault, Originator, Sealer, Seals};
 use std::alloc::Global;
 use std::cell::Cell;
 use std::process::Abort;
 use std::test::Fail;
 
-/// A call.
+/// A call, without a stamp or with this one.
 #[derive(Clone, Copy, Debug)]
 enum Call {
     Begin,
+    BeginAt(&'static [u8]),
     Submit(&'static [u8]),
+    SubmitAt(&'static [u8], &'static [u8]),
     Flush,
+    FlushAt(&'static [u8]),
 }
 
 /// A call, what the sealer answers in it, and what comes of it; or what the counters are.
@@ -51,6 +55,7 @@ struct Script {
 const SIGNS: Seal = Seal::Zeros(3);
 
 const BY_PRI: Setting = Setting {
+    msgid: None,
     alg: Alg::Sha1,
     rsid: 1,
     groups: Groups::ByPri,
@@ -60,6 +65,7 @@ const BY_PRI: Setting = Setting {
 };
 
 const ONE_HASH: Setting = Setting {
+    msgid: None,
     alg: Alg::Sha1,
     rsid: 1,
     groups: Groups::ByPri,
@@ -72,7 +78,16 @@ const ONE_HASH: Setting = Setting {
 const HAS_BLOCK: &[u8] =
     b"<110>1 - h s - - [ssign VER=\"0111\" RSID=\"1\" SG=\"0\" SPRI=\"0\" GBC=\"0\" FMN=\"1\" CNT=\"2\" HB=\"qZk+NkcGgWq6PiVxeFDCbJzQ2J0= hJg+RBw70m66rkqh+VEp5eVGcPE=\" SIGN=\"AAAA\"]";
 
-const SCRIPTS: [Script; 10] = [
+/// No messages of RFC 5424.
+const ABC: &[u8] = b"abc";
+
+const ALPHABET: &[u8] = b"abcdbcdecdefdefgefghfghighijhijkijkljklmklmnlmnomnopnopq";
+
+const STAMP: &[u8] = b"2009-05-03T14:00:39Z";
+
+const OTHER_STAMP: &[u8] = b"2009-05-03T14:00:39.5+01:00";
+
+const SCRIPTS: [Script; 12] = [
     Script {
         name: "two groups",
         setting: BY_PRI,
@@ -134,6 +149,7 @@ const SCRIPTS: [Script; 10] = [
     Script {
         name: "two copies of blocks of one hash",
         setting: Setting {
+            msgid: None,
             alg: Alg::Sha1,
             rsid: 1,
             groups: Groups::ByPri,
@@ -195,6 +211,7 @@ const SCRIPTS: [Script; 10] = [
     Script {
         name: "ranges",
         setting: Setting {
+            msgid: None,
             alg: Alg::Sha1,
             rsid: 1,
             groups: Groups::Ranges(&[13, 191]),
@@ -213,6 +230,7 @@ const SCRIPTS: [Script; 10] = [
     Script {
         name: "one group by SHA-256, and the payload in one piece",
         setting: Setting {
+            msgid: None,
             alg: Alg::Sha256,
             rsid: 1,
             groups: Groups::One(7),
@@ -228,14 +246,94 @@ const SCRIPTS: [Script; 10] = [
             Counters(At(1, &[(7, 3)])),
         ],
     },
+    Script {
+        name: "the payload in one piece, and texts that are no messages",
+        setting: Setting {
+            msgid: None,
+            alg: Alg::Sha1,
+            rsid: 1,
+            groups: Groups::One(0),
+            per_block: 10,
+            copies: 1,
+            frag: 500,
+        },
+        behind: None,
+        steps: &[
+            Sent(Begin, SIGNS, &[WHOLE]),
+            Refused(Submit(ABC), SIGNS, NotSyslog),
+            Refused(Submit(ALPHABET), SIGNS, NotSyslog),
+            Counters(At(0, &[])),
+        ],
+    },
+    Script {
+        name: "a MSGID, and in each call its own stamp",
+        setting: Setting {
+            msgid: Some(b"m"),
+            alg: Alg::Sha1,
+            rsid: 1,
+            groups: Groups::One(0),
+            per_block: 1,
+            copies: 1,
+            frag: 27,
+        },
+        behind: None,
+        steps: &[
+            Refused(BeginAt(OTHER_STAMP), Seal::Refused, SealRefused),
+            Sent(BeginAt(STAMP), SIGNS, &[WHOLE_STAMPED]),
+            Sent(Submit(A), SIGNS, &[A, A_UNSTAMPED]),
+            Refused(SubmitAt(OTHER_STAMP, B), Seal::Memory, Memory),
+            Sent(SubmitAt(STAMP, B), SIGNS, &[B, B_STAMPED]),
+            Sent(SubmitAt(OTHER_STAMP, C), SIGNS, &[C, C_STAMPED]),
+            Sent(FlushAt(STAMP), SIGNS, &[]),
+        ],
+    },
 ];
 
+/// How a script is played.
+#[derive(Clone, Copy)]
+struct Play<'p> {
+    name: &'static str,
+    /// What the sealer answers next.
+    told: &'p Cell<Seal>,
+    /// Whether a call is made again where memory runs out.
+    again: bool,
+}
+
 /// Makes a call.
-fn make<J: Seals>(originator: &mut Originator<J>, call: Call) -> Result<Emitted, OriginFault> {
+fn make_once<J: Seals>(originator: &mut Originator<J>, call: Call) -> Result<Emitted, OriginFault> {
     match call {
         Begin => originator.begin(None),
+        BeginAt(stamp) => originator.begin(Stamp::parse(stamp)),
         Submit(message) => originator.submit(message, None),
+        SubmitAt(stamp, message) => originator.submit(message, Stamp::parse(stamp)),
         Flush => originator.flush(None),
+        FlushAt(stamp) => originator.flush(Stamp::parse(stamp)),
+    }
+}
+
+/// Makes a call, with a sealer that answers so.
+fn make<J: Seals>(
+    originator: &mut Originator<J>,
+    play: Play<'_>,
+    call: Call,
+    answers: Seal,
+) -> Result<Emitted, OriginFault> {
+    play.told.set(answers);
+    match make_once(originator, call) {
+        Err(Memory) if play.again => make_once(originator, call),
+        made => made,
+    }
+}
+
+/// Whether an originator's counters are these.
+fn has_counters<J: Seals>(
+    originator: &Originator<J>,
+    play: Play<'_>,
+    at: &At,
+) -> Result<bool, NoMemory> {
+    match originator.counters() {
+        Err(_) if play.again => Ok(are(&originator.counters()?, at)),
+        counters => Ok(are(&counters?, at)),
     }
 }
 
@@ -259,27 +357,30 @@ fn sees_lengths(rt: &impl Abort, emitted: &Emitted, lengths: &[usize], name: &st
 fn sees_step<J: Seals>(
     rt: &impl Abort,
     originator: &mut Originator<J>,
-    seal: &Cell<Seal>,
+    play: Play<'_>,
     step: &Step,
-    name: &str,
-) -> Result<(), OriginFault> {
+) {
+    let name = play.name;
     match step {
-        Sent(made, answers, messages) => {
-            seal.set(*answers);
-            sees_messages(rt, &make(originator, *made)?, messages, name);
+        Sent(call, answers, messages) => match make(originator, play, *call, *answers) {
+            Ok(emitted) => sees_messages(rt, &emitted, messages, name),
+            Err(fault) => assert!(rt; false, "{name}: {call:?}: {fault:?}"),
+        },
+        Lengths(call, answers, lengths) => match make(originator, play, *call, *answers) {
+            Ok(emitted) => sees_lengths(rt, &emitted, lengths, name),
+            Err(fault) => assert!(rt; false, "{name}: {call:?}: {fault:?}"),
+        },
+        Refused(call, answers, fault) => {
+            let said = make(originator, play, *call, *answers);
+            assert_eq!(rt; said.err(), Some(*fault), "{name}: {call:?}");
         }
-        Lengths(made, answers, lengths) => {
-            seal.set(*answers);
-            sees_lengths(rt, &make(originator, *made)?, lengths, name);
+        Counters(at) => {
+            assert!(rt;
+                has_counters(originator, play, at) == Ok(true),
+                "{name}: {at:?}"
+            );
         }
-        Refused(made, answers, fault) => {
-            seal.set(*answers);
-            let said = make(originator, *made);
-            assert_eq!(rt; said.err(), Some(*fault), "{name}: {made:?}");
-        }
-        Counters(at) => assert!(rt; are(&originator.counters()?, at), "{name}: {at:?}"),
     }
-    Ok(())
 }
 
 /// The octets of a field; none where it is absent.
@@ -311,22 +412,24 @@ fn start<J: Seals>(alloc: Global, script: &Script, sealer: J) -> Result<Originat
     }
 }
 
-/// Plays the script at this place with a sealer that answers what it is told.
+/// Plays the script at this place with a sealer that answers what it is told. Errs only before its first step.
 fn play_with<J: Seals>(
     rt: &(impl Abort + AllocGlobal),
     place: usize,
     sealer: J,
     told: &Cell<Seal>,
+    again: bool,
 ) -> Result<(), OriginFault>
     requires { J.sound sealer }
 {
     let Some(script) = SCRIPTS.get(place) else {
         return Err(OriginFault::BadConfig);
     };
+    let name = script.name;
     let mut originator = start(rt.alloc(), script, sealer)?;
     sees_session(rt, &originator.session()?);
     for step in script.steps {
-        sees_step(rt, &mut originator, told, step, script.name)?;
+        sees_step(rt, &mut originator, Play { name, told, again }, step);
     }
     Ok(())
 }
@@ -338,27 +441,45 @@ struct Desk {
     told: Cell<Seal>,
 }
 
-fn play_at(rt: &(impl Abort + AllocGlobal), place: usize, desk: &Desk) -> Result<(), OriginFault> {
+/// Plays the script at this place. Errs only before its first step.
+fn play_at(
+    rt: &(impl Abort + AllocGlobal),
+    place: usize,
+    desk: &Desk,
+    again: bool,
+) -> Result<(), OriginFault> {
     let Some(payload) = payload(rt.alloc())? else {
         return Err(OriginFault::BadConfig);
     };
     let seal = move |alloc: Global, _octets: &[u8]| answer(alloc, desk.told.get());
     let sealer = Sealer::new(&desk.scheme, payload, seal);
-    play_with(rt, place, sealer, &desk.told)
+    play_with(rt, place, sealer, &desk.told, again)
 }
 
-fn play(rt: &(impl Abort + AllocGlobal), place: usize) -> Result<(), OriginFault> {
-    let desk = Desk {
+fn signing() -> Desk {
+    Desk {
         scheme: Lenient,
         told: Cell::new(SIGNS),
-    };
-    play_at(rt, place, &desk)
+    }
 }
 
 #[test]
 fn scripts(rt: HostRuntime) -> Result<(), Fail> {
     for place in 0..SCRIPTS.len() {
-        play(&rt, place)?;
+        play_at(&rt, place, &signing(), false)?;
+    }
+    Ok(())
+}
+
+/// `tests/memory.sh` refuses each allocation of this test in turn, and it passes each time: a call that wants memory
+/// leaves the originator as it was, and made again it gives the row's answer. The other tests take want of memory for a
+/// wrong answer.
+#[test]
+fn goes_on_after_want_of_memory(rt: HostRuntime) -> Result<(), Fail> {
+    for place in 0..SCRIPTS.len() {
+        if play_at(&rt, place, &signing(), true) == Err(Memory) {
+            play_at(&rt, place, &signing(), true)?;
+        }
     }
     Ok(())
 }

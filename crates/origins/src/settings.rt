@@ -1,4 +1,4 @@
-//! Configurations and counters as values that tables hold, all with one head and one payload.
+//! Configurations and counters as values that tables hold, all with one payload, and with one head but for its MSGID.
 use ss_block::{Alg, Head, Payload};
 use ss_frame::Bytes;
 use ss_message::{Field, NoMemory};
@@ -16,9 +16,10 @@ pub enum Groups {
     Ranges(&'static [u8]),
 }
 
-/// A configuration without its head.
+/// A configuration without the rest of its head.
 #[derive(Clone, Copy, Debug)]
 pub struct Setting {
+    pub msgid: Option<&'static [u8]>,
     pub alg: Alg,
     pub rsid: u64,
     pub groups: Groups,
@@ -33,6 +34,13 @@ pub struct At(pub u64, pub &'static [(u8, u64)]);
 
 fn text(alloc: Global, octets: &[u8]) -> Result<Field, AllocError> {
     Ok(Field::Text(Bytes::from_vec(Vec::from_slice(alloc, octets)?)))
+}
+
+fn text_or_nil(alloc: Global, octets: Option<&[u8]>) -> Result<Field, AllocError> {
+    match octets {
+        Some(octets) => text(alloc, octets),
+        None => Ok(Field::Nil),
+    }
 }
 
 fn grouping(alloc: Global, groups: Groups) -> Result<Grouping, AllocError> {
@@ -52,7 +60,7 @@ pub fn config(alloc: Global, setting: &Setting) -> Result<Option<Config>, AllocE
         text(alloc, b"h")?,
         text(alloc, b"s")?,
         Field::Nil,
-        Field::Nil,
+        text_or_nil(alloc, setting.msgid)?,
     );
     let Some(head) = made else {
         return Ok(None);

@@ -105,6 +105,7 @@ fn is_made(alloc: Global, setting: &Setting, at: Option<At>) -> Result<bool, Ori
 fn setting(row: &Row) -> Setting {
     let (rsid, groups, per_block, copies, frag, _) = *row;
     Setting {
+        msgid: None,
         alg: Alg::Sha1,
         rsid,
         groups,

@@ -61,3 +61,23 @@ pub const BY_SHA256: &[u8] =
 /// The payload in one piece.
 pub const WHOLE_BY_SHA256: &[u8] =
     b"<110>1 - h s - - [ssign-cert VER=\"0121\" RSID=\"1\" SG=\"0\" SPRI=\"7\" TPBL=\"27\" INDEX=\"1\" FLEN=\"27\" FRAG=\"2009-05-03T14:00:39Z K S0VZ\" SIGN=\"AAAA\"]";
+
+/// The payload in one piece, in the one group 0.
+pub const WHOLE: &[u8] =
+    b"<110>1 - h s - - [ssign-cert VER=\"0111\" RSID=\"1\" SG=\"0\" SPRI=\"0\" TPBL=\"27\" INDEX=\"1\" FLEN=\"27\" FRAG=\"2009-05-03T14:00:39Z K S0VZ\" SIGN=\"AAAA\"]";
+
+/// The same under a stamp and a MSGID.
+pub const WHOLE_STAMPED: &[u8] =
+    b"<110>1 2009-05-03T14:00:39Z h s - m [ssign-cert VER=\"0111\" RSID=\"1\" SG=\"0\" SPRI=\"0\" TPBL=\"27\" INDEX=\"1\" FLEN=\"27\" FRAG=\"2009-05-03T14:00:39Z K S0VZ\" SIGN=\"AAAA\"]";
+
+/// a in the one group 0, under a MSGID and no stamp.
+pub const A_UNSTAMPED: &[u8] =
+    b"<110>1 - h s - m [ssign VER=\"0111\" RSID=\"1\" SG=\"0\" SPRI=\"0\" GBC=\"0\" FMN=\"1\" CNT=\"1\" HB=\"3Pfc6GFE4IsSJJq/MbjynAYg1oM=\" SIGN=\"AAAA\"]";
+
+/// b in the one group 0, under a stamp and a MSGID.
+pub const B_STAMPED: &[u8] =
+    b"<110>1 2009-05-03T14:00:39Z h s - m [ssign VER=\"0111\" RSID=\"1\" SG=\"0\" SPRI=\"0\" GBC=\"1\" FMN=\"2\" CNT=\"1\" HB=\"wTX9aOKATkVu7zPIYLz/u/iH3uQ=\" SIGN=\"AAAA\"]";
+
+/// c in the one group 0, under another stamp.
+pub const C_STAMPED: &[u8] =
+    b"<110>1 2009-05-03T14:00:39.5+01:00 h s - m [ssign VER=\"0111\" RSID=\"1\" SG=\"0\" SPRI=\"0\" GBC=\"2\" FMN=\"3\" CNT=\"1\" HB=\"ZwISE/EIgQwTWjGNOS9KLuLPMKU=\" SIGN=\"AAAA\"]";

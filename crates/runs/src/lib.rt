@@ -8,11 +8,15 @@ mod book;
 #[cfg(test)]
 mod changes;
 #[cfg(test)]
+mod deliveries;
+#[cfg(test)]
 mod ends;
 #[cfg(test)]
 mod inspections;
 #[cfg(test)]
 mod keeping;
+#[cfg(test)]
+mod originating;
 #[cfg(test)]
 mod rows;
 #[cfg(test)]

@@ -10,7 +10,6 @@ use Rattle.ss_message.specs.declared.fault.NoMemory.{NoMemory}
 use Rattle.ss_payload.specs.declared.cuts.Cut.{Cut}
 use Rattle.ss_payload.specs.Cuts.{AreCuts}
 use Rattle.ss_payload.specs.CuttingLaws.{LiesWithin, PiecesLieWithin}
-use Rattle.ss_block.specs.declared.block.Group.{Group}
 use Rattle.ss_block.specs.declared.hash.Hash.{Hash}
 use Rattle.ss_block.specs.Block.{IsGroup, IsSignature, IsCertificate, is_of}
 use Rattle.ss_block.specs.Head.{IsHead}
@@ -23,7 +22,7 @@ use Rattle.ss_origin.specs.Groups.{sg_of, spri_of, group_of, is_grouping}
 use Rattle.ss_origin.specs.Configs.{is_config}
 use Rattle.ss_origin.specs.Emission.{certificate_in, certificate_of, signature_in}
 use Rattle.ss_origin.specs.Signing.{HasSession}
-use Rattle.ss_origin.proofs.Configs.{HasRanges, has_ranges}
+use Rattle.ss_origin.proofs.Configs.{has_ranges}
 use Rattle.ss_origin.proofs.Groups.{group-most, has_group_of}
 
 sg-most : (g : Grouping) → sg_of g ≤ 3

@@ -10,6 +10,7 @@ pub mod Covered
 pub mod RowsTold
 pub mod Sent
 pub mod Members
+pub mod PlainMessages
 pub mod Announced
 pub mod Beginning
 pub mod Sealed

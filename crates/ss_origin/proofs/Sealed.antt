@@ -1,5 +1,5 @@
 -- A block that was signed and written is sealed.
-use Rattle.std.proofs.Common.{◌≡◌, ℕ, ◌≤◌, true, List, length, Option, sym, ap, ◌∙◌, subst}
+use Rattle.std.proofs.Common.{◌≡◌, ℕ, ◌≤◌, true, List, length, Option, ap, ◌∙◌}
 use Rattle.std.specs.Prelude.{Some}
 use Rattle.ss_message.specs.Stamp.{Moment}
 use Rattle.ss_payload.specs.Payload.{payload_text}
@@ -9,11 +9,9 @@ use Rattle.ss_block.specs.Reading.{reading}
 use Rattle.ss_block.specs.Session.{session}
 use Rattle.ss_block.specs.Signed.{signed}
 use Rattle.ss_block.specs.Writing.{unsigned_signature_text, signature_text, unsigned_certificate_text, certificate_text, head_session}
-use Rattle.ss_origin.specs.declared.unsigned.Unsigned.{Unsigned}
 use Rattle.ss_origin.specs.declared.unsigned.Unsigned.TheVariants.{Signature, Certificate}
 use Rattle.ss_origin.specs.Setting.{Setting}
 use Rattle.ss_origin.specs.Emission.{IsSealed}
-use Rattle.ss_origin.specs.Signing.{HasSession}
 
 -- a signature of these octets that may be taken
 pub record Signs (s : Setting) (octets signature : List ℕ) : Type 0 where

@@ -1,8 +1,8 @@
 //! The groups of an originator, one for each SPRI.
-ghost use Rattle.std.specs.Prelude.{◌≡◌, ◌==◌, ◌<◌, ◌++◌, ◌∷◌, [], length, map, slice_set, IfOk, OnOk, is_ok, if◌then◌else◌};
+ghost use Rattle.std.specs.Prelude.{◌≡◌, ◌==◌, ◌<◌, ◌+◌, ◌++◌, ◌∷◌, [], length, map, slice_set, vec_len, vec_capacity, IfOk, OnOk, OnErr, is_ok, if◌then◌else◌};
 ghost use Rattle.ss_origin.specs.State.{spris};
 ghost use Rattle.ss_origin.specs.Step.{group_flushed};
-ghost use Rattle.ss_origin.specs.Slots.{slot_in, slot_from, slot_with, number_if_known, next_numbers};
+ghost use Rattle.ss_origin.specs.Slots.{IsRoom, slot_in, slot_from, slot_with, number_if_known, next_numbers};
 ghost use Rattle.ss_origin.specs.Pending.{runs_pending};
 ghost use Rattle.ss_origin.specs.Counting.{names, number_in};
 
@@ -12,7 +12,10 @@ use ss_message::NoMemory;
 use std::alloc::Global;
 use std::marker::Model;
 
-/// What is kept of a group. Contracts see the same.
+// How many hashes can be pending in a group at most: one more fills the largest block.
+const MOST_PENDING: usize = 98;
+
+/// What is kept of a group. Contracts see the same. There is room for at most twice as many hashes as are pending.
 #[derive(Drop)]
 pub struct Slot {
     known: bool,
@@ -21,11 +24,15 @@ pub struct Slot {
 }
 
 impl Model for Slot {
+    ghost use Rattle.std.specs.Prelude.{vec_len, vec_capacity};
     ghost use Rattle.ss_origin.specs.State.{GroupState};
+    ghost use Rattle.ss_origin.specs.Slots.{IsRoom};
 
     ghost Value = { GroupState };
 
     ghost view = { λ s. record { known = s.known; number = s.number; pending = s.pending.items } };
+
+    ghost invariant = { λ s. IsRoom (vec_capacity s.pending) (vec_len s.pending) };
 }
 
 // Whether the group is named.
@@ -45,6 +52,24 @@ fn number_in(numbers: &[NextNumber], spri: u8) -> u64
         }
     }
     1
+}
+
+// Makes room for one hash more. Room is doubled, so that a group's hashes are moved a few times and not at each one.
+fn make_room(pending: &mut Vec<Hash>) -> Result<(), NoMemory>
+    requires few { vec_len pending.old < 98 }
+    requires room { IsRoom (vec_capacity pending.old) (vec_len pending.old) }
+    ensures items { pending.new.items ≡ pending.old.items }
+    ensures len { vec_len pending.new ≡ vec_len pending.old }
+    ensures some { OnOk result (vec_len pending.new < vec_capacity pending.new) }
+    ensures most { OnOk result (IsRoom (vec_capacity pending.new) (vec_len pending.old + 1)) }
+    ensures same { OnErr result (vec_capacity pending.new ≡ vec_capacity pending.old) }
+{
+    let count = pending.len();
+    if count < pending.capacity() {
+        return Ok(());
+    }
+    pending.reserve_exact(count.max(1).min(MOST_PENDING - count))?;
+    Ok(())
 }
 
 impl Slot {
@@ -93,10 +118,12 @@ impl Slot {
 
     // Takes the hash of its next message. Where memory runs out, it stays as it is.
     fn push(&mut self, hash: Hash) -> Result<(), NoMemory>
-        requires { self.old.number < 10000000000 }
+        requires number { self.old.number < 10000000000 }
+        requires few { length self.old.pending < 98 }
         ensures { self.new ≡ (if is_ok result then slot_with self.old (self.old.pending ++ hash ∷ []) else self.old) }
     {
-        self.pending.push(hash)?;
+        make_room(&mut self.pending)?;
+        self.pending.push_reserved(hash);
         self.known = true;
         self.number += 1;
         Ok(())
@@ -107,16 +134,17 @@ impl Slot {
         requires { self.old.number < 10000000000 }
         ensures { self.new ≡ slot_with self.old [] }
     {
-        self.pending.clear();
+        self.clear();
         self.known = true;
         self.number += 1;
     }
 
-    // Takes that all its hashes are in blocks.
+    // Takes that all its hashes are in blocks, and gives their room back.
     fn clear(&mut self)
         ensures { self.new ≡ group_flushed self.old }
     {
         self.pending.clear();
+        self.pending.shrink_to_fit();
     }
 }
 
@@ -184,6 +212,7 @@ impl Slots {
     pub fn push(&mut self, spri: u8, hash: Hash) -> Result<(), NoMemory>
         requires spri { spri < 192 }
         requires number { (slot_in self.old spri).number < 10000000000 }
+        requires few { length (slot_in self.old spri).pending < 98 }
         ensures { self.new ≡ (if is_ok result then slice_set self.old spri (slot_with (slot_in self.old spri) ((slot_in self.old spri).pending ++ hash ∷ [])) else self.old) }
     {
         self.slots[usize::from(spri)].push(hash)

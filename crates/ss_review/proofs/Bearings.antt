@@ -1,6 +1,6 @@
 -- The bearer of a hash is the earliest of the first messages with two hashes, one of which is this one.
 use Rattle.std.proofs.Common.{◌≡◌, inl, inr, ℕ, ◌≤◌, Bool, true, false, cond, List, [], ◌∷◌, ◌++◌, map, fold, refl, sym, ap, ◌∙◌, subst, arith, nat_lt}
-use Rattle.std.specs.Prelude.{Option, Some, None, option_map, option_and_then, filter_map, find, filter, slice_get}
+use Rattle.std.specs.Prelude.{Option, Some, None, option_and_then, filter_map, find, filter, slice_get}
 use Rattle.std.specs.Ordering.{is_eq, nat_cmp}
 use Rattle.std.specs.List.{cons_option}
 use Rattle.std.proofs.lemmas.Bool.{ltb-true, ltb-false}
@@ -15,9 +15,9 @@ use Rattle.ss_block.specs.Order.{hash_cmp}
 use Rattle.ss_block.specs.OrderLaws.{hash_cmp_total, hash_cmp_exact}
 use Rattle.ss_review.specs.declared.by_hash.ByHash.{ByHash}
 use Rattle.ss_review.specs.declared.message.NormalMessage.{NormalMessage}
-use Rattle.ss_review.specs.Assigned.{has_hash, same_pair, pair_of_bearer, places_with}
-use Rattle.ss_review.specs.Bearing.{earlier, earliest, first_with, candidate, bearer_among, pairs_among}
-use Rattle.ss_review.specs.Assigning.{pairs_wanted}
+use Rattle.ss_review.specs.Assigned.{has_hash, same_pair, places_with}
+use Rattle.ss_review.specs.Bearing.{earlier, earliest, first_with, candidate, bearer_among, bearers_among}
+use Rattle.ss_review.specs.Assigning.{bearers_wanted}
 use Rattle.std.specs.declared.cmp.Ordering.TheVariants.{Less}
 use Rattle.std.specs.BTreeMap as tree
 use Rattle.std.proofs.lemmas.Map.Views.{btree_map_get_iff}
@@ -61,10 +61,6 @@ cond_candidate : (b : Bool) (o : Option NormalMessage) (m : NormalMessage) → f
 cond_candidate true o m = refl
 cond_candidate false o m = refl
 
-no_candidate : (b : Bool) (o : Option NormalMessage) → fold earlier o (cons_option (cond b None None) []) ≡ o
-no_candidate true o = refl
-no_candidate false o = refl
-
 first_told : (es : List (HashPair × List ℕ)) (p : HashPair) (place : ℕ) (places : List ℕ) (h : Hash)
     → with_one (hashes.Sha256 p.sha256) (record { place = place; pair = p }) (with_one (hashes.Sha1 p.sha1) (record { place = place; pair = p }) (bearer_among es)) h
     ≡ bearer_among (es ++ (p, place ∷ places) ∷ []) h
@@ -81,10 +77,6 @@ told_pair es p place (n ∷ ns) h e =
     let one : place ≡ n = cc in
     subst (λ m. with_one (hashes.Sha256 p.sha256) (record { place = m; pair = p }) (with_one (hashes.Sha1 p.sha1) (record { place = m; pair = p }) (bearer_among es)) h ≡ bearer_among (es ++ (p, n ∷ ns) ∷ []) h) (sym one)
     (first_told es p n ns h)
-
-pub told_none : (es : List (HashPair × List ℕ)) (p : HashPair) (places : List ℕ) (h : Hash) → None ≡ slice_get places 0 → bearer_among es h ≡ bearer_among (es ++ (p, places) ∷ []) h
-told_none es p [] h e = sym (no_candidate (has_hash h p) (bearer_among es h)) ∙ sym (bearer_more es (p, []) h)
-told_none es p (n ∷ ns) h e = absurd (cc)
 
 pub map_all : {X : Type 0} (f g : Hash → X) (hs : List Hash) → ((h : Hash) → f h ≡ g h) → map f hs ≡ map g hs
 map_all f g hs e = ap (λ k. map k hs) (λ i h. e h i)
@@ -197,9 +189,8 @@ module _ (index : ByHash) (ms : List NormalMessage) (k : KeepsNormal index ms) (
       (let near = has_candidate n i t in
       omega (arith, first.2.least near.0 (subst (λ xs. Has xs near.0) f near.1), near.2))))
 
-  pub bearer_is : option_map (λ (m : NormalMessage). m.pair) (bearer_among index.pairs.entries h) ≡ pair_of_bearer ms h
-  unfolding pair_of_bearer
-  bearer_is = ap (option_map (λ (m : NormalMessage). m.pair)) (earliest_is (filter_map (candidate h) index.pairs.entries) refl)
+  pub bearer_is : bearer_among index.pairs.entries h ≡ find (λ m. has_hash h m.pair) ms
+  bearer_is = earliest_is (filter_map (candidate h) index.pairs.entries) refl
 
-pub wanted_are : (index : ByHash) (ms : List NormalMessage) → KeepsNormal index ms → tree.IsOrdered pair_cmp index.pairs → IsStrictlySortedBy nat_cmp (map (λ (m : NormalMessage). m.place) ms) → (hs : List (Option Hash)) → pairs_among index.pairs.entries hs ≡ pairs_wanted ms hs
+pub wanted_are : (index : ByHash) (ms : List NormalMessage) → KeepsNormal index ms → tree.IsOrdered pair_cmp index.pairs → IsStrictlySortedBy nat_cmp (map (λ (m : NormalMessage). m.place) ms) → (hs : List (Option Hash)) → bearers_among index.pairs.entries hs ≡ bearers_wanted ms hs
 wanted_are index ms k rise up hs = ap (λ f. map (option_and_then f) hs) (λ i g. bearer_is index ms k rise up g i)

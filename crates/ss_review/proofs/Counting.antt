@@ -1,17 +1,18 @@
--- Counts over a list: of one more element, of those below a key in a list that rises, and of wanted pairs.
-use Rattle.std.proofs.Common.{◌≡◌, ℕ, ◌+◌, ◌<◌, inl, length, get_or, take, drop, Bool, true, false, cond, ◌&&◌, List, [], ◌∷◌, ◌++◌, map, refl, sym, ap, ◌∙◌, subst, arith}
+-- Counts over a list: of one more element, of those below a key in a list that rises, and of wanted bearers.
+use Rattle.std.proofs.Common.{◌≡◌, ℕ, ◌+◌, ◌<◌, inl, length, get_or, take, drop, Bool, true, false, cond, ◌&&◌, ◌==◌, List, [], ◌∷◌, ◌++◌, map, refl, sym, ap, ◌∙◌, subst, arith}
 use Rattle.std.specs.Prelude.{Option, Some, None, unwrap_or, count_by, slice_get}
 use Rattle.std.specs.Str.{bytes_eq}
 use Rattle.std.specs.declared.cmp.Ordering.{Ordering}
 use Rattle.std.specs.declared.cmp.Ordering.TheVariants.{Less}
 use Rattle.std.specs.Ordering.{nat_cmp, is_lt, is_eq, ordering_reverse}
 use Rattle.std.specs.Cmp.Lexicographic.{slice_cmp}
-use Rattle.std.specs.Cmp.{IsTotalOrder, Equal-is, tied_then}
+use Rattle.std.specs.Cmp.{IsTotalOrder, Equal-is, tied_then, unsigned_tied}
+use Rattle.std.proofs.lemmas.Bool.{eqb-true}
 use Rattle.std.specs.List.{AllByRecursion}
 use Rattle.std.specs.List.Sorted.{IsStrictlySortedBy}
 use Rattle.std.specs.BTreeMap as tree
 use Rattle.std.proofs.lemmas.Cmp.{tied_itself}
-use Rattle.std.proofs.lemmas.List.{map-append, append_assoc, at_drop_more, take_more}
+use Rattle.std.proofs.lemmas.List.{map-append, append_assoc, at_drop_more, map_more}
 use Rattle.std.proofs.lemmas.List.Sums.{sum_by-append}
 use Rattle.std.proofs.lemmas.Map.Text.{is_eq-slice_cmp}
 use Rattle.ss_block.specs.declared.hash.Hash.{Hash}
@@ -20,7 +21,7 @@ use Rattle.ss_review.specs.declared.message.NormalMessage.{NormalMessage}
 use Rattle.ss_block.specs.Order.{pair_cmp}
 use Rattle.ss_review.specs.Announced.{Key, Row, key_cmp, keys}
 use Rattle.ss_review.specs.Assigned.{same_pair, is_pair, places_with, wanted, rank, place_of, assigned}
-use Rattle.ss_review.specs.Assigning.{pairs_wanted, place_after, assigned_after, assigned_all, count_of, Counts}
+use Rattle.ss_review.specs.Assigning.{pair_wanted, pairs_wanted, is_at, place_after, assigned_after, assigned_all, count_of, Counts}
 use Rattle.ss_review.proofs.Announcements.{keys-rise}
 use Rattle.ss_review.proofs.Members.{has-append_right}
 use Rattle.ss_review.proofs.Rising.{below_all}
@@ -86,27 +87,19 @@ same_itself p = sym (is_eq-pair_cmp p p) ∙ ap is_eq (tied_itself pair_cmp_tota
 pub same_pair-is : (p q : HashPair) → same_pair p q ≡ true → p ≡ q
 same_pair-is p q e = pair_cmp_exact p q ((Equal-is (pair_cmp p q)).0 (is_eq-pair_cmp p q ∙ e))
 
--- the map has one more of a pair
-pub counted : (m n : tree.BTreeMap HashPair ℕ) (before : List (Option HashPair)) (p : HashPair)
+-- the map has one more of a bearer
+pub counted : (m n : tree.BTreeMap ℕ ℕ) (before : List (Option NormalMessage)) (b : NormalMessage)
     → Counts m before
-    → ((q : HashPair) → tree.get pair_cmp n q ≡ cond (is_eq (pair_cmp p q)) (Some (count_of m p + 1)) (tree.get pair_cmp m q))
-    → Counts n (before ++ Some p ∷ [])
-counted m n before p c u q = by (same_pair p q) refl
+    → ((place : ℕ) → tree.get nat_cmp n place ≡ cond (is_eq (nat_cmp b.place place)) (Some (count_of m b.place + 1)) (tree.get nat_cmp m place))
+    → Counts n (before ++ Some b ∷ [])
+counted m n before b c u q =
+    ap (λ v. unwrap_or v 0) (u q ∙ ap (λ t. cond t (Some (count_of m b.place + 1)) (tree.get nat_cmp m q)) (unsigned_tied b.place q))
+    ∙ by (b.place == q) refl
+    ∙ sym (count_by-push (is_at q) before (Some b))
   where
-    read : (b : Bool) → same_pair p q ≡ b → count_of n q ≡ unwrap_or (cond b (Some (count_of m p + 1)) (tree.get pair_cmp m q)) 0
-    read b e = ap (λ v. unwrap_or v 0) (u q) ∙ ap (λ t. unwrap_or (cond t (Some (count_of m p + 1)) (tree.get pair_cmp m q)) 0) (is_eq-pair_cmp p q ∙ e)
-
-    more : (b : Bool) → same_pair p q ≡ b → count_by (is_pair q) (before ++ Some p ∷ []) ≡ count_by (is_pair q) before + cond b 1 0
-    more b e = count_by-push (is_pair q) before (Some p) ∙ ap (λ t. count_by (is_pair q) before + cond t 1 0) e
-
-    by : (b : Bool) → same_pair p q ≡ b → count_of n q ≡ count_by (is_pair q) (before ++ Some p ∷ [])
-    by true e =
-        read true e
-        ∙ ap (λ r. count_of m r + 1) (same_pair-is p q e)
-        ∙ ap (λ k. k + 1) (c q)
-        ∙ sym (more true e)
-    by false e =
-        read false e ∙ c q ∙ (let r : count_by (is_pair q) before + 0 ≡ count_by (is_pair q) before = omega arith in sym r) ∙ sym (more false e)
+    by : (t : Bool) → (b.place == q) ≡ t → unwrap_or (cond t (Some (count_of m b.place + 1)) (tree.get nat_cmp m q)) 0 ≡ count_by (is_at q) before + cond t 1 0
+    by true e = ap (λ r. count_of m r + 1) (eqb-true b.place q e) ∙ ap (λ k. k + 1) (c q)
+    by false e = c q ∙ (let r : count_by (is_at q) before + 0 ≡ count_by (is_at q) before = omega arith in sym r)
 
 -- ---- all keys at once
 
@@ -137,8 +130,8 @@ all_assigned ms rs hs e = ap (assigned_after ms []) e ∙ assigned_in_turn ms rs
 
 -- ---- a list of hashes from the front on
 
-pub assigned_at : (ms : List NormalMessage) (ps : List (Option HashPair)) (i : ℕ) (d : Option HashPair) → i < length ps
-    → assigned_after ms (take i ps) (drop i ps) ≡ place_after ms (take i ps) (get_or ps i d) ∷ assigned_after ms (take (i + 1) ps) (drop (i + 1) ps)
-assigned_at ms ps i d below =
-    at_drop_more (λ qs. assigned_after ms (take i ps) qs) ps i d below
-    ∙ ap (λ b. place_after ms (take i ps) (get_or ps i d) ∷ assigned_after ms b (drop (i + 1) ps)) (sym (take_more ps i d below))
+pub assigned_at : (ms : List NormalMessage) (hs : List (Option Hash)) (i : ℕ) (d : Option Hash) → i < length hs
+    → assigned_after ms (pairs_wanted ms (take i hs)) (pairs_wanted ms (drop i hs)) ≡ place_after ms (pairs_wanted ms (take i hs)) (pair_wanted ms (get_or hs i d)) ∷ assigned_after ms (pairs_wanted ms (take (i + 1) hs)) (pairs_wanted ms (drop (i + 1) hs))
+assigned_at ms hs i d below =
+    at_drop_more (λ gs. assigned_after ms (pairs_wanted ms (take i hs)) (pairs_wanted ms gs)) hs i d below
+    ∙ ap (λ b. place_after ms (pairs_wanted ms (take i hs)) (pair_wanted ms (get_or hs i d)) ∷ assigned_after ms b (pairs_wanted ms (drop (i + 1) hs))) (sym (map_more (pair_wanted ms) hs i d below))

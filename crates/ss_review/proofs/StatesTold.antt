@@ -23,7 +23,7 @@ use Rattle.ss_review.proofs.SessionStates.{disputed_payload, incomplete_payload,
 
 -- ---- what the valid certificate blocks cover
 
-fragment_of : (said : Said) (c : block.Certificate) → certificate_of said ≡ Some c → said ≡ Fragment c
+pub fragment_of : (said : Said) (c : block.Certificate) → certificate_of said ≡ Some c → said ≡ Fragment c
 fragment_of (Hashes b) c e = absurd (cc)
 fragment_of (Fragment d) c e = let same : d ≡ c = cc in ap Fragment same
 
@@ -63,7 +63,7 @@ accepted_from says bs payload covered =
 
 -- ---- the computed state
 
-payload_ok : (text : List ℕ) → IsPayloadBlock text → payload_or_malformed text ≡ Ok text
+pub payload_ok : (text : List ℕ) → IsPayloadBlock text → payload_or_malformed text ≡ Ok text
 payload_ok text p = ap (λ (o : Option PayloadValue). cond (is_some o) (Ok text) (Err states.Malformed)) p.1
 
 payload_bad : (text : List ℕ) → payload_in text ≡ None → payload_or_malformed text ≡ Err states.Malformed

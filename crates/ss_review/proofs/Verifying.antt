@@ -57,7 +57,7 @@ module _ (says : Answers) (bs : List BlockMessage) (b : BlockMessage) (xs : List
 
 -- ---- it isn't
 
-unstated : (says : Answers) → joined says [] ≡ Err states.Incomplete
+pub unstated : (says : Answers) → joined says [] ≡ Err states.Incomplete
 unfolding joined stated_payload is_disputed
 unstated says = refl
 

@@ -1,5 +1,5 @@
 -- The bearers of announced hashes, from the places that stand under each two hashes.
-use Rattle.std.specs.Prelude.{ℕ, nat_lt, List, [], ◌∷◌, map, filter_map, fold, Option, Some, None, option_map, option_and_then, if◌then◌else◌}
+use Rattle.std.specs.Prelude.{ℕ, nat_lt, List, [], ◌∷◌, map, filter_map, fold, Option, Some, None, option_and_then, if◌then◌else◌}
 use Rattle.ss_block.specs.declared.hash.Hash.{Hash}
 use Rattle.ss_block.specs.declared.hash.HashPair.{HashPair}
 use Rattle.ss_review.specs.declared.message.NormalMessage.{NormalMessage}
@@ -26,6 +26,6 @@ candidate h e = if has_hash h e.0 then first_with e.0 e.1 else None
 abbrev pub bearer_among : List (HashPair × List ℕ) → Hash → Option NormalMessage
 bearer_among es h = earliest (filter_map (candidate h) es)
 
--- both hashes of the bearer, for each hash that is there
-abbrev pub pairs_among : List (HashPair × List ℕ) → List (Option Hash) → List (Option HashPair)
-pairs_among es hs = map (λ h. option_and_then (λ g. option_map (λ m. m.pair) (bearer_among es g)) h) hs
+-- the bearer of each hash that is there
+abbrev pub bearers_among : List (HashPair × List ℕ) → List (Option Hash) → List (Option NormalMessage)
+bearers_among es hs = map (option_and_then (bearer_among es)) hs

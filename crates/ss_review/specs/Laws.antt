@@ -1,5 +1,5 @@
 -- What holds of every log.
-use Rattle.std.specs.Prelude.{◌≡◌, ◌↔◌, ℕ, ◌+◌, ◌<◌, List, [], ◌∷◌, ◌++◌, length, Some}
+use Rattle.std.specs.Prelude.{◌≡◌, ◌↔◌, ℕ, ◌+◌, ◌<◌, true, List, [], ◌∷◌, ◌++◌, length, Contains, Some}
 use Rattle.ss_block.specs.declared.spoil.Spoil.{Spoil}
 use Rattle.ss_review.specs.declared.entry.Why.{Why}
 use Rattle.ss_review.specs.declared.report.Report.{Report}
@@ -9,13 +9,13 @@ use Rattle.ss_block.specs.declared.session.Session.{Session}
 use Rattle.ss_review.specs.declared.session_report.SessionState.{SessionState}
 use Rattle.ss_review.specs.Sessions.{of_session}
 use Rattle.ss_review.specs.Verified.{Answers, joined, state_in}
-use Rattle.ss_review.specs.Announced.{Key, rows}
+use Rattle.ss_review.specs.Announced.{Key, rows, keys, is_disputed_key}
 use Rattle.ss_review.specs.Assigned.{assigned}
 use Rattle.ss_review.specs.Report.{report}
-use Rattle.ss_review.specs.Announcing.{IsAnnounced}
+use Rattle.ss_review.specs.Announcing.{IsAnnounced, IsDisputedKey}
 use Rattle.ss_review.specs.States.{IsInState}
 use Rattle.ss_review.specs.Listing.{IsDue}
-use Rattle.ss_review.specs.Meaning.{IsListed, IsGap, IsInOrder, IsReport}
+use Rattle.ss_review.specs.Meaning.{IsListed, IsGap, IsTold, IsInOrder, IsReport}
 use Rattle.ss_review.specs.Witness.{IsWitnessed}
 use Rattle.ss_review.specs.Accounts.{Account, HasAccount}
 
@@ -46,6 +46,19 @@ abbrev pub GapsAreUnassigned : Type 0
 GapsAreUnassigned =
     (says : Answers) (log : List (List ℕ)) (k : Key)
     → ((why : Why) × IsGap (report says log) k why) ↔ (IsAnnounced says (blocks (notes log)) k × ((place : ℕ) → ¬ IsAssigned says (notes log) k place))
+
+-- the keys of a log are the numbers for which a verified block has a hash, and the disputed ones those with two
+abbrev pub KeysAreAnnounced : Type 0
+KeysAreAnnounced =
+    (says : Answers) (log : List (List ℕ)) (k : Key)
+    → (Contains (keys (rows says (blocks (notes log)))) k ↔ IsAnnounced says (blocks (notes log)) k)
+    × ((is_disputed_key (rows says (blocks (notes log))) k ≡ true) ↔ IsDisputedKey says (blocks (notes log)) k)
+
+-- each announced number is listed or a gap, and no other number is
+abbrev pub AnnouncedAreTold : Type 0
+AnnouncedAreTold =
+    (says : Answers) (log : List (List ℕ)) (k : Key)
+    → IsTold (report says log) k ↔ IsAnnounced says (blocks (notes log)) k
 
 -- what a report tells rises
 abbrev pub ReportsAreInOrder : Type 0

@@ -27,3 +27,7 @@ pub mod Stated
 pub mod Covering
 pub mod Keeping
 pub mod Bearing
+pub mod Delivery
+pub mod DeliveryLaws
+pub mod Delivered
+pub mod Whole

@@ -49,6 +49,10 @@ IsListed r k place = Tells r k.session k.group (entry.Listed k.number place)
 abbrev pub IsGap : Report → Key → Why → Type 0
 IsGap r k why = Tells r k.session k.group (entry.Gap k.number why)
 
+-- the number is listed or a gap
+abbrev pub IsTold : Report → Key → Type 0
+IsTold r k = ((place : ℕ) × IsListed r k place) ⊎ ((why : Why) × IsGap r k why)
+
 -- an entry that belongs into a group of a session
 abbrev pub IsEntry : Answers → Contents → Session → Group → Entry → Type 0
 IsEntry says log s g (entry.Listed n place) = assigned log.normal (rows says log.blocks) (record { session = s; group = g; number = n }) ≡ Some place

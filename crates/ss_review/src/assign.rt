@@ -1,45 +1,65 @@
 //! Which stored message is listed under each announced number.
-ghost use Rattle.std.specs.Prelude.{◌≡◌, ◌+◌, ◌<◌, ◌^◌, ◌++◌, ◌∷◌, [], List, Option, length, IfOk, OnOk};
-ghost use Rattle.ss_block.specs.declared.hash.HashPair.{HashPair};
+ghost use Rattle.std.specs.Prelude.{◌≡◌, ℕ, ◌+◌, ◌<◌, ◌^◌, ◌++◌, ◌∷◌, [], List, Option, Some, length, map, slice_get, IfOk, OnOk};
+ghost use Rattle.std.specs.Ordering.{nat_cmp};
+ghost use Rattle.std.specs.List.Sorted.{IsStrictlySortedBy};
+ghost use Rattle.ss_block.specs.declared.hash.Hash.{Hash};
 ghost use Rattle.ss_review.specs.declared.message.NormalMessage.{NormalMessage};
-ghost use Rattle.ss_review.specs.Assigning.{place_after, assigned_all, count_of, Counts};
+ghost use Rattle.ss_review.specs.Assigned.{places_with};
+ghost use Rattle.ss_review.specs.Assigning.{pair_wanted, pairs_wanted, bearer_wanted, bearers_wanted, place_after, assigned_all, count_of, Counts};
 
 use crate::index::Index;
-use ss_block::{Hash, HashPair};
+use crate::message::NormalMessage;
+use ss_block::Hash;
 use ss_message::NoMemory;
 use std::alloc::Global;
 use std::collections::BTreeMap;
 
-/// How often the pair was counted.
-fn count_of(taken: &BTreeMap<HashPair, u64>, pair: &HashPair) -> u64
-    ensures { result ≡ count_of taken.now pair.now }
+/// How often the bearer at this place was counted.
+fn count_of(taken: &BTreeMap<u32, u64>, place: u32) -> u64
+    ensures { result ≡ count_of taken.now place }
 {
-    taken.get(pair).copied().unwrap_or(0)
+    taken.get(&place).copied().unwrap_or(0)
 }
 
-/// The place of the next key, which wants these two hashes, or none. `taken` has how often each pair was wanted before,
-/// which is less often than there are keys, and has it with this key after the call.
+/// Of the places of the messages with the hashes of a bearer, the one with this number, from 0. The bearer is the first
+/// of them, so only a message that stands twice is looked up.
+fn place_at<I: Index>(index: &I, bearer: &NormalMessage, number: u64) -> Option<u32>
+    ensures { (ms : List NormalMessage)
+        → I.has index.now ms
+        → slice_get (places_with ms bearer.now.pair) 0 ≡ Some bearer.now.place
+        → result ≡ slice_get (places_with ms bearer.now.pair) number }
+{
+    if number == 0 {
+        Some(bearer.place)
+    } else {
+        index.place(&bearer.pair, number as usize)
+    }
+}
+
+/// The place of the next key, which wants the hashes of this bearer, or none. `taken` has how often each bearer was
+/// wanted before, which is less often than there are keys, and has it with this key after the call.
 fn next_place<I: Index>(
     index: &I,
-    taken: &mut BTreeMap<HashPair, u64>,
-    wanted: Option<HashPair>,
+    taken: &mut BTreeMap<u32, u64>,
+    bearer: Option<NormalMessage>,
 ) -> Result<Option<u32>, NoMemory>
-    ensures place { (ms : List NormalMessage) (before : List (Option HashPair))
+    ensures place { (ms : List NormalMessage) (before : List (Option Hash)) (hash : Option Hash)
         → I.has index.now ms
-        → Counts taken.old before
-        → IfOk result (λ place. place ≡ place_after ms before wanted) }
-    ensures counts { (ms : List NormalMessage) (before : List (Option HashPair))
-        → I.has index.now ms
+        → IsStrictlySortedBy nat_cmp (map (λ m. m.place) ms)
+        → Counts taken.old (bearers_wanted ms before)
+        → bearer ≡ bearer_wanted ms hash
+        → IfOk result (λ place. place ≡ place_after ms (pairs_wanted ms before) (pair_wanted ms hash)) }
+    ensures counts { (before : List (Option NormalMessage))
         → Counts taken.old before
         → length before + 1 < 2 ^ 64
-        → OnOk result (Counts taken.new (before ++ wanted ∷ [])) }
+        → OnOk result (Counts taken.new (before ++ bearer ∷ [])) }
 {
-    let Some(pair) = wanted else {
+    let Some(bearer) = bearer else {
         return Ok(None);
     };
-    let number = count_of(taken, &pair);
-    taken.insert(pair, number.saturating_add(1))?;
-    Ok(index.place(&pair, number as usize))
+    let number = count_of(taken, bearer.place);
+    taken.insert(bearer.place, number.saturating_add(1))?;
+    Ok(place_at(index, &bearer, number))
 }
 
 /// The places that the announced keys are assigned, in their order, from the hash that each is announced with, or none
@@ -53,11 +73,11 @@ pub(crate) fn assign<I: Index>(
         → I.has index.now ms
         → IfOk result (λ places. places.items ≡ assigned_all ms hashes.now) }
 {
-    let wanted = index.bearers(alloc, hashes)?;
+    let bearers = index.bearers(alloc, hashes)?;
     let mut taken = BTreeMap::new(alloc);
     let mut places = Vec::with_capacity(alloc, hashes.len())?;
-    for pair in wanted.as_slice() {
-        let place = next_place(index, &mut taken, *pair)?;
+    for bearer in bearers.as_slice() {
+        let place = next_place(index, &mut taken, *bearer)?;
         places.push(place)?;
     }
     Ok(places)

@@ -1,5 +1,5 @@
 //! The bearers of announced hashes: for each hash, the first message that has it.
-ghost use Rattle.std.specs.Prelude.{◌≡◌, ℕ, ◌++◌, ◌∷◌, [], List, map, Option, Some, Contains, IfOk, option_map, option_and_then, if◌then◌else◌};
+ghost use Rattle.std.specs.Prelude.{◌≡◌, ℕ, ◌++◌, ◌∷◌, [], List, map, Option, Some, Contains, IfOk, option_and_then, if◌then◌else◌};
 ghost use Rattle.std.specs.List.Sorted.{IsStrictlySortedBy};
 ghost use Rattle.std.specs.Ordering.{is_eq};
 ghost use Rattle.ss_block.specs.declared.hash.Hash.{Hash};
@@ -7,11 +7,11 @@ ghost use Rattle.ss_block.specs.declared.hash.HashPair.{HashPair};
 ghost use Rattle.std.specs.BTreeMap.{IsOrdered};
 ghost use Rattle.ss_block.specs.Order.{hash_cmp, pair_cmp};
 ghost use Rattle.ss_review.specs.declared.message.NormalMessage.{NormalMessage};
-ghost use Rattle.ss_review.specs.Bearing.{earlier, bearer_among, pairs_among};
+ghost use Rattle.ss_review.specs.Bearing.{earlier, bearer_among, bearers_among};
 
+use crate::equal_places::EqualPlaces;
 use crate::message::NormalMessage;
 use crate::ordered::put_in_order;
-use crate::places::Places;
 use crate::pushing::push_some;
 use ss_block::laws::orders::hashes_rise_by_algorithm;
 use ss_block::{Hash, HashPair};
@@ -57,38 +57,33 @@ fn tell_pair(
     announced: &[Hash],
     found: &mut [Option<NormalMessage>],
     pair: &HashPair,
-    places: &[u32],
+    places: &EqualPlaces,
 )
     requires { IsStrictlySortedBy hash_cmp announced.now }
     ensures { (es : List (HashPair × List ℕ))
         → found.old ≡ map (bearer_among es) announced.now
         → found.new ≡ map (bearer_among (es ++ (pair.now, places.now) ∷ [])) announced.now }
 {
-    match places.first() {
-        Some(place) => {
-            let message = NormalMessage {
-                place: *place,
-                pair: *pair,
-            };
-            tell_hash(announced, found, Hash::Sha1(pair.sha1), message);
-            tell_hash(announced, found, Hash::Sha256(pair.sha256), message);
-        }
-        None => {}
-    }
+    let message = NormalMessage {
+        place: places.first(),
+        pair: *pair,
+    };
+    tell_hash(announced, found, Hash::Sha1(pair.sha1), message);
+    tell_hash(announced, found, Hash::Sha256(pair.sha256), message);
 }
 
 /// Of each announced hash the first message that has it, from the places under each two hashes.
 fn all_bearers(
     alloc: Global,
     announced: &[Hash],
-    pairs: &BTreeMap<HashPair, Places>,
+    pairs: &BTreeMap<HashPair, EqualPlaces>,
 ) -> Result<Vec<Option<NormalMessage>>, NoMemory>
     requires { IsStrictlySortedBy hash_cmp announced.now }
     ensures { IfOk result (λ v. v.items ≡ map (bearer_among pairs.now.entries) announced.now) }
 {
     let mut found = nothing_found(alloc, announced)?;
     for (pair, places) in pairs.iter() {
-        tell_pair(announced, found.as_mut_slice(), pair, places.as_slice());
+        tell_pair(announced, found.as_mut_slice(), pair, places);
     }
     Ok(found)
 }
@@ -118,29 +113,19 @@ fn distinct(alloc: Global, hashes: &[Option<Hash>]) -> Result<Vec<Hash>, NoMemor
     Ok(announced)
 }
 
-/// Both hashes of a message that may be there.
-fn pair_in(message: Option<NormalMessage>) -> Option<HashPair>
-    ensures { result ≡ option_map (λ m. m.pair) message }
-{
-    match message {
-        Some(message) => Some(message.pair),
-        None => None,
-    }
-}
-
-/// Both hashes of the message that was found for an announced hash.
-fn bearer(announced: &[Hash], found: &[Option<NormalMessage>], hash: &Hash) -> Option<HashPair>
+/// The message that was found for an announced hash.
+fn bearer(announced: &[Hash], found: &[Option<NormalMessage>], hash: &Hash) -> Option<NormalMessage>
     requires { IsStrictlySortedBy hash_cmp announced.now }
     ensures { (f : Hash → Option NormalMessage)
         → found.now ≡ map f announced.now
         → Contains announced.now hash.now
-        → result ≡ option_map (λ m. m.pair) (f hash.now) }
+        → result ≡ f hash.now }
 {
     hashes_rise_by_algorithm();
     match announced.binary_search(hash) {
         Ok(index) => {
             if index < found.len() {
-                pair_in(found[index])
+                found[index]
             } else {
                 None
             }
@@ -149,17 +134,17 @@ fn bearer(announced: &[Hash], found: &[Option<NormalMessage>], hash: &Hash) -> O
     }
 }
 
-/// Both hashes of the bearer of a hash that may be there.
+/// The bearer of a hash that may be there.
 fn wanted(
     announced: &[Hash],
     found: &[Option<NormalMessage>],
     hash: Option<Hash>,
-) -> Option<HashPair>
+) -> Option<NormalMessage>
     requires { IsStrictlySortedBy hash_cmp announced.now }
     ensures { (f : Hash → Option NormalMessage)
         → found.now ≡ map f announced.now
         → ((h : Hash) → hash ≡ Some h → Contains announced.now h)
-        → result ≡ option_and_then (λ h. option_map (λ m. m.pair) (f h)) hash }
+        → result ≡ option_and_then f hash }
 {
     match hash {
         Some(hash) => bearer(announced, found, &hash),
@@ -167,22 +152,22 @@ fn wanted(
     }
 }
 
-/// For each hash that is there, both hashes of its bearer, from the places under each two hashes, which stand in order.
+/// For each hash that is there, its bearer, from the places under each two hashes, which stand in order.
 pub(crate) fn bearers(
     alloc: Global,
-    pairs: &BTreeMap<HashPair, Places>,
+    pairs: &BTreeMap<HashPair, EqualPlaces>,
     hashes: &[Option<Hash>],
-) -> Result<Vec<Option<HashPair>>, NoMemory>
-    ensures bearers { IfOk result (λ v. v.items ≡ pairs_among pairs.now.entries hashes.now) }
+) -> Result<Vec<Option<NormalMessage>>, NoMemory>
+    ensures bearers { IfOk result (λ v. v.items ≡ bearers_among pairs.now.entries hashes.now) }
     ensures ordered { IsOrdered pair_cmp pairs.now }
 {
     let _count = pairs.len();
     let announced = distinct(alloc, hashes)?;
     let found = all_bearers(alloc, announced.as_slice(), pairs)?;
-    let mut wanted_pairs = Vec::with_capacity(alloc, hashes.len())?;
+    let mut bearers = Vec::with_capacity(alloc, hashes.len())?;
     for hash in hashes {
-        let pair = wanted(announced.as_slice(), found.as_slice(), *hash);
-        wanted_pairs.push(pair)?;
+        let bearer = wanted(announced.as_slice(), found.as_slice(), *hash);
+        bearers.push(bearer)?;
     }
-    Ok(wanted_pairs)
+    Ok(bearers)
 }

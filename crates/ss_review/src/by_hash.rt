@@ -8,10 +8,10 @@ ghost use Rattle.ss_review.specs.declared.message.NormalMessage.{NormalMessage};
 ghost use Rattle.ss_review.specs.Keeping.{KeepsNormal};
 
 use crate::bearers::bearers;
+use crate::equal_places::EqualPlaces;
 use crate::index::Index;
 use crate::message::NormalMessage;
 use crate::pairs::add_place;
-use crate::places::Places;
 use ss_block::{Hash, HashPair};
 use ss_message::NoMemory;
 use std::alloc::Global;
@@ -22,7 +22,7 @@ use std::collections::BTreeMap;
 #[derive(Drop)]
 pub(crate) struct ByHash {
     places: Vec<u32>,
-    pairs: BTreeMap<HashPair, Places>,
+    pairs: BTreeMap<HashPair, EqualPlaces>,
 }
 
 impl ByHash {
@@ -71,13 +71,13 @@ impl Index for ByHash {
         &self,
         alloc: Global,
         hashes: &[Option<Hash>],
-    ) -> Result<Vec<Option<HashPair>>, NoMemory> {
+    ) -> Result<Vec<Option<NormalMessage>>, NoMemory> {
         bearers(alloc, &self.pairs, hashes)
     }
 
     fn place(&self, pair: &HashPair, number: usize) -> Option<u32> {
         match self.pairs.get(pair) {
-            Some(places) => places.as_slice().get(number).copied(),
+            Some(places) => places.get(number),
             None => None,
         }
     }

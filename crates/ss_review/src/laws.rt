@@ -1,3 +1,6 @@
 //! Laws of the definitions that contracts cite. Each is the contract of a function that does nothing.
 
+mod delivered;
+pub mod deliveries;
 pub mod reports;
+mod whole;

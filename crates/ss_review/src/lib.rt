@@ -11,6 +11,7 @@ mod by_hash;
 mod by_number;
 mod entries;
 mod entry;
+mod equal_places;
 mod fault;
 mod group_report;
 mod grouping;

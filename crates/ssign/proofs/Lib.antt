@@ -5,3 +5,7 @@ mod KeptLines
 mod OrderedLines
 mod ReadLines
 mod Commands
+mod Options
+mod Commas
+mod ReadBounds
+mod Heads

@@ -7,8 +7,8 @@ use Rattle.ssign.specs.declared.answers.line.Line.{Line}
 use Rattle.ssign.specs.declared.answers.line.Line.TheVariants as kept
 use Rattle.ssign.specs.declared.answers.line.LineFault.{LineFault}
 use Rattle.ssign.specs.declared.answers.line.LineFault.TheVariants as faults
-use Rattle.ssign.specs.declared.answers.fault.SealFault.{SealFault}
-use Rattle.ssign.specs.declared.answers.fault.SealFault.TheVariants as refusals
+use Rattle.ss_origin.specs.declared.sealer.SealFault.{SealFault}
+use Rattle.ss_origin.specs.declared.sealer.SealFault.TheVariants as refusals
 use Rattle.ssign.specs.declared.answers.place.Place.{Place}
 use Rattle.ssign.specs.declared.answers.lines.Lines.{Lines}
 use Rattle.ssign.specs.AnswerKey.{SortKey, key_cmp, key_of}

@@ -5,16 +5,19 @@ use Rattle.clap.specs.Words.{App, IsAmong, Kinds, Rule, app_of, fault_of, found_
 use Rattle.clap.specs.declared.builder.command.Command.{Command}
 use Rattle.clap.specs.declared.builder.command.Command.TheViews.{out-Command}
 use Rattle.clap.specs.declared.builder.ArgAction.TheVariants.{Set, SetTrue}
-use Rattle.clap.specs.declared.builder.value_parser.ValueParser.TheVariants.{Signed}
 use Rattle.clap.specs.declared.error.kind.ErrorKind.TheVariants.{DisplayHelp, DisplayVersion}
 use Rattle.clap.specs.declared.parser.matches.ArgMatches.{ArgMatches}
 use Rattle.ss_frame.specs.Limits.{Allowance}
 use Rattle.ss_frame.specs.declared.limits.Form.{Form}
 use Rattle.ss_frame.specs.declared.limits.Form.TheVariants.{Frames, Lines}
 use Rattle.ssign.specs.declared.command_line.Order.{Order}
-use Rattle.ssign.specs.declared.command_line.Order.TheVariants.{Log, Explain}
+use Rattle.ssign.specs.declared.command_line.Order.TheVariants.{Log, Sent, Explain}
 use Rattle.ssign.specs.declared.task.Task.{Task}
 use Rattle.ssign.specs.declared.task.Task.TheVariants.{Review, Questions, Extract, Inspect}
+use Rattle.ssign.specs.declared.signing.Signing.{Signing}
+use Rattle.ssign.specs.declared.signing.Signing.TheVariants.{Plan, Sign}
+use Rattle.ssign.specs.SigningOptions.{AreVersions, Kept, number_rule, text_rule, usual_rule, with_signing_options}
+use Rattle.ss_signing.specs.declared.fault.SignFault.{SignFault}
 use Rattle.ss_report.specs.declared.fault.RunFault.{RunFault}
 use Rattle.ss_report.specs.declared.verdict.Verdict.{Verdict}
 use Rattle.ss_report.specs.declared.verdict.Verdict.TheVariants.{Clean, Findings}
@@ -49,26 +52,16 @@ limits_with a b lines = record { max_len = a; max_messages = b; form = form_of l
 -- ---- the commands
 
 abbrev pub answers_rule : Rule
-answers_rule = record (new_rule (codes "answers")) { long = Some (codes "answers"); action = Some Set; value_names = 1 }
+answers_rule = text_rule (codes "answers")
 
 abbrev pub lines_rule : Rule
 lines_rule = record (new_rule (codes "lines")) { long = Some (codes "lines"); action = Some SetTrue }
 
--- an option of a number from 1 to `most`, which is `usual` where it is not given
-abbrev pub number_rule : (name usual : List ℕ) (most : ℕ) → Rule
-number_rule name usual most = record (new_rule name) {
-  long = Some name;
-  action = Some Set;
-  value_names = 1;
-  parser = Some (Signed (pos 1) (pos most));
-  defaults = usual ∷ [];
-}
-
 abbrev pub max_len_rule : Rule
-max_len_rule = number_rule (codes "max-len") (codes "65536") 1048576
+max_len_rule = usual_rule (number_rule (codes "max-len") (pos 1) (pos 1048576)) (codes "65536")
 
 abbrev pub max_messages_rule : Rule
-max_messages_rule = number_rule (codes "max-messages") (codes "10000000") 10000000
+max_messages_rule = usual_rule (number_rule (codes "max-messages") (pos 1) (pos 10000000)) (codes "10000000")
 
 -- what `explain` is asked about
 abbrev pub code_rule : Rule
@@ -90,6 +83,12 @@ extract_app = with_limits (with_rule (new_app (codes "extract")) answers_rule)
 abbrev pub inspect_app : App
 inspect_app = with_limits (new_app (codes "inspect"))
 
+abbrev pub plan_app : Kept → App
+plan_app versions = with_limits (with_signing_options versions (new_app (codes "plan")))
+
+abbrev pub sign_app : Kept → App
+sign_app versions = with_limits (with_signing_options versions (with_rule (new_app (codes "sign")) answers_rule))
+
 abbrev pub explain_app : App
 explain_app = with_rule (new_app (codes "explain")) code_rule
 
@@ -99,10 +98,14 @@ bare_app =
     let a = new_app (codes "ssign") in
     record a { top = record a.top { arg_required_else_help = true; subcommand_required = true; has_version = true } }
 
-abbrev pub ssign_app : App
-ssign_app =
-    let reviewing = with_subcommand (with_subcommand (with_subcommand bare_app review_app.top) questions_app.top) extract_app.top in
-    with_subcommand (with_subcommand reviewing inspect_app.top) explain_app.top
+abbrev pub with_commands : App → List App → App
+with_commands app [] = app
+with_commands app (command ∷ commands) = with_commands (with_subcommand app command.top) commands
+
+-- of the versions of blocks it takes those that are kept
+abbrev pub ssign_app : Kept → App
+ssign_app versions = with_commands bare_app (
+    review_app ∷ questions_app ∷ extract_app ∷ inspect_app ∷ plan_app versions ∷ sign_app versions ∷ explain_app ∷ [])
 
 -- a command is this one, and has no global argument
 pub record IsLocalApp (command : Command) (app : App) : Type 0 where
@@ -117,14 +120,19 @@ task_name Questions = codes "questions"
 task_name Extract = codes "extract"
 task_name Inspect = codes "inspect"
 
+abbrev pub signing_name : Signing → List ℕ
+signing_name Plan = codes "plan"
+signing_name Sign = codes "sign"
+
 abbrev pub name_of : Order → List ℕ
 name_of (Log task) = task_name task
+name_of (Sent signing) = signing_name signing
 name_of Explain = codes "explain"
 
 -- no command has this name
 abbrev pub IsNoCommand : List ℕ → Type 0
 IsNoCommand name = (name ≢ codes "review") × (name ≢ codes "questions") × (name ≢ codes "extract")
-    × (name ≢ codes "inspect") × (name ≢ codes "explain")
+    × (name ≢ codes "inspect") × (name ≢ codes "plan") × (name ≢ codes "sign") × (name ≢ codes "explain")
 
 -- ---- the exit status
 
@@ -134,10 +142,15 @@ IsUsageFault kinds = (kinds ≢ []) × ¬ (IsAmong DisplayHelp kinds) × ¬ (IsA
 
 -- every kind of fault that clap allows these words is a mistake, and none is help that was asked for
 abbrev pub AreMistaken : List (List ℕ) → Type 0
-AreMistaken words = IsUsageFault (fault_of ssign_app words)
+AreMistaken words = (versions : Kept) → AreVersions versions → IsUsageFault (fault_of (ssign_app versions) words)
 
 -- 0 for a clean log, 1 for findings, 2 for a run that gave no verdict
 abbrev pub status_of : Result Verdict RunFault → ℕ
 status_of (Ok Clean) = 0
 status_of (Ok Findings) = 1
 status_of (Err fault) = 2
+
+-- 0 for a plan or a signed log, 2 for none
+abbrev pub signing_status : Result Unit SignFault → ℕ
+signing_status (Ok done) = 0
+signing_status (Err fault) = 2

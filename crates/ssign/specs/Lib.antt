@@ -2,6 +2,10 @@ pub mod Answers
 pub mod AnswerLine
 pub mod AnswerKey
 pub mod AnswerInput
+pub mod SigningOptions
 pub mod CommandLine
+pub mod GroupsText
+pub mod Settings
 pub mod Task
+pub mod Signing
 pub mod Explanation

@@ -14,7 +14,7 @@ mod table;
 #[cfg(test)]
 mod tests;
 
-pub use fault::{AnswerFault, SealFault};
+pub use fault::AnswerFault;
 use input::read_all;
 use lines::read_lines;
 use ss_frame::Watched;

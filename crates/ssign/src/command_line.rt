@@ -4,9 +4,12 @@ ghost use Rattle.std.specs.Option.{SomeIff};
 ghost use Rattle.clap.specs.Words.{App, app_of, first_value, found_of, new_app, rule_of};
 ghost use Rattle.ss_frame.specs.Limits.{InRange};
 ghost use Rattle.ssign.specs.CommandLine.{answers_rule, code_rule, lines_rule, max_len_rule, max_messages_rule};
-ghost use Rattle.ssign.specs.CommandLine.{bare_app, explain_app, extract_app, inspect_app, questions_app, review_app, ssign_app};
+ghost use Rattle.ssign.specs.CommandLine.{bare_app, explain_app, extract_app, inspect_app, plan_app, questions_app, review_app, sign_app, ssign_app};
+ghost use Rattle.ssign.specs.SigningOptions.{AreVersions, Kept};
 ghost use Rattle.ssign.specs.CommandLine.{FlagIs, HasNumber, IsLocalApp, IsNoCommand, limits_with, name_of, text_of, with_limits};
 
+use crate::signing::Signing;
+use crate::signing_options::{versions, with_signing_options};
 use crate::task::Task;
 use clap::{Arg, ArgAction, ArgMatches, Command};
 use ss_frame::Limits;
@@ -18,21 +21,26 @@ const VERSION: &str = "0.1.0";
 /// What a command asks for.
 #[derive(Clone, Copy, Debug, PartialEq, Eq)]
 pub enum Order {
-    /// A run over a log.
+    /// A run over a stored log.
     Log(Task),
+    /// A run over a log that is to be signed.
+    Sent(Signing),
     /// What a code means.
     Explain,
 }
 
 /// The program's commands and their options.
 pub fn command<'a>(alloc: Global) -> Result<Command<'a>, AllocError>
-    ensures { IfOk result (λ c. app_of c ≡ ssign_app) }
+    ensures { IfOk result (λ c. (versions : Kept) × AreVersions versions × (app_of c ≡ ssign_app versions)) }
 {
+    let versions = versions();
     bare(alloc)
         .subcommand(review(alloc)?)?
         .subcommand(questions(alloc)?)?
         .subcommand(extract(alloc)?)?
         .subcommand(inspect(alloc)?)?
+        .subcommand(plan(alloc, versions)?)?
+        .subcommand(sign(alloc, versions)?)?
         .subcommand(explain(alloc)?)
 }
 
@@ -42,7 +50,7 @@ fn bare<'a>(alloc: Global) -> Command<'a>
 {
     Command::new(alloc, "ssign")
         .version(VERSION)
-        .about("Reviews stored logs of signed syslog messages (RFC 5424, RFC 5848)")
+        .about("Reviews logs of signed syslog messages (RFC 5424, RFC 5848), and signs logs")
         .subcommand_required(true)
         .arg_required_else_help(true)
 }
@@ -79,6 +87,24 @@ fn inspect<'a>(alloc: Global) -> Result<Command<'a>, AllocError>
     let about = "Says of each message what it is";
     let usage = "ssign inspect [OPTIONS] < FILE";
     limited(alloc, over_log(alloc, "inspect", about, usage))
+}
+
+fn plan<'a>(alloc: Global, versions: &'a [&'a str]) -> Result<Command<'a>, AllocError>
+    ensures { IfOk result (λ c. IsLocalApp c (plan_app versions.entry)) }
+{
+    let about = "Writes what a signer has to sign for a log, as a line want OCTETS for each block";
+    let usage = "ssign plan --payload TEXT --rsid N [OPTIONS] < FILE";
+    let plan = over_log(alloc, "plan", about, usage);
+    limited(alloc, with_signing_options(alloc, plan, versions)?)
+}
+
+fn sign<'a>(alloc: Global, versions: &'a [&'a str]) -> Result<Command<'a>, AllocError>
+    ensures { IfOk result (λ c. IsLocalApp c (sign_app versions.entry)) }
+{
+    let about = "Writes a log with the blocks that sign it, as octet-counted frames";
+    let usage = "ssign sign --answers FILE --payload TEXT --rsid N [OPTIONS] < FILE";
+    let sign = over_log(alloc, "sign", about, usage).arg(seals(alloc))?;
+    limited(alloc, with_signing_options(alloc, sign, versions)?)
 }
 
 fn explain<'a>(alloc: Global) -> Result<Command<'a>, AllocError>
@@ -131,6 +157,17 @@ fn answers<'a>(alloc: Global) -> Arg<'a>
         .help("The answers of a signature checker; without it nothing is trusted")
 }
 
+fn seals<'a>(alloc: Global) -> Arg<'a>
+    ensures rule { rule_of result ≡ answers_rule }
+    ensures local { result.global ≡ false }
+{
+    Arg::new(alloc, "answers")
+        .long("answers")
+        .value_name("FILE")
+        .action(ArgAction::Set)
+        .help("A file of lines seal OCTETS SIGNATURE; without it nothing is signed")
+}
+
 fn lines<'a>(alloc: Global) -> Arg<'a>
     ensures rule { rule_of result ≡ lines_rule }
     ensures local { result.global ≡ false }
@@ -176,6 +213,8 @@ pub fn order_of(name: &str) -> Option<Order>
         "questions" => Some(Order::Log(Task::Questions)),
         "extract" => Some(Order::Log(Task::Extract)),
         "inspect" => Some(Order::Log(Task::Inspect)),
+        "plan" => Some(Order::Sent(Signing::Plan)),
+        "sign" => Some(Order::Sent(Signing::Sign)),
         "explain" => Some(Order::Explain),
         _ => None,
     }

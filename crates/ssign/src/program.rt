@@ -2,27 +2,30 @@
 ghost use Rattle.std.specs.Prelude.{◌≡◌, ◌≤◌, false, map, None, IfOk};
 ghost use Rattle.std.specs.List.{find};
 ghost use Rattle.ss_frame.specs.Watched.{has_failed};
-ghost use Rattle.ssign.specs.CommandLine.{AreMistaken, status_of};
+ghost use Rattle.ssign.specs.CommandLine.{AreMistaken, signing_status, status_of};
 ghost use Rattle.ssign.specs.Explanation.{has_code};
 
-use crate::answers::open_answers;
+use crate::answers::{Answers, open_answers};
 use crate::command_line::{Order, answers_file, asked_code, command, limits_of, order_of};
 use crate::explain::{explanation_of, write_explanation};
-use crate::explanations::{EXPLANATIONS, Explanation};
+use crate::explanations::{Explanation, explanations};
 use crate::nobody::Nobody;
+use crate::settings::{Settings, settings_of};
+use crate::signing::{Signing, run_signing};
 use crate::task::{Task, run_task};
 use clap::ArgMatches;
 use clap::error::ErrorKind;
 use ss_frame::{Buffered, Limits, Watched};
 use ss_report::{RunFault, Verdict};
 use ss_review::Judge;
+use ss_signing::SignFault;
 use std::alloc::AllocError;
 use std::fmt::Display;
 use std::io::{BufWriter, Printer};
 use std::rt::{Env, Files};
 use std::{env, io};
 
-/// No finding.
+/// No finding, or a log that was planned or signed.
 const CLEAN: u8 = 0;
 /// Findings.
 const FINDINGS: u8 = 1;
@@ -82,6 +85,7 @@ fn run_command<R: Input + Print + Eprint + Files + AllocGlobal>(
     };
     match order_of(name) {
         Some(Order::Log(task)) => run_log(rt, task, options),
+        Some(Order::Sent(signing)) => run_sent(rt, signing, options),
         Some(Order::Explain) => run_explain(rt, options),
         None => REFUSED,
     }
@@ -108,13 +112,43 @@ fn run_log<R: Input + Print + Eprint + Files + AllocGlobal>(
     end(rt, ended)
 }
 
+/// Makes a run that signs over standard input. The texts of the options are looked at first, and then the answers file
+/// is read, before the log.
+fn run_sent<R: Input + Print + Eprint + Files + AllocGlobal>(
+    rt: &R,
+    signing: Signing,
+    options: &ArgMatches<'_>,
+) -> u8
+    ensures { result ≤ 2 }
+{
+    let Some(limits) = limits_of(options) else {
+        return REFUSED;
+    };
+    let settings = match settings_of(rt.alloc(), options) {
+        Some(Ok(settings)) => settings,
+        Some(Err(fault)) => return refuse(rt, &fault),
+        None => return REFUSED,
+    };
+    let answers = match answers_file(options) {
+        None => None,
+        Some(file) => match open_answers(rt, file) {
+            Ok(answers) => Some(answers),
+            Err(fault) => return refuse(rt, &fault),
+        },
+    };
+    end_signing(rt, sign_streams(rt, signing, settings, answers, limits))
+}
+
 /// Explains the code that is asked about.
 fn run_explain<R: Print + Eprint + AllocGlobal>(rt: &R, options: &ArgMatches<'_>) -> u8
     ensures { result ≤ 2 }
 {
-    match asked_code(options) {
-        Some(code) => explain(rt, &EXPLANATIONS, code),
-        None => REFUSED,
+    let Some(code) = asked_code(options) else {
+        return REFUSED;
+    };
+    match explanations(rt.alloc()) {
+        Ok(table) => explain(rt, &table, code),
+        Err(_) => refuse(rt, &RunFault::Memory),
     }
 }
 
@@ -130,6 +164,28 @@ fn run_streams<R: Input + Print + AllocGlobal, J: Judge>(
     let mut reader = standard_input(rt)?;
     let mut writer = standard_output(rt)?;
     run_task(rt.alloc(), &mut reader, &mut writer, task, judge, limits)
+}
+
+/// Makes a run that signs from standard input to standard output.
+fn sign_streams<R: Input + Print + AllocGlobal>(
+    rt: &R,
+    signing: Signing,
+    settings: Settings,
+    answers: Option<Answers>,
+    limits: Limits,
+) -> Result<(), SignFault> {
+    let mut reader = standard_input(rt)?;
+    let mut writer = standard_output(rt)?;
+    let alloc = rt.alloc();
+    run_signing(
+        alloc,
+        &mut reader,
+        &mut writer,
+        signing,
+        settings,
+        answers,
+        limits,
+    )
 }
 
 /// Tells on standard output what a code means, by the entry of a table.
@@ -188,7 +244,18 @@ fn end<R: Eprint>(rt: &R, ended: Result<Verdict, RunFault>) -> u8
     }
 }
 
-/// Says on standard error why there is no verdict.
+/// The exit status of a run that signs and ended so.
+fn end_signing<R: Eprint>(rt: &R, ended: Result<(), SignFault>) -> u8
+    ensures status { result ≡ signing_status ended }
+    ensures most { result ≤ 2 }
+{
+    match ended {
+        Ok(()) => CLEAN,
+        Err(fault) => refuse(rt, &fault),
+    }
+}
+
+/// Says on standard error why there is no output.
 fn refuse<R: Eprint, F: Display>(rt: &R, fault: &F) -> u8
     ensures { result ≡ 2 }
 {

@@ -1,8 +1,10 @@
 //! What holds of the reports of all logs, and of some.
 ghost use Rattle.ss_review.specs.Laws.{
+  AnnouncedAreTold,
   AssignedWhereDue,
   EveryPlaceIsTold,
   GapsAreUnassigned,
+  KeysAreAnnounced,
   ListedAreAssigned,
   ListedAreWitnessed,
   NotesSuffice,
@@ -46,6 +48,19 @@ pub fn listed_are_assigned()
 pub fn gaps_are_unassigned()
     ensures { GapsAreUnassigned }
 {}
+
+/// The keys of a log are the numbers for which a verified block has a hash, and the disputed ones those with two.
+pub fn keys_are_announced()
+    ensures { KeysAreAnnounced }
+{}
+
+/// Each announced number is listed or a gap, and no other number is.
+pub fn announced_are_told()
+    ensures { AnnouncedAreTold }
+{
+    listed_are_assigned();
+    gaps_are_unassigned();
+}
 
 /// What a report tells rises: its sessions, the groups of each, the entries of each group, and its places.
 pub fn reports_are_in_order()

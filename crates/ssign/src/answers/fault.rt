@@ -1,4 +1,4 @@
-//! Why answers weren't read, and why octets weren't given a signature.
+//! Why answers weren't read.
 use thiserror::Error;
 
 /// Why a file of answers wasn't taken.
@@ -18,16 +18,5 @@ pub enum AnswerFault {
     TooBig,
     /// A4: want of memory.
     #[error("A4")]
-    Memory,
-}
-
-/// Why octets weren't given a signature.
-#[derive(Clone, Copy, Debug, Drop, PartialEq, Eq, Error)]
-pub enum SealFault {
-    /// There is none for them.
-    #[error("no signature was given")]
-    Refused,
-    /// Memory ran out.
-    #[error("memory ran out")]
     Memory,
 }

@@ -6,11 +6,11 @@ ghost use Rattle.ssign.specs.Answers.{SaysTheSame};
 ghost use Rattle.ssign.specs.AnswerKey.{sort_key};
 ghost use Rattle.ssign.specs.AnswerLine.{answers_at, has_key, IsInOrder};
 
-use super::fault::SealFault;
 use super::key::Key;
 use super::lines::Lines;
 use super::place::Place;
 use ss_block::Scheme;
+use ss_origin::SealFault;
 use ss_review::Judge;
 use std::alloc::{AllocError, Global};
 use std::marker::Model;

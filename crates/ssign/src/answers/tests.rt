@@ -2,8 +2,9 @@
 ghost use Rattle.std.specs.Prelude.{◌≡◌};
 ghost use Rattle.ssign.specs.Answers.{trusted, valid};
 
-use super::{AnswerFault, Answers, SealFault, read_answers};
+use super::{AnswerFault, Answers, read_answers};
 use ss_frame::Watched;
+use ss_origin::SealFault;
 use ss_review::{Judge, Verifier};
 use std::io;
 use std::io::{ErrorKind, Read};

@@ -1,4 +1,4 @@
-use Rattle.std.proofs.Common.{◌≡◌, length, sym, ◌∙◌, subst}
+use Rattle.std.proofs.Common.{length, sym, ◌∙◌, subst}
 use Rattle.std.specs.List.{All}
 use Rattle.ss_payload.specs.CuttingLaws.{LiesWithin}
 use Rattle.ss_payload.specs.Payload.{payload_text}

@@ -1,7 +1,6 @@
 use Rattle.std.proofs.Common.{◌≡◌, ◌+◌, ◌++◌, length, sym, ap, ◌∙◌, subst, arith}
 use Rattle.std.specs.List.{range_with_len}
 use Rattle.std.proofs.lemmas.List.Elements.{All-get_or}
-use Rattle.ss_origin.specs.Calls.{run_if_any}
 use Rattle.ss_origin.specs.Slots.{fresh, slot_in}
 use Rattle.ss_origin.specs.Originator.{IsGroupState}
 use Rattle.ss_origin.specs.Pending.{runs_pending, blocks_pending, pending_block}

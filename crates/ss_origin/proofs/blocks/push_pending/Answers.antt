@@ -1,4 +1,4 @@
-use Rattle.std.proofs.Common.{◌≡◌, sym, ◌∙◌}
+use Rattle.std.proofs.Common.{sym}
 use Rattle.ss_origin.proofs.PendingRuns.{pending_fits}
 use Rattle.ss_origin.proofs.blocks.push_pending.Goals as goal
 

@@ -1,4 +1,4 @@
-use Rattle.std.proofs.Common.{◌≡◌, sym, ◌∙◌, subst}
+use Rattle.std.proofs.Common.{sym, ◌∙◌, subst}
 use Rattle.ss_block.specs.Writing.{unsigned_signature_text, unsigned_certificate_text}
 use Rattle.ss_origin.specs.declared.unsigned.Unsigned.TheVariants.{Signature, Certificate}
 use Rattle.ss_origin.specs.Setting.{Setting}

@@ -1,10 +1,10 @@
--- The places so far, and those of the rest, are all; and each pair was counted as often as it was wanted so far.
+-- The places so far, and those of the rest, are all; and each bearer was counted as often as it was wanted so far.
 use Rattle.std.proofs.Common.{◌≡◌, ◌++◌, [], List, take, drop}
 use Rattle.ss_review.specs.declared.message.NormalMessage.{NormalMessage}
-use Rattle.ss_review.specs.Assigning.{assigned_after, Counts}
+use Rattle.ss_review.specs.Assigning.{pairs_wanted, bearers_wanted, assigned_after, Counts}
 use Rattle.ss_review.proofs.assign.assign.Given as goal
 
-abbrev pub invariant-loop-pair : goal.invariant-loop-pair
-invariant-loop-pair g l = (ms : List NormalMessage) → g.I.Index.has l.index ms
-    → (l.places.items ++ assigned_after ms (take l.pair-index l.pair-items) (drop l.pair-index l.pair-items) ≡ assigned_after ms [] l.pair-items)
-    × Counts l.taken (take l.pair-index l.pair-items)
+abbrev pub invariant-loop-bearer : goal.invariant-loop-bearer
+invariant-loop-bearer g l = (ms : List NormalMessage) → g.I.Index.has l.index ms
+    → (l.places.items ++ assigned_after ms (pairs_wanted ms (take l.bearer-index l.hashes)) (pairs_wanted ms (drop l.bearer-index l.hashes)) ≡ assigned_after ms [] (pairs_wanted ms l.hashes))
+    × Counts l.taken (bearers_wanted ms (take l.bearer-index l.hashes))

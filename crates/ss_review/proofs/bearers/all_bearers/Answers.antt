@@ -14,9 +14,8 @@ loop-pair-preserved c =
     let hs = c.args.announced.now in
     let told = c.tell_pair.ensures es (c.as_mut_slice.ensures.value ∙ c.loop-pair.invariant) in
     with_items_is c.loop-pair.found c.tell_pair.new.found
-    (omega (arith, ap length told, ap length c.loop-pair.invariant, length-map hs (bearer_among (es ++ (c.in-Some.pair.now, c.as_slice.result.now) ∷ [])), length-map hs (bearer_among es), c.as_mut_slice.ensures.len, ap length c.as_mut_slice.ensures.value))
+    (omega (arith, ap length told, ap length c.loop-pair.invariant, length-map hs (bearer_among (es ++ (c.in-Some.pair.now, c.in-Some.places.now) ∷ [])), length-map hs (bearer_among es), c.as_mut_slice.ensures.len, ap length c.as_mut_slice.ensures.value))
     ∙ told
-    ∙ ap (λ places. map (bearer_among (es ++ (c.in-Some.pair.now, places) ∷ [])) hs) c.as_slice.ensures
     ∙ ap (λ all. map (bearer_among all) hs) (sym (map-append deref_pair c.loop-pair.yielded ((c.in-Some.pair, c.in-Some.places) ∷ [])))
 
 pub returns : goal.returns

@@ -1,7 +1,6 @@
 use Rattle.std.proofs.Common.{get_or, ap, ◌∙◌}
-use Rattle.std.specs.Prelude.{None, option_map}
+use Rattle.std.specs.Prelude.{None}
 use Rattle.ss_block.specs.OrderLaws.{hash_cmp_total, hash_cmp_exact}
-use Rattle.ss_review.specs.declared.message.NormalMessage.{NormalMessage}
 use Rattle.ss_review.proofs.Members.{has_from_contains}
 use Rattle.ss_review.proofs.Searching.{map_at, found_at, not_found}
 use Rattle.ss_review.proofs.bearers.bearer.Goals as goal
@@ -9,11 +8,9 @@ use Rattle.ss_review.proofs.bearers.bearer.Goals as goal
 pub returns-then-index-found : goal.returns-then-index-found
 returns-then-index-found c = λ f told here.
     let hs = c.args.announced.now in
-    c.pair_in.ensures
-    ∙ ap (option_map (λ (m : NormalMessage). m.pair))
-    (ap (λ fs. get_or fs c.in-Ok.index None) told
+    ap (λ fs. get_or fs c.in-Ok.index None) told
     ∙ map_at f hs c.in-Ok.index None c.args.hash.now c.in-Ok.ensures.bound
-    ∙ ap f (found_at hash_cmp_total hash_cmp_exact _ c.hashes_rise_by_algorithm.ensures hs c.args.hash.now c.in-Ok.index c.args.hash.now c.in-Ok.ensures.ok))
+    ∙ ap f (found_at hash_cmp_total hash_cmp_exact _ c.hashes_rise_by_algorithm.ensures hs c.args.hash.now c.in-Ok.index c.args.hash.now c.in-Ok.ensures.ok)
 
 pub returns-in-Err : goal.returns-in-Err
 returns-in-Err c = λ f told here.

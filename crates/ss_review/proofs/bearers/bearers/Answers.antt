@@ -1,8 +1,7 @@
 use Rattle.std.proofs.Common.{◌≡◌, ◌++◌, ◌∷◌, [], get_or, map, sym, ap, ◌∙◌, subst}
-use Rattle.std.specs.Prelude.{None, Some, Contains, option_map, option_and_then}
+use Rattle.std.specs.Prelude.{None, Some, Contains, option_and_then}
 use Rattle.std.proofs.lemmas.List.{map_more}
 use Rattle.ss_block.specs.declared.hash.Hash.{Hash}
-use Rattle.ss_review.specs.declared.message.NormalMessage.{NormalMessage}
 use Rattle.ss_review.specs.Bearing.{bearer_among}
 use Rattle.ss_review.proofs.Members.{Has, contains_from_has}
 use Rattle.ss_review.proofs.Searching.{has_at}
@@ -20,6 +19,6 @@ loop-hash-preserved c =
     subst (λ xs. Contains xs h) (sym c.as_slice-in-loop-hash.ensures.value)
     (c.in_ok-announced.ensures.all h (contains_from_has hs (Some h) (subst (Has hs) e (has_at hs i None c.loop-hash-test.true)))) in
     c.in_ok-push.ensures.items
-    ∙ ap (λ p. c.loop-hash.wanted_pairs.items ++ p ∷ []) (c.wanted-pair.ensures (bearer_among es) found here)
-    ∙ ap (λ ps. ps ++ option_and_then (λ g. option_map (λ (m : NormalMessage). m.pair) (bearer_among es g)) (get_or hs i None) ∷ []) c.loop-hash.invariant
-    ∙ sym (map_more (option_and_then (λ g. option_map (λ (m : NormalMessage). m.pair) (bearer_among es g))) hs i None c.loop-hash-test.true)
+    ∙ ap (λ b. c.loop-hash.bearers.items ++ b ∷ []) (c.wanted-bearer.ensures (bearer_among es) found here)
+    ∙ ap (λ bs. bs ++ option_and_then (bearer_among es) (get_or hs i None) ∷ []) c.loop-hash.invariant
+    ∙ sym (map_more (option_and_then (bearer_among es)) hs i None c.loop-hash-test.true)

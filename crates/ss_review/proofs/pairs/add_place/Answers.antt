@@ -19,19 +19,19 @@ rewritten put m pair d e is update w v same had = put_back m (put e w) pair v (w
 pub returns-in_err-push-in-Occupied-clause-unchanged : goal.returns-in_err-push-in-Occupied-clause-unchanged
 returns-in_err-push-in-Occupied-clause-unchanged c =
     let old = sym c.in_ok-entry.ensures.value ∙ ap entry_value c.in-Occupied.is ∙ c.into_mut.ensures.value in
-    let same = rewritten map_with_value c.args.pairs.now c.args.pair _ _ c.in-Occupied.is c.in_ok-entry.ensures.update.0 c.push.new.places _ c.in_err-push-in-Occupied.ensures old in
+    let same = rewritten map_with_value c.args.pairs.now c.args.pair _ _ c.in-Occupied.is c.in_ok-entry.ensures.update.0 c.push.new.self _ c.in_err-push-in-Occupied.ensures old in
     search (rules, same)
 
 pub returns-in_ok-push-in-Occupied-clause-added : goal.returns-in_ok-push-in-Occupied-clause-added
 returns-in_ok-push-in-Occupied-clause-added c =
     let old = sym c.in_ok-entry.ensures.value ∙ ap entry_value c.in-Occupied.is ∙ c.into_mut.ensures.value in
     let more = c.in_ok-push-in-Occupied.ensures ∙ ap (λ o. places_in o ++ c.args.place ∷ []) (sym old) in
-    let update = written map_with_value c.args.pairs.now c.args.pair _ _ c.in-Occupied.is c.in_ok-entry.ensures.update.0 c.push.new.places _ more in
+    let update = written map_with_value c.args.pairs.now c.args.pair _ _ c.in-Occupied.is c.in_ok-entry.ensures.update.0 c.push.new.self _ more in
     search (rules, update)
 
-pub returns-in_ok-one-in-Vacant-clause-added : goal.returns-in_ok-one-in-Vacant-clause-added
-returns-in_ok-one-in-Vacant-clause-added c =
+pub returns-in-Vacant-clause-added : goal.returns-in-Vacant-clause-added
+returns-in-Vacant-clause-added c =
     let none = subst (λ e. MatchEntry e (ContainsKey pair_cmp c.args.pairs.now c.args.pair × (get_key pair_cmp c.args.pairs.now c.args.pair ≡ Some (entry_key e))) (get pair_cmp c.args.pairs.now c.args.pair ≡ None)) c.in-Vacant.is c.in_ok-entry.ensures.found in
-    let more = c.insert.ensures.value ∙ c.in_ok-one-in-Vacant.ensures ∙ ap (λ o. places_in o ++ c.args.place ∷ []) (sym none) in
+    let more = c.insert.ensures.value ∙ c.new.ensures ∙ ap (λ o. places_in o ++ c.args.place ∷ []) (sym none) in
     let update = written map_with_value c.args.pairs.now c.args.pair _ _ c.in-Vacant.is c.in_ok-entry.ensures.update.0 c.insert.result.now _ more in
     search (rules, update)

@@ -3,34 +3,39 @@ use Rattle.clap.specs.Words.{App, IsAmong, app_of, fault_of, is_simple_and_free,
 use Rattle.clap.specs.declared.error.kind.ErrorKind.{ErrorKind}
 use Rattle.clap.proofs.OnLiterals.{clap_on_literals}
 use Rattle.ssign.specs.CommandLine.{ssign_app}
+use Rattle.ssign.specs.SigningOptions.{Kept}
 use Rattle.ssign.proofs.program.run_words.Goals as goal
 
 -- the program's commands are such as clap tells each fault of
-is_told : is_simple_and_free ssign_app ≡ true
+is_told : (versions : Kept) → is_simple_and_free (ssign_app versions) ≡ true
 unfolding clap_on_literals
-is_told = refl
+is_told versions = refl
 
 pub returns-in-Ok-try_get_matches_from-clause-usage : goal.returns-in-Ok-try_get_matches_from-clause-usage
-returns-in-Ok-try_get_matches_from-clause-usage g c = λ refused.
-    let is : app_of c.in-Ok.command ≡ ssign_app = c.in-Ok.ensures in
-    let no_fault = c.in-Ok-try_get_matches_from.ensures.kinds (ap is_simple_and_free is ∙ is_told) in
+returns-in-Ok-try_get_matches_from-clause-usage g c = λ mistaken.
+    let versions = c.in-Ok.ensures.0 in
+    let refused = mistaken versions c.in-Ok.ensures.1 in
+    let is : app_of c.in-Ok.command ≡ ssign_app versions = c.in-Ok.ensures.2 in
+    let no_fault = c.in-Ok-try_get_matches_from.ensures.kinds (ap is_simple_and_free is ∙ is_told versions) in
     absurd (refused.0 (ap (λ (a : App). fault_of a (map (λ word. word.bytes.items) c.args.words.now)) (sym is) ∙ no_fault))
 
 pub returns-clause-usage : goal.returns-clause-usage
-returns-clause-usage g c = λ refused.
-    let is : app_of c.in-Ok.command ≡ ssign_app = c.in-Ok.ensures in
-    let fails = c.in-Err.ensures.kinds (ap is_simple_and_free is ∙ is_told) in
+returns-clause-usage g c = λ mistaken.
+    let versions = c.in-Ok.ensures.0 in
+    let refused = mistaken versions c.in-Ok.ensures.1 in
+    let is : app_of c.in-Ok.command ≡ ssign_app versions = c.in-Ok.ensures.2 in
+    let fails = c.in-Err.ensures.kinds (ap is_simple_and_free is ∙ is_told versions) in
     let words = map (λ word. word.bytes.items) c.args.words.now in
     elim fails [
       | inl memory ↦
           let is_memory : c.eq.result ≡ true = rw (c.kind.ensures, memory) at c.eq.ensures in
           absurd cc
       | inr among ↦
-          let among_those : IsAmong (kind_of c.in-Err.fault) (fault_of ssign_app words) =
+          let among_those : IsAmong (kind_of c.in-Err.fault) (fault_of (ssign_app versions) words) =
           subst (λ (a : App). IsAmong (kind_of c.in-Err.fault) (fault_of a words)) is among in
           let at_stderr : c.use_stderr.result ≡ true = c.use_stderr.ensures.1 (
-            λ help. refused.1 (subst (λ (k : ErrorKind). IsAmong k (fault_of ssign_app words)) help among_those),
-            λ version. refused.2 (subst (λ (k : ErrorKind). IsAmong k (fault_of ssign_app words)) version among_those),
+            λ help. refused.1 (subst (λ (k : ErrorKind). IsAmong k (fault_of (ssign_app versions) words)) help among_those),
+            λ version. refused.2 (subst (λ (k : ErrorKind). IsAmong k (fault_of (ssign_app versions) words)) version among_those),
           ) in
           absurd cc
     ]

@@ -1,4 +1,4 @@
-use Rattle.std.proofs.Common.{◌≡◌, ℕ, ◌++◌, sym, ap, ◌∙◌}
+use Rattle.std.proofs.Common.{ℕ, ◌++◌, sym, ap, ◌∙◌}
 use Rattle.std.specs.List.{range_with_len}
 use Rattle.ss_origin.specs.Slots.{slot_in, number_if_known, next_numbers}
 use Rattle.ss_origin.proofs.PendingRuns.{flat_more}

@@ -1,0 +1,15 @@
+//! Tests of the runs that plan and sign a log, as tables. It holds nothing else.
+#![tactic(auto)]
+
+#[cfg(test)]
+mod many;
+#[cfg(test)]
+mod rows;
+#[cfg(test)]
+mod run;
+#[cfg(test)]
+mod sealing;
+#[cfg(test)]
+mod stops;
+#[cfg(test)]
+mod texts;

@@ -1,0 +1,39 @@
+//! A log of ten thousand messages, signed and reviewed.
+use crate::run::{Job, run_by};
+use crate::sealing::{Lenient, Seal};
+use ss_frame::{Limits, Watched, put_number};
+use ss_report::{Verdict, run_review};
+use std::alloc::{AllocError, Global};
+use std::test::Fail;
+
+/// A line for each message: a header, and its place as MSG.
+fn log(alloc: Global) -> Result<Vec<u8>, AllocError> {
+    let mut log = Vec::new(alloc);
+    for place in 0..10_000u64 {
+        log.extend_from_slice(b"<13>1 - - - - - - ")?;
+        put_number(&mut log, place)?;
+        log.extend_from_slice(b"\n")?;
+    }
+    Ok(log)
+}
+
+/// Blocks of 99 hashes. The log is signed as lines, and reviewed as the frames that are written.
+#[test]
+fn signs_what_is_reviewed(rt: HostRuntime) -> Result<(), Fail> {
+    let log = log(rt.alloc())?;
+    let mut reader = Watched::new(log.as_slice());
+    let mut writer = Watched::new(Vec::new(rt.alloc()));
+    let lines = Limits::standard().lines();
+    let job = Job::Sign(Seal::Zeros);
+    let said = run_by(rt.alloc(), job, &mut reader, &mut writer, (99, 1), lines);
+    assert_eq!(rt; said, Ok(()));
+    let signed = writer.into_inner();
+    let mut reader = Watched::new(signed.as_slice());
+    let mut writer = Watched::new(Vec::new(rt.alloc()));
+    let frames = Limits::standard();
+    let said = run_review(rt.alloc(), &mut reader, &mut writer, &Lenient, frames);
+    assert_eq!(rt; said, Ok(Verdict::Clean));
+    let report = writer.into_inner();
+    assert!(rt; report.as_slice().ends_with(b"\nend 10103\n"));
+    Ok(())
+}

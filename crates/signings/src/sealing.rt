@@ -1,0 +1,64 @@
+//! A scheme in which everything is valid, and who seals and judges in it.
+ghost use Rattle.std.specs.Prelude.{true};
+
+use ss_block::Scheme;
+use ss_origin::SealFault;
+use ss_review::Judge;
+use std::alloc::Global;
+
+/// Everything is trusted and valid.
+pub struct Lenient;
+
+impl Scheme for Lenient {
+    ghost trusted = { λ _ _. true };
+
+    ghost valid = { λ _ _ _ _. true };
+}
+
+impl Judge for Lenient {
+    ghost sound = { λ _. Unit {0} };
+
+    ghost trusted = { λ _ _. true };
+
+    ghost valid = { λ _ _ _ _. true };
+
+    fn trusts(&self, _payload: &[u8]) -> bool {
+        true
+    }
+
+    fn accepts(&self, _payload: &[u8], _octets: &[u8], _signature: &[u8]) -> bool {
+        true
+    }
+}
+
+/// What a sealer answers.
+#[derive(Clone, Copy, Debug)]
+pub enum Seal {
+    /// Three octets 0.
+    Zeros,
+    /// That octets with this one in them aren't signed.
+    RefusedWith(&'static [u8]),
+    Memory,
+}
+
+/// Whether the octets end so.
+fn ends_so(octets: &[u8], end: &[u8]) -> bool {
+    match octets.len().checked_sub(end.len()) {
+        Some(start) => &octets[start..] == end,
+        None => false,
+    }
+}
+
+/// Answers so.
+pub fn answer(alloc: Global, seal: Seal, octets: &[u8]) -> Result<Vec<u8>, SealFault> {
+    match seal {
+        Seal::Memory => return Err(SealFault::Memory),
+        Seal::RefusedWith(end) if ends_so(octets, end) => return Err(SealFault::Refused),
+        Seal::RefusedWith(_) => {}
+        Seal::Zeros => {}
+    }
+    match Vec::from_slice(alloc, b"\0\0\0") {
+        Ok(signature) => Ok(signature),
+        Err(_) => Err(SealFault::Memory),
+    }
+}

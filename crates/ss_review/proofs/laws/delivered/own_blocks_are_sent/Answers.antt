@@ -1,0 +1,5 @@
+use Rattle.ss_review.proofs.StoredBlocks.{own_blocks_are_sent}
+use Rattle.ss_review.proofs.laws.delivered.own_blocks_are_sent.Goals as goal
+
+pub returns : goal.returns
+returns c = own_blocks_are_sent

@@ -1,0 +1,5 @@
+use Rattle.ss_review.proofs.WholeMessages.{messages_are_stored}
+use Rattle.ss_review.proofs.laws.whole.messages_are_stored.Goals as goal
+
+pub returns : goal.returns
+returns c = messages_are_stored

@@ -1,0 +1,5 @@
+use Rattle.ss_review.proofs.WholeBlocks.{nothing_is_spoilt}
+use Rattle.ss_review.proofs.laws.whole.nothing_is_spoilt.Goals as goal
+
+pub returns : goal.returns
+returns c = nothing_is_spoilt

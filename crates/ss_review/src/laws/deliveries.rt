@@ -1,0 +1,83 @@
+//! What holds between the two ends: of the review of a log that delivers from originators of one session, whatever was
+//! lost, repeated or reordered on the way, and however often the originators were resumed.
+ghost use Rattle.ss_review.specs.DeliveryLaws.{
+  AnnouncedByBlocks,
+  JoinedByFragments,
+  ListedByRank,
+  ListedWhereStored,
+  NothingIsDisputed,
+  WholeDeliveriesAreClean,
+};
+
+use crate::laws::delivered::{
+    entries_are_by_rank, joins_own_payload, keys_have_blocks, ranks_are_below_counts,
+};
+use crate::laws::reports::{
+    announced_are_told, keys_are_announced, listed_are_assigned, one_report,
+};
+use crate::laws::whole::{
+    blocks_are_verified, groups_have_no_hole, messages_are_listed, nothing_is_spoilt,
+    numbers_are_listed, payloads_arrive,
+};
+
+/// No message that was sent is spoilt, and no number of the session is a gap for a dispute.
+pub fn nothing_is_disputed()
+    ensures { NothingIsDisputed }
+{
+    one_report();
+    announced_by_blocks();
+}
+
+/// The session is joined exactly where `begin` was accepted and each fragment of the payload has a copy in the log.
+pub fn joined_by_fragments()
+    ensures { JoinedByFragments }
+{
+    joins_own_payload();
+    one_report();
+}
+
+/// A number is listed or a gap exactly where the session is joined and a block with a hash for it is in the log. It is
+/// then announced with the hash of the message which the originators gave this number, and with no other.
+pub fn announced_by_blocks()
+    ensures { AnnouncedByBlocks }
+{
+    keys_have_blocks();
+    announced_are_told();
+    keys_are_announced();
+}
+
+/// An announced number is listed exactly where its rank, among the announced numbers whose messages have the same hashes,
+/// is below the number of stored messages with these hashes.
+pub fn listed_by_rank()
+    ensures { ListedByRank }
+{
+    entries_are_by_rank();
+    listed_are_assigned();
+    announced_are_told();
+    keys_are_announced();
+}
+
+/// Where no two submitted messages have equal pairs of hashes, an announced number is listed exactly where a message
+/// with its message's pair is stored.
+pub fn listed_where_stored()
+    ensures { ListedWhereStored }
+{
+    listed_by_rank();
+    ranks_are_below_counts();
+    announced_are_told();
+    keys_are_announced();
+}
+
+/// Where everything that was sent is stored, and nothing else, the session is joined and the report is clean.
+pub fn whole_deliveries_are_clean()
+    ensures { WholeDeliveriesAreClean }
+{
+    one_report();
+    joined_by_fragments();
+    payloads_arrive();
+    blocks_are_verified();
+    nothing_is_spoilt();
+    groups_have_no_hole();
+    numbers_are_listed();
+    messages_are_listed();
+}

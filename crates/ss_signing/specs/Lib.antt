@@ -1,0 +1,5 @@
+pub mod Accepted
+pub mod Wants
+pub mod Run
+pub mod Jobs
+pub mod Sending

@@ -1,0 +1,61 @@
+//! Why a log was neither planned nor signed.
+ghost use Rattle.std.specs.Prelude.{◌≡◌};
+ghost use Rattle.ss_signing.specs.declared.fault.SignFault.TheVariants.{Run};
+ghost use Rattle.ss_report.specs.declared.fault.RunFault.TheVariants.{Memory};
+
+use ss_message::NoMemory;
+use ss_origin::OriginFault;
+use ss_report::RunFault;
+use std::error::Error;
+use std::fmt;
+
+/// Why nothing was planned or signed. But for a failed write, nothing was written.
+#[derive(Clone, Copy, Debug, PartialEq, Eq)]
+pub enum SignFault {
+    /// The log couldn't be read to its end (F1 to F5, F9), a write failed (W1), or memory ran out (W2).
+    Run(RunFault),
+    /// P1: the log ends inside a frame or line, whose first octet is at `pos`, counted from 0.
+    TornInput {
+        pos: u64,
+    },
+    /// O1 to O10: the originator wasn't made, or refused a call.
+    Origin {
+        /// Why.
+        fault: OriginFault,
+        /// The place in the log of the message that was refused, counted from 0; none where the originator wasn't
+        /// made, and for its first and its last block messages.
+        place: Option<u32>,
+    },
+}
+
+impl fmt::Display for SignFault {
+    fn fmt<W: fmt::Write>(&self, f: &mut fmt::Formatter<W>) -> fmt::Result {
+        match self {
+            SignFault::Run(fault) => write!(f, "{fault}"),
+            SignFault::TornInput { pos } => write!(f, "P1 {pos}"),
+            SignFault::Origin { fault, place: None } => write!(f, "{fault}"),
+            SignFault::Origin {
+                fault,
+                place: Some(place),
+            } => write!(f, "{fault} {place}"),
+        }
+    }
+}
+
+impl Error for SignFault {}
+
+impl From<NoMemory> for SignFault {
+    ghost from_gives = { λ _ e. e ≡ Run Memory };
+
+    fn from(_e: NoMemory) -> SignFault {
+        SignFault::Run(RunFault::Memory)
+    }
+}
+
+impl From<RunFault> for SignFault {
+    ghost from_gives = { λ f e. e ≡ Run f };
+
+    fn from(fault: RunFault) -> SignFault {
+        SignFault::Run(fault)
+    }
+}

@@ -1,0 +1,12 @@
+use Rattle.std.proofs.Common.{codes}
+use Rattle.clap.specs.Words.{new_app, with_rule}
+use Rattle.ssign.specs.CommandLine.{answers_rule}
+use Rattle.ssign.specs.SigningOptions.{with_signing_options}
+use Rattle.ssign.proofs.Commands.{with_argument}
+use Rattle.ssign.proofs.command_line.sign.Goals as goal
+
+pub returns : goal.returns
+returns c =
+    let bare = with_rule (new_app (codes "sign")) answers_rule in
+    let sign = with_argument c.in_ok-sign.ensures c.over_log.ensures c.seals.ensures.rule c.seals.ensures.local in
+    c.limited.ensures (with_signing_options c.args.versions bare) (c.in_ok-with_signing_options.ensures bare sign)

@@ -1,0 +1,98 @@
+//! The groups of messages, as an option spells them.
+ghost use Rattle.std.specs.Prelude.{◌≡◌, ◌==◌, ◌∷◌, [], ◌<◌, length, position, MatchOption, IfOk, IfSome};
+ghost use Rattle.std.specs.List.{slice_split};
+ghost use Rattle.ss_block.specs.Number.{number_in};
+ghost use Rattle.ss_origin.specs.Groups.{are_bounds};
+ghost use Rattle.ssign.specs.GroupsText.{bounds_in, grouping_in};
+
+use itoa::Buffer;
+use ss_message::NoMemory;
+use ss_origin::{Bounds, Grouping};
+use std::alloc::Global;
+use std::str;
+
+/// The PRI that the text spells in decimal, without a sign or a leading zero: 0 to 191.
+fn pri_of(text: &[u8]) -> Option<u8>
+    ensures { result ≡ number_in 0 191 text.now }
+{
+    let Ok(text) = str::from_utf8(text) else {
+        return None;
+    };
+    let Ok(number) = text.parse::<u8>() else {
+        return None;
+    };
+    let mut buffer = Buffer::new();
+    if number > 191 || buffer.format(number) != text {
+        return None;
+    }
+    Some(number)
+}
+
+/// The place of the first comma.
+fn place_of_comma(text: &[u8]) -> Option<usize>
+    ensures { result ≡ position (λ octet. octet == 44) text.now }
+{
+    text.iter().position(|octet| *octet == b',')
+}
+
+/// What stands before the first comma, and behind it.
+fn split_at_comma(text: &[u8]) -> Option<(&[u8], &[u8])>
+    ensures parts { MatchOption result (slice_split (λ octet. octet == 44) text.now ≡ text.now ∷ [])
+        (λ x. slice_split (λ octet. octet == 44) text.now ≡ x.0.now ∷ slice_split (λ octet. octet == 44) x.1.now) }
+    ensures shorter { IfSome result (λ x. length x.1.now < length text.now) }
+{
+    let Some(place) = place_of_comma(text) else {
+        return None;
+    };
+    Some((&text[..place], &text[place + 1..]))
+}
+
+/// Whether each bound is below the next one, and the last is 191.
+fn are_bounds(bounds: &[u8]) -> bool
+    ensures { result ≡ are_bounds bounds.now }
+{
+    match bounds {
+        [] => false,
+        [last] => *last == 191,
+        [bound, next, ..] => *bound < *next && are_bounds(&bounds[1..]),
+    }
+}
+
+/// The bounds that are joined by commas: the highest PRI of each range. `None` where a piece between commas is no PRI,
+/// one isn't above the one before, or the last isn't 191.
+fn bounds_of(alloc: Global, text: &[u8]) -> Result<Option<Bounds>, NoMemory>
+    ensures { IfOk result (λ o. o ≡ bounds_in text.now) }
+{
+    let mut bounds = Vec::new(alloc);
+    let mut rest = text;
+    while let Some((piece, after)) = split_at_comma(rest) {
+        let Some(bound) = pri_of(piece) else {
+            return Ok(None);
+        };
+        bounds.push(bound)?;
+        rest = after;
+    }
+    let Some(last) = pri_of(rest) else {
+        return Ok(None);
+    };
+    bounds.push(last)?;
+    if are_bounds(&bounds) {
+        Ok(Some(Bounds::from_vec(bounds)))
+    } else {
+        Ok(None)
+    }
+}
+
+/// The groups that the text of `--groups` asks for: `one`, `pri`, or bounds. `None` where it is none of these.
+pub fn grouping_of(alloc: Global, text: &str) -> Result<Option<Grouping>, NoMemory>
+    ensures { IfOk result (λ o. o ≡ grouping_in text.now) }
+{
+    match text {
+        "one" => Ok(Some(Grouping::One { spri: 0 })),
+        "pri" => Ok(Some(Grouping::ByPri)),
+        _ => match bounds_of(alloc, text.as_bytes())? {
+            Some(bounds) => Ok(Some(Grouping::Ranges(bounds))),
+            None => Ok(None),
+        },
+    }
+}

@@ -1,0 +1,224 @@
+//! What the options of a command that signs ask for.
+ghost use Rattle.std.specs.Prelude.{◌≡◌, ◌≤◌, ℕ, Option, Some, IfOk, IfSome, IsSome};
+ghost use Rattle.ss_payload.specs.PayloadReading.{stamp_in};
+ghost use Rattle.ss_message.specs.Draft.{drafted_field};
+ghost use Rattle.ss_message.specs.StampReading.{stamp_of as moment_in};
+ghost use Rattle.ssign.specs.CommandLine.{HasNumber};
+ghost use Rattle.ssign.specs.Settings.{HasChoices, HasNumberIn, HasTexts, IsRead};
+ghost use Rattle.ssign.specs.Settings.{field_in, head_in, settings_in, version_in};
+ghost use Rattle.ssign.specs.declared.settings.Choices.{Choices};
+ghost use Rattle.ssign.specs.declared.settings.Texts.{Texts};
+ghost use Rattle.ssign.specs.declared.settings.SettingsFault.TheVariants.{Memory};
+
+use crate::groups_text::grouping_of;
+use clap::ArgMatches;
+use ss_block::{Alg, Head, Payload};
+use ss_frame::Bytes;
+use ss_message::{Field, NoMemory, Stamp, timestamp_in_range};
+use ss_origin::Config;
+use std::alloc::Global;
+use thiserror::Error;
+
+/// The version and the numbers that the options give.
+#[derive(Clone, Copy, Debug)]
+struct Choices {
+    alg: Alg,
+    rsid: u64,
+    pri: u8,
+    count: u8,
+    frag: u16,
+    copies: u8,
+}
+
+/// The texts that the options give.
+#[derive(Clone, Copy, Debug)]
+struct Texts<'a> {
+    payload: &'a str,
+    stamp: &'a str,
+    host: &'a str,
+    app: &'a str,
+    procid: &'a str,
+    msgid: &'a str,
+    groups: &'a str,
+}
+
+/// How a log is to be signed.
+#[derive(Debug, Drop)]
+pub struct Settings {
+    /// What the originator is to do.
+    pub config: Config,
+    /// What it says of its key.
+    pub payload: Payload,
+    /// TIMESTAMP of all block messages, or none.
+    pub stamp: Option<Stamp>,
+}
+
+/// Why options give no settings.
+#[derive(Clone, Copy, Debug, PartialEq, Eq, Error)]
+pub enum SettingsFault {
+    /// P2: the payload, the stamp, the groups or a field of the header is out of its form.
+    #[error("P2")]
+    OutOfForm,
+    /// W2: memory ran out.
+    #[error("W2")]
+    Memory,
+}
+
+impl From<NoMemory> for SettingsFault {
+    ghost from_gives = { λ _ e. e ≡ Memory };
+
+    fn from(_e: NoMemory) -> SettingsFault {
+        SettingsFault::Memory
+    }
+}
+
+/// The settings that the options give. `None` where an option isn't there or has no number in its range, which a parse
+/// by `command` doesn't let through.
+///
+/// # Errors
+///
+/// `OutOfForm` exactly where a text is none of its form; `Memory`.
+pub fn settings_of(
+    alloc: Global,
+    matches: &ArgMatches<'_>,
+) -> Option<Result<Settings, SettingsFault>>
+    ensures read { IfSome result (IsRead matches.now) }
+    ensures only { (c : Choices) (t : Texts) → HasChoices matches.now c → HasTexts matches.now t → IsSome result }
+{
+    let choices = choices_of(matches)?;
+    let texts = texts_of(matches)?;
+    Some(match settings_from(alloc, choices, &texts) {
+        Ok(Some(settings)) => Ok(settings),
+        Ok(None) => Err(SettingsFault::OutOfForm),
+        Err(_) => Err(SettingsFault::Memory),
+    })
+}
+
+fn choices_of(matches: &ArgMatches<'_>) -> Option<Choices>
+    ensures found { IfSome result (HasChoices matches.now) }
+    ensures only { (c : Choices) → HasChoices matches.now c → IsSome result }
+{
+    Some(Choices {
+        alg: version_of(matches.get_str("ver")?)?,
+        rsid: number_in(matches, "rsid", 0, 9_999_999_999)?,
+        pri: number_in(matches, "pri", 0, 191)? as u8,
+        count: number_in(matches, "count", 1, 99)? as u8,
+        frag: number_in(matches, "frag", 1, 9_999)? as u16,
+        copies: number_in(matches, "copies", 1, 9)? as u8,
+    })
+}
+
+fn texts_of<'a>(matches: &ArgMatches<'a>) -> Option<Texts<'a>>
+    ensures found { IfSome result (HasTexts matches.now) }
+    ensures only { (t : Texts) → HasTexts matches.now t → IsSome result }
+{
+    Some(Texts {
+        payload: matches.get_str("payload")?,
+        stamp: matches.get_str("stamp")?,
+        host: matches.get_str("host")?,
+        app: matches.get_str("app")?,
+        procid: matches.get_str("procid")?,
+        msgid: matches.get_str("msgid")?,
+        groups: matches.get_str("groups")?,
+    })
+}
+
+/// The number of an option, where it is from `least` to `most`.
+fn number_in(matches: &ArgMatches<'_>, option: &str, least: u64, most: u64) -> Option<u64>
+    ensures found { IfSome result (HasNumberIn matches.now option.now least most) }
+    ensures only { (n : ℕ) → HasNumberIn matches.now option.now least most n → result ≡ Some n }
+{
+    let number = matches.get_one::<u64>(option)?;
+    if number < least || number > most {
+        return None;
+    }
+    Some(number)
+}
+
+fn version_of(text: &str) -> Option<Alg>
+    ensures { result ≡ version_in text.now }
+{
+    match text {
+        "0111" => Some(Alg::Sha1),
+        "0121" => Some(Alg::Sha256),
+        _ => None,
+    }
+}
+
+/// The settings that choices and texts say; `None` where a text is out of its form.
+#[tactic(auto, unfolding(crate::specs::Settings::settings_in))]
+fn settings_from(
+    alloc: Global,
+    choices: Choices,
+    texts: &Texts<'_>,
+) -> Result<Option<Settings>, NoMemory>
+    ensures { IfOk result (λ o. o ≡ settings_in choices texts.now) }
+{
+    let Some(payload) = Payload::parse(alloc, texts.payload.as_bytes())? else {
+        return Ok(None);
+    };
+    let Some(stamp) = stamp_of(texts.stamp.as_bytes()) else {
+        return Ok(None);
+    };
+    let Some(grouping) = grouping_of(alloc, texts.groups)? else {
+        return Ok(None);
+    };
+    let Some(head) = head_of(alloc, choices, texts)? else {
+        return Ok(None);
+    };
+    let config = Config {
+        head,
+        alg: choices.alg,
+        rsid: choices.rsid,
+        grouping,
+        per_block: choices.count,
+        copies: choices.copies,
+        frag: choices.frag,
+    };
+    Ok(Some(Settings {
+        config,
+        payload,
+        stamp,
+    }))
+}
+
+fn moment_of(text: &[u8]) -> Option<Stamp>
+    ensures { result ≡ moment_in text.now }
+{
+    let stamp = Stamp::parse(text);
+    timestamp_in_range(&stamp);
+    stamp
+}
+
+/// The stamp that the octets spell, all of them, or none for `-`.
+#[tactic(auto, unfolding(ss_payload::specs::PayloadReading::stamp_in))]
+fn stamp_of(text: &[u8]) -> Option<Option<Stamp>>
+    ensures { result ≡ stamp_in text.now }
+{
+    match text {
+        [b'-'] => Some(None),
+        _ => Some(Some(moment_of(text)?)),
+    }
+}
+
+/// The field that the text spells: absent for `-`.
+fn field_of(alloc: Global, text: &str) -> Result<Field, NoMemory>
+    ensures { IfOk result (λ field. drafted_field field ≡ field_in text.now) }
+{
+    if text == "-" {
+        return Ok(Field::Nil);
+    }
+    let octets = Vec::from_slice(alloc, text.as_bytes())?;
+    Ok(Field::Text(Bytes::from_vec(octets)))
+}
+
+/// PRI and the fields of the header; `None` where a field is out of its form.
+fn head_of(alloc: Global, choices: Choices, texts: &Texts<'_>) -> Result<Option<Head>, NoMemory>
+    ensures { IfOk result (λ o. o ≡ head_in choices texts.now) }
+{
+    let host = field_of(alloc, texts.host)?;
+    let app = field_of(alloc, texts.app)?;
+    let procid = field_of(alloc, texts.procid)?;
+    let msgid = field_of(alloc, texts.msgid)?;
+    Ok(Head::new(choices.pri, host, app, procid, msgid))
+}

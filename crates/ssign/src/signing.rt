@@ -1,0 +1,63 @@
+//! What the program makes of a log that is to be signed.
+ghost use Rattle.std.specs.Prelude.{◌≡◌, ◌≢◌, false, IfOk, IfErr};
+ghost use Rattle.ss_frame.specs.Watched.{has_failed, source_of, sink_of};
+ghost use Rattle.ss_signing.specs.Run.{Signs, Stops};
+ghost use Rattle.ssign.specs.Signing.{signing_job};
+
+use crate::answers::Answers;
+use crate::seals::GivenSeals;
+use crate::settings::Settings;
+use ss_frame::{Limits, Watched};
+use ss_report::RunFault;
+use ss_signing::{SignFault, run_plan, run_sign};
+use std::alloc::Global;
+use std::io::{Read, Write};
+
+/// What is made of a log that is to be signed.
+#[derive(Clone, Copy, Debug, PartialEq, Eq)]
+pub enum Signing {
+    /// Lines that say which octets need a signature.
+    Plan,
+    /// The log with its blocks.
+    Sign,
+}
+
+/// Reads a log of messages to its end, and writes what is made of it, with the signatures of an answers file. A plan
+/// asks for none.
+///
+/// Nothing is written before the whole output is made. `Run` with `RunFault::Write` exactly where a call of the writer
+/// failed; what was written then is a prefix of the output. After any other fault nothing was written: `Run` where the
+/// log can't be read to its end, or for want of memory; `TornInput` where it is torn; `Origin` where the originator
+/// refuses a message or has no signature.
+pub fn run_signing<R: Read, W: Write>(
+    alloc: Global,
+    reader: &mut Watched<R>,
+    writer: &mut Watched<W>,
+    signing: Signing,
+    settings: Settings,
+    answers: Option<Answers>,
+    limits: Limits,
+) -> Result<(), SignFault>
+    requires reader { has_failed reader.old ≡ false }
+    requires writer { has_failed writer.old ≡ false }
+    ensures signed { IfOk result (λ _. Signs (signing_job signing settings answers) limits
+        (source_of R.remaining reader.old) (source_of R.remaining reader.new)
+        (sink_of W.contents writer.old) (sink_of W.contents writer.new)) }
+    ensures stopped { IfErr result (Stops (signing_job signing settings answers) limits
+        (source_of R.remaining reader.old) (source_of R.remaining reader.new)
+        (sink_of W.contents writer.old) (sink_of W.contents writer.new)) }
+    ensures untouched { IfErr result (λ fault. fault ≢ SignFault.Run RunFault.Write → writer.new ≡ writer.old) }
+{
+    let Settings {
+        config,
+        payload,
+        stamp,
+    } = settings;
+    match signing {
+        Signing::Plan => run_plan(alloc, reader, writer, config, payload, stamp, limits),
+        Signing::Sign => {
+            let sealer = GivenSeals::new(answers, payload);
+            run_sign(alloc, reader, writer, config, sealer, stamp, limits)
+        }
+    }
+}
