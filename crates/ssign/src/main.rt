@@ -16,7 +16,7 @@ mod task;
 
 pub use answers::{AnswerFault, Answers, open_answers, read_answers};
 pub use explain::{explanation_of, write_explanation};
-pub use explanations::{Explanation, explanations};
+pub use explanations::{Explanation, FAULTS, REFUSALS, WORDS};
 pub use nobody::Nobody;
 pub use seals::GivenSeals;
 pub use settings::{Settings, SettingsFault};
