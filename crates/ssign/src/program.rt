@@ -5,7 +5,6 @@ ghost use Rattle.ss_frame.specs.Watched.{has_failed};
 ghost use Rattle.ssign.specs.CommandLine.{AreMistaken, signing_status, status_of};
 ghost use Rattle.ssign.specs.Explanation.{has_code};
 
-use crate::answers::{Answers, open_answers};
 use crate::command_line::{Order, answers_file, asked_code, command, limits_of, order_of};
 use crate::explain::{explanation_of, write_explanation};
 use crate::explanations::{Explanation, FAULTS, REFUSALS, WORDS};
@@ -15,6 +14,7 @@ use crate::signing::{Signing, run_signing};
 use crate::task::{Task, run_task};
 use clap::ArgMatches;
 use clap::error::ErrorKind;
+use ss_answers::{Answers, open_answers};
 use ss_frame::{Buffered, Limits, Watched};
 use ss_report::{RunFault, Verdict};
 use ss_review::Judge;
