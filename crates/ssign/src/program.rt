@@ -41,10 +41,12 @@ pub fn run<R: Input + Print + Eprint + Env + Files + AllocGlobal>(rt: &R) -> u8
 {
     match words(rt) {
         Ok(words) => run_words(rt, words.as_slice()),
+        Err(fault) if fault.kind() == io::ErrorKind::InvalidData => refuse_words(rt),
         Err(_) => refuse(rt, &RunFault::Memory),
     }
 }
 
+/// The words that the program was given. `InvalidData` where one isn't UTF-8.
 fn words<R: Env + AllocGlobal>(rt: &R) -> io::Result<Vec<String>> {
     let mut words = Vec::new(rt.alloc());
     for word in env::args(rt)? {
@@ -263,6 +265,16 @@ fn refuse<R: Eprint, F: Display>(rt: &R, fault: &F) -> u8
     ensures { result ≡ 2 }
 {
     let _ = eprintln!(rt; "ssign: {fault}");
+    REFUSED
+}
+
+/// Says on standard error that a word of the command line can't be read.
+fn refuse_words<R: Eprint>(rt: &R) -> u8
+    ensures { result ≡ 2 }
+{
+    let _ = eprintln!(rt;
+        "error: a word of the command line isn't UTF-8\n\nFor more information, try '--help'."
+    );
     REFUSED
 }
 
