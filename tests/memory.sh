@@ -1,37 +1,43 @@
 #!/usr/bin/env bash
-# Each allocation of the scripts of crates/origins is refused in turn: the call that wanted it is made again, and has to
-# send, refuse or count what its row says.
+# Each allocation of a test is refused in turn. Of the scripts of crates/origins the call that wanted it is made again,
+# and has to send, refuse or count what its row says; of the runs of crates/signings the run is made again, once nothing
+# was written, and has to write what it writes with memory.
 # shellcheck source=tests/lib.sh
 . "$(dirname -- "$0")/lib.sh"
 
-program=${ORIGINS_TESTS:-$root/crates/origins/out/origins_tests}
-if [[ ! -x $program ]]; then
-    echo "$name: there is no program $program; ./check leaves it behind"
-    failed=1
-    finish
-fi
-
-# play TEST NUMBER: runs a test with the allocation of this number refused; 0 refuses none.
+# play NUMBER PROGRAM TEST: runs a test of a program with the allocation of this number refused; 0 refuses none.
 play() {
-    REFUSED=$2 LD_PRELOAD=$scratch/refuse.so "$program" "$1"
+    REFUSED=$1 LD_PRELOAD=$scratch/refuse.so "$2" "$3"
 }
 
 fails() {
     ! "$@"
 }
 
-again=scripts::goes_on_after_want_of_memory
-holds 'the scripts pass with memory' "$program" "$again"
+# plays PROGRAM AGAIN OTHER: refuses each allocation of the test AGAIN in turn, and one of the test OTHER, which makes no
+# call again.
+plays() {
+    local program=$1 again=$2 other=$3 count number
+    if [[ ! -x $program ]]; then
+        tell "$again" "    there is no program $program; ./check leaves it behind"
+        return
+    fi
+    holds "$again passes with memory" "$program" "$again"
+    [[ -f $scratch/refuse.so ]] || return
+    count=$(play 0 "$program" "$again" 2>&1 | sed -n 's/^allocations //p')
+    tell "$again takes memory" "$([[ ${count:-0} -gt 0 ]] || echo '    no allocation was counted')"
+    holds "$other makes no call again, and fails" fails play 40 "$program" "$other"
+    for ((number = 1; number <= ${count:-0}; number++)); do
+        holds "$again: allocation $number of $count" play "$number" "$program" "$again"
+    done
+}
+
 if command -v cc >/dev/null; then
     holds 'refuse.c is compiled' cc -shared -fPIC -o "$scratch/refuse.so" "$root/tests/refuse.c" -ldl
-    count=$(play "$again" 0 2>&1 | sed -n 's/^allocations //p')
-    tell 'the scripts take memory' "$([[ ${count:-0} -gt 0 ]] || echo '    no allocation was counted')"
-    holds 'a test that makes no call again fails' fails play scripts::scripts 40
-    for ((number = 1; number <= ${count:-0}; number++)); do
-        holds "allocation $number of $count" play "$again" "$number"
-    done
 else
     echo "$name: no cc here, so no allocation is refused"
 fi
+plays "${ORIGINS_TESTS:-$root/crates/origins/out/origins_tests}" scripts::goes_on_after_want_of_memory scripts::scripts
+plays "${SIGNINGS_TESTS:-$root/crates/signings/out/signings_tests}" stops::wants_memory_or_gives_the_output rows::makes
 
 finish

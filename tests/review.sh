@@ -112,6 +112,13 @@ usage() {
     expect "$what" 2 '' 'SOME TEXT'
 }
 usage 'no command'
+for words in $'review\xff' $'review --answers=/tmp/\xff' $'sign --host=\xff' $'explain \xff'; do
+    # shellcheck disable=SC2086
+    run $words </dev/null
+    expect "a word that isn't UTF-8: ${words%%[!a-z =-]*}" 2 '' "error: a word of the command line isn't UTF-8
+
+For more information, try '--help'."
+done
 usage 'an unknown command' reviews
 usage 'an unknown option' review --max-size 3
 usage 'a word too many' review log

@@ -29,6 +29,24 @@ const REFUSALS: [Refusal; 3] = [
     Refusal::Nothing,
 ];
 
+/// How each fault of a run is printed.
+const PRINTED: [(RunFault, &str); 11] = [
+    (RunFault::Frame(FrameFault::BadLength { pos: 7 }), "F1 7"),
+    (RunFault::Frame(FrameFault::TooLong { pos: 7 }), "F2 7"),
+    (RunFault::Frame(FrameFault::Read), "F3"),
+    (RunFault::Frame(FrameFault::Memory), "F4"),
+    (
+        RunFault::Frame(FrameFault::TooManyMessages { pos: 7 }),
+        "F5 7",
+    ),
+    (RunFault::Frame(FrameFault::Failed), "F6"),
+    (RunFault::Frame(FrameFault::EmptyLine { pos: 7 }), "F9 7"),
+    (RunFault::Review(ReviewFault::Memory), "V1"),
+    (RunFault::Review(ReviewFault::TooManyMessages), "V2"),
+    (RunFault::Write, "W1"),
+    (RunFault::Memory, "W2"),
+];
+
 /// A run that says yes to everything.
 fn run_frames(
     alloc: Global,
@@ -143,8 +161,18 @@ fn stops_at_frames(rt: &(impl Abort + AllocGlobal), job: Job) -> Result<(), Fail
     Ok(())
 }
 
+/// The fault is printed so.
+fn prints(rt: &(impl Abort + AllocGlobal), fault: RunFault, text: &str) -> Result<(), AllocError> {
+    let printed = format!(in rt.alloc(); "{fault}")?;
+    assert_eq!(rt; printed.as_str(), text);
+    Ok(())
+}
+
 #[test]
 fn stops(rt: HostRuntime) -> Result<(), Fail> {
+    for (fault, text) in &PRINTED {
+        prints(&rt, *fault, text)?;
+    }
     let log = log_of(rt.alloc(), &TEXTS, Form::Frames, b"")?;
     for (job, text) in &JOBS {
         stops_at_reads(&rt, *job, &log, ErrorKind::BrokenPipe)?;

@@ -1,6 +1,8 @@
-//! Tests of the runs that plan and sign a log, as tables. It holds nothing else.
+//! Tests of the runs that plan and sign a log, and of answers files, as tables. It holds nothing else.
 #![tactic(auto)]
 
+#[cfg(test)]
+mod answers;
 #[cfg(test)]
 mod many;
 #[cfg(test)]

@@ -7,7 +7,7 @@ use crate::texts::{
 use devices::{Paper, Pieces};
 use ss_frame::Form::{Frames, Lines};
 use ss_frame::{Form, FrameFault, Limits};
-use ss_origin::OriginFault;
+use ss_origin::{OriginFault, SealFault};
 use ss_report::RunFault;
 use ss_signing::SignFault;
 use ss_signing::SignFault::{Origin, Run, TornInput};
@@ -17,11 +17,23 @@ use std::test::Fail;
 
 const SIGN: Job = Job::Sign(Seal::Zeros);
 
+/// How what is signed of the certificate block ends.
+const CERTIFICATE: &[u8] = b"S0VZ\"]";
+
+/// How what is signed of a block of the second message alone ends.
+const SECOND: &[u8] = b"wTX9aOKATkVu7zPIYLz/u/iH3uQ=\"]";
+
 /// The certificate block isn't sealed.
-const NOT_BEGUN: Job = Job::Sign(Seal::RefusedWith(b"S0VZ\"]"));
+const NOT_BEGUN: Job = Job::Sign(Seal::FaultFor(SealFault::Refused, CERTIFICATE));
 
 /// No block of the second message alone is sealed.
-const NOT_FLUSHED: Job = Job::Sign(Seal::RefusedWith(b"wTX9aOKATkVu7zPIYLz/u/iH3uQ=\"]"));
+const NOT_FLUSHED: Job = Job::Sign(Seal::FaultFor(SealFault::Refused, SECOND));
+
+/// There is no memory to seal a block of the second message alone.
+const NO_MEMORY: Job = Job::Sign(Seal::FaultFor(SealFault::Memory, SECOND));
+
+/// The signature of a block of the second message alone has no octet.
+const EMPTY: Job = Job::Sign(Seal::EmptyFor(SECOND));
 
 /// A block for ten messages, sent once.
 const USUAL: Sizes = (10, 1);
@@ -49,7 +61,7 @@ const MADE: [(Job, Form, &[u8], Sizes, &[u8]); 10] = [
 ];
 
 /// What is refused, and how that is printed.
-const REFUSED: [(Job, Form, &[u8], Sizes, SignFault, &str); 20] = [
+const REFUSED: [(Job, Form, &[u8], Sizes, SignFault, &str); 24] = [
     (
         NOT_BEGUN,
         Frames,
@@ -62,7 +74,7 @@ const REFUSED: [(Job, Form, &[u8], Sizes, SignFault, &str); 20] = [
         "O6",
     ),
     (
-        Job::Sign(Seal::Memory),
+        Job::Sign(Seal::FaultFor(SealFault::Memory, CERTIFICATE)),
         Frames,
         b"",
         USUAL,
@@ -233,6 +245,50 @@ const REFUSED: [(Job, Form, &[u8], Sizes, SignFault, &str); 20] = [
             place: None,
         },
         "O6",
+    ),
+    (
+        EMPTY,
+        Lines,
+        LINES,
+        (1, 1),
+        Origin {
+            fault: OriginFault::SignatureLength,
+            place: Some(1),
+        },
+        "O7 1",
+    ),
+    (
+        EMPTY,
+        Lines,
+        b"<14>1 - - - - - - b\n",
+        USUAL,
+        Origin {
+            fault: OriginFault::SignatureLength,
+            place: None,
+        },
+        "O7",
+    ),
+    (
+        NO_MEMORY,
+        Lines,
+        LINES,
+        (1, 1),
+        Origin {
+            fault: OriginFault::Memory,
+            place: Some(1),
+        },
+        "O10 1",
+    ),
+    (
+        NO_MEMORY,
+        Lines,
+        b"<14>1 - - - - - - b\n",
+        USUAL,
+        Origin {
+            fault: OriginFault::Memory,
+            place: None,
+        },
+        "O10",
     ),
 ];
 

@@ -31,14 +31,14 @@ impl Judge for Lenient {
     }
 }
 
-/// What a sealer answers.
+/// What a sealer answers: three octets 0, but where it says otherwise.
 #[derive(Clone, Copy, Debug)]
 pub enum Seal {
-    /// Three octets 0.
     Zeros,
-    /// That octets with this one in them aren't signed.
-    RefusedWith(&'static [u8]),
-    Memory,
+    /// A signature without an octet, for octets with this end.
+    EmptyFor(&'static [u8]),
+    /// A fault, for octets with this end.
+    FaultFor(SealFault, &'static [u8]),
 }
 
 /// Whether the octets end so.
@@ -52,10 +52,9 @@ fn ends_so(octets: &[u8], end: &[u8]) -> bool {
 /// Answers so.
 pub fn answer(alloc: Global, seal: Seal, octets: &[u8]) -> Result<Vec<u8>, SealFault> {
     match seal {
-        Seal::Memory => return Err(SealFault::Memory),
-        Seal::RefusedWith(end) if ends_so(octets, end) => return Err(SealFault::Refused),
-        Seal::RefusedWith(_) => {}
-        Seal::Zeros => {}
+        Seal::EmptyFor(end) if ends_so(octets, end) => return Ok(Vec::new(alloc)),
+        Seal::FaultFor(fault, end) if ends_so(octets, end) => return Err(fault),
+        Seal::Zeros | Seal::EmptyFor(_) | Seal::FaultFor(..) => {}
     }
     match Vec::from_slice(alloc, b"\0\0\0") {
         Ok(signature) => Ok(signature),

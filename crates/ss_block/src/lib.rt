@@ -33,6 +33,7 @@ pub use full_reading::{FullReading, read_fully};
 pub use hash::{Alg, Hash, HashPair, hash_of, pair_of};
 pub use hashes::Hashes;
 pub use head::Head;
+pub use number::number_of;
 pub use reading::{Reading, classify};
 pub use scheme::Scheme;
 pub use session::{Session, classify_with_session, session_of};

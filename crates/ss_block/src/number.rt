@@ -5,7 +5,8 @@ ghost use Rattle.ss_block.specs.Number.{number_in};
 use itoa::Buffer;
 use std::str;
 
-/// The number that `text` spells in decimal, without leading zeros, where it is from `least` to `most`.
+/// The number that `text` spells in decimal, without a sign or a leading zero, where it is from `least` to `most`. So
+/// the values of RSID, SG, SPRI, GBC and their kind are written (RFC 5848, section 4.2).
 pub fn number_of(least: u64, most: u64, text: &[u8]) -> Option<u64>
     ensures { result ≡ number_in least most text.now }
 {

@@ -30,7 +30,7 @@ pub enum OriginFault {
     /// O7: the sealer gave a signature without an octet, or of more than 1,024.
     #[error("O7")]
     SignatureLength,
-    /// O8: the next number of the message's group would be 10,000,000,000.
+    /// O8: the message's number in its group would be 10,000,000,000.
     #[error("O8")]
     NumbersSpent,
     /// O9: a signature block that is due would have the GBC 10,000,000,000.

@@ -21,4 +21,5 @@ pub use counters::{Counters, NextNumber, NextNumbers};
 pub use fault::OriginFault;
 pub use grouping::{Bounds, Grouping};
 pub use originator::{Emitted, Originator};
+pub use ranges::are_bounds;
 pub use sealer::{SealFault, Sealer, Seals};

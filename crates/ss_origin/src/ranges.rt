@@ -12,8 +12,8 @@ use ss_block::Payload;
 use ss_message::NoMemory;
 use std::alloc::Global;
 
-// Whether bounds are strictly rising, and the last is 191.
-fn are_bounds(bounds: &[u8]) -> bool
+/// Whether the bounds of ranges of PRI rise strictly, and the last is 191.
+pub fn are_bounds(bounds: &[u8]) -> bool
     ensures { result ≡ are_bounds bounds.now }
 {
     match bounds {

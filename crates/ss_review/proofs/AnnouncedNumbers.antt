@@ -37,7 +37,7 @@ use Rattle.ss_review.specs.Notes.{notes}
 use Rattle.ss_review.specs.Sessions.{of_session}
 use Rattle.ss_review.specs.Verified.{joined, state_in, is_valid_in, is_verified}
 use Rattle.ss_review.proofs.Announcements.{announced_row, announced_key, has-announced_key, from_has-hashes_for, has-hashes_for, hashes_for-rise, rows-rise, has-rows}
-use Rattle.ss_review.proofs.Members.{Has, has_from_contains, contains_from_has}
+use Rattle.ss_origin.proofs.Members.{Has, has_from_contains, contains_from_has}
 use Rattle.ss_review.proofs.NotesTold.{block_read}
 use Rattle.ss_review.proofs.OneReport.{is_report}
 use Rattle.ss_review.proofs.Rising.{below_all, not_less_itself}

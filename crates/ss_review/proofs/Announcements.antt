@@ -17,7 +17,8 @@ use Rattle.ss_block.specs.Order.{hash_cmp}
 use Rattle.ss_review.specs.Verified.{Answers, is_verified}
 use Rattle.ss_review.specs.Announced.{Key, Row, key_cmp, row_cmp, same_key, rows_said, rows, keys, hashes_for, is_disputed_key}
 use Rattle.ss_review.specs.Announcing.{Announces, IsAnnounced, IsDisputedKey}
-use Rattle.ss_review.proofs.Members.{Has, has_from_contains, contains_from_has, has-map, from_has-map, has-filter, from_has-filter, has-flat_map, from_has-flat_map}
+use Rattle.ss_origin.proofs.Members.{Has, has_from_contains, contains_from_has, has-map}
+use Rattle.ss_review.proofs.Members.{from_has-map, has-filter, from_has-filter, has-flat_map, from_has-flat_map}
 use Rattle.ss_review.proofs.Rising.{below_all, all_below, rises-in_order, has-in_order, from_has-in_order}
 use Rattle.ss_block.specs.OrderLaws.{hash_cmp_total}
 use Rattle.ss_review.proofs.TotalOrders.{key_cmp_total, key_cmp_exact, row_cmp_total, row_cmp_exact}

@@ -10,7 +10,7 @@ use Rattle.ss_review.specs.Assigned.{has_hash, same_pair, is_pair, pair_of_beare
 use Rattle.ss_review.specs.Assigning.{pair_wanted, pairs_wanted, bearer_wanted, bearers_wanted, is_at, place_after}
 use Rattle.ss_review.proofs.Counting.{count_by-cons, same_itself, same_pair-is}
 use Rattle.ss_review.proofs.Finding.{find_some, find_least, finds}
-use Rattle.ss_review.proofs.Members.{Has}
+use Rattle.ss_origin.proofs.Members.{Has}
 
 -- both hashes that a key wants are its bearer's
 pub pair_is : (ms : List NormalMessage) (h : Option Hash) → pair_wanted ms h ≡ option_map (λ m. m.pair) (bearer_wanted ms h)

@@ -27,7 +27,8 @@ use Rattle.ss_review.specs.Keeping.{places_in, KeepsNormal}
 use Rattle.ss_review.proofs.Bounds.{with_itself}
 use Rattle.ss_review.proofs.Counting.{same_pair-is}
 use Rattle.ss_review.proofs.Keyed.{from_less, keys_rise-filter}
-use Rattle.ss_review.proofs.Members.{Has, has_from_contains, contains_from_has, from_has-map, from_has-filter, has-filter_map, from_has-filter_map}
+use Rattle.ss_origin.proofs.Members.{Has, has_from_contains, contains_from_has}
+use Rattle.ss_review.proofs.Members.{from_has-map, from_has-filter, has-filter_map, from_has-filter_map}
 use Rattle.ss_review.proofs.Rising.{below_all}
 use Rattle.ss_review.proofs.Searching.{not_eq, eq_itself}
 use Rattle.ss_review.proofs.Finding.{finds, finds_none}

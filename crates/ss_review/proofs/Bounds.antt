@@ -22,7 +22,8 @@ use Rattle.ss_review.specs.Contents.{normal_at, normals}
 use Rattle.ss_review.specs.Assigned.{same_pair, places_with}
 use Rattle.ss_review.specs.Keeping.{text_at, texts, note_octets, octets_noted, places_in, KeepsNormal, Keeps, octets_kept}
 use Rattle.ss_review.proofs.Counting.{same_pair-is, same_itself}
-use Rattle.ss_review.proofs.Members.{Has, has_from_contains, contains_from_has, has-map, from_has-map, has-filter}
+use Rattle.ss_origin.proofs.Members.{Has, has_from_contains, contains_from_has, has-map}
+use Rattle.ss_review.proofs.Members.{from_has-map, has-filter}
 use Rattle.ss_review.proofs.Rising.{in_order_is}
 
 -- ---- a set has no more members than its list

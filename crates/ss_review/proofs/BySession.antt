@@ -15,7 +15,8 @@ use Rattle.ss_block.specs.OrderLaws.{session_cmp_total, session_cmp_exact}
 use Rattle.ss_review.specs.declared.message.BlockMessage.{BlockMessage}
 use Rattle.ss_review.specs.Sessions.{same_session, sessions, of_session}
 use Rattle.ss_review.specs.Sectioned.{sections, referred, front, SessionsRise, EndsSection}
-use Rattle.ss_review.proofs.Members.{Has, has_from_contains, contains_from_has, from_has-map}
+use Rattle.ss_origin.proofs.Members.{Has, has_from_contains, contains_from_has}
+use Rattle.ss_review.proofs.Members.{from_has-map}
 use Rattle.ss_review.proofs.Rising.{in_order_same, from_has-in_order}
 use Rattle.ss_review.proofs.Sections as sectioned
 use Rattle.ss_review.proofs.Sections.{map_agree}

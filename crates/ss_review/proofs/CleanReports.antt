@@ -26,7 +26,7 @@ use Rattle.ss_review.specs.Announcing.{IsAnnounced}
 use Rattle.ss_review.specs.Meaning.{IsHole, IsEntry, IsUnlisted, IsRefused, IsReport}
 use Rattle.ss_review.proofs.Announcements.{has-announced_key}
 use Rattle.ss_review.proofs.Leftovers.{taken_by}
-use Rattle.ss_review.proofs.Members.{Has, contains_from_has}
+use Rattle.ss_origin.proofs.Members.{Has, contains_from_has}
 use Rattle.ss_review.proofs.Tests.{member_all}
 
 -- ---- parts

@@ -23,7 +23,7 @@ use Rattle.ss_review.specs.Announced.{Key, Row, key_cmp, keys}
 use Rattle.ss_review.specs.Assigned.{same_pair, is_pair, places_with, wanted, rank, place_of, assigned}
 use Rattle.ss_review.specs.Assigning.{pair_wanted, pairs_wanted, is_at, place_after, assigned_after, assigned_all, count_of, Counts}
 use Rattle.ss_review.proofs.Announcements.{keys-rise}
-use Rattle.ss_review.proofs.Members.{has-append_right}
+use Rattle.ss_origin.proofs.Members.{has-append_right}
 use Rattle.ss_review.proofs.Rising.{below_all}
 use Rattle.ss_block.specs.OrderLaws.{pair_cmp_exact, pair_cmp_total}
 use Rattle.ss_review.proofs.TotalOrders.{key_cmp_total}

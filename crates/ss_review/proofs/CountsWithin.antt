@@ -6,7 +6,8 @@ use Rattle.std.specs.declared.cmp.Ordering.TheVariants.{Less}
 use Rattle.std.specs.Cmp.{IsTotalOrder}
 use Rattle.std.specs.List.Sorted.{IsStrictlySortedBy}
 use Rattle.ss_review.proofs.Counting.{count_by-cons}
-use Rattle.ss_review.proofs.Members.{Has, has-append_left, has-append_right, has-append_cases}
+use Rattle.ss_origin.proofs.Members.{Has, has-append_left, has-append_right}
+use Rattle.ss_review.proofs.Members.{has-append_cases}
 use Rattle.ss_review.proofs.Paired.{parted}
 use Rattle.ss_review.proofs.Rising.{below_all, not_less_itself}
 use Rattle.ss_review.proofs.Sums.{count_by-append}

@@ -23,7 +23,8 @@ use Rattle.ss_review.proofs.Announcements.{announced_row, has-rows, keys-rise, f
 use Rattle.ss_review.proofs.Counting.{same_pair-is, same_itself}
 use Rattle.ss_review.proofs.Finding.{find_some, find_least, finds, bearer_of}
 use Rattle.ss_review.proofs.Keyed.{from_less, slice_get-has, has-slice_get}
-use Rattle.ss_review.proofs.Members.{Has, has_from_contains, contains_from_has, has-map, has-filter, from_has-filter}
+use Rattle.ss_origin.proofs.Members.{Has, has_from_contains, contains_from_has, has-map}
+use Rattle.ss_review.proofs.Members.{has-filter, from_has-filter}
 use Rattle.ss_review.proofs.OnePlaceOneKey.{wanted_key, assigned_cases, from_has-places_with, places_with-rise, only_one}
 use Rattle.ss_review.proofs.PlacesRise.{normals_rise}
 use Rattle.ss_review.proofs.Rising.{below_all, same_members}

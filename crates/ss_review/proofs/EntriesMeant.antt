@@ -19,7 +19,8 @@ use Rattle.ss_review.specs.Meaning.{IsHole, Tells, IsEntry}
 use Rattle.ss_review.proofs.Announcements.{announced_key, has-announced_key, disputed_key, has-disputed_key}
 use Rattle.ss_review.proofs.EntriesRise.{not_above_greatest}
 use Rattle.ss_review.proofs.Listings.{given_cases, key_of, listed_assigned, assigned_listed, gap_told, tells_gap}
-use Rattle.ss_review.proofs.Members.{Has, has-append_left, from_has-map, from_has-filter}
+use Rattle.ss_origin.proofs.Members.{Has, has-append_left}
+use Rattle.ss_review.proofs.Members.{from_has-map, from_has-filter}
 use Rattle.ss_review.proofs.Telling.{from_has-group_keys, has-group_keys, told_by, tells}
 
 -- ---- the greatest number below another

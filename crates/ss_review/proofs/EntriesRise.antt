@@ -31,7 +31,8 @@ use Rattle.ss_review.specs.Meaning.{first_number, IsInOrder}
 use Rattle.ss_review.proofs.Announcements.{keys-rise}
 use Rattle.ss_review.proofs.Keyed.{less, from_less, keys_rise-filter}
 use Rattle.ss_review.proofs.Listings.{given_cases, entry_number}
-use Rattle.ss_review.proofs.Members.{Has, has-map, from_has-map, has-filter, has-append_cases, from_has-flat_map}
+use Rattle.ss_origin.proofs.Members.{Has, has-map}
+use Rattle.ss_review.proofs.Members.{from_has-map, has-filter, has-append_cases, from_has-flat_map}
 use Rattle.ss_review.proofs.PlacesRise.{normals_rise, blocks_rise, spoilts_rise}
 use Rattle.ss_review.proofs.Rising.{below_all, all_below, rises-in_order}
 use Rattle.ss_review.proofs.Telling.{given, from_has-group_keys}

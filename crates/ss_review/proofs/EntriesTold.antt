@@ -20,7 +20,7 @@ use Rattle.ss_review.specs.Numbered.{key_of, only_hash, only_hashes}
 use Rattle.ss_review.specs.Grouped.{entry_from, numbered, with_entry, with_entries, entries_after}
 use Rattle.ss_review.proofs.Announcements.{from_has-keys, has-hashes_for}
 use Rattle.ss_review.proofs.Keyed.{from_less}
-use Rattle.ss_review.proofs.Members.{Has, has-map}
+use Rattle.ss_origin.proofs.Members.{Has, has-map}
 use Rattle.ss_review.proofs.Rising.{below_all, all_below}
 use Rattle.ss_review.proofs.Sections.{keeps_none}
 

@@ -10,7 +10,7 @@ use Rattle.ss_block.specs.declared.hash.HashPair.{HashPair}
 use Rattle.ss_review.specs.declared.message.NormalMessage.{NormalMessage}
 use Rattle.ss_review.specs.Assigned.{has_hash, pair_of_bearer}
 use Rattle.ss_review.proofs.Keyed.{from_less}
-use Rattle.ss_review.proofs.Members.{Has, has-map}
+use Rattle.ss_origin.proofs.Members.{Has, has-map}
 use Rattle.ss_review.proofs.Rising.{below_all}
 
 -- ---- the first message that passes a test

@@ -5,7 +5,8 @@ use Rattle.std.specs.List.{flat_map, range_with_len}
 use Rattle.std.proofs.lemmas.Bool.{cases_eq, eqb-true, eq-eqb}
 use Rattle.std.proofs.lemmas.List.Sums.{length-filter}
 use Rattle.ss_review.proofs.EqualCounts.{count_by-all}
-use Rattle.ss_review.proofs.Members.{Has, has-filter, has-append_cases, from_has-map, from_has-flat_map}
+use Rattle.ss_origin.proofs.Members.{Has}
+use Rattle.ss_review.proofs.Members.{has-filter, has-append_cases, from_has-map, from_has-flat_map}
 use Rattle.ss_review.proofs.OnePlaceOneKey.{count_by-fewer}
 use Rattle.ss_review.proofs.Tests.{from_in_range}
 

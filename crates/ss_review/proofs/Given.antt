@@ -6,7 +6,8 @@ use Rattle.ss_origin.specs.declared.config.Config.{Config}
 use Rattle.ss_origin.specs.Calls.{Call, Begin, Submit, Flush, spri_in, if_in, messages_of}
 use Rattle.ss_origin.specs.Chain.{Turn, calls_of, given_to}
 use Rattle.ss_review.specs.Delivery.{submitted_in, submitted_to}
-use Rattle.ss_review.proofs.Members.{Has, has-append_left, has-append_right, has-append_cases}
+use Rattle.ss_origin.proofs.Members.{Has, has-append_left, has-append_right}
+use Rattle.ss_review.proofs.Members.{has-append_cases}
 
 -- what one originator was given
 abbrev pub submitted_by : List Turn → List (List ℕ)

@@ -32,7 +32,8 @@ use Rattle.ss_review.proofs.Announcements.{keys-rise}
 use Rattle.ss_review.proofs.EntriesRise.{numbers_rise}
 use Rattle.ss_review.proofs.EntriesTold.{entries_told}
 use Rattle.ss_review.proofs.Keyed.{keys_rise-filter}
-use Rattle.ss_review.proofs.Members.{has-map, from_has-filter}
+use Rattle.ss_origin.proofs.Members.{has-map}
+use Rattle.ss_review.proofs.Members.{from_has-filter}
 use Rattle.ss_review.proofs.NotTaken.{filter_map_is}
 use Rattle.ss_review.proofs.Rising.{below_all, all_below}
 use Rattle.ss_review.proofs.Sections as sectioned

@@ -19,7 +19,8 @@ use Rattle.ss_review.specs.Laws.{OneReport}
 use Rattle.ss_review.specs.Delivery.{own_session, HasPayload}
 use Rattle.ss_review.specs.DeliveryLaws.{Case, IsCase, says, report_in, IsListedAsJoined, JoinedByFragments}
 use Rattle.ss_review.specs.Delivered.{JoinsOwnPayload}
-use Rattle.ss_review.proofs.Members.{Has, contains_from_has, from_has-filter}
+use Rattle.ss_origin.proofs.Members.{Has, contains_from_has}
+use Rattle.ss_review.proofs.Members.{from_has-filter}
 use Rattle.ss_review.proofs.Verifying.{unstated}
 
 -- a session of which no block is stored states no payload

@@ -8,7 +8,8 @@ use Rattle.std.specs.Cmp.{IsTotalOrder, nat_cmp_is, ranked}
 use Rattle.std.specs.List.{AllByRecursion}
 use Rattle.std.specs.List.Sorted.{IsStrictlySortedBy}
 use Rattle.std.proofs.lemmas.Map.Lookups.{CmpEqualImpliesEq}
-use Rattle.ss_review.proofs.Members.{Has, has-map, from_has-map, from_has-filter}
+use Rattle.ss_origin.proofs.Members.{Has, has-map}
+use Rattle.ss_review.proofs.Members.{from_has-map, from_has-filter}
 use Rattle.ss_review.proofs.Rising.{below_all, all_below, not_less_itself}
 
 -- ---- numbers

@@ -11,7 +11,8 @@ use Rattle.ss_review.specs.Announced.{Key, Row, keys, rows}
 use Rattle.ss_review.specs.Assigned.{is_place, assigned, is_taken}
 use Rattle.ss_review.specs.Report.{unlisted, refused, report_of}
 use Rattle.ss_review.specs.Meaning.{IsUnlisted, IsRefused}
-use Rattle.ss_review.proofs.Members.{Has, has_from_contains, contains_from_has, has-map, from_has-map, has-filter, from_has-filter}
+use Rattle.ss_origin.proofs.Members.{Has, has_from_contains, contains_from_has, has-map}
+use Rattle.ss_review.proofs.Members.{from_has-map, has-filter, from_has-filter}
 use Rattle.ss_review.proofs.OnePlaceOneKey.{assigned_cases, wanted_key}
 use Rattle.ss_review.proofs.Tests.{any_member, member_any}
 

@@ -17,7 +17,8 @@ use Rattle.ss_review.specs.Report.{report_of}
 use Rattle.ss_review.specs.Announcing.{IsAnnounced}
 use Rattle.ss_review.specs.Meaning.{IsListed, IsGap}
 use Rattle.ss_review.proofs.Announcements.{announced_key, has-announced_key}
-use Rattle.ss_review.proofs.Members.{Has, has-append_right, has-append_cases}
+use Rattle.ss_origin.proofs.Members.{Has, has-append_right}
+use Rattle.ss_review.proofs.Members.{has-append_cases}
 use Rattle.ss_review.proofs.OnePlaceOneKey.{assigned_cases, wanted_key}
 use Rattle.ss_review.proofs.Telling.{given, told_by, tells}
 

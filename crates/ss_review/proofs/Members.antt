@@ -1,37 +1,10 @@
--- Membership by recursion on the list, and what maps, filters and joins of lists have.
-use Rattle.std.proofs.Common.{◌≡◌, ℕ, zero, suc, ◌<◌, ◌⊎◌, inl, inr, Bool, true, false, cond, List, [], ◌∷◌, ◌++◌, length, get_or, map, filter, refl, sym, ap, ◌∙◌, subst, arith}
-use Rattle.std.specs.List.{Contains, flat_map, filter_map, cons_option}
+-- What joins, maps and filters of lists have, by membership that recurs on the list.
+use Rattle.std.proofs.Common.{◌≡◌, ◌⊎◌, inl, inr, Bool, true, false, cond, List, [], ◌∷◌, ◌++◌, map, filter, refl, sym, ap, ◌∙◌, subst}
+use Rattle.std.specs.List.{flat_map, filter_map, cons_option}
 use Rattle.std.specs.Prelude.{Option, Some, None}
-
-abbrev pub Has : {X : Type 0} → List X → X → Type 0
-Has [] x = ⊥
-Has (y ∷ ys) x = (y ≡ x) ⊎ Has ys x
-
-at_index : {X : Type 0} (xs : List X) (x : X) (k : ℕ) → k < length xs → get_or xs k x ≡ x → Has xs x
-at_index [] x k below e = absurd (omega arith)
-at_index (y ∷ ys) x zero below e = inl e
-at_index (y ∷ ys) x (suc k) below e = inr (at_index ys x k (omega arith) e)
-
-pub has_from_contains : {X : Type 0} (xs : List X) (x : X) → Contains xs x → Has xs x
-has_from_contains xs x c = at_index xs x c.0 c.1 c.2
-
-pub contains_from_has : {X : Type 0} (xs : List X) (x : X) → Has xs x → Contains xs x
-contains_from_has [] x h = absurd h
-contains_from_has (y ∷ ys) x (inl e) = (0, omega arith, e)
-contains_from_has (y ∷ ys) x (inr h) =
-    let c : Contains ys x = contains_from_has ys x h in
-    (suc c.0, omega (arith, c.1), c.2)
+use Rattle.ss_origin.proofs.Members.{Has, has-append_left, has-append_right}
 
 -- ---- joins
-
-pub has-append_left : {X : Type 0} (xs ys : List X) (x : X) → Has xs x → Has (xs ++ ys) x
-has-append_left [] ys x h = absurd h
-has-append_left (z ∷ xs) ys x (inl e) = inl e
-has-append_left (z ∷ xs) ys x (inr h) = inr (has-append_left xs ys x h)
-
-pub has-append_right : {X : Type 0} (xs ys : List X) (x : X) → Has ys x → Has (xs ++ ys) x
-has-append_right [] ys x h = h
-has-append_right (z ∷ xs) ys x h = inr (has-append_right xs ys x h)
 
 pub has-append_cases : {X : Type 0} (xs ys : List X) (x : X) → Has (xs ++ ys) x → Has xs x ⊎ Has ys x
 has-append_cases [] ys x h = inr h
@@ -39,11 +12,6 @@ has-append_cases (z ∷ xs) ys x (inl e) = inl (inl e)
 has-append_cases (z ∷ xs) ys x (inr h) = elim (has-append_cases xs ys x h) [ inl l ↦ inl (inr l) | inr r ↦ inr r ]
 
 -- ---- maps
-
-pub has-map : {X Y : Type 0} (f : X → Y) (xs : List X) (x : X) → Has xs x → Has (map f xs) (f x)
-has-map f [] x h = absurd h
-has-map f (z ∷ xs) x (inl e) = inl (ap f e)
-has-map f (z ∷ xs) x (inr h) = inr (has-map f xs x h)
 
 -- an element of a map is the image of one
 pub from_has-map : {X Y : Type 0} (f : X → Y) (xs : List X) (y : Y) → Has (map f xs) y → (x : X) × Has xs x × (f x ≡ y)

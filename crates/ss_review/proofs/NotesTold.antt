@@ -14,7 +14,8 @@ use Rattle.ss_review.specs.declared.spoilt.SpoiltPlace.{SpoiltPlace}
 use Rattle.ss_review.specs.Notes.{Note, Normal, Block, Spoilt}
 use Rattle.ss_review.specs.Contents.{said_in, block_with, block_in, normal_at, block_at, spoilt_at, normals, blocks, spoilts}
 use Rattle.ss_review.proofs.Announcements.{numbered_from, has-numbered}
-use Rattle.ss_review.proofs.Members.{Has, has-filter_map, from_has-filter_map}
+use Rattle.ss_origin.proofs.Members.{Has}
+use Rattle.ss_review.proofs.Members.{has-filter_map, from_has-filter_map}
 
 -- ---- messages without a block
 

@@ -12,7 +12,8 @@ use Rattle.ss_review.specs.Delivered.{NumbersHaveBlocks}
 use Rattle.ss_review.specs.declared.message.Said.TheVariants.{Hashes}
 use Rattle.ss_review.specs.Contents.{said_in}
 use Rattle.ss_review.proofs.StoredBlocks.{block_not_normal}
-use Rattle.ss_review.proofs.Members.{Has, has_from_contains, contains_from_has, has-append_right, has-flat_map}
+use Rattle.ss_origin.proofs.Members.{Has, has_from_contains, contains_from_has, has-append_right}
+use Rattle.ss_review.proofs.Members.{has-flat_map}
 
 -- a message that a turn of an originator of a chain sent is one that the chain sent
 pub sent_by_turn : (chain : List (List Turn)) (turns : List Turn) (t : Turn) (m : List ℕ) → Has chain turns → Has turns t → Has t.emitted m → Has (emitted_by chain) m

@@ -16,7 +16,8 @@ use Rattle.ss_review.specs.Assigned.{same_pair, is_pair, places_with, wanted_wit
 use Rattle.ss_review.proofs.Announcements.{has-keys, from_has-hashes_for}
 use Rattle.ss_review.proofs.Counting.{count_by-cons, same_pair-is, same_itself}
 use Rattle.ss_review.proofs.Keyed.{has-slice_get, one_index, one_of_key, keys_rise-filter}
-use Rattle.ss_review.proofs.Members.{Has, from_has-map, from_has-filter}
+use Rattle.ss_origin.proofs.Members.{Has}
+use Rattle.ss_review.proofs.Members.{from_has-map, from_has-filter}
 use Rattle.ss_review.proofs.Rising.{reversed}
 use Rattle.ss_review.proofs.TotalOrders.{key_cmp_total, key_cmp_exact, less_is}
 

@@ -20,7 +20,8 @@ use Rattle.ss_review.specs.Meaning.{IsReport}
 use Rattle.ss_review.proofs.EntriesRise.{all_map, in_order_report}
 use Rattle.ss_review.proofs.EntriesMeant.{entry_told, entry_tells}
 use Rattle.ss_review.proofs.Leftovers.{unlisted_are, refused_are}
-use Rattle.ss_review.proofs.Members.{Has, has_from_contains, contains_from_has, has-map, from_has-map, has-append_right, has-flat_map}
+use Rattle.ss_origin.proofs.Members.{Has, has_from_contains, contains_from_has, has-map, has-append_right}
+use Rattle.ss_review.proofs.Members.{from_has-map, has-flat_map}
 use Rattle.ss_review.proofs.Rising.{all_below, has-in_order, from_has-in_order}
 use Rattle.ss_review.proofs.Telling.{given, from_has-groups, has-group_keys}
 

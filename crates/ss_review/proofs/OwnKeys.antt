@@ -23,7 +23,7 @@ use Rattle.ss_review.proofs.Counting.{same_itself}
 use Rattle.ss_review.proofs.Finding.{find_some, bearer_of}
 use Rattle.ss_review.proofs.Given.{is_given}
 use Rattle.ss_review.proofs.Keyed.{has-slice_get}
-use Rattle.ss_review.proofs.Members.{Has, contains_from_has}
+use Rattle.ss_origin.proofs.Members.{Has, contains_from_has}
 use Rattle.ss_review.proofs.Witnesses.{stored_normal, hash_is}
 
 -- ---- the bearer of a hash

@@ -25,7 +25,8 @@ use Rattle.ss_review.proofs.CountsWithin.{count_within}
 use Rattle.ss_review.proofs.DifferentPairs.{text_has_pair}
 use Rattle.ss_review.proofs.Given.{is_given}
 use Rattle.ss_review.proofs.Keyed.{has-slice_get}
-use Rattle.ss_review.proofs.Members.{Has, has-map, has-flat_map}
+use Rattle.ss_origin.proofs.Members.{Has, has-map}
+use Rattle.ss_review.proofs.Members.{has-flat_map}
 use Rattle.ss_review.proofs.OnePlaceOneKey.{count_by-fewer}
 use Rattle.ss_review.proofs.OwnKeys.{same_session-is, its_hash}
 use Rattle.ss_review.proofs.Sums.{sum_by-same, count_by-same, count_by-flat_map, count_by-numbered}

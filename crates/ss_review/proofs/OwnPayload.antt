@@ -37,7 +37,8 @@ use Rattle.ss_review.specs.Delivery.{own_session, HasPayload}
 use Rattle.ss_review.specs.DeliveryLaws.{Case, IsCase, says}
 use Rattle.ss_review.specs.Delivered.{OwnBlocksAreSent, SentBlocksAreStored, IsSentBlock, JoinsOwnPayload}
 use Rattle.ss_review.proofs.Beginnings.{IsBeginning, one_beginning, Beginning, beginning, certificate_begins, piece_of_message, is_piece, block_of_piece, one_message}
-use Rattle.ss_review.proofs.Members.{Has, has_from_contains, contains_from_has, has-map, has-filter, from_has-filter, has-flat_map, has-filter_map, from_has-filter_map}
+use Rattle.ss_origin.proofs.Members.{Has, has_from_contains, contains_from_has, has-map}
+use Rattle.ss_review.proofs.Members.{has-filter, from_has-filter, has-flat_map, has-filter_map, from_has-filter_map}
 use Rattle.ss_review.proofs.NotesTold.{block_read}
 use Rattle.ss_review.proofs.Paired.{ArePaired}
 use Rattle.ss_review.proofs.PiecesStated.{IsPiece, cut_in, cut_is, undisputed, all_pieces, piece_there, covered, index_covered}

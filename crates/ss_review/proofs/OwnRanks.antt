@@ -20,7 +20,7 @@ use Rattle.ss_review.specs.DeliveryLaws.{Case, IsCase, normals_in, rows_in, mess
 use Rattle.ss_review.specs.Delivered.{KeysHaveBlocks}
 use Rattle.ss_review.proofs.Counting.{same_pair-is}
 use Rattle.ss_review.proofs.Keyed.{has-slice_get}
-use Rattle.ss_review.proofs.Members.{Has, contains_from_has}
+use Rattle.ss_origin.proofs.Members.{Has, contains_from_has}
 use Rattle.ss_review.proofs.OnePlaceOneKey.{assigned_cases, from_has-places_with}
 use Rattle.ss_review.proofs.OwnKeys.{same_session-is, its_hash, wants_own, wants_stored}
 use Rattle.ss_review.proofs.Sums.{count_by-same}

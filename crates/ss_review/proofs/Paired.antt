@@ -3,7 +3,7 @@ use Rattle.std.proofs.Common.{◌≡◌, ◌⊎◌, inl, inr, ℕ, zero, suc, �
 use Rattle.std.specs.Prelude.{Option, Some, None}
 use Rattle.std.specs.List.{AllZip, last_or}
 use Rattle.std.proofs.lemmas.Option.{same_Some}
-use Rattle.ss_review.proofs.Members.{Has}
+use Rattle.ss_origin.proofs.Members.{Has}
 
 -- ---- members
 

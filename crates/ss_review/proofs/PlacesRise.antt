@@ -12,7 +12,8 @@ use Rattle.ss_review.specs.Notes.{Note}
 use Rattle.ss_review.specs.Contents.{normal_at, block_at, spoilt_at, normals, blocks, spoilts}
 use Rattle.ss_review.proofs.Announcements.{numbered_from}
 use Rattle.ss_review.proofs.Keyed.{less}
-use Rattle.ss_review.proofs.Members.{Has, from_has-map, from_has-filter_map}
+use Rattle.ss_origin.proofs.Members.{Has}
+use Rattle.ss_review.proofs.Members.{from_has-map, from_has-filter_map}
 use Rattle.ss_review.proofs.NotesTold.{normal_place, block_place, spoilt_place}
 use Rattle.ss_review.proofs.Rising.{all_below}
 

@@ -32,7 +32,8 @@ use Rattle.ss_review.specs.Laws.{EveryPlaceIsTold}
 use Rattle.ss_review.proofs.Keyed.{has-slice_get, one_of_key}
 use Rattle.ss_review.proofs.Leftovers.{taken_by, takes, unlisted_are, refused_are}
 use Rattle.ss_review.proofs.Listings.{listed_assigned, assigned_listed}
-use Rattle.ss_review.proofs.Members.{Has, has_from_contains, contains_from_has, has-map, from_has-map}
+use Rattle.ss_origin.proofs.Members.{Has, has_from_contains, contains_from_has, has-map}
+use Rattle.ss_review.proofs.Members.{from_has-map}
 use Rattle.ss_review.proofs.NotesTold.{block_place, normal_noted, block_noted, spoilt_noted, has-normal, has-block, has-spoilt}
 use Rattle.ss_review.proofs.OnePlaceOneKey.{assigned_cases, from_has-places_with}
 use Rattle.ss_review.proofs.PlacesRise.{blocks_rise}

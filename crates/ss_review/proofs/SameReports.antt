@@ -17,7 +17,7 @@ use Rattle.ss_review.specs.Sessions.{of_session}
 use Rattle.ss_review.specs.Verified.{Answers, joined, state_in}
 use Rattle.ss_review.specs.Meaning.{Tells, first_number, IsReport}
 use Rattle.ss_review.proofs.Keyed.{one_of_key}
-use Rattle.ss_review.proofs.Members.{Has, has_from_contains, contains_from_has}
+use Rattle.ss_origin.proofs.Members.{Has, has_from_contains, contains_from_has}
 use Rattle.ss_review.proofs.Rising.{below_all, same_members, same_keyed}
 
 some_member : {X : Type 0} (xs : List X) → xs ≢ [] → (x : X) × Has xs x

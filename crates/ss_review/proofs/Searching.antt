@@ -8,7 +8,7 @@ use Rattle.std.specs.List.{HoldsAt}
 use Rattle.std.specs.List.Sorted.{IsStrictlySortedBy, IsNonDecreasingBy, IsPartitionPoint}
 use Rattle.std.proofs.lemmas.Cmp.{tied_itself}
 use Rattle.std.proofs.lemmas.Map.Lookups.{CmpEqualImpliesEq}
-use Rattle.ss_review.proofs.Members.{Has}
+use Rattle.ss_origin.proofs.Members.{Has}
 use Rattle.ss_review.proofs.Sections.{map_agree}
 use Rattle.ss_review.proofs.Rising.{below_all, not_less_itself, reversed}
 

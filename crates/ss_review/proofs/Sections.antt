@@ -12,7 +12,8 @@ use Rattle.std.proofs.lemmas.List.{append-nil}
 use Rattle.std.proofs.lemmas.List.Elements.{filter-append}
 use Rattle.std.proofs.lemmas.Map.Lookups.{CmpEqualImpliesEq}
 use Rattle.ss_review.specs.Ordered.{in_order}
-use Rattle.ss_review.proofs.Members.{Has, has-map, from_has-map, has-append_right, has-append_cases}
+use Rattle.ss_origin.proofs.Members.{Has, has-map, has-append_right}
+use Rattle.ss_review.proofs.Members.{from_has-map, has-append_cases}
 use Rattle.ss_review.proofs.Rising.{below_all, all_below, rises-in_order, has-in_order, from_has-in_order, in_order_is}
 
 -- ---- filters that keep all, or none

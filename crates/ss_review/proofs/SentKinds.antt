@@ -11,7 +11,8 @@ use Rattle.ss_origin.specs.Emission.{sent_first}
 use Rattle.ss_origin.specs.Chain.{Turn, AreChained, emitted_by}
 use Rattle.ss_review.specs.Notes.{Normal, Block, noted, note}
 use Rattle.ss_review.specs.Delivery.{submitted_in, submitted_to, is_begin, HasBegun}
-use Rattle.ss_review.proofs.Members.{Has, has_from_contains, has-append_cases, has-flat_map, from_has-flat_map}
+use Rattle.ss_origin.proofs.Members.{Has, has_from_contains}
+use Rattle.ss_review.proofs.Members.{has-append_cases, has-flat_map, from_has-flat_map}
 use Rattle.ss_review.proofs.SentMessages.{IsTurn, turn_of_chain, sent_by, plain_first, from_has-copies, own_block}
 use Rattle.ss_review.proofs.StoredBlocks.{own_note}
 

@@ -26,7 +26,8 @@ use Rattle.ss_review.specs.declared.message.Said.TheVariants.{Hashes, Fragment}
 use Rattle.ss_review.specs.Contents.{said_in}
 use Rattle.ss_review.specs.Verified.{signature_of}
 use Rattle.ss_review.specs.Delivery.{own_session}
-use Rattle.ss_review.proofs.Members.{Has, has_from_contains, has-append_cases, from_has-map, from_has-flat_map}
+use Rattle.ss_origin.proofs.Members.{Has, has_from_contains}
+use Rattle.ss_review.proofs.Members.{has-append_cases, from_has-map, from_has-flat_map}
 
 -- ---- turns
 

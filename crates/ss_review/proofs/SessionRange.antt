@@ -16,7 +16,7 @@ use Rattle.ss_review.specs.Announced.{Key, key_cmp}
 use Rattle.ss_review.specs.Sessions.{same_session}
 use Rattle.ss_review.specs.Numbered.{key_of}
 use Rattle.ss_review.specs.Grouped.{Rise, numbers_of_session}
-use Rattle.ss_review.proofs.Members.{Has, has_from_contains, has-map}
+use Rattle.ss_origin.proofs.Members.{Has, has_from_contains, has-map}
 use Rattle.ss_review.proofs.Rising.{below_all}
 use Rattle.ss_review.proofs.TotalOrders.{less_is, then_first}
 

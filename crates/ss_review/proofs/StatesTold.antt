@@ -16,7 +16,8 @@ use Rattle.ss_review.specs.declared.session_report.SessionState.TheVariants as s
 use Rattle.ss_review.specs.Payloads.{certificate_of, certificates, octets, is_disputed, has_index, cover, lacks_some, octet_at, joined_text, payload_or_malformed, stated_payload}
 use Rattle.ss_review.specs.Verified.{Answers, signature_of, is_valid, is_accepted, judged, joined, state_in}
 use Rattle.ss_review.specs.States.{stated_by, StatesText, HasValidOctet, IsCovered, IsPayloadBlock, IsInState}
-use Rattle.ss_review.proofs.Members.{Has, has_from_contains, contains_from_has, has-filter, from_has-filter, has-filter_map, from_has-filter_map}
+use Rattle.ss_origin.proofs.Members.{Has, has_from_contains, contains_from_has}
+use Rattle.ss_review.proofs.Members.{has-filter, from_has-filter, has-filter_map, from_has-filter_map}
 use Rattle.ss_review.proofs.Tests.{any_member, member_any, all_member, member_all, in_range, from_in_range}
 use Rattle.ss_review.proofs.Stating.{IsStatedBy, disputed_from, disputed_to, lacks_from_gap, gap_from_lacks, octet_from_index, found, stated_by-IsStatedBy}
 use Rattle.ss_review.proofs.SessionStates.{disputed_payload, incomplete_payload, text_payload}

@@ -23,7 +23,8 @@ use Rattle.ss_review.specs.declared.message.BlockMessage.{BlockMessage}
 use Rattle.ss_review.specs.declared.session_report.SessionState.TheVariants as states
 use Rattle.ss_review.specs.Payloads.{certificate_of, certificates, octets, clash, is_disputed, has_index, cover, lacks_some, octet_found, octet_at, joined_text, payload_or_malformed, stated_payload}
 use Rattle.ss_review.specs.Stated.{stated_after, stated_in_turn, unjoined}
-use Rattle.ss_review.proofs.Members.{Has, has-map, from_has-map, has-flat_map, from_has-flat_map}
+use Rattle.ss_origin.proofs.Members.{Has, has-map}
+use Rattle.ss_review.proofs.Members.{from_has-map, has-flat_map, from_has-flat_map}
 use Rattle.ss_review.proofs.Tests.{any_member, member_any, all_member, not_all, in_range, from_in_range}
 use Rattle.ss_review.specs.States.{stated_by}
 

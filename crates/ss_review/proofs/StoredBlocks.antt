@@ -19,7 +19,7 @@ use Rattle.ss_review.specs.Delivery.{own_session, is_normal, is_spoilt, IsDelive
 use Rattle.ss_review.specs.DeliveryLaws.{Case, IsCase, says}
 use Rattle.ss_review.specs.Delivered.{IsSentBlock, OwnBlocksAreSent, SentBlocksAreStored}
 use Rattle.ss_review.proofs.Keyed.{has-slice_get, slice_get-has}
-use Rattle.ss_review.proofs.Members.{has_from_contains, contains_from_has}
+use Rattle.ss_origin.proofs.Members.{has_from_contains, contains_from_has}
 use Rattle.ss_review.proofs.NotesTold.{IsBlockOf, has-block}
 use Rattle.ss_review.proofs.SentMessages.{IsOwnBlock, sent_as}
 use Rattle.ss_review.proofs.Witnesses.{stored_block}

@@ -16,7 +16,7 @@ use Rattle.ss_review.specs.DeliveryLaws.{Case, normals_in, IsStored}
 use Rattle.ss_review.proofs.Counting.{same_pair-is, same_itself}
 use Rattle.ss_review.proofs.DifferentPairs.{any_place}
 use Rattle.ss_review.proofs.Keyed.{has-slice_get, slice_get-has}
-use Rattle.ss_review.proofs.Members.{has_from_contains, contains_from_has}
+use Rattle.ss_origin.proofs.Members.{has_from_contains, contains_from_has}
 use Rattle.ss_review.proofs.NotesTold.{has-normal}
 use Rattle.ss_review.proofs.Tests.{any_member, member_any}
 use Rattle.ss_review.proofs.Witnesses.{stored_normal}

@@ -21,7 +21,8 @@ use Rattle.ss_review.specs.Sessions.{same_session, sessions, of_session}
 use Rattle.ss_review.specs.Payloads.{is_disputed, stated_payload}
 use Rattle.ss_review.specs.Verified.{Answers, joined, is_valid_in, is_verified}
 use Rattle.ss_review.specs.Numbered.{session_with_joined, sessions_joined}
-use Rattle.ss_review.proofs.Members.{Has, contains_from_has, has_from_contains, has-map, from_has-map}
+use Rattle.ss_origin.proofs.Members.{Has, contains_from_has, has_from_contains, has-map}
+use Rattle.ss_review.proofs.Members.{from_has-map}
 use Rattle.ss_review.proofs.Rising.{all_below, rises-in_order, has-in_order}
 use Rattle.ss_review.proofs.Sections.{keeps_none}
 

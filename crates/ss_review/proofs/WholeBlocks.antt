@@ -17,7 +17,7 @@ use Rattle.ss_review.specs.Delivered.{OwnBlocksAreSent, SentBlocksAreStored, Joi
 use Rattle.ss_review.specs.Whole.{IsWhole, PayloadsArrive, BlocksAreVerified, NothingIsSpoilt}
 use Rattle.ss_review.proofs.AnnouncedNumbers.{verified_by}
 use Rattle.ss_review.proofs.Keyed.{has-slice_get}
-use Rattle.ss_review.proofs.Members.{Has, has_from_contains, contains_from_has}
+use Rattle.ss_origin.proofs.Members.{Has, has_from_contains, contains_from_has}
 use Rattle.ss_review.proofs.NotesTold.{block_read, block_noted, spoilt_noted}
 use Rattle.ss_review.proofs.NumbersCovered.{sent_by_turn}
 use Rattle.ss_review.proofs.SentKinds.{begun_note}

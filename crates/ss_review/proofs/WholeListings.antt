@@ -22,7 +22,8 @@ use Rattle.ss_review.proofs.EqualCounts.{count_by-all}
 use Rattle.ss_review.proofs.FullPlaces.{AreDistinct, distinct-map, distinct-flat_map, distinct-range, all_taken}
 use Rattle.ss_review.proofs.Keyed.{has-slice_get}
 use Rattle.ss_review.proofs.Leftovers.{takes}
-use Rattle.ss_review.proofs.Members.{Has, has_from_contains, has-map, from_has-map, from_has-flat_map}
+use Rattle.ss_origin.proofs.Members.{Has, has_from_contains, has-map}
+use Rattle.ss_review.proofs.Members.{from_has-map, from_has-flat_map}
 use Rattle.ss_review.proofs.NormalCounts.{normal_counts}
 use Rattle.ss_review.proofs.OnePlaceOneKey.{assigned_cases, from_has-places_with, one_key}
 use Rattle.ss_review.proofs.OwnNumbers.{grouping_of}

@@ -16,7 +16,7 @@ use Rattle.ss_review.specs.DeliveryLaws.{Case, normals_in, rows_in, rank_in, Oth
 use Rattle.ss_review.specs.Delivered.{RanksAreBelowCounts, KeysHaveBlocks, EntriesAreByRank}
 use Rattle.ss_review.specs.Whole.{IsWhole, BlocksAreVerified, MessagesAreStored, NumbersAreListed}
 use Rattle.ss_review.proofs.EqualCounts.{same_counts}
-use Rattle.ss_review.proofs.Members.{Has, has_from_contains, contains_from_has}
+use Rattle.ss_origin.proofs.Members.{Has, has_from_contains, contains_from_has}
 use Rattle.ss_review.proofs.Rising.{not_less_itself}
 use Rattle.ss_review.proofs.NormalCounts.{normal_counts, length-places_with}
 use Rattle.ss_review.proofs.SentKinds.{sent_kinds, submitted_note}

@@ -15,7 +15,7 @@ use Rattle.ss_review.specs.Whole.{IsWhole, PayloadsArrive, BlocksAreVerified, Nu
 use Rattle.ss_review.proofs.Announcements.{announced_key, has-announced_key}
 use Rattle.ss_review.proofs.Given.{is_given}
 use Rattle.ss_review.proofs.Keyed.{has-slice_get}
-use Rattle.ss_review.proofs.Members.{Has, has_from_contains, contains_from_has}
+use Rattle.ss_origin.proofs.Members.{Has, has_from_contains, contains_from_has}
 use Rattle.ss_review.proofs.OwnNumbers.{grouping_of}
 
 pub numbers_are_announced : PayloadsArrive → JoinedByFragments → KeysHaveBlocks → NumbersHaveBlocks → NumbersAreAnnounced

@@ -34,7 +34,7 @@ use Rattle.ss_review.specs.Announcing.{Announces}
 use Rattle.ss_review.specs.Witness.{IsWitnessed}
 use Rattle.ss_review.proofs.Announcements.{announced_row, from_has-hashes_for}
 use Rattle.ss_review.proofs.Keyed.{has-slice_get}
-use Rattle.ss_review.proofs.Members.{Has, has_from_contains}
+use Rattle.ss_origin.proofs.Members.{Has, has_from_contains}
 use Rattle.ss_review.proofs.NotesTold.{IsBlockOf, normal_noted, block_noted}
 use Rattle.ss_review.proofs.OnePlaceOneKey.{assigned_cases, from_has-places_with, only_one}
 use Rattle.ss_review.proofs.Tests.{all_member}

@@ -1,9 +1,3 @@
-mod Base64Text
-mod AnswerLaws
-mod AnswerLines
-mod KeptLines
-mod OrderedLines
-mod ReadLines
 mod Commands
 mod Options
 mod Commas

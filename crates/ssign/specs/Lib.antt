@@ -1,7 +1,3 @@
-pub mod Answers
-pub mod AnswerLine
-pub mod AnswerKey
-pub mod AnswerInput
 pub mod SigningOptions
 pub mod CommandLine
 pub mod GroupsText

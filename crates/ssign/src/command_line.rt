@@ -17,6 +17,10 @@ use std::alloc::{AllocError, Global};
 
 /// The version of the program.
 const VERSION: &str = "0.1.0";
+/// How an answers file helps a review.
+const CHECKED: &str = "The answers of a signature checker; without it nothing is trusted";
+/// How an answers file helps to sign.
+const SEALED: &str = "A file of lines seal OCTETS SIGNATURE; without it nothing is signed";
 
 /// What a command asks for.
 #[derive(Clone, Copy, Debug, PartialEq, Eq)]
@@ -61,7 +65,7 @@ fn review<'a>(alloc: Global) -> Result<Command<'a>, AllocError>
     let about = "Reviews the log on standard input, and writes the report to standard output";
     let usage = "ssign review [OPTIONS] < FILE";
     let review = over_log(alloc, "review", about, usage);
-    limited(alloc, review.arg(answers(alloc))?)
+    limited(alloc, review.arg(answers(alloc, CHECKED))?)
 }
 
 fn questions<'a>(alloc: Global) -> Result<Command<'a>, AllocError>
@@ -78,7 +82,7 @@ fn extract<'a>(alloc: Global) -> Result<Command<'a>, AllocError>
     let about = "Writes the messages that a review lists, as octet-counted frames";
     let usage = "ssign extract [OPTIONS] < FILE";
     let extract = over_log(alloc, "extract", about, usage);
-    limited(alloc, extract.arg(answers(alloc))?)
+    limited(alloc, extract.arg(answers(alloc, CHECKED))?)
 }
 
 fn inspect<'a>(alloc: Global) -> Result<Command<'a>, AllocError>
@@ -103,7 +107,7 @@ fn sign<'a>(alloc: Global, versions: &'a [&'a str]) -> Result<Command<'a>, Alloc
 {
     let about = "Writes a log with the blocks that sign it, as octet-counted frames";
     let usage = "ssign sign --answers FILE --payload TEXT --rsid N [OPTIONS] < FILE";
-    let sign = over_log(alloc, "sign", about, usage).arg(seals(alloc))?;
+    let sign = over_log(alloc, "sign", about, usage).arg(answers(alloc, SEALED))?;
     limited(alloc, with_signing_options(alloc, sign, versions)?)
 }
 
@@ -146,7 +150,8 @@ fn code<'a>(alloc: Global) -> Arg<'a>
         )
 }
 
-fn answers<'a>(alloc: Global) -> Arg<'a>
+/// The option of an answers file.
+fn answers<'a>(alloc: Global, help: &'a str) -> Arg<'a>
     ensures rule { rule_of result ≡ answers_rule }
     ensures local { result.global ≡ false }
 {
@@ -154,18 +159,7 @@ fn answers<'a>(alloc: Global) -> Arg<'a>
         .long("answers")
         .value_name("FILE")
         .action(ArgAction::Set)
-        .help("The answers of a signature checker; without it nothing is trusted")
-}
-
-fn seals<'a>(alloc: Global) -> Arg<'a>
-    ensures rule { rule_of result ≡ answers_rule }
-    ensures local { result.global ≡ false }
-{
-    Arg::new(alloc, "answers")
-        .long("answers")
-        .value_name("FILE")
-        .action(ArgAction::Set)
-        .help("A file of lines seal OCTETS SIGNATURE; without it nothing is signed")
+        .help(help)
 }
 
 fn lines<'a>(alloc: Global) -> Arg<'a>

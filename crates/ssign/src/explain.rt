@@ -1,5 +1,5 @@
 //! Telling what a code means.
-ghost use Rattle.std.specs.Prelude.{◌≡◌, ◌≢◌, false, IfOk, IfErr};
+ghost use Rattle.std.specs.Prelude.{◌≡◌, ◌≢◌, ◌++◌, false, IfOk, IfErr};
 ghost use Rattle.std.specs.List.{find};
 ghost use Rattle.std.specs.Option.{option_copied};
 ghost use Rattle.ss_frame.specs.Output.{WritesWhole, WritesPrefix};
@@ -12,11 +12,21 @@ use ss_report::{RunFault, write_whole};
 use std::alloc::Global;
 use std::io::Write;
 
-/// The first entry of a table with this code, letter by letter. `None` exactly where no entry has it.
-pub fn explanation_of<'t>(table: &'t [Explanation], code: &str) -> Option<&'t Explanation>
-    ensures { option_copied result ≡ find (has_code code.now) table.now }
+/// The first entry of three tables, one behind the other, with this code, letter by letter. `None` exactly where no
+/// entry has it.
+pub fn explanation_of<'t>(
+    first: &'t [Explanation],
+    second: &'t [Explanation],
+    third: &'t [Explanation],
+    code: &str,
+) -> Option<&'t Explanation>
+    ensures { option_copied result ≡ find (has_code code.now) (first.now ++ second.now ++ third.now) }
 {
-    table.iter().find(|entry| entry.code == code)
+    first
+        .iter()
+        .chain(second.iter())
+        .chain(third.iter())
+        .find(|entry| entry.code == code)
 }
 
 /// Writes the text of an entry as one line, and flushes the writer.

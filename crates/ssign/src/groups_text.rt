@@ -2,30 +2,21 @@
 ghost use Rattle.std.specs.Prelude.{◌≡◌, ◌==◌, ◌∷◌, [], ◌<◌, length, position, MatchOption, IfOk, IfSome};
 ghost use Rattle.std.specs.List.{slice_split};
 ghost use Rattle.ss_block.specs.Number.{number_in};
-ghost use Rattle.ss_origin.specs.Groups.{are_bounds};
 ghost use Rattle.ssign.specs.GroupsText.{bounds_in, grouping_in};
 
-use itoa::Buffer;
+use ss_block::number_of;
 use ss_message::NoMemory;
-use ss_origin::{Bounds, Grouping};
+use ss_origin::{Bounds, Grouping, are_bounds};
 use std::alloc::Global;
-use std::str;
 
 /// The PRI that the text spells in decimal, without a sign or a leading zero: 0 to 191.
 fn pri_of(text: &[u8]) -> Option<u8>
     ensures { result ≡ number_in 0 191 text.now }
 {
-    let Ok(text) = str::from_utf8(text) else {
-        return None;
-    };
-    let Ok(number) = text.parse::<u8>() else {
-        return None;
-    };
-    let mut buffer = Buffer::new();
-    if number > 191 || buffer.format(number) != text {
-        return None;
+    match number_of(0, 191, text) {
+        Some(pri) => Some(pri as u8),
+        None => None,
     }
-    Some(number)
 }
 
 /// The place of the first comma.
@@ -45,17 +36,6 @@ fn split_at_comma(text: &[u8]) -> Option<(&[u8], &[u8])>
         return None;
     };
     Some((&text[..place], &text[place + 1..]))
-}
-
-/// Whether each bound is below the next one, and the last is 191.
-fn are_bounds(bounds: &[u8]) -> bool
-    ensures { result ≡ are_bounds bounds.now }
-{
-    match bounds {
-        [] => false,
-        [last] => *last == 191,
-        [bound, next, ..] => *bound < *next && are_bounds(&bounds[1..]),
-    }
 }
 
 /// The bounds that are joined by commas: the highest PRI of each range. `None` where a piece between commas is no PRI,

@@ -1,24 +1,20 @@
 //! Reviews stored logs of signed syslog messages (RFC 5424, RFC 5848), and signs logs.
 #![tactic(auto)]
 
-mod answers;
 mod command_line;
 mod explain;
 mod explanations;
 mod groups_text;
 mod nobody;
 mod program;
-mod seals;
 mod settings;
 mod signing;
 mod signing_options;
 mod task;
 
-pub use answers::{AnswerFault, Answers, open_answers, read_answers};
 pub use explain::{explanation_of, write_explanation};
-pub use explanations::{Explanation, explanations};
+pub use explanations::{Explanation, FAULTS, REFUSALS, WORDS};
 pub use nobody::Nobody;
-pub use seals::GivenSeals;
 pub use settings::{Settings, SettingsFault};
 pub use signing::{Signing, run_signing};
 use std::process::ExitCode;

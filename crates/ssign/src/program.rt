@@ -1,20 +1,20 @@
 //! The program: its command line, its streams and its exit statuses.
-ghost use Rattle.std.specs.Prelude.{◌≡◌, ◌≤◌, false, map, None, IfOk};
+ghost use Rattle.std.specs.Prelude.{◌≡◌, ◌≤◌, ◌++◌, false, map, None, IfOk};
 ghost use Rattle.std.specs.List.{find};
 ghost use Rattle.ss_frame.specs.Watched.{has_failed};
 ghost use Rattle.ssign.specs.CommandLine.{AreMistaken, signing_status, status_of};
 ghost use Rattle.ssign.specs.Explanation.{has_code};
 
-use crate::answers::{Answers, open_answers};
 use crate::command_line::{Order, answers_file, asked_code, command, limits_of, order_of};
 use crate::explain::{explanation_of, write_explanation};
-use crate::explanations::{Explanation, explanations};
+use crate::explanations::{Explanation, FAULTS, REFUSALS, WORDS};
 use crate::nobody::Nobody;
 use crate::settings::{Settings, settings_of};
 use crate::signing::{Signing, run_signing};
 use crate::task::{Task, run_task};
 use clap::ArgMatches;
 use clap::error::ErrorKind;
+use ss_answers::{Answers, open_answers};
 use ss_frame::{Buffered, Limits, Watched};
 use ss_report::{RunFault, Verdict};
 use ss_review::Judge;
@@ -41,10 +41,12 @@ pub fn run<R: Input + Print + Eprint + Env + Files + AllocGlobal>(rt: &R) -> u8
 {
     match words(rt) {
         Ok(words) => run_words(rt, words.as_slice()),
+        Err(fault) if fault.kind() == io::ErrorKind::InvalidData => refuse_words(rt),
         Err(_) => refuse(rt, &RunFault::Memory),
     }
 }
 
+/// The words that the program was given. `InvalidData` where one isn't UTF-8.
 fn words<R: Env + AllocGlobal>(rt: &R) -> io::Result<Vec<String>> {
     let mut words = Vec::new(rt.alloc());
     for word in env::args(rt)? {
@@ -146,10 +148,7 @@ fn run_explain<R: Print + Eprint + AllocGlobal>(rt: &R, options: &ArgMatches<'_>
     let Some(code) = asked_code(options) else {
         return REFUSED;
     };
-    match explanations(rt.alloc()) {
-        Ok(table) => explain(rt, &table, code),
-        Err(_) => refuse(rt, &RunFault::Memory),
-    }
+    explain(rt, &REFUSALS, &WORDS, &FAULTS, code)
 }
 
 /// Makes a run from standard input to standard output.
@@ -188,13 +187,19 @@ fn sign_streams<R: Input + Print + AllocGlobal>(
     )
 }
 
-/// Tells on standard output what a code means, by the entry of a table.
-fn explain<R: Print + Eprint + AllocGlobal>(rt: &R, table: &[Explanation], code: &str) -> u8
+/// Tells on standard output what a code means, by its entry in one of the tables.
+fn explain<R: Print + Eprint + AllocGlobal>(
+    rt: &R,
+    refusals: &[Explanation],
+    words: &[Explanation],
+    faults: &[Explanation],
+    code: &str,
+) -> u8
     ensures most { result ≤ 2 }
-    ensures unknown { find (has_code code.now) table.now ≡ None → result ≡ 2 }
+    ensures unknown { find (has_code code.now) (refusals.now ++ words.now ++ faults.now) ≡ None → result ≡ 2 }
 {
-    let Some(explanation) = explanation_of(table, code) else {
-        return refuse_code(rt, table, code);
+    let Some(explanation) = explanation_of(refusals, words, faults, code) else {
+        return refuse_code(rt, refusals, words, faults, code);
     };
     match explain_on_output(rt, explanation) {
         Ok(()) => CLEAN,
@@ -263,12 +268,28 @@ fn refuse<R: Eprint, F: Display>(rt: &R, fault: &F) -> u8
     REFUSED
 }
 
+/// Says on standard error that a word of the command line can't be read.
+fn refuse_words<R: Eprint>(rt: &R) -> u8
+    ensures { result ≡ 2 }
+{
+    let _ = eprintln!(rt;
+        "error: a word of the command line isn't UTF-8\n\nFor more information, try '--help'."
+    );
+    REFUSED
+}
+
 /// Says on standard error that nothing is told of a code, and of which something is.
-fn refuse_code<R: Eprint>(rt: &R, table: &[Explanation], code: &str) -> u8
+fn refuse_code<R: Eprint>(
+    rt: &R,
+    refusals: &[Explanation],
+    words: &[Explanation],
+    faults: &[Explanation],
+    code: &str,
+) -> u8
     ensures { result ≡ 2 }
 {
     let _ = eprint!(rt; "error: no explanation of {code:?}\n\nThe codes:");
-    for entry in table {
+    for entry in refusals.iter().chain(words.iter()).chain(faults.iter()) {
         let _ = eprint!(rt; " {}", entry.code);
     }
     let _ = eprintln!(rt; "\n\nFor more information, try '--help'.");

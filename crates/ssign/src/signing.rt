@@ -4,9 +4,8 @@ ghost use Rattle.ss_frame.specs.Watched.{has_failed, source_of, sink_of};
 ghost use Rattle.ss_signing.specs.Run.{Signs, Stops};
 ghost use Rattle.ssign.specs.Signing.{signing_job};
 
-use crate::answers::Answers;
-use crate::seals::GivenSeals;
 use crate::settings::Settings;
+use ss_answers::{Answers, GivenSeals};
 use ss_frame::{Limits, Watched};
 use ss_report::RunFault;
 use ss_signing::{SignFault, run_plan, run_sign};

@@ -38,7 +38,7 @@ fn with_key_options<'a>(alloc: Global, command: Command<'a>) -> Result<Command<'
         "The payload block: TIMESTAMP, SP, type of key, SP, key in base64",
     );
     let rsid = number(alloc, "rsid", 0, 9_999_999_999).required(true).help(
-        "The reboot session, 0 to 9999999999: greater at each use of the key, or always 0",
+        "The reboot session, 0 to 9999999999: greater at each use of the key, as two logs of one dispute",
     );
     let stamp = text(alloc, "stamp", "TEXT")
         .default_value("-")

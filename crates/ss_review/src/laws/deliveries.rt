@@ -47,7 +47,8 @@ pub fn announced_by_blocks()
 }
 
 /// An announced number is listed exactly where its rank, among the announced numbers whose messages have the same hashes,
-/// is below the number of stored messages with these hashes.
+/// is below the number of stored messages with these hashes. For that, equal hashes have to go with equal pairs of
+/// hashes, and no session that stands before this one may want these messages.
 pub fn listed_by_rank()
     ensures { ListedByRank }
 {
@@ -58,7 +59,7 @@ pub fn listed_by_rank()
 }
 
 /// Where no two submitted messages have equal pairs of hashes, an announced number is listed exactly where a message
-/// with its message's pair is stored.
+/// with its message's pair is stored. The premises are those of `listed_by_rank`.
 pub fn listed_where_stored()
     ensures { ListedWhereStored }
 {
@@ -68,7 +69,9 @@ pub fn listed_where_stored()
     keys_are_announced();
 }
 
-/// Where everything that was sent is stored, and nothing else, the session is joined and the report is clean.
+/// Where `begin` was accepted, nothing stayed pending, and everything that was sent is stored, each message as often as
+/// it was submitted, and nothing else, the session is joined and the report is clean. For that, equal hashes have to go
+/// with equal pairs of hashes.
 pub fn whole_deliveries_are_clean()
     ensures { WholeDeliveriesAreClean }
 {

@@ -109,12 +109,13 @@ pub static REFUSALS: [Explanation; 26] = [
     },
     Explanation {
         code: "O4",
-        text: "An originator was given a message before it had begun. ssign never prints this; the library tells it \
-            to other programs.",
+        text: "An originator was given a message, or flushed, before it had begun. ssign never prints this; the \
+            library tells it to other programs.",
     },
     Explanation {
         code: "O5",
-        text: "An originator was begun twice. ssign never prints this; the library tells it to other programs.",
+        text: "An originator was begun twice, or one was begun that goes on behind another. ssign never prints this; the \
+            library tells it to other programs.",
     },
     Explanation {
         code: "O6",

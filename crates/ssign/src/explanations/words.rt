@@ -106,8 +106,9 @@ pub static WORDS: [Explanation; 20] = [
     Explanation {
         code: "unparsed",
         text: "A stored text that is no message of RFC 5424: the first part that fails, M1 to M12, and the \
-            octet of the text, from 0, where it does. It is reviewed as a message without a block, and can \
-            be signed and listed; but a block that was changed may show so.",
+            octet of the text, from 0, where it does. It is reviewed as a message without a block, and \
+            listed where an originator signed it; ssign sign doesn't (O2). But a block that was changed may \
+            show so.",
     },
     Explanation {
         code: "signature",

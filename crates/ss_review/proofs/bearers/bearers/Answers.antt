@@ -3,7 +3,7 @@ use Rattle.std.specs.Prelude.{None, Some, Contains, option_and_then}
 use Rattle.std.proofs.lemmas.List.{map_more}
 use Rattle.ss_block.specs.declared.hash.Hash.{Hash}
 use Rattle.ss_review.specs.Bearing.{bearer_among}
-use Rattle.ss_review.proofs.Members.{Has, contains_from_has}
+use Rattle.ss_origin.proofs.Members.{Has, contains_from_has}
 use Rattle.ss_review.proofs.Searching.{has_at}
 use Rattle.ss_review.proofs.bearers.bearers.Goals as goal
 

@@ -4,7 +4,7 @@ use Rattle.ss_block.specs.OrderLaws.{hash_cmp_total, hash_cmp_exact}
 use Rattle.ss_review.specs.Bearing.{earlier}
 use Rattle.ss_review.proofs.Bearings.{with_one, told_itself, untold}
 use Rattle.ss_review.proofs.Searching.{map_at, change_at, found_at, not_found}
-use Rattle.ss_review.proofs.Members.{Has}
+use Rattle.ss_origin.proofs.Members.{Has}
 use Rattle.ss_review.proofs.Sections.{map_agree}
 use Rattle.ss_review.proofs.bearers.tell_hash.Goals as goal
 

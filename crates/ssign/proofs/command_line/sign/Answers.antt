@@ -8,5 +8,5 @@ use Rattle.ssign.proofs.command_line.sign.Goals as goal
 pub returns : goal.returns
 returns c =
     let bare = with_rule (new_app (codes "sign")) answers_rule in
-    let sign = with_argument c.in_ok-sign.ensures c.over_log.ensures c.seals.ensures.rule c.seals.ensures.local in
+    let sign = with_argument c.in_ok-sign.ensures c.over_log.ensures c.answers.ensures.rule c.answers.ensures.local in
     c.limited.ensures (with_signing_options c.args.versions bare) (c.in_ok-with_signing_options.ensures bare sign)

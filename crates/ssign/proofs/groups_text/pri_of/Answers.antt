@@ -1,51 +1,11 @@
-use Rattle.std.proofs.Common.{◌≡◌, ℕ, ◌<◌, ◌^◌, List, Ok, Err, not, false, sym, ap, subst, ◌∙◌, arith}
-use Rattle.std.specs.Fmt.{decimal}
-use Rattle.std.specs.Str.{IsAscii}
-use Rattle.std.specs.Str.Parse.{ParsesUnsigned}
-use Rattle.std.proofs.lemmas.Bool.{not-false}
-use Rattle.std.proofs.lemmas.Fmt.{IsAscii-decimal, parse-decimal}
-use Rattle.std.proofs.lemmas.Slice.Eq.{bytes_eq-Decides}
-use Rattle.std.proofs.lemmas.Str.{IsUtf8-from_ascii}
-use Rattle.ss_block.specs.Number.{number}
-use Rattle.ss_block.proofs.Numbers.{number_in-none, number_in-decimal}
+use Rattle.std.proofs.Common.{sym, ◌∙◌, arith}
+use Rattle.std.proofs.lemmas.Option.{cond_some}
+use Rattle.ss_block.specs.Number.{number, is_number}
+use Rattle.ss_block.proofs.Numbers.{is_spelled}
 use Rattle.ssign.proofs.groups_text.pri_of.Goals as goal
-use Rattle.ssign.proofs.groups_text.pri_of.Goals.{then-number-gt191-via-then-number-gt191, then-number-gt191-via-else-number-gt191+then-ne}
 
--- what `parse` makes of a spelled number is that number
-is_read : (n m : ℕ) (text : List ℕ) → n < 2 ^ 8 → text ≡ decimal n → ParsesUnsigned {E = ℕ} 8 10 text (Ok m) → m ≡ n
-is_read n m text small e read = let same = parse-decimal {E = ℕ} 8 n text (Ok m) small (omega (arith, small)) e read in cc
-
--- and it makes one of it
-never_fails : (n : ℕ) (text : List ℕ) → n < 2 ^ 8 → text ≡ decimal n → ParsesUnsigned {E = ℕ} 8 10 text (Err 0) → ⊥
-never_fails n text small e fails = let same = parse-decimal {E = ℕ} 8 n text (Err 0) small (omega (arith, small)) e fails in cc
-
-pub returns-in_default : goal.returns-in_default
-returns-in_default c =
-    sym (number_in-none 0 191 c.args.text.now (λ s.
-    let small : number c.args.text.now < 2 ^ 64 = omega (arith, s.high) in
-    c.in_default.ensures.cases.0 (IsUtf8-from_ascii c.args.text.now (subst IsAscii (sym s.spelled) (IsAscii-decimal (number c.args.text.now) small)))))
-
-pub returns-in_default-parse : goal.returns-in_default-parse
-returns-in_default-parse c =
-    sym (number_in-none 0 191 c.args.text.now (λ s.
-    let small : number c.args.text.now < 2 ^ 8 = omega (arith, s.high) in
-    never_fails (number c.args.text.now) c.in-Ok.text.now small (c.in-Ok.ensures.cases.0 ∙ s.spelled) c.in_default-parse.ensures.value.0))
-
-pub returns-then-number-gt191 : goal.returns-then-number-gt191
-returns-then-number-gt191 c =
-    sym (number_in-none 0 191 c.args.text.now (λ s.
-    let small : number c.args.text.now < 2 ^ 8 = omega (arith, s.high) in
-    let same = is_read (number c.args.text.now) c.in-Ok-parse.number c.in-Ok.text.now small (c.in-Ok.ensures.cases.0 ∙ s.spelled) c.in-Ok-parse.ensures.value.0 in
-    elim c.then-number-gt191.branch [
-      | then-number-gt191-via-then-number-gt191 w ↦ omega (arith, s.high)
-      | then-number-gt191-via-else-number-gt191+then-ne w ↦
-          let spelled : w.format.result.now ≡ c.in-Ok.text.now = w.format.ensures.text ∙ ap decimal same ∙ sym (c.in-Ok.ensures.cases.0 ∙ s.spelled) in
-          let differs : w.ne.result ≡ false = w.ne.ensures ∙ ap not ((bytes_eq-Decides w.format.result.now c.in-Ok.text.now).1 spelled) in
-          cc
-    ]))
-
-pub returns : goal.returns
-returns c =
-    let same : c.format.result.now ≡ c.in-Ok.text.now = (bytes_eq-Decides c.format.result.now c.in-Ok.text.now).0 (not-false _ (sym c.ne.ensures ∙ c.if-ne.false)) in
-    sym (number_in-decimal 0 191 c.in-Ok-parse.number c.args.text.now (omega arith) (omega arith) (omega arith)
-    (sym c.in-Ok.ensures.cases.0 ∙ sym same ∙ c.format.ensures.text))
+pub overflow_cast-result : goal.overflow_cast-result
+overflow_cast-result c =
+    let is = cond_some (is_number 0 191 c.args.text.now) (number c.args.text.now) c.in-Some.pri (sym c.number_of.ensures ∙ c.in-Some.is) in
+    let spelled = is_spelled 0 191 c.args.text.now is.0 in
+    omega (arith, spelled.high, is.1)

@@ -1,0 +1,5 @@
+pub mod Answers
+pub mod AnswerLine
+pub mod AnswerKey
+pub mod AnswerInput
+pub mod Seals

@@ -1,0 +1,78 @@
+//! What lines of an answer file are kept in order by, and looked up by.
+ghost use Rattle.std.specs.Prelude.{◌≡◌};
+ghost use Rattle.std.specs.Cmp.Lexicographic.{slice_cmp};
+ghost use Rattle.std.specs.Ordering.{nat_cmp, ordering_then};
+
+use std::cmp::Ordering;
+
+/// The question that a line answers: its kind and the octets that it is found by. Lines that answer the same
+/// question have equal keys.
+#[derive(Clone, Copy)]
+pub struct Key<'a> {
+    kind: u8,
+    first: &'a [u8],
+    second: &'a [u8],
+    third: &'a [u8],
+}
+
+impl<'a> Key<'a> {
+    ghost use Rattle.ss_answers.specs.AnswerKey.{sort_key, trust_key, yes_key, seal_key, key_cmp};
+
+    /// Whether a payload is trusted.
+    pub fn trust(payload: &'a [u8]) -> Key<'a>
+        ensures { sort_key result ≡ trust_key payload.now }
+    {
+        Key {
+            kind: 0,
+            first: payload,
+            second: &[],
+            third: &[],
+        }
+    }
+
+    /// Whether under a payload octets have a valid signature. The payload is compared last, since it may be as long as
+    /// a log, and all blocks of a session are asked about with the same.
+    pub fn yes(payload: &'a [u8], bytes: &'a [u8], signature: &'a [u8]) -> Key<'a>
+        ensures { sort_key result ≡ yes_key payload.now bytes.now signature.now }
+    {
+        Key {
+            kind: 1,
+            first: bytes,
+            second: signature,
+            third: payload,
+        }
+    }
+
+    /// Which signature octets are given.
+    pub fn seal(octets: &'a [u8]) -> Key<'a>
+        ensures { sort_key result ≡ seal_key octets.now }
+    {
+        Key {
+            kind: 2,
+            first: octets,
+            second: &[],
+            third: &[],
+        }
+    }
+
+    /// By kind, and then by the octets.
+    pub fn compare(&self, other: &Key<'_>) -> Ordering
+        ensures { result ≡ key_cmp (sort_key self.now) (sort_key other.now) }
+    {
+        let kinds = self.kind.cmp(&other.kind);
+        let firsts = then_by(kinds, self.first, other.first);
+        let seconds = then_by(firsts, self.second, other.second);
+        then_by(seconds, self.third, other.third)
+    }
+}
+
+/// An order, and where it leaves two equal, that of their octets.
+fn then_by(order: Ordering, mine: &[u8], other: &[u8]) -> Ordering
+    ensures { result ≡ ordering_then order (slice_cmp nat_cmp mine.now other.now) }
+{
+    if order.is_eq() {
+        mine.cmp(&other)
+    } else {
+        order
+    }
+}

@@ -1,0 +1,90 @@
+//! The lines of a file of answers.
+ghost use Rattle.std.specs.Prelude.{◌≡◌, ◌<◌, ◌+◌, ◌^◌, length, IfOk, IfErr, OnOk};
+ghost use Rattle.ss_answers.specs.Answers.{HasFields, HasLines, Lacks, line_feed};
+ghost use Rattle.ss_answers.specs.AnswerInput.{IsCutAfterLine, IsTextFault};
+
+use crate::fault::AnswerFault;
+use crate::line::{self, Line, LineFault};
+use crate::place::Place;
+use std::alloc::{AllocError, Global};
+
+/// Lines by the places of their fields among the octets of all of them.
+#[derive(Debug, Drop)]
+pub struct Lines {
+    /// The fields of all lines, one behind the other.
+    pub octets: Vec<u8>,
+    /// For each line, where its fields stand.
+    pub places: Vec<Place>,
+}
+
+impl Lines {
+    ghost use Rattle.ss_answers.specs.AnswerLine.{AreWithin, KeepsLine, answer_of, size_of};
+
+    /// Keeps one more line.
+    ///
+    /// # Errors
+    ///
+    /// Want of memory alone.
+    fn push(&mut self, line: &Line) -> Result<(), AllocError>
+        requires fields { HasFields (answer_of line.now) }
+        requires within { AreWithin self.old }
+        requires room { length self.old.octets.items + size_of (answer_of line.now) < 2 ^ 32 }
+        ensures { OnOk result (KeepsLine self.old self.new (answer_of line.now)) }
+    {
+        let (payload, bytes, signature) = line.fields();
+        let place = Place::keep(&mut self.octets, payload, bytes, signature)?;
+        self.places.push(place)?;
+        Ok(())
+    }
+}
+
+const LINE_FEED: u8 = b'\n';
+
+ghost use Rattle.ss_answers.specs.AnswerLine.{answers_of};
+
+/// The lines of a text, each ended by a line feed that may be missing at the last.
+///
+/// # Errors
+///
+/// `BadLine` with the number, from 1, of the first line that isn't an answer; `Memory`.
+pub fn read_lines(alloc: Global, text: &[u8]) -> Result<Lines, AnswerFault>
+    requires { length text.now < 2 ^ 32 }
+    ensures ok { IfOk result (λ lines. HasLines text.now (answers_of lines)) }
+    ensures err { IfErr result (λ fault. IsTextFault text.now fault) }
+{
+    let mut lines = Lines {
+        octets: Vec::new(alloc),
+        places: Vec::new(alloc),
+    };
+    let mut rest = text;
+    while !rest.is_empty() {
+        let (first, after) = cut_line(rest);
+        match line::parse(alloc, first) {
+            Ok(line) => {
+                if lines.push(&line).is_err() {
+                    return Err(AnswerFault::Memory);
+                }
+            }
+            Err(LineFault::Bad) => {
+                return Err(AnswerFault::BadLine {
+                    line: lines.places.len() as u32 + 1,
+                });
+            }
+            Err(LineFault::Memory) => return Err(AnswerFault::Memory),
+        }
+        rest = after;
+    }
+    Ok(lines)
+}
+
+/// The first line of a text, and what stands after its line feed.
+fn cut_line(text: &[u8]) -> (&[u8], &[u8])
+    ensures lacks { Lacks line_feed result.0.now }
+    ensures cut { IsCutAfterLine text.now result.0.now result.1.now }
+    ensures shorter { 0 < length text.now → length result.1.now < length text.now }
+{
+    match text.iter().position(|octet| *octet == LINE_FEED) {
+        Some(at) => (&text[..at], &text[at + 1..]),
+        None => (text, &[]),
+    }
+}

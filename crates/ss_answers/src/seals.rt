@@ -1,0 +1,48 @@
+//! A sealer that has its signatures from an answers file.
+ghost use Rattle.std.specs.Prelude.{◌≡◌};
+
+use crate::table::Answers;
+use ss_block::Payload;
+use ss_origin::{SealFault, Seals};
+use std::alloc::Global;
+
+/// Gives the signatures of the `seal` lines of an answers file, and refuses octets that none of them has. Without a file
+/// it refuses everything.
+#[derive(Debug, Drop)]
+pub struct GivenSeals {
+    answers: Option<Answers>,
+    payload: Payload,
+}
+
+impl GivenSeals {
+    /// Keeps the answers beside what is said of the key. Takes no memory.
+    pub fn new(answers: Option<Answers>, payload: Payload) -> GivenSeals
+        ensures answers { result.answers ≡ answers }
+        ensures payload { result.payload ≡ payload }
+    {
+        GivenSeals { answers, payload }
+    }
+}
+
+impl Seals for GivenSeals {
+    ghost use Rattle.ss_answers.specs.Seals.{is_given, seals_of};
+
+    ghost sound = { λ _. Unit {0} };
+
+    ghost payload = { λ s. s.payload };
+
+    ghost valid = { λ s _ octets signature. is_given s.answers octets signature };
+
+    ghost answers = { λ s octets answer. seals_of s.answers octets answer };
+
+    fn payload_block(&self) -> &Payload {
+        &self.payload
+    }
+
+    fn seal(&self, alloc: Global, octets: &[u8]) -> Result<Vec<u8>, SealFault> {
+        match &self.answers {
+            Some(answers) => answers.seal(alloc, octets),
+            None => Err(SealFault::Refused),
+        }
+    }
+}

@@ -1,0 +1,147 @@
+//! Answers in order, and their look-ups.
+ghost use Rattle.std.specs.Prelude.{◌≡◌, Option, OnOk, OnErr};
+ghost use Rattle.std.specs.List.{find};
+ghost use Rattle.std.specs.Option.{option_copied};
+ghost use Rattle.ss_answers.specs.Answers.{SaysTheSame};
+ghost use Rattle.ss_answers.specs.AnswerKey.{sort_key};
+ghost use Rattle.ss_answers.specs.AnswerLine.{answers_at, has_key, IsInOrder};
+
+use crate::key::Key;
+use crate::lines::Lines;
+use crate::place::Place;
+use ss_block::Scheme;
+use ss_origin::SealFault;
+use ss_review::Judge;
+use std::alloc::{AllocError, Global};
+use std::marker::Model;
+
+/// The answers of a signature checker, found by comparisons of which there are logarithmically many.
+///
+/// Contracts see a list of lines that say the same as those of the file.
+#[derive(Debug, Drop)]
+pub struct Answers {
+    octets: Vec<u8>,
+    places: Vec<Place>,
+}
+
+impl Model for Answers {
+    ghost use Rattle.std.specs.Prelude.{List};
+    ghost use Rattle.ss_answers.specs.Answers.{Answer};
+    ghost use Rattle.ss_answers.specs.AnswerLine.{answers_at, IsInOrder};
+
+    ghost Value = { List Answer };
+
+    ghost view = { λ a. answers_at a.octets.items a.places.items };
+
+    ghost invariant = { λ a. IsInOrder a.octets.items a.places.items };
+}
+
+impl Answers {
+    ghost use Rattle.std.specs.Prelude.{◌≡◌, Some, None, IfOk, IfErr};
+    ghost use Rattle.ss_answers.specs.Answers.{SaysTheSame, trusted, valid, seal_of};
+    ghost use Rattle.ss_answers.specs.AnswerLine.{answers_of, IfRefused};
+
+    /// The answers that lines give.
+    ///
+    /// # Errors
+    ///
+    /// Want of memory alone.
+    pub(crate) fn of_lines(lines: Lines) -> Result<Answers, AllocError>
+        ensures { IfOk result (λ answers. SaysTheSame (answers_of lines) answers) }
+    {
+        let Lines { octets, mut places } = lines;
+        sort(&octets, &mut places)?;
+        Ok(Answers { octets, places })
+    }
+
+    /// Whether some line trusts the payload.
+    pub fn trusts(&self, payload: &[u8]) -> bool
+        ensures { result ≡ trusted self.now payload.now }
+    {
+        find(&self.octets, &self.places, Key::trust(payload)).is_some()
+    }
+
+    /// Whether some line says that under the payload the octets have this signature.
+    pub fn accepts(&self, payload: &[u8], bytes: &[u8], signature: &[u8]) -> bool
+        ensures { result ≡ valid self.now payload.now bytes.now signature.now }
+    {
+        find(
+            &self.octets,
+            &self.places,
+            Key::yes(payload, bytes, signature),
+        )
+        .is_some()
+    }
+
+    /// The signature of the first line that gives these octets one.
+    ///
+    /// # Errors
+    ///
+    /// `Refused` where no line gives them one; `Memory` where the copy can't be made.
+    pub fn seal(&self, alloc: Global, bytes: &[u8]) -> Result<Vec<u8>, SealFault>
+        ensures ok { IfOk result (λ signature. seal_of self.now bytes.now ≡ Some signature.items) }
+        ensures refused { IfErr result (λ fault. IfRefused fault (seal_of self.now bytes.now ≡ None)) }
+    {
+        let Some(place) = find(&self.octets, &self.places, Key::seal(bytes)) else {
+            return Err(SealFault::Refused);
+        };
+        let Some(signature) = place.given_signature(&self.octets) else {
+            return Err(SealFault::Refused);
+        };
+        match Vec::from_slice(alloc, signature) {
+            Ok(signature) => Ok(signature),
+            Err(_) => Err(SealFault::Memory),
+        }
+    }
+}
+
+impl Scheme for Answers {
+    ghost use Rattle.ss_answers.specs.Answers.{trusted, valid};
+
+    ghost trusted = { λ answers payload. trusted answers payload };
+
+    ghost valid = { λ answers payload bytes signature. valid answers payload bytes signature };
+}
+
+impl Judge for Answers {
+    ghost use Rattle.ss_answers.specs.Answers.{trusted, valid};
+
+    ghost sound = { λ answers. Unit {0} };
+
+    ghost trusted = { λ answers payload. trusted answers payload };
+
+    ghost valid = { λ answers payload bytes signature. valid answers payload bytes signature };
+
+    fn trusts(&self, payload: &[u8]) -> bool {
+        Answers::trusts(self, payload)
+    }
+
+    fn accepts(&self, payload: &[u8], bytes: &[u8], signature: &[u8]) -> bool {
+        Answers::accepts(self, payload, bytes, signature)
+    }
+}
+
+/// Puts places in the order of the keys of their lines. Lines of one key stay in the order in which they were.
+fn sort(octets: &[u8], places: &mut Vec<Place>) -> Result<(), AllocError>
+    ensures in_order { OnOk result (IsInOrder octets.now places.new.items) }
+    ensures same { OnOk result (SaysTheSame (answers_at octets.now places.old.items) (answers_at octets.now places.new.items)) }
+{
+    places.sort_by(|a, b| a.key(octets).compare(&b.key(octets)))
+}
+
+/// The first line of a key, among lines in order.
+fn find<'a>(octets: &[u8], places: &'a [Place], key: Key<'_>) -> Option<&'a Place>
+    requires { IsInOrder octets.now places.now }
+    ensures { option_copied result ≡ find (has_key octets.now (sort_key key.entry)) places.now }
+{
+    let at = places.partition_point(|place| place.key(octets).compare(&key).is_lt());
+    if at >= places.len() {
+        return None;
+    }
+    let place = &places[at];
+    if place.key(octets).compare(&key).is_eq() {
+        Some(place)
+    } else {
+        None
+    }
+}

@@ -1,5 +1,0 @@
-use Rattle.ssign.proofs.AnswerLaws as laws
-use Rattle.ssign.proofs.answers.laws.no_text_is_good_and_bad.Goals as goal
-
-pub returns : goal.returns
-returns c = laws.no_text_is_good_and_bad

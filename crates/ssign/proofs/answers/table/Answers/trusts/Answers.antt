@@ -1,9 +1,0 @@
-use Rattle.std.proofs.Common.{◌∙◌}
-use Rattle.ssign.proofs.OrderedLines.{trusted_from_find}
-use Rattle.ssign.proofs.answers.table.Answers.trusts.Goals as goal
-
-pub returns : goal.returns
-returns c =
-    let found = rw (c.trust.ensures, c.deref.ensures.value, c.deref-2.ensures.value) at c.find.ensures in
-    rw (← c.self.view_is)
-    (c.is_some.ensures ∙ trusted_from_find c.self.inside.octets.items c.self.inside.places.items c.args.payload.now c.find.result found)
