@@ -88,6 +88,17 @@ def fragments(log, n):
     fragments_of(log, 7, text, 1)
 
 
+def copies(log, n):
+    """Copies of one valid block, of a session with a payload of as many octets. It is answered once."""
+    text = b"- U " + b64(b"x" * (3 * n // 4))
+    log.trust(text)
+    log.put_block(certificate(1, text[:1], len(text)))
+    for i in range(1, len(text), 8000):
+        log.put_block(certificate(i + 1, text[i:i + 8000], len(text)))
+    for i in range(n):
+        log.put_block(certificate(1, text[:1], len(text)), False)
+
+
 def fragments_apart(log, n):
     """Fragments of one octet, eight of each session."""
     log.trust(b"- U AAAA")
@@ -123,7 +134,8 @@ def far_apart(log, n):
 
 
 STRANGE = ((equal, 1_000_000), (one_hash, 100_000), (sessions, 100_000), (groups, 1_000), (fragments, 1_000_000),
-           (fragments_apart, 800_000), (scattered, 1_000_000), (stated, 100_000), (disputed, 1_000_000), (far_apart, 300_000))
+           (copies, 200_000), (fragments_apart, 800_000), (scattered, 1_000_000), (stated, 100_000), (disputed, 1_000_000),
+           (far_apart, 300_000))
 
 
 def strange(shape, n):

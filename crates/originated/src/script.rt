@@ -16,7 +16,7 @@ pub struct Script<'d, 't> {
 }
 
 impl<'d, 't> Script<'d, 't> {
-    pub fn new(desk: &'d Desk) -> Script<'d, 't> {
+    pub(crate) fn new(desk: &'d Desk) -> Script<'d, 't> {
         Script {
             desk,
             config: "",
@@ -108,7 +108,7 @@ fn print_call<R: Print + AllocGlobal>(
 }
 
 /// Plays a line.
-pub fn play<'d, 't, R: Print + AllocGlobal>(
+pub(crate) fn play<'d, 't, R: Print + AllocGlobal>(
     rt: &R,
     script: &mut Script<'d, 't>,
     line: &'t str,

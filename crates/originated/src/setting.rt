@@ -6,7 +6,7 @@ use ss_origin::{Bounds, Config, Counters, Grouping, NextNumber, NextNumbers};
 use std::alloc::{AllocError, Global};
 
 /// The word at this place of a line, from 0; empty where there are fewer.
-pub fn word(line: &str, place: usize) -> &str {
+pub(crate) fn word(line: &str, place: usize) -> &str {
     match line.split(' ').nth(place) {
         Some(word) => word,
         None => "",
@@ -14,7 +14,7 @@ pub fn word(line: &str, place: usize) -> &str {
 }
 
 /// The payload whose text these digits spell; none where it is no payload.
-pub fn payload_of(alloc: Global, digits: &str) -> Option<Payload> {
+pub(crate) fn payload_of(alloc: Global, digits: &str) -> Option<Payload> {
     let text = hex::decode(alloc, digits).ok()?;
     Payload::parse(alloc, text.as_slice()).ok()?
 }
@@ -92,7 +92,7 @@ fn numbers_of(line: &str) -> Option<Numbers> {
 }
 
 /// The configuration of a line; none where it names none.
-pub fn config_of(alloc: Global, line: &str) -> Result<Option<Config>, AllocError> {
+pub(crate) fn config_of(alloc: Global, line: &str) -> Result<Option<Config>, AllocError> {
     let Some(numbers) = numbers_of(line) else {
         return Ok(None);
     };
@@ -122,7 +122,7 @@ fn next_number_of(word: &str) -> Option<NextNumber> {
 }
 
 /// The counters of a line `resume`; its words without a number name no group.
-pub fn counters_of(alloc: Global, line: &str) -> Result<Counters, AllocError> {
+pub(crate) fn counters_of(alloc: Global, line: &str) -> Result<Counters, AllocError> {
     let mut groups = Vec::new(alloc);
     for word in line.split(' ') {
         if let Some(next) = next_number_of(word) {

@@ -15,7 +15,7 @@ pub struct Desk {
 }
 
 impl Desk {
-    pub fn new() -> Desk {
+    pub(crate) fn new() -> Desk {
         Desk {
             asked: Cell::new(0),
             count: Cell::new(0),
@@ -24,14 +24,14 @@ impl Desk {
     }
 
     /// From here on a signature of 32 octets, so many times, and then what the letter says.
-    pub fn tell(&self, count: u64, then: u8) {
+    pub(crate) fn tell(&self, count: u64, then: u8) {
         self.asked.set(0);
         self.count.set(count);
         self.then.set(then);
     }
 
     /// How often it was asked since it was told.
-    pub fn asked(&self) -> u64 {
+    pub(crate) fn asked(&self) -> u64 {
         self.asked.get()
     }
 

@@ -5,7 +5,7 @@ use ss_origin::{Counters, Emitted, Originator};
 use std::io;
 
 /// Prints each message that is to be sent.
-pub fn print_emitted<R: Print + AllocGlobal>(rt: &R, emitted: &Emitted) -> io::Result<()> {
+pub(crate) fn print_emitted<R: Print + AllocGlobal>(rt: &R, emitted: &Emitted) -> io::Result<()> {
     for message in emitted.as_slice() {
         let message = hex::encode(rt.alloc(), message.as_slice())?;
         println!(rt; "sent {message}")?;
@@ -25,7 +25,7 @@ fn print_field<R: Print + AllocGlobal>(rt: &R, field: &Field) -> io::Result<()> 
 }
 
 /// Prints the session of an originator.
-pub fn print_session<R: Print + AllocGlobal>(
+pub(crate) fn print_session<R: Print + AllocGlobal>(
     rt: &R,
     originator: &Originator<Signer<'_>>,
 ) -> io::Result<()> {
@@ -51,7 +51,7 @@ fn print_numbers<R: Print>(rt: &R, counters: &Counters) -> io::Result<()> {
 }
 
 /// Prints the counters of the originator, if there is one.
-pub fn print_counters<R: Print>(
+pub(crate) fn print_counters<R: Print>(
     rt: &R,
     originator: &Option<Originator<Signer<'_>>>,
 ) -> io::Result<()> {

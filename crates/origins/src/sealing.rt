@@ -33,7 +33,7 @@ fn zeros(alloc: Global, count: usize) -> Result<Vec<u8>, AllocError> {
 }
 
 /// Answers so.
-pub fn answer(alloc: Global, seal: Seal) -> Result<Vec<u8>, SealFault> {
+pub(crate) fn answer(alloc: Global, seal: Seal) -> Result<Vec<u8>, SealFault> {
     match seal {
         Seal::Refused => Err(SealFault::Refused),
         Seal::Memory => Err(SealFault::Memory),

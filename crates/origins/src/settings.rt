@@ -54,7 +54,7 @@ fn grouping(alloc: Global, groups: Groups) -> Result<Grouping, AllocError> {
 }
 
 /// The configuration, with PRI 110, HOSTNAME `h` and APP-NAME `s`.
-pub fn config(alloc: Global, setting: &Setting) -> Result<Option<Config>, AllocError> {
+pub(crate) fn config(alloc: Global, setting: &Setting) -> Result<Option<Config>, AllocError> {
     let made = Head::new(
         110,
         text(alloc, b"h")?,
@@ -77,12 +77,12 @@ pub fn config(alloc: Global, setting: &Setting) -> Result<Option<Config>, AllocE
 }
 
 /// The payload.
-pub fn payload(alloc: Global) -> Result<Option<Payload>, NoMemory> {
+pub(crate) fn payload(alloc: Global) -> Result<Option<Payload>, NoMemory> {
     Payload::parse(alloc, PAYLOAD)
 }
 
 /// The counters.
-pub fn counters(alloc: Global, at: &At) -> Result<Counters, AllocError> {
+pub(crate) fn counters(alloc: Global, at: &At) -> Result<Counters, AllocError> {
     let mut groups = Vec::new(alloc);
     for (spri, number) in at.1 {
         groups.push(NextNumber {
@@ -97,7 +97,7 @@ pub fn counters(alloc: Global, at: &At) -> Result<Counters, AllocError> {
 }
 
 /// Whether these are the counters.
-pub fn are(found: &Counters, at: &At) -> bool {
+pub(crate) fn are(found: &Counters, at: &At) -> bool {
     let groups = found.groups.as_slice();
     found.gbc == at.0
         && groups.len() == at.1.len()

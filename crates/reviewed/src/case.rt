@@ -14,7 +14,7 @@ pub struct Case<'a> {
 
 impl<'a> Case<'a> {
     /// A log without messages, and a checker who says no to everything.
-    pub fn new(alloc: Global) -> Case<'a> {
+    pub(crate) fn new(alloc: Global) -> Case<'a> {
         Case {
             answers: Answers {
                 trusted: Vec::new(alloc),
@@ -27,7 +27,7 @@ impl<'a> Case<'a> {
     }
 
     /// Takes a frame of this kind. Kinds that aren't told of at the head of `main.rt` are passed over.
-    pub fn add(&mut self, kind: u8, octets: &'a [u8]) -> Result<(), AllocError> {
+    pub(crate) fn add(&mut self, kind: u8, octets: &'a [u8]) -> Result<(), AllocError> {
         match kind {
             b'm' => self.messages.push(octets)?,
             b't' => self.answers.trusted.push(octets)?,

@@ -5,7 +5,7 @@ use ss_review::{Entry, Question, Questions, Report, SessionReport, SessionState,
 use std::io;
 
 /// Prints a report.
-pub fn print_report<R: Print + AllocGlobal>(rt: &R, report: &Report) -> io::Result<()> {
+pub(crate) fn print_report<R: Print + AllocGlobal>(rt: &R, report: &Report) -> io::Result<()> {
     for session in report.sessions.as_slice() {
         print_session(rt, session)?;
     }
@@ -91,7 +91,10 @@ fn number_of(cause: Spoil) -> u8 {
 }
 
 /// Prints questions.
-pub fn print_questions<R: Print + AllocGlobal>(rt: &R, questions: &Questions) -> io::Result<()> {
+pub(crate) fn print_questions<R: Print + AllocGlobal>(
+    rt: &R,
+    questions: &Questions,
+) -> io::Result<()> {
     for question in questions.as_slice() {
         match question {
             Question::Trust(payload) => {

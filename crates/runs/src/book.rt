@@ -75,7 +75,7 @@ pub enum Job {
 }
 
 /// Runs over a log with two closures that answer as `book` says.
-pub fn run_by<R: Read, W: Write>(
+pub(crate) fn run_by<R: Read, W: Write>(
     alloc: Global,
     job: Job,
     reader: &mut Watched<R>,
@@ -124,7 +124,7 @@ fn valid_texts(who: Who) -> Option<(Text, Text)> {
 }
 
 /// What is signed of the first text and of the second, or nothing.
-pub fn signed_texts(alloc: Global, who: Who) -> Result<(Vec<u8>, Vec<u8>), AllocError> {
+pub(crate) fn signed_texts(alloc: Global, who: Who) -> Result<(Vec<u8>, Vec<u8>), AllocError> {
     match valid_texts(who) {
         Some((first, second)) => Ok((signed_of(alloc, first)?, signed_of(alloc, second)?)),
         None => Ok((Vec::new(alloc), Vec::new(alloc))),
@@ -132,7 +132,7 @@ pub fn signed_texts(alloc: Global, who: Who) -> Result<(Vec<u8>, Vec<u8>), Alloc
 }
 
 /// The book that says so, where these octets are signed.
-pub fn book_of<'b>(who: Who, signed: (&'b [u8], &'b [u8])) -> Book<'b> {
+pub(crate) fn book_of<'b>(who: Who, signed: (&'b [u8], &'b [u8])) -> Book<'b> {
     Book {
         all: matches!(who, Who::All),
         trusted: match who {

@@ -102,7 +102,11 @@ fn play(
 }
 
 /// All that the calls send, in order.
-pub fn sent(alloc: Global, payload: &[u8], steps: &[Step]) -> Result<Vec<Bytes>, OriginFault> {
+pub(crate) fn sent(
+    alloc: Global,
+    payload: &[u8],
+    steps: &[Step],
+) -> Result<Vec<Bytes>, OriginFault> {
     let mut originator = Originator::new(alloc, config(alloc)?, sealer_of(alloc, payload)?)?;
     let mut sent = Vec::new(alloc);
     for step in steps {

@@ -17,7 +17,7 @@ pub struct Done {
 }
 
 /// The greatest limits in that form.
-pub fn limits_of(form: Form) -> Limits {
+pub(crate) fn limits_of(form: Form) -> Limits {
     match form {
         Form::Frames => Limits::standard(),
         Form::Lines => Limits::standard().lines(),
@@ -25,7 +25,7 @@ pub fn limits_of(form: Form) -> Limits {
 }
 
 /// Runs over what `source` gives, where these are the answers about signatures.
-pub fn run<R: Read + Drop>(
+pub(crate) fn run<R: Read + Drop>(
     alloc: Global,
     job: Job,
     source: R,

@@ -115,7 +115,7 @@ const SHORT_BESIDE_OTHERS: &[u8] =
     b"<110>1 - h s - - [x@1 SIGN=\"AAAA\"][ssign VER=\"0111\" RSID=\"1\" SG=\"0\" SPRI=\"0\" GBC=\"0\" FMN=\"1\" CNT=\"1\" HB=\"qZk+NkcGgWq6PiVxeFDCbJzQ2J0=\" SIGN=\"AAAA\"][y@1 a=\"\\]\"] hello SIGN=\"AAAA\"";
 
 /// The octets of a message.
-pub fn octets_of(text: Text) -> &'static [u8] {
+pub(crate) fn octets_of(text: Text) -> &'static [u8] {
     match text {
         Text::Short => SHORT,
         Text::Long => LONG,
@@ -158,7 +158,7 @@ fn put_text(log: &mut Vec<u8>, octets: &[u8], form: Form) -> Result<(), AllocErr
 }
 
 /// The log of these messages in that form, and octets behind them.
-pub fn log_of(
+pub(crate) fn log_of(
     alloc: Global,
     texts: &[Text],
     form: Form,
@@ -181,7 +181,7 @@ fn sign_of(text: Text, length: usize) -> usize {
 }
 
 /// The octets of a block message that are signed.
-pub fn signed_of(alloc: Global, text: Text) -> Result<Vec<u8>, AllocError> {
+pub(crate) fn signed_of(alloc: Global, text: Text) -> Result<Vec<u8>, AllocError> {
     let octets = octets_of(text);
     let sign = sign_of(text, octets.len());
     let front = octets.get(..sign).unwrap_or_default();

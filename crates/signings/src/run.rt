@@ -59,7 +59,7 @@ fn config(alloc: Global, sizes: Sizes) -> Result<Option<Config>, AllocError> {
 }
 
 /// A run between watched devices.
-pub fn run_by<R: Read, W: Write>(
+pub(crate) fn run_by<R: Read, W: Write>(
     alloc: Global,
     job: Job,
     reader: &mut Watched<R>,
@@ -88,7 +88,7 @@ pub fn run_by<R: Read, W: Write>(
 }
 
 /// Runs over what `source` gives.
-pub fn run<R: Read + Drop>(
+pub(crate) fn run<R: Read + Drop>(
     alloc: Global,
     job: Job,
     source: R,

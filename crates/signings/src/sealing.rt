@@ -50,7 +50,7 @@ fn ends_so(octets: &[u8], end: &[u8]) -> bool {
 }
 
 /// Answers so.
-pub fn answer(alloc: Global, seal: Seal, octets: &[u8]) -> Result<Vec<u8>, SealFault> {
+pub(crate) fn answer(alloc: Global, seal: Seal, octets: &[u8]) -> Result<Vec<u8>, SealFault> {
     match seal {
         Seal::EmptyFor(end) if ends_so(octets, end) => return Ok(Vec::new(alloc)),
         Seal::FaultFor(fault, end) if ends_so(octets, end) => return Err(fault),

@@ -15,6 +15,7 @@ pub mod Bearings
 pub mod Sections
 pub mod BySession
 pub mod SectionsTold
+pub mod EqualBlocks
 pub mod Verifying
 pub mod Announcements
 pub mod Covering

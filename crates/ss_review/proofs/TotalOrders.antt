@@ -32,7 +32,7 @@ row_cmp_total = then_total (on_total (λ (r : Row). r.key) key_cmp_total) (on_to
 
 -- ---- what ties is equal
 
-both_tie : (p q : Ordering) → ordering_then p q ≡ Equal → (p ≡ Equal) × (q ≡ Equal)
+pub both_tie : (p q : Ordering) → ordering_then p q ≡ Equal → (p ≡ Equal) × (q ≡ Equal)
 both_tie Less q e = cc
 both_tie Equal q e = (refl, e)
 both_tie Greater q e = cc

@@ -1,13 +1,15 @@
 //! Whether the payload of a session is trusted, and accepted by valid certificate blocks (RFC 5848, section 7).
-ghost use Rattle.std.specs.Prelude.{◌≡◌, map, filter, Ok, IfOk};
+ghost use Rattle.std.specs.Prelude.{◌≡◌, map, filter, Ok, IfOk, OnOk};
 ghost use Rattle.ss_review.specs.Payloads.{certificates};
 ghost use Rattle.ss_review.specs.Verified.{answers, signature_of, is_valid, is_accepted, judged, joined};
 ghost use Rattle.ss_review.specs.Covering.{spans_of, accepted_span};
+ghost use Rattle.ss_review.specs.Verdicts.{Found};
 
 use crate::joining::stated_payload;
 use crate::message::{BlockMessage, Said};
 use crate::session_report::SessionState;
 use crate::span::{Span, cover, span_of};
+use crate::verdicts::Verdicts;
 use crate::verifier::Judge;
 use ss_frame::Bytes;
 use ss_message::NoMemory;
@@ -32,17 +34,47 @@ pub(crate) fn is_valid<J: Judge>(judge: &J, payload: &[u8], message: &BlockMessa
     judge.accepts(payload, message.signed.as_slice(), signature.as_slice())
 }
 
-/// The indexes of a certificate block that is valid under the payload.
-fn accepted_span<J: Judge>(judge: &J, payload: &[u8], message: &BlockMessage) -> Option<Span>
+/// Whether the block's signature is valid under the payload. The judge is asked once about all blocks that are equal in
+/// what is signed: `verdicts` are what was found under this payload so far.
+fn is_found_valid<'a, J: Judge>(
+    judge: &J,
+    payload: &[u8],
+    verdicts: &mut Verdicts<'a>,
+    message: &'a BlockMessage,
+) -> Result<bool, NoMemory>
     requires { J.sound judge.now }
-    ensures { result ≡ accepted_span (answers J.trusted J.valid judge.now) payload.now message.now }
+    ensures valid { Found (is_valid (answers J.trusted J.valid judge.now) payload.now) verdicts.old
+        → IfOk result (λ b. b ≡ is_valid (answers J.trusted J.valid judge.now) payload.now message.now) }
+    ensures found { Found (is_valid (answers J.trusted J.valid judge.now) payload.now) verdicts.old
+        → OnOk result (Found (is_valid (answers J.trusted J.valid judge.now) payload.now) verdicts.new) }
 {
-    if !is_valid(judge, payload, message) {
-        return None;
+    if let Some(is_valid) = verdicts.get(message) {
+        return Ok(is_valid);
+    }
+    let is_valid = is_valid(judge, payload, message);
+    verdicts.add(message, is_valid)?;
+    Ok(is_valid)
+}
+
+/// The indexes of a certificate block that is valid under the payload. `verdicts` are what was found under it so far.
+fn accepted_span<'a, J: Judge>(
+    judge: &J,
+    payload: &[u8],
+    verdicts: &mut Verdicts<'a>,
+    message: &'a BlockMessage,
+) -> Result<Option<Span>, NoMemory>
+    requires { J.sound judge.now }
+    ensures span { Found (is_valid (answers J.trusted J.valid judge.now) payload.now) verdicts.old
+        → IfOk result (λ o. o ≡ accepted_span (answers J.trusted J.valid judge.now) payload.now message.now) }
+    ensures found { Found (is_valid (answers J.trusted J.valid judge.now) payload.now) verdicts.old
+        → OnOk result (Found (is_valid (answers J.trusted J.valid judge.now) payload.now) verdicts.new) }
+{
+    if !is_found_valid(judge, payload, verdicts, message)? {
+        return Ok(None);
     }
     match &message.said {
-        Said::Hashes(_) => None,
-        Said::Fragment(block) => Some(span_of(block)),
+        Said::Hashes(_) => Ok(None),
+        Said::Fragment(block) => Ok(Some(span_of(block))),
     }
 }
 
@@ -58,8 +90,9 @@ fn accepted_spans<J: Judge>(
         ≡ spans_of (certificates (filter (is_valid (answers J.trusted J.valid judge.now) payload.now) (map (λ b. b.now) blocks.now)))) }
 {
     let mut spans = Vec::new(alloc);
+    let mut verdicts = Verdicts::new(alloc);
     for message in blocks {
-        match accepted_span(judge, payload, message) {
+        match accepted_span(judge, payload, &mut verdicts, message)? {
             Some(span) => spans.push(span)?,
             None => {}
         }

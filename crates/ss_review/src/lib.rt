@@ -40,6 +40,7 @@ mod sorted;
 mod span;
 mod spoilt;
 mod unlisted;
+mod verdicts;
 mod verified;
 mod verifier;
 

@@ -4,12 +4,14 @@ ghost use Rattle.ss_review.specs.declared.message.BlockMessage.{BlockMessage};
 ghost use Rattle.ss_review.specs.Verified.{Answers, answers, is_valid_in, is_verified};
 ghost use Rattle.ss_review.specs.Numbered.{session_with_joined, sessions_joined};
 ghost use Rattle.ss_review.specs.Report.{refused};
+ghost use Rattle.ss_review.specs.Verdicts.{Found};
 
 use crate::accepting::is_valid;
 use crate::joined_session::JoinedSession;
 use crate::message::BlockMessage;
 use crate::places::Places;
 use crate::session_report::SessionState;
+use crate::verdicts::Verdicts;
 use crate::verifier::Judge;
 use ss_frame::Bytes;
 use ss_message::NoMemory;
@@ -43,6 +45,32 @@ fn is_verified<J: Judge>(judge: &J, sessions: &[JoinedSession<'_>], block: &Bloc
     }
 }
 
+/// Whether the block is verified. The judge is asked once about all blocks that are equal in what is signed: `sessions` are
+/// those of its log, in their order, and `verdicts` what was found of its blocks so far.
+fn is_found_verified<'a, J: Judge>(
+    judge: &J,
+    sessions: &[JoinedSession<'_>],
+    verdicts: &mut Verdicts<'a>,
+    block: &'a BlockMessage,
+) -> Result<bool, NoMemory>
+    requires { J.sound judge.now }
+    ensures verified { (bs : List BlockMessage)
+        → map session_with_joined sessions.now ≡ sessions_joined (answers J.trusted J.valid judge.now) bs
+        → Found (is_verified (answers J.trusted J.valid judge.now) bs) verdicts.old
+        → IfOk result (λ b. b ≡ is_verified (answers J.trusted J.valid judge.now) bs block.now) }
+    ensures found { (bs : List BlockMessage)
+        → map session_with_joined sessions.now ≡ sessions_joined (answers J.trusted J.valid judge.now) bs
+        → Found (is_verified (answers J.trusted J.valid judge.now) bs) verdicts.old
+        → OnOk result (Found (is_verified (answers J.trusted J.valid judge.now) bs) verdicts.new) }
+{
+    if let Some(is_verified) = verdicts.get(block) {
+        return Ok(is_verified);
+    }
+    let is_verified = is_verified(judge, sessions, block);
+    verdicts.add(block, is_verified)?;
+    Ok(is_verified)
+}
+
 /// Which of these blocks are verified, one after the other. `sessions` are theirs, in their order.
 pub(crate) fn verified<J: Judge>(
     alloc: Global,
@@ -55,8 +83,9 @@ pub(crate) fn verified<J: Judge>(
         → IfOk result (λ v. v.items ≡ map (is_verified (answers J.trusted J.valid judge.now) blocks.now) blocks.now) }
 {
     let mut verified = Vec::with_capacity(alloc, blocks.len())?;
+    let mut verdicts = Verdicts::new(alloc);
     for block in blocks {
-        verified.push(is_verified(judge, sessions, block))?;
+        verified.push(is_found_verified(judge, sessions, &mut verdicts, block)?)?;
     }
     Ok(verified)
 }

@@ -39,7 +39,7 @@ fn count<R: Read>(alloc: Global, reader: &mut Watched<R>, limits: Limits) -> Cou
 }
 
 /// Reads standard input under these limits, and prints what was read.
-pub fn run<R: Input + Print + AllocGlobal>(rt: &R, limits: Limits) -> io::Result<()> {
+pub(crate) fn run<R: Input + Print + AllocGlobal>(rt: &R, limits: Limits) -> io::Result<()> {
     let mut reader = Watched::new(Buffered::new(rt.alloc(), rt.reader())?);
     let counts = count(rt.alloc(), &mut reader, limits);
     println!(rt;

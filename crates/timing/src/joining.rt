@@ -24,7 +24,7 @@ pub enum Order {
 
 impl Order {
     /// The order of that name; another word is `rising`.
-    pub fn named(word: &str) -> Order {
+    pub(crate) fn named(word: &str) -> Order {
         match word {
             "falling" => Order::Falling,
             "shuffled" => Order::Shuffled,
@@ -106,7 +106,7 @@ fn keep(alloc: Global, count: u32) -> u32 {
 }
 
 /// Joins so many fragments in this order, and prints what came of it.
-pub fn run<R: Print + AllocGlobal>(rt: &R, order: Order, count: u32) -> io::Result<()> {
+pub(crate) fn run<R: Print + AllocGlobal>(rt: &R, order: Order, count: u32) -> io::Result<()> {
     if let Order::Joiners = order {
         println!(rt; "{} joiners", keep(rt.alloc(), count))?;
     } else {

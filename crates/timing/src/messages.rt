@@ -33,14 +33,14 @@ fn count(alloc: Global, log: &[u8], scan: bool) -> Counts {
 }
 
 /// Prints how many lines of the log are messages; with `scan` how many lines there are.
-pub fn print<R: Print + AllocGlobal>(rt: &R, log: &[u8], scan: bool) -> io::Result<()> {
+pub(crate) fn print<R: Print + AllocGlobal>(rt: &R, log: &[u8], scan: bool) -> io::Result<()> {
     let counts = count(rt.alloc(), log, scan);
     println!(rt; "{} read, {} refused", counts.read, counts.refused)?;
     Ok(())
 }
 
 /// As `print`, of standard input.
-pub fn run<R: Input + Print + AllocGlobal>(rt: &R, scan: bool) -> io::Result<()> {
+pub(crate) fn run<R: Input + Print + AllocGlobal>(rt: &R, scan: bool) -> io::Result<()> {
     let mut log = Vec::new(rt.alloc());
     rt.reader().read_to_end(&mut log)?;
     print(rt, &log, scan)

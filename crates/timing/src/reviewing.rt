@@ -93,7 +93,11 @@ fn print<R: Print + AllocGlobal>(rt: &R, said: &Result<Report, ReviewFault>) -> 
 }
 
 /// Reviews standard input, or feeds it alone, and prints what the report has.
-pub fn run<R: Input + Print + AllocGlobal>(rt: &R, limits: Limits, finish: bool) -> io::Result<()> {
+pub(crate) fn run<R: Input + Print + AllocGlobal>(
+    rt: &R,
+    limits: Limits,
+    finish: bool,
+) -> io::Result<()> {
     let mut reader = Watched::new(Buffered::new(rt.alloc(), rt.reader())?);
     let mut frames = FrameReader::new(rt.alloc(), limits);
     let mut reviewer = Reviewer::new(rt.alloc(), 10_000_000);

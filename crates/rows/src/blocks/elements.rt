@@ -14,7 +14,7 @@ pub enum Kind {
 }
 
 /// What a text is; none where memory ran out.
-pub fn kind_of(alloc: Global, text: &[u8]) -> Option<Kind> {
+pub(crate) fn kind_of(alloc: Global, text: &[u8]) -> Option<Kind> {
     match classify(alloc, text) {
         Ok(Reading::Plain) => Some(Kind::Plain),
         Ok(Reading::Unparsed { part, pos }) => Some(Kind::Unparsed(part, pos)),
@@ -61,7 +61,7 @@ pub const CERTIFICATE: [Named; 9] = [
 ];
 
 /// A parameter, with its SP.
-pub fn put(text: &mut Vec<u8>, parameter: Named) -> Result<(), AllocError> {
+pub(crate) fn put(text: &mut Vec<u8>, parameter: Named) -> Result<(), AllocError> {
     let (name, value) = parameter;
     text.push(b' ')?;
     text.extend_from_slice(name)?;
@@ -88,7 +88,7 @@ fn edited(parameter: Named, edits: &[Edit]) -> Option<Named> {
 }
 
 /// The element with these parameters, edited.
-pub fn put_element(
+pub(crate) fn put_element(
     text: &mut Vec<u8>,
     id: &[u8],
     parameters: &[Named],
@@ -113,7 +113,7 @@ pub enum Block {
 
 impl Block {
     /// The SD-ID.
-    pub fn id(self) -> &'static [u8] {
+    pub(crate) fn id(self) -> &'static [u8] {
         match self {
             Block::Signature => b"ssign",
             Block::Certificate => b"ssign-cert",
@@ -121,7 +121,7 @@ impl Block {
     }
 
     /// The parameters.
-    pub fn parameters(self) -> &'static [Named] {
+    pub(crate) fn parameters(self) -> &'static [Named] {
         match self {
             Block::Signature => &SIGNATURE,
             Block::Certificate => &CERTIFICATE,
@@ -129,7 +129,7 @@ impl Block {
     }
 
     /// The message of the block, edited.
-    pub fn with(self, alloc: Global, edits: &[Edit]) -> Result<Vec<u8>, AllocError> {
+    pub(crate) fn with(self, alloc: Global, edits: &[Edit]) -> Result<Vec<u8>, AllocError> {
         let mut text = Vec::from_slice(alloc, HEAD)?;
         put_element(&mut text, self.id(), self.parameters(), edits)?;
         Ok(text)

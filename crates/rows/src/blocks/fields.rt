@@ -22,7 +22,7 @@ pub const A2: [u8; 32] = [
 ];
 
 /// The octets as a value of their own.
-pub fn bytes(alloc: Global, octets: &[u8]) -> Result<Bytes, AllocError> {
+pub(crate) fn bytes(alloc: Global, octets: &[u8]) -> Result<Bytes, AllocError> {
     Ok(Bytes::from_vec(Vec::from_slice(alloc, octets)?))
 }
 
@@ -40,7 +40,7 @@ pub struct SignatureFields {
 
 impl SignatureFields {
     /// Whether these are the block's.
-    pub fn are_of(&self, block: &SigBlock) -> bool {
+    pub(crate) fn are_of(&self, block: &SigBlock) -> bool {
         block.alg() == self.alg
             && block.rsid() == self.rsid
             && block.group() == self.group
@@ -51,7 +51,7 @@ impl SignatureFields {
     }
 
     /// The block that has them.
-    pub fn block(&self, alloc: Global) -> Result<Option<SigBlock>, AllocError> {
+    pub(crate) fn block(&self, alloc: Global) -> Result<Option<SigBlock>, AllocError> {
         let hashes = Hashes::from_vec(Vec::from_slice(alloc, self.hashes)?);
         let signature = bytes(alloc, self.signature)?;
         Ok(SigBlock::new(
@@ -74,7 +74,7 @@ pub struct CertificateFields {
 
 impl CertificateFields {
     /// Whether these are the block's.
-    pub fn are_of(&self, block: &CertBlock) -> bool {
+    pub(crate) fn are_of(&self, block: &CertBlock) -> bool {
         block.alg() == self.alg
             && block.rsid() == self.rsid
             && block.group() == self.group
@@ -85,7 +85,7 @@ impl CertificateFields {
     }
 
     /// The block that has them.
-    pub fn block(&self, alloc: Global) -> Result<Option<CertBlock>, AllocError> {
+    pub(crate) fn block(&self, alloc: Global) -> Result<Option<CertBlock>, AllocError> {
         let fragment = bytes(alloc, self.fragment)?;
         let signature = bytes(alloc, self.signature)?;
         Ok(CertBlock::new(

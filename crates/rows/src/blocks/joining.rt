@@ -154,7 +154,7 @@ const SEQUENCES: [(&str, &[Step]); 11] = [
 ];
 
 /// Adds a fragment, or nothing where it isn't in the ranges of RFC 5848, section 5.3.2.
-pub fn add(
+pub(crate) fn add(
     joiner: &mut Joiner,
     total: u32,
     index: u32,

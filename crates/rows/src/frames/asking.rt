@@ -46,7 +46,7 @@ pub const FRAMES: Bounds = (Form::Frames, 65_536, 10_000_000);
 pub const LINES: Bounds = (Form::Lines, 65_536, 10_000_000);
 
 /// The limits with these bounds.
-pub fn limits_of(bounds: Bounds) -> Option<Limits> {
+pub(crate) fn limits_of(bounds: Bounds) -> Option<Limits> {
     let (form, max_len, max_messages) = bounds;
     let limits = Limits::new(max_len, max_messages)?;
     Some(match form {
@@ -88,7 +88,7 @@ fn ask(
 
 /// Asks for all frames of `pieces`. Each answer is wanted with the octets that are then taken. The last is an end, and two
 /// more calls after it read nothing.
-pub fn ask_all(
+pub(crate) fn ask_all(
     rt: &(impl Abort + AllocGlobal),
     name: &str,
     limits: Limits,
@@ -109,7 +109,7 @@ pub fn ask_all(
 }
 
 /// As `ask_all`, over one watched reader and up to the last of `wants`. A call that wants memory is made again.
-pub fn ask_on(
+pub(crate) fn ask_on(
     rt: &(impl Abort + AllocGlobal),
     limits: Limits,
     pieces: Pieces<'_>,

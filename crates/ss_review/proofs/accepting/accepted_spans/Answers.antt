@@ -9,25 +9,36 @@ use Rattle.ss_review.proofs.Covering.{accepted_more}
 use Rattle.ss_review.proofs.accepting.accepted_spans.Goals as goal
 use Rattle.ss_review.proofs.accepting.accepted_spans.Goals.{in-Some+in_ok-push-in-Some, in-None}
 
+pub loop-message-init : goal.loop-message-init
+loop-message-init g c =
+    (c.new-spans.ensures.items, c.new-verdicts.ensures (is_valid (answers g.J.Judge.trusted g.J.Judge.valid c.args.judge.now) c.args.payload.now))
+
 pub loop-message-preserved : goal.loop-message-preserved
 loop-message-preserved g c =
     let says = answers g.J.Judge.trusted g.J.Judge.valid c.args.judge.now in
     let payload = c.args.payload.now in
     let bs = c.args.blocks.now in
     let i = c.loop-message.message-index in
+    let had = c.loop-message.invariant in
     let before = spans_of (certificates (filter (is_valid says payload) (map (λ (m : Bor BlockMessage). m.now) (take i bs)))) in
     let more = accepted_more says payload bs i c.message-item.result c.loop-message-test.true c.message-item.is in
-    elim c.match-accepted_span.branch [
-      | in-Some+in_ok-push-in-Some w ↦
-          (λ j. (w.spans-is j).items)
-          ∙ w.in_ok-push-in-Some.ensures.items
-          ∙ ap (λ spans. spans ++ w.in-Some.span ∷ []) c.loop-message.invariant
-          ∙ ap (λ o. before ++ cons_option o []) (sym w.in-Some.is ∙ c.accepted_span.ensures)
-          ∙ sym more
-      | in-None w ↦
-          (λ j. (w.spans-is j).items)
-          ∙ c.loop-message.invariant
-          ∙ sym (append-nil before)
-          ∙ ap (λ o. before ++ cons_option o []) (sym w.in-None.is ∙ c.accepted_span.ensures)
-          ∙ sym more
+    let span = c.in_ok-span.ensures.span had.1 in
+    let found = c.in_ok-span.ensures.found had.1 in
+    elim c.match-branch-2.branch [
+      | in-Some+in_ok-push-in-Some w ↦ (
+        (λ j. (w.spans-is j).items)
+            ∙ w.in_ok-push-in-Some.ensures.items
+            ∙ ap (λ spans. spans ++ w.in-Some.span ∷ []) had.0
+            ∙ ap (λ o. before ++ cons_option o []) (sym w.in-Some.is ∙ span)
+            ∙ sym more,
+        found,
+      )
+      | in-None w ↦ (
+        (λ j. (w.spans-is j).items)
+            ∙ had.0
+            ∙ sym (append-nil before)
+            ∙ ap (λ o. before ++ cons_option o []) (sym w.in-None.is ∙ span)
+            ∙ sym more,
+        found,
+      )
     ]
