@@ -89,7 +89,7 @@ def fragments(log, n):
 
 
 def copies(log, n):
-    """Copies of one valid block, of a session with a payload of as many octets. It is answered once."""
+    """Copies of one valid block, of a session with a payload of as many octets. The answers have one line for all."""
     text = b"- U " + b64(b"x" * (3 * n // 4))
     log.trust(text)
     log.put_block(certificate(1, text[:1], len(text)))

@@ -25,7 +25,7 @@ pub mod Numbered
 pub mod Grouped
 pub mod Stated
 pub mod Covering
-pub mod Verdicts
+pub mod FoundBlocks
 pub mod Keeping
 pub mod Bearing
 pub mod Delivery

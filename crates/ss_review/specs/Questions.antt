@@ -1,4 +1,4 @@
--- What a review asks of a scheme.
+-- What a review asks of a scheme, as often as a block stands in its log.
 use Rattle.std.specs.Prelude.{ℕ, List, [], ◌∷◌, map, flat_map, Result, Ok, Err}
 use Rattle.ss_review.specs.declared.session_report.SessionState.{SessionState}
 use Rattle.ss_review.specs.declared.question.Question.{Question}

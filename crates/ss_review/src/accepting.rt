@@ -1,15 +1,16 @@
 //! Whether the payload of a session is trusted, and accepted by valid certificate blocks (RFC 5848, section 7).
-ghost use Rattle.std.specs.Prelude.{◌≡◌, map, filter, Ok, IfOk, OnOk};
+ghost use Rattle.std.specs.Prelude.{◌≡◌, Bool, map, filter, Ok, IfOk, OnOk};
+ghost use Rattle.ss_review.specs.declared.message.BlockMessage.{BlockMessage};
 ghost use Rattle.ss_review.specs.Payloads.{certificates};
 ghost use Rattle.ss_review.specs.Verified.{answers, signature_of, is_valid, is_accepted, judged, joined};
 ghost use Rattle.ss_review.specs.Covering.{spans_of, accepted_span};
-ghost use Rattle.ss_review.specs.Verdicts.{Found};
+ghost use Rattle.ss_review.specs.FoundBlocks.{TellsEqualsAlike, KeepsWhatHolds};
 
+use crate::found_blocks::FoundBlocks;
 use crate::joining::stated_payload;
 use crate::message::{BlockMessage, Said};
 use crate::session_report::SessionState;
 use crate::span::{Span, cover, span_of};
-use crate::verdicts::Verdicts;
 use crate::verifier::Judge;
 use ss_frame::Bytes;
 use ss_message::NoMemory;
@@ -34,47 +35,56 @@ pub(crate) fn is_valid<J: Judge>(judge: &J, payload: &[u8], message: &BlockMessa
     judge.accepts(payload, message.signed.as_slice(), signature.as_slice())
 }
 
-/// Whether the block's signature is valid under the payload. The judge is asked once about all blocks that are equal in
-/// what is signed: `verdicts` are what was found under this payload so far.
-fn is_found_valid<'a, J: Judge>(
+/// Whether the block's signature is valid under the payload. `found` is what was found of blocks so far: the judge isn't
+/// asked again about one that equals one of those in signature, signed octets and session.
+pub(crate) fn valid_once<'a, J: Judge>(
     judge: &J,
     payload: &[u8],
-    verdicts: &mut Verdicts<'a>,
+    found: &mut FoundBlocks<'a>,
     message: &'a BlockMessage,
 ) -> Result<bool, NoMemory>
     requires { J.sound judge.now }
-    ensures valid { Found (is_valid (answers J.trusted J.valid judge.now) payload.now) verdicts.old
-        → IfOk result (λ b. b ≡ is_valid (answers J.trusted J.valid judge.now) payload.now message.now) }
-    ensures found { Found (is_valid (answers J.trusted J.valid judge.now) payload.now) verdicts.old
-        → OnOk result (Found (is_valid (answers J.trusted J.valid judge.now) payload.now) verdicts.new) }
+    ensures valid { (f : BlockMessage → Bool)
+        → KeepsWhatHolds f found.old
+        → f message.now ≡ is_valid (answers J.trusted J.valid judge.now) payload.now message.now
+        → IfOk result (λ b. b ≡ f message.now) }
+    ensures kept { (f : BlockMessage → Bool)
+        → TellsEqualsAlike f
+        → KeepsWhatHolds f found.old
+        → f message.now ≡ is_valid (answers J.trusted J.valid judge.now) payload.now message.now
+        → OnOk result (KeepsWhatHolds f found.new) }
 {
-    if let Some(is_valid) = verdicts.get(message) {
+    if let Some(is_valid) = found.get(message) {
         return Ok(is_valid);
     }
     let is_valid = is_valid(judge, payload, message);
-    verdicts.add(message, is_valid)?;
+    found.add(message, is_valid)?;
     Ok(is_valid)
 }
 
-/// The indexes of a certificate block that is valid under the payload. `verdicts` are what was found under it so far.
+/// The indexes of a certificate block that is valid under the payload. `found` is what was found of the certificate
+/// blocks under it so far.
 fn accepted_span<'a, J: Judge>(
     judge: &J,
     payload: &[u8],
-    verdicts: &mut Verdicts<'a>,
+    found: &mut FoundBlocks<'a>,
     message: &'a BlockMessage,
 ) -> Result<Option<Span>, NoMemory>
     requires { J.sound judge.now }
-    ensures span { Found (is_valid (answers J.trusted J.valid judge.now) payload.now) verdicts.old
+    ensures span { KeepsWhatHolds (is_valid (answers J.trusted J.valid judge.now) payload.now) found.old
         → IfOk result (λ o. o ≡ accepted_span (answers J.trusted J.valid judge.now) payload.now message.now) }
-    ensures found { Found (is_valid (answers J.trusted J.valid judge.now) payload.now) verdicts.old
-        → OnOk result (Found (is_valid (answers J.trusted J.valid judge.now) payload.now) verdicts.new) }
+    ensures kept { KeepsWhatHolds (is_valid (answers J.trusted J.valid judge.now) payload.now) found.old
+        → OnOk result (KeepsWhatHolds (is_valid (answers J.trusted J.valid judge.now) payload.now) found.new) }
 {
-    if !is_found_valid(judge, payload, verdicts, message)? {
-        return Ok(None);
-    }
     match &message.said {
         Said::Hashes(_) => Ok(None),
-        Said::Fragment(block) => Ok(Some(span_of(block))),
+        Said::Fragment(block) => {
+            if valid_once(judge, payload, found, message)? {
+                Ok(Some(span_of(block)))
+            } else {
+                Ok(None)
+            }
+        }
     }
 }
 
@@ -90,9 +100,9 @@ fn accepted_spans<J: Judge>(
         ≡ spans_of (certificates (filter (is_valid (answers J.trusted J.valid judge.now) payload.now) (map (λ b. b.now) blocks.now)))) }
 {
     let mut spans = Vec::new(alloc);
-    let mut verdicts = Verdicts::new(alloc);
+    let mut found = FoundBlocks::new(alloc);
     for message in blocks {
-        match accepted_span(judge, payload, &mut verdicts, message)? {
+        match accepted_span(judge, payload, &mut found, message)? {
             Some(span) => spans.push(span)?,
             None => {}
         }

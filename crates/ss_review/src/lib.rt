@@ -13,6 +13,7 @@ mod entries;
 mod entry;
 mod equal_places;
 mod fault;
+mod found_blocks;
 mod group_report;
 mod grouping;
 mod index;
@@ -40,7 +41,6 @@ mod sorted;
 mod span;
 mod spoilt;
 mod unlisted;
-mod verdicts;
 mod verified;
 mod verifier;
 

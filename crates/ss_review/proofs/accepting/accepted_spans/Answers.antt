@@ -11,7 +11,7 @@ use Rattle.ss_review.proofs.accepting.accepted_spans.Goals.{in-Some+in_ok-push-i
 
 pub loop-message-init : goal.loop-message-init
 loop-message-init g c =
-    (c.new-spans.ensures.items, c.new-verdicts.ensures (is_valid (answers g.J.Judge.trusted g.J.Judge.valid c.args.judge.now) c.args.payload.now))
+    (c.new-spans.ensures.items, c.new-found.ensures (is_valid (answers g.J.Judge.trusted g.J.Judge.valid c.args.judge.now) c.args.payload.now))
 
 pub loop-message-preserved : goal.loop-message-preserved
 loop-message-preserved g c =
@@ -23,7 +23,7 @@ loop-message-preserved g c =
     let before = spans_of (certificates (filter (is_valid says payload) (map (λ (m : Bor BlockMessage). m.now) (take i bs)))) in
     let more = accepted_more says payload bs i c.message-item.result c.loop-message-test.true c.message-item.is in
     let span = c.in_ok-span.ensures.span had.1 in
-    let found = c.in_ok-span.ensures.found had.1 in
+    let found = c.in_ok-span.ensures.kept had.1 in
     elim c.match-branch-2.branch [
       | in-Some+in_ok-push-in-Some w ↦ (
         (λ j. (w.spans-is j).items)

@@ -3,10 +3,10 @@ use Rattle.std.proofs.Common.{◌≡◌, take, map, filter}
 use Rattle.ss_review.specs.Payloads.{certificates}
 use Rattle.ss_review.specs.Verified.{answers, is_valid}
 use Rattle.ss_review.specs.Covering.{spans_of}
-use Rattle.ss_review.specs.Verdicts.{Found}
+use Rattle.ss_review.specs.FoundBlocks.{KeepsWhatHolds}
 use Rattle.ss_review.proofs.accepting.accepted_spans.Given as goal
 
 abbrev pub invariant-loop-message : goal.invariant-loop-message
 invariant-loop-message g l =
     (l.spans.items ≡ spans_of (certificates (filter (is_valid (answers g.J.Judge.trusted g.J.Judge.valid l.judge) l.payload) (map (λ b. b.now) (take l.message-index l.blocks)))))
-    × Found (is_valid (answers g.J.Judge.trusted g.J.Judge.valid l.judge) l.payload) l.verdicts
+    × KeepsWhatHolds (is_valid (answers g.J.Judge.trusted g.J.Judge.valid l.judge) l.payload) l.found

@@ -2,10 +2,10 @@
 use Rattle.std.proofs.Common.{◌≡◌, take, map}
 use Rattle.ss_review.specs.Verified.{answers, is_verified}
 use Rattle.ss_review.specs.Numbered.{session_with_joined, sessions_joined}
-use Rattle.ss_review.specs.Verdicts.{Found}
+use Rattle.ss_review.specs.FoundBlocks.{KeepsWhatHolds}
 use Rattle.ss_review.proofs.verified.verified.Given as goal
 
 abbrev pub invariant-loop-block : goal.invariant-loop-block
 invariant-loop-block g l = map session_with_joined l.sessions ≡ sessions_joined (answers g.J.Judge.trusted g.J.Judge.valid l.judge) l.blocks
     → (l.verified.items ≡ map (is_verified (answers g.J.Judge.trusted g.J.Judge.valid l.judge) l.blocks) (take l.block-index l.blocks))
-    × Found (is_verified (answers g.J.Judge.trusted g.J.Judge.valid l.judge) l.blocks) l.verdicts
+    × KeepsWhatHolds (is_verified (answers g.J.Judge.trusted g.J.Judge.valid l.judge) l.blocks) l.found
