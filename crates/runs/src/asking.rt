@@ -1,9 +1,12 @@
-//! What a review asks of a signature scheme.
+//! What a review asks of a signature scheme, and how often.
+ghost use Rattle.std.specs.Prelude.{true};
+
 use crate::book::{PAYLOAD, SIGN};
 use crate::texts::{Text, octets_of, signed_of};
 use ss_frame::Bytes;
-use ss_review::{Question, Questions, ReviewFault, Reviewer};
+use ss_review::{Judge, Question, Questions, ReviewFault, Reviewer};
 use std::alloc::{AllocError, Global};
+use std::cell::Cell;
 use std::process::Abort;
 use std::test::Fail;
 
@@ -108,6 +111,58 @@ const ROWS: [Row; 10] = [
     },
 ];
 
+/// A log, and how often it is asked about a signature where everything is valid: about equal blocks once to accept a
+/// payload, if they are certificate blocks, and once to verify them.
+const COUNTS: [(&[Text], u32); 6] = [
+    (&[Text::Short, Text::Certificate, Text::Both], 3),
+    (
+        &[
+            Text::Both,
+            Text::Certificate,
+            Text::Both,
+            Text::Certificate,
+            Text::Certificate,
+            Text::Both,
+        ],
+        3,
+    ),
+    (&[Text::Back, Text::Front, Text::Back], 4),
+    (
+        &[
+            Text::Certificate,
+            Text::ShortAlone,
+            Text::Both,
+            Text::ShortAlone,
+        ],
+        4,
+    ),
+    (&[Text::Both, Text::Both], 0),
+    (&[Text::Certificate, Text::OtherPayload], 0),
+];
+
+/// Says yes to everything, and counts how often it is asked about a signature.
+#[derive(Drop)]
+struct Counting {
+    asked: Cell<u32>,
+}
+
+impl Judge for Counting {
+    ghost sound = { λ _. Unit {0} };
+
+    ghost trusted = { λ _ _. true };
+
+    ghost valid = { λ _ _ _ _. true };
+
+    fn trusts(&self, _payload: &[u8]) -> bool {
+        true
+    }
+
+    fn accepts(&self, _payload: &[u8], _octets: &[u8], _signature: &[u8]) -> bool {
+        self.asked.set(self.asked.get().saturating_add(1));
+        true
+    }
+}
+
 /// Whether these octets are a block of which this is signed.
 fn is_signed(alloc: Global, octets: &Bytes, text: Text) -> Result<bool, AllocError> {
     let signed = signed_of(alloc, text)?;
@@ -125,12 +180,25 @@ fn is_asked(alloc: Global, question: &Question, asked: Asked) -> Result<bool, Al
     }
 }
 
-fn questions_of(alloc: Global, log: &[Text]) -> Result<Questions, ReviewFault> {
+fn fed(alloc: Global, log: &[Text]) -> Result<Reviewer, ReviewFault> {
     let mut reviewer = Reviewer::new(alloc, 16);
     for text in log {
         reviewer.feed(octets_of(*text))?;
     }
-    reviewer.questions()
+    Ok(reviewer)
+}
+
+fn questions_of(alloc: Global, log: &[Text]) -> Result<Questions, ReviewFault> {
+    fed(alloc, log)?.questions()
+}
+
+/// How often a review of the log asks about a signature.
+fn times_asked(alloc: Global, log: &[Text]) -> Result<u32, ReviewFault> {
+    let counting = Counting {
+        asked: Cell::new(0),
+    };
+    fed(alloc, log)?.finish(&counting)?;
+    Ok(counting.asked.get())
 }
 
 /// The questions are those, in that order.
@@ -157,6 +225,14 @@ fn sees(rt: &(impl Abort + AllocGlobal), row: &Row) -> Result<(), ReviewFault> {
 fn asking(rt: HostRuntime) -> Result<(), Fail> {
     for row in &ROWS {
         sees(&rt, row)?;
+    }
+    Ok(())
+}
+
+#[test]
+fn asks_once_about_equal_blocks(rt: HostRuntime) -> Result<(), Fail> {
+    for (log, count) in &COUNTS {
+        assert_eq!(rt; times_asked(rt.alloc(), log)?, *count, "{log:?}");
     }
     Ok(())
 }
