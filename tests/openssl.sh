@@ -338,7 +338,7 @@ for tool in bash dirname readlink base64 od tr mktemp rm cat timeout date; do
 done
 PATH=$scratch/empty
 for script in make-key.sh seal.sh answer.sh; do
-    timeout 9 "$scripts/$script" keys >out 2>err
+    timeout "$patience" "$scripts/$script" keys >out 2>err
     status=$?
     PATH=$saved
     expect "$script without openssl" 2 '' "$script: there is no command openssl here: install it (all but openssl are of coreutils)"
