@@ -163,10 +163,11 @@ rt "$proves"
 ssign "$with_rt" review <"$root/examples/torn.frames"
 expect 'a build after it' 1 $'unlisted 0\nunlisted 1\ntorn 64\nend 2' 'SOME TEXT'
 
-# a source that is changed while the program is built
+# A source that is changed while the program is built, and before the program is written. The dates are set, since two
+# that are near each other may be one where a file system keeps whole seconds.
 rt "$proves"'
-sleep 0.1
-touch ../ss_frame/src/lib.rt'
+touch -d "1 minute" ../ss_frame/src/lib.rt
+touch -d "2 minutes" out/ssign'
 fresh
 ssign "$with_rt" review </dev/null
 expect 'a source that changes during a build' 0 'end 0' 'SOME TEXT'
