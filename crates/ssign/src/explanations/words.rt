@@ -16,9 +16,9 @@ pub static WORDS: [Explanation; 20] = [
     },
     Explanation {
         code: "gap",
-        text: "A message was signed under this number, and the log has none for it: lost, or disputed. A \
-            message that was changed shows as a gap, and as unlisted where it stands: look at its \
-            neighbours.",
+        text: "A message was signed under this number, and no stored message is listed for it: it is lost, or \
+            disputed. A message that was changed shows as a gap, and as unlisted where it stands: look at \
+            its neighbours.",
     },
     Explanation {
         code: "lost",
