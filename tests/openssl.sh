@@ -6,7 +6,7 @@
 scripts=$root/examples/openssl
 cd -- "$scratch" || exit 1
 
-# python ARG..: signatures.py
+# signatures ARG..: runs signatures.py
 signatures() {
     python3 -B "$root/tests/signatures.py" "$@"
 }
@@ -111,6 +111,7 @@ else
     echo "$name: there is no program $program, so the questions about the blocks of RFC 5848 are those of the model"
     PYTHONPATH=$root/tests python3 -B -c 'import review_runs, sys; sys.stdout.buffer.write(review_runs.run("questions", open("log", "rb").read())[1])' >questions
 fi
+holds 'three questions about them' test "$(wc -l <questions)" = 3
 do_script answer.sh public-key.pem <questions
 holds 'the signatures that RFC 5848 shows are valid' cmp questions out
 do_script answer.sh keys/public-key.pem <questions

@@ -119,7 +119,7 @@ said 'the time that it takes is told' ' minutes on this machine'
 said 'the file is named' "$copy/crates/ssign/out/ssign.log"
 said 'the crate is told' 'ssign: ss_frame'
 holds 'what the prover says is in the file' grep -q '^fn ss_frame::write::write_frame: proved$' "$copy/crates/ssign/out/ssign.log"
-holds 'and not on standard error' test ! -s <(grep '^fn ' "$scratch/err")
+holds 'and not on standard error' test -z "$(grep '^fn ' "$scratch/err")"
 ssign "$tools" review --answers "$answers" <"$log"
 expect 'the run after it' 0 "$report" ''
 cat >"$scratch/on_terminal.py" <<'P'
