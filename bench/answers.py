@@ -5,9 +5,9 @@
 
 PROGRAM is run as `PROGRAM review --answers FILE` with nothing on standard input, so that reading the answers is
 all of its work. `--signed` takes the answers of a signed log of COUNT messages, ten in a block, as tests/signed_log.py
-writes them. The others take COUNT lines: `--trust` those of payloads of eight octets; `--short-trust` and `--short-yes`
-the shortest ones that a file can hold so many of, all different, of fields of three octets. The peak is that of the
-process less that of a run on an empty file, told as a ratio to the file's octets.
+writes them. The others take COUNT lines: `--trust` those of payloads of eight octets, `--short-trust` and `--short-yes`
+the shortest that there are, each with a field of three octets that no other line has, up to 16,777,216 of them. The peak
+is that of the process less that of a run on an empty file, told as a ratio to the file's octets.
 """
 import argparse
 import base64
@@ -66,11 +66,18 @@ def short_yes(count, path):
 KINDS = {"signed": signed, "trust": trust, "short-trust": short_trust, "short-yes": short_yes}
 
 
+def positive(text):
+    count = int(text)
+    if count < 1:
+        raise ValueError
+    return count
+
+
 def main():
     parser = argparse.ArgumentParser(description=__doc__.splitlines()[0])
     parser.add_argument("program")
     for kind in KINDS:
-        parser.add_argument(f"--{kind}", type=int, nargs="*", default=[], metavar="COUNT")
+        parser.add_argument(f"--{kind}", type=positive, nargs="*", default=[], metavar="COUNT")
     given = vars(parser.parse_args())
     with tempfile.TemporaryDirectory() as folder:
         path = os.path.join(folder, "answers")
