@@ -36,9 +36,9 @@ pub static WORDS: [Explanation; 20] = [
     },
     Explanation {
         code: "unlisted",
-        text: "A stored message that no block vouches for. It may be genuine, and never signed, or its block \
-            lost or not believed; or it was put in, or changed, and then a gap stands for what it was. Look \
-            at the session and at the gaps beside it.",
+        text: "A stored message that is listed under no number. It may be genuine, and never signed, or its \
+            block lost or not believed; or it was put in, or stored once more than it was sent, or changed, \
+            and then a gap stands for what it was. Look at the session and at the gaps beside it.",
     },
     Explanation {
         code: "refused",
