@@ -1,17 +1,18 @@
 #!/usr/bin/env python3
 """What a file of answers costs: seconds and peak memory, against the octets of the file.
 
-    bench/answers.py PROGRAM [--signed COUNT..] [--short COUNT..] [--generator PROGRAM]
+    bench/answers.py PROGRAM [--signed COUNT..] [--trust COUNT..] [--short-trust COUNT..] [--short-yes COUNT..]
 
 PROGRAM is run as `PROGRAM review --answers FILE` with nothing on standard input, so that reading the answers is
-all of its work. `--signed` takes the answers of a signed log of COUNT messages, as a generator of logs writes them, which is
-called with `--count COUNT --signed --answers FILE`;
-`--short` takes COUNT lines `trust P` of a payload of eight octets, the most lines that a file of its size has in
-practice. The peak is that of the process less that of a run on an empty file, told as a ratio to the file's octets.
+all of its work. `--signed` takes the answers of a signed log of COUNT messages, ten in a block, as tests/signed_log.py
+writes them. The others take COUNT lines: `--trust` those of payloads of eight octets, `--short-trust` and `--short-yes`
+the shortest that there are, each with a field of three octets that no other line has, up to 16,777,216 of them. The peak
+is that of the process less that of a run on an empty file, told as a ratio to the file's octets.
 """
 import argparse
 import base64
 import os
+import shutil
 import subprocess
 import sys
 import tempfile
@@ -31,49 +32,66 @@ def run(program, path):
     return time.monotonic() - began, usage.ru_maxrss * 1024
 
 
-def signed(generator, count, path):
-    with open(os.devnull, "w") as log:
-        subprocess.run(
-            [sys.executable, generator, "--count", str(count), "--signed", "--answers", path],
-            stdout=log,
-            check=True,
-        )
+def signed(count, path):
+    make = os.path.join(os.path.dirname(os.path.abspath(__file__)), "..", "tests", "signed_log.py")
+    with tempfile.TemporaryDirectory() as folder:
+        subprocess.run([sys.executable, "-B", make, str(count), folder], check=True)
+        shutil.move(os.path.join(folder, "answers"), path)
 
 
-def short(count, path):
+def field(number, octets):
+    """A field of so many octets, in base64: spread, so that the file isn't in order already."""
+    spread = number * 0x9E3779B97F4A7C15 % 2**64 % 2 ** (8 * octets)
+    return base64.b64encode(spread.to_bytes(octets, "big"))
+
+
+def trust(count, path):
     with open(path, "wb") as file:
         for number in range(count):
-            # Spread, so that the file isn't in order already.
-            payload = (number * 0x9E3779B97F4A7C15 % 2**64).to_bytes(8, "big")
-            file.write(b"trust " + base64.b64encode(payload) + b"\n")
+            file.write(b"trust " + field(number, 8) + b"\n")
+
+
+def short_trust(count, path):
+    with open(path, "wb") as file:
+        for number in range(count):
+            file.write(b"trust " + field(number, 3) + b"\n")
+
+
+def short_yes(count, path):
+    with open(path, "wb") as file:
+        for number in range(count):
+            file.write(b"yes AAAA " + field(number, 3) + b" AAAA\n")
+
+
+KINDS = {"signed": signed, "trust": trust, "short-trust": short_trust, "short-yes": short_yes}
+
+
+def positive(text):
+    count = int(text)
+    if count < 1:
+        raise ValueError
+    return count
 
 
 def main():
     parser = argparse.ArgumentParser(description=__doc__.splitlines()[0])
     parser.add_argument("program")
-    parser.add_argument("--signed", type=int, nargs="*", default=[])
-    parser.add_argument("--short", type=int, nargs="*", default=[])
-    parser.add_argument("--generator")
-    given = parser.parse_args()
-    if given.signed and not given.generator:
-        parser.error("--signed wants a --generator")
+    for kind in KINDS:
+        parser.add_argument(f"--{kind}", type=positive, nargs="*", default=[], metavar="COUNT")
+    given = vars(parser.parse_args())
     with tempfile.TemporaryDirectory() as folder:
         path = os.path.join(folder, "answers")
         open(path, "wb").close()
-        _, bare = run(given.program, path)
-        print(f"{'file':>16} {'lines':>9} {'octets':>12} {'seconds':>8} {'peak':>12} {'ratio':>6}")
-        made = [("signed", count) for count in given.signed] + [("short", count) for count in given.short]
-        for kind, count in made:
-            if kind == "signed":
-                signed(given.generator, count, path)
-            else:
-                short(count, path)
+        _, bare = run(given["program"], path)
+        print(f"{'file':>20} {'lines':>9} {'octets':>12} {'seconds':>8} {'peak':>12} {'ratio':>6}")
+        for kind, count in [(kind, count) for kind in KINDS for count in given[kind.replace("-", "_")]]:
+            KINDS[kind](count, path)
             octets = os.path.getsize(path)
             with open(path, "rb") as file:
                 lines = sum(1 for _ in file)
-            seconds, peak = min(run(given.program, path) for _ in range(3))
+            seconds, peak = min(run(given["program"], path) for _ in range(3))
             print(
-                f"{kind + ' ' + str(count):>16} {lines:>9} {octets:>12} {seconds:>8.2f}"
+                f"{kind + ' ' + str(count):>20} {lines:>9} {octets:>12} {seconds:>8.2f}"
                 f" {peak - bare:>12} {(peak - bare) / octets:>6.2f}"
             )
 

@@ -119,7 +119,7 @@ said 'the time that it takes is told' ' minutes on this machine'
 said 'the file is named' "$copy/crates/ssign/out/ssign.log"
 said 'the crate is told' 'ssign: ss_frame'
 holds 'what the prover says is in the file' grep -q '^fn ss_frame::write::write_frame: proved$' "$copy/crates/ssign/out/ssign.log"
-holds 'and not on standard error' test ! -s <(grep '^fn ' "$scratch/err")
+holds 'and not on standard error' test -z "$(grep '^fn ' "$scratch/err")"
 ssign "$tools" review --answers "$answers" <"$log"
 expect 'the run after it' 0 "$report" ''
 cat >"$scratch/on_terminal.py" <<'P'
@@ -163,10 +163,11 @@ rt "$proves"
 ssign "$with_rt" review <"$root/examples/torn.frames"
 expect 'a build after it' 1 $'unlisted 0\nunlisted 1\ntorn 64\nend 2' 'SOME TEXT'
 
-# a source that is changed while the program is built
+# A source that is changed while the program is built, and before the program is written. The dates are set, since two
+# that are near each other may be one where a file system keeps whole seconds.
 rt "$proves"'
-sleep 0.1
-touch ../ss_frame/src/lib.rt'
+touch -d "1 minute" ../ss_frame/src/lib.rt
+touch -d "2 minutes" out/ssign'
 fresh
 ssign "$with_rt" review </dev/null
 expect 'a source that changes during a build' 0 'end 0' 'SOME TEXT'

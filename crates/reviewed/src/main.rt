@@ -18,19 +18,17 @@ mod told;
 
 use case::Case;
 use frames::split_frame;
+use ss_frame::MOST_MESSAGES;
 use ss_review::{Questions, Report, ReviewFault, Reviewer, plain};
 use std::io;
 use std::io::Read;
 use told::{print_questions, print_report};
 
-/// The longest log that a reviewer takes.
-const MAX_MESSAGES: u32 = 10_000_000;
-
 /// What a reviewer says of a log, or why it says nothing.
 type Said = Result<(Report, Questions), ReviewFault>;
 
 fn said_of_pairs<R: AllocGlobal>(rt: &R, case: &Case<'_>) -> Said {
-    let mut reviewer = Reviewer::new(rt.alloc(), MAX_MESSAGES);
+    let mut reviewer = Reviewer::new(rt.alloc(), MOST_MESSAGES);
     for message in case.messages.as_slice() {
         reviewer.feed(message)?;
     }
@@ -38,7 +36,7 @@ fn said_of_pairs<R: AllocGlobal>(rt: &R, case: &Case<'_>) -> Said {
 }
 
 fn said_of_whole<R: AllocGlobal>(rt: &R, case: &Case<'_>) -> Said {
-    let mut reviewer = plain::Reviewer::new(rt.alloc(), MAX_MESSAGES);
+    let mut reviewer = plain::Reviewer::new(rt.alloc(), MOST_MESSAGES);
     for message in case.messages.as_slice() {
         reviewer.feed(message)?;
     }

@@ -1,5 +1,5 @@
 //! What a review asks of a signature scheme, and how often.
-ghost use Rattle.std.specs.Prelude.{true};
+ghost use Rattle.std.specs.Prelude.{length, nat_le, true};
 
 use crate::book::{PAYLOAD, SIGN};
 use crate::texts::{Text, octets_of, signed_of};
@@ -111,10 +111,15 @@ const ROWS: [Row; 10] = [
     },
 ];
 
-/// A log, and how often it is asked about a signature where everything is valid: about equal blocks once to accept a
-/// payload, if they are certificate blocks, and once to verify them.
-const COUNTS: [(&[Text], u32); 6] = [
-    (&[Text::Short, Text::Certificate, Text::Both], 3),
+/// How many octets something that is signed has at least, for a judge to take its signature. 0 takes all; 130 takes the
+/// certificate block with the whole payload (130) and `Both` (147), and neither a fragment (114 and 123) nor `ShortAlone`
+/// (118); the greatest takes none.
+const JUDGES: [usize; 3] = [0, 130, usize::MAX];
+
+/// A log, and how often each judge is asked about a signature: about equal blocks once to accept a payload, if they are
+/// certificate blocks, and once to verify them if it is accepted.
+const COUNTS: [(&[Text], [u32; 3]); 6] = [
+    (&[Text::Short, Text::Certificate, Text::Both], [3, 3, 1]),
     (
         &[
             Text::Both,
@@ -124,9 +129,9 @@ const COUNTS: [(&[Text], u32); 6] = [
             Text::Certificate,
             Text::Both,
         ],
-        3,
+        [3, 3, 1],
     ),
-    (&[Text::Back, Text::Front, Text::Back], 4),
+    (&[Text::Back, Text::Front, Text::Back], [4, 2, 2]),
     (
         &[
             Text::Certificate,
@@ -134,15 +139,17 @@ const COUNTS: [(&[Text], u32); 6] = [
             Text::Both,
             Text::ShortAlone,
         ],
-        4,
+        [4, 4, 1],
     ),
-    (&[Text::Both, Text::Both], 0),
-    (&[Text::Certificate, Text::OtherPayload], 0),
+    (&[Text::Both, Text::Both], [0, 0, 0]),
+    (&[Text::Certificate, Text::OtherPayload], [0, 0, 0]),
 ];
 
-/// Says yes to everything, and counts how often it is asked about a signature.
+/// Trusts every payload, says yes to each signature of so many octets at least, and counts how often it is asked about
+/// one.
 #[derive(Drop)]
 struct Counting {
+    least: usize,
     asked: Cell<u32>,
 }
 
@@ -151,15 +158,15 @@ impl Judge for Counting {
 
     ghost trusted = { λ _ _. true };
 
-    ghost valid = { λ _ _ _ _. true };
+    ghost valid = { λ judge _ octets _. nat_le judge.least (length octets) };
 
     fn trusts(&self, _payload: &[u8]) -> bool {
         true
     }
 
-    fn accepts(&self, _payload: &[u8], _octets: &[u8], _signature: &[u8]) -> bool {
+    fn accepts(&self, _payload: &[u8], octets: &[u8], _signature: &[u8]) -> bool {
         self.asked.set(self.asked.get().saturating_add(1));
-        true
+        octets.len() >= self.least
     }
 }
 
@@ -192,9 +199,10 @@ fn questions_of(alloc: Global, log: &[Text]) -> Result<Questions, ReviewFault> {
     fed(alloc, log)?.questions()
 }
 
-/// How often a review of the log asks about a signature.
-fn times_asked(alloc: Global, log: &[Text]) -> Result<u32, ReviewFault> {
+/// How often a review of the log asks this judge about a signature.
+fn times_asked(alloc: Global, log: &[Text], least: usize) -> Result<u32, ReviewFault> {
     let counting = Counting {
+        least,
         asked: Cell::new(0),
     };
     fed(alloc, log)?.finish(&counting)?;
@@ -231,8 +239,11 @@ fn asking(rt: HostRuntime) -> Result<(), Fail> {
 
 #[test]
 fn asks_once_about_equal_blocks(rt: HostRuntime) -> Result<(), Fail> {
-    for (log, count) in &COUNTS {
-        assert_eq!(rt; times_asked(rt.alloc(), log)?, *count, "{log:?}");
+    for (log, counts) in &COUNTS {
+        for (least, count) in JUDGES.iter().zip(counts) {
+            let asked = times_asked(rt.alloc(), log, *least)?;
+            assert_eq!(rt; asked, *count, "{log:?}, {least}");
+        }
     }
     Ok(())
 }

@@ -3,16 +3,17 @@ use Rattle.std.proofs.Common.{◌≡◌, ℕ, ◌≤◌, length, length-append, 
 use Rattle.base64.specs.Rfc4648.{encode_symbols, padding_len}
 use Rattle.base64.specs.Engines.{standard}
 use Rattle.base64.specs.GeneralPurpose.{IsBytes, decode_of, encode_of, engine_symbols}
+use Rattle.ss_frame.specs.Ascii.{lf, sp}
 use Rattle.base64.proofs.EngineFacts.{decode_of-encode_of}
 use Rattle.ss_payload.specs.StrictBase64.{base64}
 use Rattle.ss_payload.proofs.Base64Text.{Clear, Clear-base64, no_space}
-use Rattle.ss_answers.specs.Answers.{Lacks, line_feed, space}
+use Rattle.ss_answers.specs.Answers.{Lacks}
 
-pub Lacks-space : (octets : List ℕ) → Lacks space (base64 octets)
+pub Lacks-space : (octets : List ℕ) → Lacks sp (base64 octets)
 Lacks-space octets = no_space octets
 
-pub no_line_feed : (octets : List ℕ) → Clear line_feed (base64 octets)
-no_line_feed octets = Clear-base64 line_feed octets refl refl refl
+pub no_line_feed : (octets : List ℕ) → Clear lf (base64 octets)
+no_line_feed octets = Clear-base64 lf octets refl refl refl
 
 length-encode_symbols-le : (t m : List ℕ) → length m ≤ length (encode_symbols t m)
 unfolding encode_symbols

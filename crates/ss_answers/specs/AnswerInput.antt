@@ -1,9 +1,10 @@
 -- What reading a file of answers takes from its reader, and when each fault comes.
 use Rattle.std.specs.Prelude.{◌≡◌, ℕ, ◌+◌, ◌^◌, ◌<◌, ◌≤◌, Bool, true, false, ◌⊎◌, List, [], ◌∷◌, ◌++◌, length, Option, Result, Ok, Err}
 use Rattle.std.specs.Io.KnownBytes.{Consumes, IsAtEnd}
+use Rattle.ss_frame.specs.Ascii.{lf}
 use Rattle.ss_answers.specs.declared.fault.AnswerFault.{AnswerFault}
 use Rattle.ss_answers.specs.declared.fault.AnswerFault.TheVariants.{BadLine, Read, TooBig, Memory}
-use Rattle.ss_answers.specs.Answers.{Answer, HasFirstBadLine, HasLines, SaysTheSame, ended, line_feed}
+use Rattle.ss_answers.specs.Answers.{Answer, HasFirstBadLine, HasLines, SaysTheSame, ended}
 
 -- a reader gave a text and no more, within the limit
 pub record GivesAll (old new : Option (List ℕ)) (max : ℕ) (text : List ℕ) : Type 0 where
@@ -84,11 +85,11 @@ pub record TakesSome (old new : Option (List ℕ)) (before after : List ℕ) (mo
 
 -- a text begins with these lines, and this is left, or its last line had no line feed
 abbrev pub IsReadUpTo : List ℕ → List Answer → List ℕ → Type 0
-IsReadUpTo text lines rest = (text ≡ ended lines ++ rest) ⊎ ((rest ≡ []) × (text ++ line_feed ∷ [] ≡ ended lines))
+IsReadUpTo text lines rest = (text ≡ ended lines ++ rest) ⊎ ((rest ≡ []) × (text ++ lf ∷ [] ≡ ended lines))
 
 -- a text is a line and what follows its line feed, or a line without one
 abbrev pub IsCutAfterLine : List ℕ → List ℕ → List ℕ → Type 0
-IsCutAfterLine text line after = (text ≡ line ++ line_feed ∷ after) ⊎ ((text ≡ line) × (after ≡ []))
+IsCutAfterLine text line after = (text ≡ line ++ lf ∷ after) ⊎ ((text ≡ line) × (after ≡ []))
 
 -- ---- a file
 

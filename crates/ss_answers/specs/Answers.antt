@@ -4,6 +4,7 @@ use Rattle.std.specs.Prelude.{◌≡◌, ℕ, ◌+◌, ◌<◌, ◌==◌, Bool, 
 use Rattle.std.specs.List.{All, AllByRecursion, find, flat_map, list_any}
 use Rattle.std.specs.Str.{bytes_eq}
 use Rattle.base64.specs.GeneralPurpose.{IsBytes}
+use Rattle.ss_frame.specs.Ascii.{lf, sp}
 use Rattle.ss_payload.specs.StrictBase64.{base64}
 
 -- what a line says: a payload is trusted; under a payload, octets have this valid signature; octets are to be
@@ -13,18 +14,12 @@ pub data Answer : Type 0 where
   Yes : List ℕ → List ℕ → List ℕ → Answer
   Seal : List ℕ → List ℕ → Answer
 
-abbrev pub line_feed : ℕ
-line_feed = 10
-
-abbrev pub space : ℕ
-space = 32
-
 -- the one spelling of a line, without its line feed
 abbrev pub line_text : Answer → List ℕ
 line_text (Trust payload) = codes "trust " ++ base64 payload
 line_text (Yes payload octets signature) =
-    codes "yes " ++ (base64 payload ++ space ∷ (base64 octets ++ space ∷ base64 signature))
-line_text (Seal octets signature) = codes "seal " ++ (base64 octets ++ space ∷ base64 signature)
+    codes "yes " ++ (base64 payload ++ sp ∷ (base64 octets ++ sp ∷ base64 signature))
+line_text (Seal octets signature) = codes "seal " ++ (base64 octets ++ sp ∷ base64 signature)
 
 -- what a field may hold: at least one octet
 pub record IsField (octets : List ℕ) : Type 0 where
@@ -38,17 +33,17 @@ HasFields (Seal octets signature) = IsField octets × IsField signature
 
 -- lines, each ended by a line feed
 abbrev pub ended : List Answer → List ℕ
-ended lines = flat_map (λ line. line_text line ++ line_feed ∷ []) lines
+ended lines = flat_map (λ line. line_text line ++ lf ∷ []) lines
 
 -- a text has these lines: it spells each of them, ended by a line feed that may be missing at the last
 pub record HasLines (text : List ℕ) (lines : List Answer) : Type 0 where
   pub fields : AllByRecursion HasFields lines
-  pub spelt : (text ≡ ended lines) ⊎ (text ++ line_feed ∷ [] ≡ ended lines)
+  pub spelt : (text ≡ ended lines) ⊎ (text ++ lf ∷ [] ≡ ended lines)
 
 -- the first line of a text, up to its line feed or to the end
 abbrev pub first_line : List ℕ → List ℕ
 first_line [] = []
-first_line (octet ∷ text) = if octet == line_feed then [] else octet ∷ first_line text
+first_line (octet ∷ text) = if octet == lf then [] else octet ∷ first_line text
 
 -- the octet stands nowhere in the text
 abbrev pub Lacks : ℕ → List ℕ → Type 0
@@ -59,14 +54,14 @@ abbrev pub IsNoField : List ℕ → Type 0
 IsNoField text = (octets : List ℕ) → IsField octets → text ≡ base64 octets → ⊥
 
 abbrev pub IsPair : List ℕ → List ℕ → List ℕ → Type 0
-IsPair text first second = IsField first × IsField second × (text ≡ base64 first ++ space ∷ base64 second)
+IsPair text first second = IsField first × IsField second × (text ≡ base64 first ++ sp ∷ base64 second)
 
 abbrev pub IsNoPair : List ℕ → Type 0
 IsNoPair text = (first second : List ℕ) → IsPair text first second → ⊥
 
 abbrev pub IsTriple : List ℕ → List ℕ → List ℕ → List ℕ → Type 0
 IsTriple text first second third = IsField first × IsField second × IsField third
-    × (text ≡ base64 first ++ space ∷ (base64 second ++ space ∷ base64 third))
+    × (text ≡ base64 first ++ sp ∷ (base64 second ++ sp ∷ base64 third))
 
 abbrev pub IsNoTriple : List ℕ → Type 0
 IsNoTriple text = (first second third : List ℕ) → IsTriple text first second third → ⊥

@@ -1,7 +1,8 @@
 //! One line of an answer file.
 ghost use Rattle.std.specs.Prelude.{◌≡◌, ◌++◌, ◌∷◌, List, ℕ, IfOk, IfErr, MatchOption};
+ghost use Rattle.ss_frame.specs.Ascii.{sp};
 ghost use Rattle.ss_payload.specs.StrictBase64.{base64};
-ghost use Rattle.ss_answers.specs.Answers.{IsField, IsNoField, IsPair, IsNoPair, IsTriple, IsNoTriple, IsNoLine, HasFields, line_text, space, Lacks};
+ghost use Rattle.ss_answers.specs.Answers.{IsField, IsNoField, IsPair, IsNoPair, IsTriple, IsNoTriple, IsNoLine, HasFields, line_text, Lacks};
 ghost use Rattle.ss_answers.specs.AnswerLine.{answer_of, IfBad};
 
 use base64::DecodeAllocError;
@@ -113,8 +114,8 @@ fn field(alloc: Global, text: &[u8]) -> Result<Vec<u8>, LineFault>
 
 /// What stands before the first space, and what stands after it.
 fn cut(text: &[u8]) -> Option<(&[u8], &[u8])>
-    ensures { MatchOption result (Lacks space text.now)
-        (λ parts. Lacks space parts.0.now × (text.now ≡ parts.0.now ++ space ∷ parts.1.now)) }
+    ensures { MatchOption result (Lacks sp text.now)
+        (λ parts. Lacks sp parts.0.now × (text.now ≡ parts.0.now ++ sp ∷ parts.1.now)) }
 {
     let at = text.iter().position(|octet| *octet == SPACE)?;
     Some((&text[..at], &text[at + 1..]))

@@ -1,6 +1,7 @@
 //! The lines of a file of answers.
 ghost use Rattle.std.specs.Prelude.{◌≡◌, ◌<◌, ◌+◌, ◌^◌, length, IfOk, IfErr, OnOk};
-ghost use Rattle.ss_answers.specs.Answers.{HasFields, HasLines, Lacks, line_feed};
+ghost use Rattle.ss_frame.specs.Ascii.{lf};
+ghost use Rattle.ss_answers.specs.Answers.{HasFields, HasLines, Lacks};
 ghost use Rattle.ss_answers.specs.AnswerInput.{IsCutAfterLine, IsTextFault};
 
 use crate::fault::AnswerFault;
@@ -79,7 +80,7 @@ pub fn read_lines(alloc: Global, text: &[u8]) -> Result<Lines, AnswerFault>
 
 /// The first line of a text, and what stands after its line feed.
 fn cut_line(text: &[u8]) -> (&[u8], &[u8])
-    ensures lacks { Lacks line_feed result.0.now }
+    ensures lacks { Lacks lf result.0.now }
     ensures cut { IsCutAfterLine text.now result.0.now result.1.now }
     ensures shorter { 0 < length text.now → length result.1.now < length text.now }
 {

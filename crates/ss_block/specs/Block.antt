@@ -7,6 +7,8 @@ use Rattle.ss_block.specs.declared.hash.Alg.TheVariants as algs
 use Rattle.ss_block.specs.declared.hash.Hash.{Hash}
 use Rattle.ss_block.specs.declared.hash.Hash.TheVariants as hashes
 use Rattle.ss_block.specs.declared.block.Group.{Group}
+use Rattle.ss_block.specs.Ranges.{last_number, past_last_number}
+use Rattle.ss_payload.specs.Ranges.{longest_payload}
 
 -- a signature block: the hashes of the messages numbered from `first` on in their group
 pub record Signature : Type 0 where
@@ -43,20 +45,20 @@ pub record IsGroup (g : Group) : Type 0 where
 -- Every number is at most 9,999,999,999, that of the last message too, which is one below the sum; 1 to 99 hashes, each
 -- of VER's algorithm.
 pub record IsSignature (b : Signature) : Type 0 where
-  pub rsid : b.rsid ≤ 9999999999
+  pub rsid : b.rsid ≤ last_number
   pub group : IsGroup b.group
-  pub gbc : b.gbc ≤ 9999999999
+  pub gbc : b.gbc ≤ last_number
   pub some_first : 1 ≤ b.first
   pub some_hash : 1 ≤ length b.hashes
   pub at_most_99_hashes : length b.hashes ≤ 99
   pub hashes : list_all (is_of b.alg) b.hashes ≡ true
-  pub last : b.first + length b.hashes ≤ 10000000000
+  pub last : b.first + length b.hashes ≤ past_last_number
 
 -- The fragment is UTF-8, as every value of a parameter, and lies within the payload's 1 to 99,999,999 octets.
 pub record IsCertificate (b : Certificate) : Type 0 where
-  pub rsid : b.rsid ≤ 9999999999
+  pub rsid : b.rsid ≤ last_number
   pub group : IsGroup b.group
-  pub total : b.total ≤ 99999999
+  pub total : b.total ≤ longest_payload
   pub some_index : 1 ≤ b.index
   pub some_octet : 1 ≤ length b.fragment
   pub at_most_9999_octets : length b.fragment ≤ 9999

@@ -11,6 +11,8 @@ use Rattle.ss_block.specs.declared.signature_reading.SignatureNumbers.{Signature
 use Rattle.ss_block.specs.declared.certificate_reading.CertificateNumbers.{CertificateNumbers}
 use Rattle.ss_block.specs.Number.{number}
 use Rattle.ss_block.specs.Reading.{first_cause, alg_of, hash_in, pieces, SignatureTexts, CertificateTexts}
+use Rattle.ss_block.specs.Ranges.{last_number}
+use Rattle.ss_payload.specs.Ranges.{longest_payload}
 
 -- a value where the test holds, else the cause, unless memory ran out
 abbrev pub Tests : {X : Type 0} → Spoil → Bool → (X → Type 0) → Result X Refusal → Type 0
@@ -49,12 +51,12 @@ pub record IsSignatureNumbers (t : SignatureTexts) (n : SignatureNumbers) : Type
   pub gbc : n.gbc ≡ number t.gbc
   pub first : n.first ≡ number t.fmn
   pub count : n.count ≡ number t.cnt
-  pub small_rsid : n.rsid ≤ 9999999999
+  pub small_rsid : n.rsid ≤ last_number
   pub small_sg : n.group.sg ≤ 3
   pub small_spri : n.group.spri ≤ 191
-  pub small_gbc : n.gbc ≤ 9999999999
+  pub small_gbc : n.gbc ≤ last_number
   pub some_first : 1 ≤ n.first
-  pub small_first : n.first ≤ 9999999999
+  pub small_first : n.first ≤ last_number
   pub some_hash : 1 ≤ n.count
   pub small_count : n.count ≤ 99
 
@@ -66,11 +68,11 @@ pub record IsCertificateNumbers (t : CertificateTexts) (n : CertificateNumbers) 
   pub total : n.total ≡ number t.tpbl
   pub index : n.index ≡ number t.index
   pub octets : n.octets ≡ number t.flen
-  pub small_rsid : n.rsid ≤ 9999999999
+  pub small_rsid : n.rsid ≤ last_number
   pub small_sg : n.group.sg ≤ 3
   pub small_spri : n.group.spri ≤ 191
-  pub small_total : n.total ≤ 99999999
+  pub small_total : n.total ≤ longest_payload
   pub some_index : 1 ≤ n.index
-  pub small_index : n.index ≤ 99999999
+  pub small_index : n.index ≤ longest_payload
   pub some_octet : 1 ≤ n.octets
   pub small_octets : n.octets ≤ 9999

@@ -7,6 +7,8 @@ use Rattle.ss_payload.specs.Cuts.{AreCuts, piece_of}
 use Rattle.ss_block.specs.declared.hash.Alg.{Alg}
 use Rattle.ss_block.specs.declared.block.Group.{Group}
 use Rattle.ss_block.specs.Block.{IsGroup, IsCertificate}
+use Rattle.ss_payload.specs.Ranges.{longest_payload}
+use Rattle.ss_block.specs.Ranges.{last_number}
 
 -- Each piece of an ASCII text is the fragment of a certificate block, whose other numbers are in their ranges.
 abbrev pub PiecesAreFragments : Type 0
@@ -14,12 +16,12 @@ PiecesAreFragments =
     (text : List ℕ) (size : ℕ) (cuts : List Cut) (c : Cut) (alg : Alg) (rsid : ℕ) (group : Group) (signature : List ℕ)
     → IsAscii text
     → 1 ≤ length text
-    → length text ≤ 99999999
+    → length text ≤ longest_payload
     → 1 ≤ size
     → size ≤ 9999
     → AreCuts (length text) size cuts
     → Contains cuts c
-    → rsid ≤ 9999999999
+    → rsid ≤ last_number
     → IsGroup group
     → IsCertificate (record {
       alg = alg;

@@ -1,3 +1,4 @@
+pub mod Ranges
 pub mod Number
 pub mod Block
 pub mod Hashes

@@ -7,6 +7,7 @@ use Rattle.std.specs.Ordering.{nat_cmp, ordering_then}
 use Rattle.std.specs.Cmp.{IsTotalOrder, then_total, on_total, nat_cmp_total}
 use Rattle.std.specs.Cmp.Lexicographic.{nat_list_cmp_total}
 use Rattle.std.proofs.lemmas.Map.Lookups.{exact_unsigned, exact_bytes}
+use Rattle.ss_frame.specs.Ascii.{dash}
 use Rattle.ss_message.specs.declared.draft.Field.{Field}
 use Rattle.ss_message.specs.declared.draft.Field.TheVariants.{Nil, Text}
 use Rattle.ss_block.specs.declared.block.Group.{Group}
@@ -133,8 +134,8 @@ field_cmp_total = then_total (on_total spelled nat_list_cmp_total) (on_total pre
 
 pub field_cmp_exact : (a b : Field) → field_cmp a b ≡ Equal → a ≡ b
 field_cmp_exact Nil Nil h = refl
-field_cmp_exact Nil (Text b) h = let tie : Less ≡ Equal = second_tie (octets_cmp (45 ∷ []) b) Less h in cc
-field_cmp_exact (Text a) Nil h = let tie : Greater ≡ Equal = second_tie (octets_cmp a (45 ∷ [])) Greater h in cc
+field_cmp_exact Nil (Text b) h = let tie : Less ≡ Equal = second_tie (octets_cmp (dash ∷ []) b) Less h in cc
+field_cmp_exact (Text a) Nil h = let tie : Greater ≡ Equal = second_tie (octets_cmp a (dash ∷ [])) Greater h in cc
 field_cmp_exact (Text a) (Text b) h = ap Text (exact_octets a b (first_tie _ _ h))
 
 pub session_cmp_total : IsTotalOrder session_cmp

@@ -4,6 +4,7 @@ use Rattle.std.specs.Prelude.{ℕ, ◌+◌, Bool, true, ◌&&◌, ◌||◌, not,
 use Rattle.std.specs.List.{list_all, slice_split}
 use Rattle.std.specs.Str.{bytes_eq}
 use Rattle.std.specs.Cmp.Lexicographic.{pointwise}
+use Rattle.ss_frame.specs.Ascii.{sp}
 use Rattle.ss_message.specs.declared.fault.BadPart.{BadPart}
 use Rattle.ss_message.specs.Raw.{meant}
 use Rattle.ss_message.specs.Message.{ParameterValue, ElementValue, MessageValue}
@@ -20,6 +21,8 @@ use Rattle.ss_block.specs.declared.reading.Reading.TheVariants.{Plain, Unparsed,
 use Rattle.ss_block.specs.Block as block
 use Rattle.ss_payload.specs.StrictBase64.{octets_in}
 use Rattle.ss_block.specs.Number.{number, is_number}
+use Rattle.ss_block.specs.Ranges.{last_number, past_last_number}
+use Rattle.ss_payload.specs.Ranges.{longest_payload}
 
 -- ---- the parameters of an element
 
@@ -66,7 +69,7 @@ hash_in alg text = hash_decoded alg (octets_in text)
 
 -- HB, cut at each SP
 abbrev pub pieces : List ℕ → List (List ℕ)
-pieces text = slice_split (λ b. b == 32) text
+pieces text = slice_split (λ b. b == sp) text
 
 abbrev pub hash_list : Option Hash → List Hash
 hash_list None = []
@@ -101,8 +104,8 @@ signature_texts e = record { ver = text_at e 0; rsid = text_at e 1; sg = text_at
 
 abbrev pub signature_numbers : SignatureTexts → Bool
 signature_numbers t =
-    is_number 0 9999999999 t.rsid && is_number 0 3 t.sg && is_number 0 191 t.spri && is_number 0 9999999999 t.gbc
-    && is_number 1 9999999999 t.fmn && is_number 1 99 t.cnt
+    is_number 0 last_number t.rsid && is_number 0 3 t.sg && is_number 0 191 t.spri && is_number 0 last_number t.gbc
+    && is_number 1 last_number t.fmn && is_number 1 99 t.cnt
 
 -- each cause beside whether it applies
 abbrev pub signature_causes : Bool → SignatureTexts → List (Bool × Spoil)
@@ -113,7 +116,7 @@ signature_causes named t =
     ∷ (not (length (pieces t.hb) == number t.cnt), spoils.HashCount)
     ∷ (not (list_all (λ piece. is_some (hash_in (alg_of t.ver) piece)) (pieces t.hb)), spoils.Hash)
     ∷ (not (is_some (octets_in t.sign)), spoils.Sign)
-    ∷ (nat_lt 10000000000 (number t.fmn + number t.cnt), spoils.LastNumber)
+    ∷ (nat_lt past_last_number (number t.fmn + number t.cnt), spoils.LastNumber)
     ∷ []
 
 abbrev pub signature_block : SignatureTexts → block.Signature
@@ -156,8 +159,8 @@ certificate_texts e = record { ver = text_at e 0; rsid = text_at e 1; sg = text_
 
 abbrev pub certificate_numbers : CertificateTexts → Bool
 certificate_numbers t =
-    is_number 0 9999999999 t.rsid && is_number 0 3 t.sg && is_number 0 191 t.spri && is_number 1 99999999 t.tpbl
-    && is_number 1 99999999 t.index && is_number 1 9999 t.flen
+    is_number 0 last_number t.rsid && is_number 0 3 t.sg && is_number 0 191 t.spri && is_number 1 longest_payload t.tpbl
+    && is_number 1 longest_payload t.index && is_number 1 9999 t.flen
 
 abbrev pub certificate_causes : Bool → CertificateTexts → List (Bool × Spoil)
 certificate_causes named t =

@@ -2,6 +2,7 @@
 -- parameter of its block element and the SP before it.
 use Rattle.std.specs.Prelude.{◌≡◌, ℕ, [], Bool, true, length, ◌∷◌, ◌++◌, List, take, map, flat_map, codes, Option, Some, None, Result, Ok, Err, if◌then◌else◌, ◌||◌}
 use Rattle.std.specs.Str.{bytes_eq}
+use Rattle.ss_frame.specs.Ascii.{opening_bracket, closing_bracket}
 use Rattle.ss_message.specs.declared.fault.BadPart.{BadPart}
 use Rattle.ss_message.specs.Message.{ParameterValue, ElementValue, MessageValue, IsMessage, text, header_text, element_text, parameter_text, msg_text}
 use Rattle.ss_message.specs.Layout.{Layout, value_at}
@@ -59,7 +60,7 @@ pub record IsWithoutSign (t octets : List ℕ) : Type 0 where
   pub block : is_block_id id ≡ true
   pub eight : length parameters ≡ 8
   pub elements : value.elements ≡ before ++ record { id = id; parameters = parameters ++ record { name = codes "SIGN"; raw = sign } ∷ [] } ∷ after
-  pub whole : t ≡ (header_text value ++ flat_map element_text before ++ 91 ∷ id ++ flat_map parameter_text parameters)
-      ++ codes " SIGN=\"" ++ sign ++ codes "\"" ++ (93 ∷ flat_map element_text after ++ msg_text value.msg)
-  pub left : octets ≡ (header_text value ++ flat_map element_text before ++ 91 ∷ id ++ flat_map parameter_text parameters)
-      ++ (93 ∷ flat_map element_text after ++ msg_text value.msg)
+  pub whole : t ≡ (header_text value ++ flat_map element_text before ++ opening_bracket ∷ id ++ flat_map parameter_text parameters)
+      ++ codes " SIGN=\"" ++ sign ++ codes "\"" ++ (closing_bracket ∷ flat_map element_text after ++ msg_text value.msg)
+  pub left : octets ≡ (header_text value ++ flat_map element_text before ++ opening_bracket ∷ id ++ flat_map parameter_text parameters)
+      ++ (closing_bracket ∷ flat_map element_text after ++ msg_text value.msg)

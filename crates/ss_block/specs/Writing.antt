@@ -2,6 +2,7 @@
 -- block's element alone, and no MSG.
 use Rattle.std.specs.Prelude.{ℕ, List, [], ◌∷◌, ◌++◌, length, map, codes, decimal, Option, None}
 use Rattle.std.specs.List.{join_with_byte}
+use Rattle.ss_frame.specs.Ascii.{sp}
 use Rattle.ss_message.specs.Raw.{escaped}
 use Rattle.ss_message.specs.Stamp.{Moment}
 use Rattle.ss_message.specs.Message.{ParameterValue, ElementValue, MessageValue, text}
@@ -32,7 +33,7 @@ hash_octets (hashes.Sha256 octets) = octets
 
 -- HB: each hash in base64 by itself, one SP between two
 abbrev pub hashes_text : List Hash → List ℕ
-hashes_text hs = join_with_byte 32 (map (λ h. base64 (hash_octets h)) hs)
+hashes_text hs = join_with_byte sp (map (λ h. base64 (hash_octets h)) hs)
 
 abbrev pub signature_parameters : block.Signature → List ParameterValue
 signature_parameters b =

@@ -5,8 +5,10 @@ ghost use Rattle.ss_block.specs.Block.{IsGroup, IsSignature, IsCertificate, is_o
 
 use crate::hash::{Alg, Hash};
 use crate::hashes::Hashes;
+use crate::ranges::{LAST_NUMBER, PAST_LAST_NUMBER};
 use ss_frame::Bytes;
 use ss_message::is_utf8;
+use ss_payload::LONGEST_PAYLOAD;
 use std::marker::Model;
 
 /// The group of messages that a block speaks of (RFC 5848, section 4.2.3).
@@ -105,10 +107,10 @@ impl SigBlock {
         }) }
     {
         let count = hashes.as_slice().len();
-        if rsid > 9_999_999_999 || !group.is_valid() || gbc > 9_999_999_999 {
+        if rsid > LAST_NUMBER || !group.is_valid() || gbc > LAST_NUMBER {
             return None;
         }
-        if first < 1 || count < 1 || count > 99 || first > 10_000_000_000 - count as u64 {
+        if first < 1 || count < 1 || count > 99 || first > PAST_LAST_NUMBER - count as u64 {
             return None;
         }
         if !are_of(alg, hashes.as_slice()) {
@@ -245,7 +247,7 @@ impl CertBlock {
         }) }
     {
         let count = fragment.as_slice().len();
-        if rsid > 9_999_999_999 || !group.is_valid() || total > 99_999_999 || index < 1 {
+        if rsid > LAST_NUMBER || !group.is_valid() || total > LONGEST_PAYLOAD || index < 1 {
             return None;
         }
         if count < 1 || count > 9_999 || index as u64 + count as u64 > total as u64 + 1 {

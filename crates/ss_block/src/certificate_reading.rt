@@ -11,11 +11,13 @@ ghost use Rattle.ss_block.specs.Causes.{Tests, Reads, IsCertificateNumbers};
 
 use crate::block::{CertBlock, Group};
 use crate::parameters::{number_at, sign, version};
+use crate::ranges::LAST_NUMBER;
 use crate::reading::Reading;
 use crate::refusal::Refusal;
 use crate::spoil::Spoil;
 use crate::texts::{has_parameters, text_at};
 use ss_message::{Element, NoMemory};
+use ss_payload::LONGEST_PAYLOAD;
 use std::alloc::Global;
 
 /// The numbers of a certificate block.
@@ -33,11 +35,11 @@ fn numbers(alloc: Global, source: &[u8], element: &Element) -> Result<Certificat
     requires { HasNine source.now element.now }
     ensures value { Tests spoils.Number (certificate_numbers (certificate_texts (element_value source.now element.now))) (IsCertificateNumbers (certificate_texts (element_value source.now element.now))) result }
 {
-    let rsid = number_at(alloc, source, element, 1, 0, 9_999_999_999)?;
+    let rsid = number_at(alloc, source, element, 1, 0, LAST_NUMBER)?;
     let sg = number_at(alloc, source, element, 2, 0, 3)? as u8;
     let spri = number_at(alloc, source, element, 3, 0, 191)? as u8;
-    let total = number_at(alloc, source, element, 4, 1, 99_999_999)? as u32;
-    let index = number_at(alloc, source, element, 5, 1, 99_999_999)? as u32;
+    let total = number_at(alloc, source, element, 4, 1, u64::from(LONGEST_PAYLOAD))? as u32;
+    let index = number_at(alloc, source, element, 5, 1, u64::from(LONGEST_PAYLOAD))? as u32;
     let octets = number_at(alloc, source, element, 6, 1, 9999)? as u32;
     let group = Group { sg, spri };
     Ok(CertificateNumbers {

@@ -14,6 +14,7 @@ use crate::hash::Alg;
 use crate::hash_text::{count_pieces, hashes_of};
 use crate::hashes::Hashes;
 use crate::parameters::{number_at, sign, version};
+use crate::ranges::LAST_NUMBER;
 use crate::reading::Reading;
 use crate::refusal::Refusal;
 use crate::spoil::Spoil;
@@ -36,11 +37,11 @@ fn numbers(alloc: Global, source: &[u8], element: &Element) -> Result<SignatureN
     requires { HasNine source.now element.now }
     ensures value { Tests spoils.Number (signature_numbers (signature_texts (element_value source.now element.now))) (IsSignatureNumbers (signature_texts (element_value source.now element.now))) result }
 {
-    let rsid = number_at(alloc, source, element, 1, 0, 9_999_999_999)?;
+    let rsid = number_at(alloc, source, element, 1, 0, LAST_NUMBER)?;
     let sg = number_at(alloc, source, element, 2, 0, 3)? as u8;
     let spri = number_at(alloc, source, element, 3, 0, 191)? as u8;
-    let gbc = number_at(alloc, source, element, 4, 0, 9_999_999_999)?;
-    let first = number_at(alloc, source, element, 5, 1, 9_999_999_999)?;
+    let gbc = number_at(alloc, source, element, 4, 0, LAST_NUMBER)?;
+    let first = number_at(alloc, source, element, 5, 1, LAST_NUMBER)?;
     let count = number_at(alloc, source, element, 6, 1, 99)?;
     let group = Group { sg, spri };
     Ok(SignatureNumbers {

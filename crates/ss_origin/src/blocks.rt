@@ -14,6 +14,7 @@ ghost use Rattle.ss_origin.specs.Pending.{runs_pending, pending_block, blocks_pe
 ghost use Rattle.ss_origin.specs.Emission.{certificate_in, certificate_of, signature_in};
 ghost use Rattle.ss_origin.specs.Signing.{HasSession};
 ghost use Rattle.ss_origin.specs.declared.unsigned.Unsigned.TheVariants.{Signature};
+ghost use Rattle.ss_block.specs.Ranges.{past_last_number};
 
 use crate::config::Config;
 use crate::slots::{Slot, Slots};
@@ -135,7 +136,7 @@ fn push_pending(
     requires config { is_config config.now ≡ true }
     requires spri { spri < 192 }
     requires group { IsGroupState config.now slot.now }
-    requires gbc { gbc + length (run_if_any spri slot.now.pending) ≤ 10000000000 }
+    requires gbc { gbc + length (run_if_any spri slot.now.pending) ≤ past_last_number }
     ensures { OnOk result (due.new.items ≡ due.old.items ++ pending_block config.now spri gbc slot.now) }
 {
     let pending = slot.pending();
@@ -157,7 +158,7 @@ pub fn pending_blocks(
 ) -> Result<Vec<Unsigned>, NoMemory>
     requires config { is_config config.now ≡ true }
     requires groups { All (IsGroupState config.now) slots.now }
-    requires gbc { gbc + length (runs_pending slots.now spris) ≤ 10000000000 }
+    requires gbc { gbc + length (runs_pending slots.now spris) ≤ past_last_number }
     ensures { IfOk result (λ v. v.items ≡ blocks_pending config.now gbc slots.now spris) }
 {
     let mut due = Vec::new(alloc);
@@ -180,8 +181,8 @@ pub fn full_block(
     requires config { is_config config.now ≡ true }
     requires spri { spri < 192 }
     requires group { IsGroupState config.now slot.now }
-    requires gbc { gbc < 10000000000 }
-    requires number { slot.now.number < 10000000000 }
+    requires gbc { gbc < past_last_number }
+    requires number { slot.now.number < past_last_number }
     requires hash { is_of config.now.alg hash ≡ true }
     ensures { IfOk result (λ v. v.items ≡ Signature (signature_in config.now spri gbc (slot.now.number - length slot.now.pending) (slot.now.pending ++ hash ∷ [])) ∷ []) }
 {

@@ -4,11 +4,12 @@ ghost use Rattle.std.specs.List.{list_all};
 ghost use Rattle.ss_origin.specs.Groups.{are_bounds, is_grouping, has_group};
 ghost use Rattle.ss_origin.specs.Configs.{is_between, is_config, IsFit};
 ghost use Rattle.ss_origin.specs.Counting.{rises, are_counters};
+ghost use Rattle.ss_block.specs.Ranges.{past_last_number};
 
 use crate::config::Config;
 use crate::counters::{Counters, NextNumber};
 use crate::grouping::Grouping;
-use ss_block::Payload;
+use ss_block::{LAST_NUMBER, LONGEST_PAYLOAD, PAST_LAST_NUMBER, Payload};
 use ss_message::NoMemory;
 use std::alloc::Global;
 
@@ -38,7 +39,7 @@ fn is_grouping(grouping: &Grouping) -> bool
 fn is_config(config: &Config) -> bool
     ensures { result ≡ is_config config.now }
 {
-    config.rsid <= 9_999_999_999
+    config.rsid <= LAST_NUMBER
         && (1 <= config.per_block && config.per_block <= 99)
         && (1 <= config.copies && config.copies <= 9)
         && (1 <= config.frag && config.frag <= 9_999)
@@ -54,7 +55,7 @@ pub fn is_fit(alloc: Global, config: &Config, payload: &Payload) -> Result<bool,
         return Ok(false);
     }
     let text = payload.write(alloc)?;
-    Ok(text.as_slice().len() <= 99_999_999)
+    Ok(text.as_slice().len() <= LONGEST_PAYLOAD as usize)
 }
 
 // Whether the grouping has a group of this SPRI.
@@ -80,10 +81,10 @@ fn rises(numbers: &[NextNumber]) -> bool
 }
 
 fn are_in_range(grouping: &Grouping, numbers: &[NextNumber]) -> bool
-    ensures { result ≡ list_all (λ n. has_group grouping.now n.spri && is_between 1 10000000000 n.number) numbers.now }
+    ensures { result ≡ list_all (λ n. has_group grouping.now n.spri && is_between 1 past_last_number n.number) numbers.now }
 {
     for next in numbers {
-        if !has_group(grouping, next.spri) || next.number < 1 || next.number > 10_000_000_000 {
+        if !has_group(grouping, next.spri) || next.number < 1 || next.number > PAST_LAST_NUMBER {
             return false;
         }
     }
@@ -96,5 +97,5 @@ pub fn are_counters(grouping: &Grouping, counters: &Counters) -> bool
     ensures { result ≡ are_counters grouping.now counters.now }
 {
     let numbers = counters.groups.as_slice();
-    counters.gbc <= 10_000_000_000 && rises(numbers) && are_in_range(grouping, numbers)
+    counters.gbc <= PAST_LAST_NUMBER && rises(numbers) && are_in_range(grouping, numbers)
 }

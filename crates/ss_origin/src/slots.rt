@@ -5,6 +5,7 @@ ghost use Rattle.ss_origin.specs.Step.{group_flushed};
 ghost use Rattle.ss_origin.specs.Slots.{IsRoom, slot_in, slot_from, slot_with, number_if_known, next_numbers};
 ghost use Rattle.ss_origin.specs.Pending.{runs_pending};
 ghost use Rattle.ss_origin.specs.Counting.{names, number_in};
+ghost use Rattle.ss_block.specs.Ranges.{past_last_number};
 
 use crate::counters::{NextNumber, NextNumbers};
 use ss_block::Hash;
@@ -118,7 +119,7 @@ impl Slot {
 
     // Takes the hash of its next message. Where memory runs out, it stays as it is.
     fn push(&mut self, hash: Hash) -> Result<(), NoMemory>
-        requires number { self.old.number < 10000000000 }
+        requires number { self.old.number < past_last_number }
         requires few { length self.old.pending < 98 }
         ensures { self.new ≡ (if is_ok result then slot_with self.old (self.old.pending ++ hash ∷ []) else self.old) }
     {
@@ -131,7 +132,7 @@ impl Slot {
 
     // Takes its next message, with which all its hashes are in blocks.
     fn close(&mut self)
-        requires { self.old.number < 10000000000 }
+        requires { self.old.number < past_last_number }
         ensures { self.new ≡ slot_with self.old [] }
     {
         self.clear();
@@ -211,7 +212,7 @@ impl Slots {
     /// Takes the hash of the next message of a group. Where memory runs out, the groups stay as they are.
     pub fn push(&mut self, spri: u8, hash: Hash) -> Result<(), NoMemory>
         requires spri { spri < 192 }
-        requires number { (slot_in self.old spri).number < 10000000000 }
+        requires number { (slot_in self.old spri).number < past_last_number }
         requires few { length (slot_in self.old spri).pending < 98 }
         ensures { self.new ≡ (if is_ok result then slice_set self.old spri (slot_with (slot_in self.old spri) ((slot_in self.old spri).pending ++ hash ∷ [])) else self.old) }
     {
@@ -221,7 +222,7 @@ impl Slots {
     /// Takes the next message of a group, with which all its hashes are in blocks.
     pub fn close(&mut self, spri: u8)
         requires spri { spri < 192 }
-        requires number { (slot_in self.old spri).number < 10000000000 }
+        requires number { (slot_in self.old spri).number < past_last_number }
         ensures { self.new ≡ slice_set self.old spri (slot_with (slot_in self.old spri) []) }
     {
         self.slots[usize::from(spri)].close();

@@ -1,5 +1,6 @@
 -- The payload block of a session (RFC 5848, section 5.2): a timestamp, the type of the key blob, and the blob.
 use Rattle.std.specs.Prelude.{◌≡◌, ℕ, Bool, true, not, List, [], ◌∷◌, ◌++◌, length, Option, Some, None, ◌==◌, if◌then◌else◌}
+use Rattle.ss_frame.specs.Ascii.{sp}
 use Rattle.base64.specs.GeneralPurpose.{IsBytes}
 use Rattle.ss_message.specs.Stamp.{Moment}
 use Rattle.ss_message.specs.Message.{timestamp_text, is_timestamp}
@@ -22,15 +23,15 @@ letter U = 85
 
 -- what stands behind the letter: for `N` nothing, else SP and the blob
 abbrev pub blob_text : Kind → List ℕ → List ℕ
-blob_text C blob = 32 ∷ base64 blob
-blob_text P blob = 32 ∷ base64 blob
-blob_text K blob = 32 ∷ base64 blob
+blob_text C blob = sp ∷ base64 blob
+blob_text P blob = sp ∷ base64 blob
+blob_text K blob = sp ∷ base64 blob
 blob_text N blob = []
-blob_text U blob = 32 ∷ base64 blob
+blob_text U blob = sp ∷ base64 blob
 
 -- TIMESTAMP, SP, the letter, and what stands behind it
 unfoldable pub payload_text : PayloadValue → List ℕ
-payload_text p = timestamp_text p.stamp ++ 32 ∷ letter p.kind ∷ blob_text p.kind p.blob
+payload_text p = timestamp_text p.stamp ++ sp ∷ letter p.kind ∷ blob_text p.kind p.blob
 
 -- the blob is empty exactly for `N`
 abbrev pub is_blob : Kind → List ℕ → Bool
@@ -53,4 +54,4 @@ if_suited p = if is_blob p.kind p.blob then Some p else None
 -- the text is that of the payload; behind `N` one SP may stand
 pub data Spells (text : List ℕ) (p : PayloadValue) : Type 0 where
   exactly : text ≡ payload_text p → Spells text p
-  with_space : p.kind ≡ N → text ≡ payload_text p ++ 32 ∷ [] → Spells text p
+  with_space : p.kind ≡ N → text ≡ payload_text p ++ sp ∷ [] → Spells text p

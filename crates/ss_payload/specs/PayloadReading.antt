@@ -1,6 +1,7 @@
 -- A payload block read from the left: what it says, or none.
 use Rattle.std.specs.Prelude.{ℕ, ◌+◌, List, [], ◌∷◌, take, drop, Option, Some, None, option_map, ◌==◌, if◌then◌else◌}
 use Rattle.std.specs.List.{position}
+use Rattle.ss_frame.specs.Ascii.{sp}
 use Rattle.ss_message.specs.Octets.{is_absent}
 use Rattle.ss_message.specs.Stamp.{Moment}
 use Rattle.ss_message.specs.StampReading.{◌>>=◌, past, stamp_of}
@@ -11,7 +12,7 @@ use Rattle.ss_payload.specs.Payload.{PayloadValue, if_suited}
 
 -- what stands before the first SP, and behind it
 unfoldable pub parts_at_space : List ℕ → Option (List ℕ × List ℕ)
-parts_at_space text = option_map (λ i. (take i text, drop (i + 1) text)) (position (λ octet. octet == 32) text)
+parts_at_space text = option_map (λ i. (take i text, drop (i + 1) text)) (position (λ octet. octet == sp) text)
 
 -- a stamp, or `-` for none
 unfoldable pub stamp_in : List ℕ → Option (Option Moment)
@@ -35,12 +36,12 @@ kind_in octet =
 -- nothing, or one SP
 abbrev pub no_blob_in : List ℕ → Option (List ℕ)
 no_blob_in [] = Some []
-no_blob_in (octet ∷ []) = if octet == 32 then Some [] else None
+no_blob_in (octet ∷ []) = if octet == sp then Some [] else None
 no_blob_in (octet ∷ next ∷ rest) = None
 
 -- SP and the blob in base64
 abbrev pub some_blob_in : List ℕ → Option (List ℕ)
-some_blob_in text = past 32 text >>= octets_in
+some_blob_in text = past sp text >>= octets_in
 
 unfoldable pub blob_in : Kind → List ℕ → Option (List ℕ)
 blob_in C text = some_blob_in text

@@ -3,6 +3,7 @@ ghost use Rattle.std.specs.Prelude.{◌≡◌, ◌≤◌, List, length, IfOk};
 ghost use Rattle.std.specs.List.{flat_map};
 ghost use Rattle.ss_payload.specs.declared.cuts.Cut.{Cut};
 ghost use Rattle.ss_payload.specs.Cuts.{AreCuts, piece_of};
+ghost use Rattle.ss_payload.specs.Ranges.{longest_payload};
 
 use crate::cuts::{Cut, Cuts};
 use ss_message::NoMemory;
@@ -12,7 +13,7 @@ use std::alloc::Global;
 /// 99,999,999 octets, and pieces of 1 to 9,999.
 pub fn cut(alloc: Global, text: &[u8], size: u16) -> Result<Cuts, NoMemory>
     requires some_octet { 1 ≤ length text.now }
-    requires at_most_99999999_octets { length text.now ≤ 99999999 }
+    requires at_most_99999999_octets { length text.now ≤ longest_payload }
     requires some_size { 1 ≤ size }
     requires at_most_9999 { size ≤ 9999 }
     // The pieces follow one another from the first octet to the last.

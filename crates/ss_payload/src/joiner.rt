@@ -5,6 +5,7 @@ ghost use Rattle.ss_payload.specs.declared.joiner.Joined.TheVariants.{Disagrees}
 ghost use Rattle.ss_payload.specs.Joining.{Stated, nothing_stated, with_fragment, DisagreesWith, HasState, IsPayload};
 ghost use Rattle.ss_payload.specs.Joiner.{Stands, KeepsAll, LacksSome};
 ghost use Rattle.ss_payload.specs.Room.{HasNoRoom, GrowsFor};
+ghost use Rattle.ss_payload.specs.Ranges.{longest_payload};
 
 mod runs;
 mod slot;
@@ -68,8 +69,8 @@ impl Joiner {
     ///
     /// Where memory runs out, `NoMemory`, and the joiner stands for what it did before.
     pub fn add(&mut self, total: u32, index: u32, fragment: &[u8]) -> Result<Joined, NoMemory>
-        requires total { (1 ≤ total) × (total ≤ 99999999) }
-        requires index { (1 ≤ index) × (index ≤ 99999999) }
+        requires total { (1 ≤ total) × (total ≤ longest_payload) }
+        requires index { (1 ≤ index) × (index ≤ longest_payload) }
         requires length { (1 ≤ length fragment.now) × (length fragment.now ≤ 9999) }
         requires within { index + length fragment.now - 1 ≤ total }
         ensures joined { (stated : Stated)

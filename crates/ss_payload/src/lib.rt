@@ -10,6 +10,7 @@ pub mod laws;
 mod payload;
 mod payload_reading;
 mod payload_writing;
+mod ranges;
 pub mod strict_base64;
 
 pub use cuts::{Cut, Cuts};
@@ -17,3 +18,4 @@ pub use cutting::cut;
 pub use joiner::{JoinState, Joined, Joiner};
 pub use kind::Kind;
 pub use payload::Payload;
+pub use ranges::LONGEST_PAYLOAD;

@@ -1,6 +1,7 @@
 //! Payload blocks read from the left (RFC 5848, section 5.2).
 ghost use Rattle.std.specs.Prelude.{◌≡◌, ◌==◌, IfOk, IfSome, option_map};
 ghost use Rattle.std.specs.List.{position};
+ghost use Rattle.ss_frame.specs.Ascii.{sp};
 ghost use Rattle.ss_message.specs.StampReading.{stamp_of};
 ghost use Rattle.ss_payload.specs.Payload.{IsPayload};
 ghost use Rattle.ss_payload.specs.PayloadReading.{parts_at_space, stamp_in, stamp_and_rest_in, no_blob_in, some_blob_in, blob_in, payload_in};
@@ -13,7 +14,7 @@ use ss_message::{NoMemory, Stamp, timestamp_in_range};
 use std::alloc::Global;
 
 fn place_of_space(text: &[u8]) -> Option<usize>
-    ensures { result ≡ position (λ octet. octet == 32) text.now }
+    ensures { result ≡ position (λ octet. octet == sp) text.now }
 {
     text.iter().position(|octet| *octet == b' ')
 }

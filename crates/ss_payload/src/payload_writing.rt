@@ -1,5 +1,6 @@
 //! Payload blocks, written (RFC 5848, section 5.2).
 ghost use Rattle.std.specs.Prelude.{◌≡◌, ◌++◌, ◌∷◌, IfOk, OnOk};
+ghost use Rattle.ss_frame.specs.Ascii.{sp};
 ghost use Rattle.ss_message.specs.Message.{timestamp_text};
 ghost use Rattle.ss_payload.specs.Payload.{letter, blob_text, payload_text};
 
@@ -25,7 +26,7 @@ fn stamp_text(alloc: Global, stamp: &Option<Stamp>) -> Result<Vec<u8>, NoMemory>
 
 // Writes SP, the letter of the type and what stands behind it at the end of `out`.
 fn put_blob(alloc: Global, out: &mut Vec<u8>, kind: Kind, blob: &[u8]) -> Result<(), AllocError>
-    ensures { OnOk result (out.new.items ≡ out.old.items ++ (32 ∷ letter kind ∷ blob_text kind blob.now)) }
+    ensures { OnOk result (out.new.items ≡ out.old.items ++ (sp ∷ letter kind ∷ blob_text kind blob.now)) }
 {
     out.push(b' ')?;
     out.push(letter(kind))?;

@@ -27,7 +27,7 @@ pub(crate) fn signature_of(said: &Said) -> &Bytes
 }
 
 /// Whether the block's signature is valid under the payload.
-pub(crate) fn is_valid<J: Judge>(judge: &J, payload: &[u8], message: &BlockMessage) -> bool
+fn is_valid<J: Judge>(judge: &J, payload: &[u8], message: &BlockMessage) -> bool
     requires { J.sound judge.now }
     ensures { result ≡ is_valid (answers J.trusted J.valid judge.now) payload.now message.now }
 {

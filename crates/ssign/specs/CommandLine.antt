@@ -7,7 +7,7 @@ use Rattle.clap.specs.declared.builder.command.Command.TheViews.{out-Command}
 use Rattle.clap.specs.declared.builder.ArgAction.TheVariants.{Set, SetTrue}
 use Rattle.clap.specs.declared.error.kind.ErrorKind.TheVariants.{DisplayHelp, DisplayVersion}
 use Rattle.clap.specs.declared.parser.matches.ArgMatches.{ArgMatches}
-use Rattle.ss_frame.specs.Limits.{Allowance}
+use Rattle.ss_frame.specs.Limits.{Allowance, longest_message, most_messages}
 use Rattle.ss_frame.specs.declared.limits.Form.{Form}
 use Rattle.ss_frame.specs.declared.limits.Form.TheVariants.{Frames, Lines}
 use Rattle.ssign.specs.declared.command_line.Order.{Order}
@@ -58,10 +58,10 @@ abbrev pub lines_rule : Rule
 lines_rule = record (new_rule (codes "lines")) { long = Some (codes "lines"); action = Some SetTrue }
 
 abbrev pub max_len_rule : Rule
-max_len_rule = usual_rule (number_rule (codes "max-len") (pos 1) (pos 1048576)) (codes "65536")
+max_len_rule = usual_rule (number_rule (codes "max-len") (pos 1) (pos longest_message)) (codes "65536")
 
 abbrev pub max_messages_rule : Rule
-max_messages_rule = usual_rule (number_rule (codes "max-messages") (pos 1) (pos 10000000)) (codes "10000000")
+max_messages_rule = usual_rule (number_rule (codes "max-messages") (pos 1) (pos most_messages)) (codes "10000000")
 
 -- what `explain` is asked about
 abbrev pub code_rule : Rule

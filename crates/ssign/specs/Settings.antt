@@ -17,6 +17,7 @@ use Rattle.ssign.specs.declared.settings.Texts.{Texts}
 use Rattle.ssign.specs.declared.settings.Settings.{Settings}
 use Rattle.ssign.specs.declared.settings.SettingsFault.{SettingsFault}
 use Rattle.ssign.specs.declared.settings.SettingsFault.TheVariants.{OutOfForm, Memory}
+use Rattle.ss_block.specs.Ranges.{last_number}
 
 -- ---- what the texts spell
 
@@ -79,7 +80,7 @@ pub record HasNumberIn (matches : ArgMatches) (option : List ℕ) (least most n 
 -- the version and the numbers
 pub record HasChoices (matches : ArgMatches) (c : Choices) : Type 0 where
   pub alg : option_and_then version_in (first_value (found_of matches) (codes "ver")) ≡ Some c.alg
-  pub rsid : HasNumberIn matches (codes "rsid") 0 9999999999 c.rsid
+  pub rsid : HasNumberIn matches (codes "rsid") 0 last_number c.rsid
   pub pri : HasNumberIn matches (codes "pri") 0 191 c.pri
   pub count : HasNumberIn matches (codes "count") 1 99 c.count
   pub frag : HasNumberIn matches (codes "frag") 1 9999 c.frag

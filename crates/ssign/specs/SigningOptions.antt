@@ -4,6 +4,7 @@ use Rattle.std.specs.Borrow.{Bor}
 use Rattle.clap.specs.Words.{App, Rule, new_rule, with_rule}
 use Rattle.clap.specs.declared.builder.ArgAction.TheVariants.{Set}
 use Rattle.clap.specs.declared.builder.value_parser.ValueParser.TheVariants.{Names, Signed}
+use Rattle.ss_block.specs.Ranges.{last_number}
 
 -- texts that the program keeps
 abbrev pub Kept : Type 0
@@ -40,7 +41,7 @@ usual_rule rule usual = record rule { defaults = usual ∷ [] }
 abbrev pub with_key_options : App → App
 with_key_options app =
     let payload = required_rule (text_rule (codes "payload")) in
-    let rsid = required_rule (number_rule (codes "rsid") (pos 0) (pos 9999999999)) in
+    let rsid = required_rule (number_rule (codes "rsid") (pos 0) (pos last_number)) in
     let stamp = usual_rule (text_rule (codes "stamp")) (codes "-") in
     with_rule (with_rule (with_rule app payload) rsid) stamp
 

@@ -12,7 +12,7 @@ use crate::signing::Signing;
 use crate::signing_options::{versions, with_signing_options};
 use crate::task::Task;
 use clap::{Arg, ArgAction, ArgMatches, Command};
-use ss_frame::Limits;
+use ss_frame::{LONGEST_MESSAGE, Limits, MOST_MESSAGES};
 use std::alloc::{AllocError, Global};
 
 /// The version of the program.
@@ -180,7 +180,7 @@ fn max_len<'a>(alloc: Global) -> Arg<'a>
         .long("max-len")
         .value_name("N")
         .action(ArgAction::Set)
-        .value_parser(clap::value_parser!(u32).range(1..=1_048_576))
+        .value_parser(clap::value_parser!(u32).range(1..=LONGEST_MESSAGE as i64))
         .help("The longest message, in octets: 1 to 1048576")
         .default_value("65536")
 }
@@ -193,7 +193,7 @@ fn max_messages<'a>(alloc: Global) -> Arg<'a>
         .long("max-messages")
         .value_name("N")
         .action(ArgAction::Set)
-        .value_parser(clap::value_parser!(u32).range(1..=10_000_000))
+        .value_parser(clap::value_parser!(u32).range(1..=MOST_MESSAGES as i64))
         .help("The most messages: 1 to 10000000")
         .default_value("10000000")
 }

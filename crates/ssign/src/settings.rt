@@ -12,7 +12,7 @@ ghost use Rattle.ssign.specs.declared.settings.SettingsFault.TheVariants.{Memory
 
 use crate::groups_text::grouping_of;
 use clap::ArgMatches;
-use ss_block::{Alg, Head, Payload};
+use ss_block::{Alg, Head, LAST_NUMBER, Payload};
 use ss_frame::Bytes;
 use ss_message::{Field, NoMemory, Stamp, timestamp_in_range};
 use ss_origin::Config;
@@ -100,7 +100,7 @@ fn choices_of(matches: &ArgMatches<'_>) -> Option<Choices>
 {
     Some(Choices {
         alg: version_of(matches.get_str("ver")?)?,
-        rsid: number_in(matches, "rsid", 0, 9_999_999_999)?,
+        rsid: number_in(matches, "rsid", 0, LAST_NUMBER)?,
         pri: number_in(matches, "pri", 0, 191)? as u8,
         count: number_in(matches, "count", 1, 99)? as u8,
         frag: number_in(matches, "frag", 1, 9_999)? as u16,

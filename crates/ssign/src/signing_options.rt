@@ -7,6 +7,7 @@ ghost use Rattle.ssign.specs.SigningOptions.{with_block_options, with_header_opt
 
 use clap::builder::ValueParser;
 use clap::{Arg, ArgAction, Command};
+use ss_block::LAST_NUMBER;
 use std::alloc::{AllocError, Global};
 
 static VERSIONS: [&str; 2] = ["0111", "0121"];
@@ -37,9 +38,9 @@ fn with_key_options<'a>(alloc: Global, command: Command<'a>) -> Result<Command<'
     let payload = text(alloc, "payload", "TEXT").required(true).help(
         "The payload block: TIMESTAMP, SP, type of key, SP, key in base64",
     );
-    let rsid = number(alloc, "rsid", 0, 9_999_999_999).required(true).help(
-        "The reboot session, 0 to 9999999999: greater at each use of the key, as two logs of one dispute",
-    );
+    let rsid = number(alloc, "rsid", 0, LAST_NUMBER as i64)
+        .required(true)
+        .help("The reboot session, 0 to 9999999999: a greater one for each log that is signed");
     let stamp = text(alloc, "stamp", "TEXT")
         .default_value("-")
         .help("TIMESTAMP of all block messages");

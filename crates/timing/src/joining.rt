@@ -4,12 +4,9 @@
 //! - `whole`: at each index of a payload of so many octets, falling.
 //! - `pieces`: of 1,000 octets each, which make up a payload of so many octets, rising.
 //! - `joiners`: each to a joiner of its own, all kept at once, of the longest payload.
-use ss_block::{JoinState, Joined, Joiner};
+use ss_block::{JoinState, Joined, Joiner, LONGEST_PAYLOAD};
 use std::alloc::Global;
 use std::io;
-
-/// The octets of the longest payload (TPBL).
-const LONGEST: u32 = 99_999_999;
 
 /// In which order fragments come.
 #[derive(Clone, Copy)]
@@ -54,7 +51,7 @@ impl Order {
 /// Adds a fragment to a joiner. Whether it was added, and agreed.
 fn add(joiner: &mut Joiner, total: u32, index: u32, fragment: &[u8]) -> bool {
     let length = fragment.len();
-    if total < 1 || total > LONGEST || index < 1 || index > total {
+    if total < 1 || total > LONGEST_PAYLOAD || index < 1 || index > total {
         return false;
     }
     if length < 1 || length > 9_999 || index as usize + length - 1 > total as usize {
@@ -72,7 +69,7 @@ fn join(alloc: Global, order: Order, count: u32) -> (u32, usize) {
     let mut agreed: u32 = 0;
     let total = match order {
         Order::Whole | Order::Pieces => count,
-        _ => LONGEST,
+        _ => LONGEST_PAYLOAD,
     };
     let thousand = [b'x'; 1_000];
     let (fragments, fragment): (u32, &[u8]) = match order {
@@ -97,7 +94,12 @@ fn keep(alloc: Global, count: u32) -> u32 {
     let mut kept: u32 = 0;
     for i in 0..count {
         let mut joiner = Joiner::new(alloc);
-        let agreed = add(&mut joiner, LONGEST, Order::Joiners.index(i, count), b"x");
+        let agreed = add(
+            &mut joiner,
+            LONGEST_PAYLOAD,
+            Order::Joiners.index(i, count),
+            b"x",
+        );
         if agreed && joiner.state() == JoinState::Incomplete && joiners.push(joiner).is_ok() {
             kept = kept.wrapping_add(1);
         }

@@ -2,7 +2,7 @@
 //! times the reviewer.
 ghost use Rattle.std.specs.Prelude.{true};
 
-use ss_frame::{Buffered, FrameReader, Limits, Step, Watched};
+use ss_frame::{Buffered, FrameReader, Limits, MOST_MESSAGES, Step, Watched};
 use ss_review::{Entry, Judge, Report, ReviewFault, Reviewer, SessionReport};
 use std::io;
 use std::io::Read;
@@ -100,7 +100,7 @@ pub(crate) fn run<R: Input + Print + AllocGlobal>(
 ) -> io::Result<()> {
     let mut reader = Watched::new(Buffered::new(rt.alloc(), rt.reader())?);
     let mut frames = FrameReader::new(rt.alloc(), limits);
-    let mut reviewer = Reviewer::new(rt.alloc(), 10_000_000);
+    let mut reviewer = Reviewer::new(rt.alloc(), MOST_MESSAGES);
     match feed_all(&mut reviewer, &mut frames, &mut reader) {
         Ok(()) => {}
         Err(fault) => return print(rt, &Err(fault)),

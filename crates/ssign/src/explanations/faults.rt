@@ -69,8 +69,8 @@ pub static FAULTS: [Explanation; 22] = [
     },
     Explanation {
         code: "M13",
-        text: "There was no memory to read a message. ssign never prints this, but the refusal W2 or V1; the \
-            library tells it to other programs.",
+        text: "There was no memory to read a message. ssign never prints this, but the refusal O10 where it \
+            signs, and else W2 or V1; the library tells it to other programs.",
     },
     Explanation {
         code: "S1",
@@ -93,9 +93,9 @@ pub static FAULTS: [Explanation; 22] = [
     },
     Explanation {
         code: "S4",
-        text: "A number of the block has a needless zero or an octet that is no digit, or is out of its range. \
-            The sender writes numbers in another way than RFC 5848, or the block was changed: compare it \
-            with what the sender sends.",
+        text: "A number of the block is empty, has a needless zero or an octet that is no digit, or is out of \
+            its range. The sender writes numbers in another way than RFC 5848, or the block was changed: \
+            compare it with what the sender sends.",
     },
     Explanation {
         code: "S5",

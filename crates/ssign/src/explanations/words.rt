@@ -16,9 +16,9 @@ pub static WORDS: [Explanation; 20] = [
     },
     Explanation {
         code: "gap",
-        text: "A message was signed under this number, and the log has none for it: lost, or disputed. A \
-            message that was changed shows as a gap, and as unlisted where it stands: look at its \
-            neighbours.",
+        text: "A message was signed under this number, and no stored message is listed for it: it is lost, or \
+            disputed. A message that was changed shows as a gap, and as unlisted where it stands: look at \
+            its neighbours.",
     },
     Explanation {
         code: "lost",
@@ -36,9 +36,9 @@ pub static WORDS: [Explanation; 20] = [
     },
     Explanation {
         code: "unlisted",
-        text: "A stored message that no block vouches for. It may be genuine, and never signed, or its block \
-            lost or not believed; or it was put in, or changed, and then a gap stands for what it was. Look \
-            at the session and at the gaps beside it.",
+        text: "A stored message that is listed under no number. It may be genuine, and never signed, or its \
+            block lost or not believed; or it was put in, or stored once more than it was sent, or changed, \
+            and then a gap stands for what it was. Look at the session and at the gaps beside it.",
     },
     Explanation {
         code: "refused",

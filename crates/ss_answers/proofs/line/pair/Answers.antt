@@ -1,12 +1,12 @@
 use Rattle.std.proofs.lemmas.Result.{err_from_is_err_and}
+use Rattle.ss_frame.specs.Ascii.{sp}
 use Rattle.ss_payload.specs.StrictBase64.{base64}
-use Rattle.ss_answers.specs.Answers.{space}
 use Rattle.ss_answers.proofs.AnswerLines.{IfBad-weaker, IsNoPair-from_first, IsNoPair-from_second, nowhere}
 use Rattle.ss_answers.proofs.line.pair.Goals as goal
 
 pub returns-in_default-clause-bad : goal.returns-in_default-clause-bad
 returns-in_default-clause-bad c = λ first second pair.
-    nowhere space (base64 first) (base64 second) _ c.in_default.ensures pair.2
+    nowhere sp (base64 first) (base64 second) _ c.in_default.ensures pair.2
 
 pub returns-in_err-octets-clause-bad : goal.returns-in_err-octets-clause-bad
 returns-in_err-octets-clause-bad c =

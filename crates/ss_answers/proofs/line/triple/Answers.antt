@@ -1,13 +1,13 @@
 use Rattle.std.proofs.Common.{◌++◌, ◌∷◌}
 use Rattle.std.proofs.lemmas.Result.{err_from_is_err_and}
+use Rattle.ss_frame.specs.Ascii.{sp}
 use Rattle.ss_payload.specs.StrictBase64.{base64}
-use Rattle.ss_answers.specs.Answers.{space}
 use Rattle.ss_answers.proofs.AnswerLines.{IfBad-weaker, IsNoTriple-from_first, IsNoTriple-from_rest, nowhere}
 use Rattle.ss_answers.proofs.line.triple.Goals as goal
 
 pub returns-in_default-clause-bad : goal.returns-in_default-clause-bad
 returns-in_default-clause-bad c = λ first second third triple.
-    nowhere space (base64 first) (base64 second ++ space ∷ base64 third) _ c.in_default.ensures triple.3
+    nowhere sp (base64 first) (base64 second ++ sp ∷ base64 third) _ c.in_default.ensures triple.3
 
 pub returns-in_err-payload-clause-bad : goal.returns-in_err-payload-clause-bad
 returns-in_err-payload-clause-bad c =
