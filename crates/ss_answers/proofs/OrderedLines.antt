@@ -118,11 +118,15 @@ is_eq-then Less p = refl
 is_eq-then Equal p = refl
 is_eq-then Greater p = refl
 
-and_comm : (a b : Bool) → (a && b) ≡ (b && a)
-and_comm true true = refl
-and_comm true false = refl
-and_comm false true = refl
-and_comm false false = refl
+and_turned : (a b c : Bool) → ((a && b) && c) ≡ (c && (b && a))
+and_turned true true true = refl
+and_turned true true false = refl
+and_turned true false true = refl
+and_turned true false false = refl
+and_turned false true true = refl
+and_turned false true false = refl
+and_turned false false true = refl
+and_turned false false false = refl
 
 has_trust_key : (payload : List ℕ) (line : Answer) → is_eq (key_cmp (key_of line) (trust_key payload)) ≡ is_trust payload line
 has_trust_key payload (Trust p) = then_Equal _ ∙ is_eq-slice_cmp p payload
@@ -134,7 +138,7 @@ has_yes_key : (payload octets signature : List ℕ) (line : Answer)
 has_yes_key payload octets signature (Trust p) = refl
 has_yes_key payload octets signature (Yes p o s) =
     rw (is_eq-then, is_eq-then, is_eq-slice_cmp, is_eq-slice_cmp, is_eq-slice_cmp)
-    (and_comm (bytes_eq o octets && bytes_eq s signature) (bytes_eq p payload))
+    (and_turned (bytes_eq s signature) (bytes_eq o octets) (bytes_eq p payload))
 has_yes_key payload octets signature (Seal o s) = refl
 
 has_seal_key : (octets : List ℕ) (line : Answer) → is_eq (key_cmp (key_of line) (seal_key octets)) ≡ is_seal octets line
