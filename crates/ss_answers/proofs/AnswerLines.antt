@@ -7,8 +7,8 @@ use Rattle.ss_payload.specs.StrictBase64.{base64}
 use Rattle.ss_answers.specs.Answers.{IsNoField, IsNoPair, IsNoTriple, Lacks}
 use Rattle.ss_payload.proofs.Base64Text.{Clear}
 use Rattle.ss_answers.proofs.Base64Text.{Lacks-space}
-use Rattle.ss_answers.specs.declared.line.LineFault.{LineFault}
-use Rattle.ss_answers.specs.declared.line.LineFault.TheVariants as faults
+use Rattle.ss_answers.specs.declared.field.LineFault.{LineFault}
+use Rattle.ss_answers.specs.declared.field.LineFault.TheVariants as faults
 use Rattle.ss_answers.specs.AnswerLine.{IfBad}
 
 cut_clear : (c : ℕ) (a x b y : List ℕ) → Clear c a → Clear c b → a ++ c ∷ x ≡ b ++ c ∷ y → (a ≡ b) × (x ≡ y)

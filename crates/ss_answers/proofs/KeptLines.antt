@@ -1,15 +1,19 @@
 -- Lines by the places of their fields: what a place tells, and that octets put behind change no line.
-use Rattle.std.proofs.Common.{◌≡◌, ℕ, ◌+◌, ◌-◌, ◌≤◌, true, false, eqb, List, [], ◌∷◌, ◌++◌, length, take, drop, Some, None, nat_le, sym, refl, ap, ◌∙◌, arith, length-append, length-drop, inl, inr}
+use Rattle.std.proofs.Common.{◌≡◌, ℕ, ◌+◌, ◌-◌, ◌<◌, ◌≤◌, true, false, eqb, codes, Option, List, [], ◌∷◌, ◌++◌, length, take, drop, Some, None, nat_le, sym, refl, ap, ◌∙◌, arith, length-append, length-drop, inl, inr}
 use Rattle.std.specs.List.{AllByRecursion, slice_range}
 use Rattle.std.proofs.lemmas.List.{append-nil, append_assoc, take-append-le, drop-append-le}
 use Rattle.std.proofs.lemmas.Bool.Decides.{nat_tests}
 use Rattle.std.proofs.Math.Seq.{drop-append_seam, take-append_seam}
 use Rattle.std.proofs.lemmas.Bool.{cases_lt}
 use Rattle.ss_answers.specs.declared.place.Place.{Place}
-use Rattle.ss_answers.specs.declared.lines.Lines.{Lines}
-use Rattle.ss_answers.specs.Answers.{Answer, given_signature}
+use Rattle.ss_answers.specs.declared.field.Span.{Span}
+use Rattle.ss_answers.specs.declared.line.Known.{Known}
+use Rattle.ss_frame.specs.Ascii.{sp}
+use Rattle.ss_payload.specs.StrictBase64.{base64}
+use Rattle.ss_answers.specs.Answers.{Trust, Yes, Seal, Lacks, given_signature}
 use Rattle.ss_answers.specs.AnswerKey.{key_of, seal_key, trust_key, yes_key}
-use Rattle.ss_answers.specs.AnswerLine.{AreWithin, IsWithin, KeepsFields, KeepsLine, answer_at, answer_by_fields, answers_at, part, size_of}
+use Rattle.ss_answers.specs.AnswerLine.{Grows, HasField, IsKnown, IsWithin, KeepsField, KeepsLine, KeepsPair, KeepsPayload, KeepsTriple, answer_at, answer_by_fields, answers_at, no_span, part, place_of}
+use Rattle.ss_answers.proofs.Base64Text.{Lacks-space}
 
 -- the key of a line by its fields
 pub key_of-seal : (payload octets signature : List ℕ) → eqb (length payload) 0 ≡ true → key_of (answer_by_fields payload octets signature) ≡ seal_key octets
@@ -65,38 +69,174 @@ part-middle a p b from to starts ends =
     let size : to - from ≡ length p = omega arith in
     rw (t, v, size, starts, drop-append_seam) (take-append_seam p b)
 
+-- the octets behind the others, and the octets from the beginning to itself
+pub part-last : (old new field : List ℕ) (from to : ℕ) → new ≡ old ++ field → from ≡ length old → to ≡ length new → part new from to ≡ field
+part-last old new field from to appended starts ends =
+    let long = length-append old field in
+    let whole = ap length appended in
+    ap (λ t. part t from to) (appended ∙ ap (λ t. old ++ t) (sym (append-nil field)))
+    ∙ part-middle old field [] from to starts (omega (arith, whole, long))
+
+part-none : (octets : List ℕ) → part octets 0 0 ≡ []
+unfolding part
+part-none octets = let t : nat_le 0 (length octets) ≡ true = grind (arith, nat_tests) in rw t refl
+
 -- octets put behind don't change a line whose fields end before
 answer_at-append : (a b : List ℕ) (place : Place) → IsWithin (length a) place → answer_at (a ++ b) place ≡ answer_at a place
 unfolding answer_at
 answer_at-append a b place within =
     rw (
-      part-append a b place.start place.payload_end within.0,
-      part-append a b place.payload_end place.octets_end within.1,
-      part-append a b place.octets_end place.end within.2,
+      part-append a b place.payload.start place.payload.end within.0,
+      part-append a b place.start place.middle within.1,
+      part-append a b place.middle place.end within.2,
     ) refl
 
 answers_at-append : (a b : List ℕ) (places : List Place) → AllByRecursion (IsWithin (length a)) places → answers_at (a ++ b) places ≡ answers_at a places
 answers_at-append a b [] within = refl
 answers_at-append a b (x ∷ places) within = rw (answer_at-append a b x within.0, answers_at-append a b places within.1) refl
 
-regroup : (a b c d : List ℕ) → (a ++ (b ++ c)) ++ (d ++ []) ≡ a ++ (b ++ (c ++ d))
-regroup a b c d = simp (append_assoc, append-nil)
+-- ---- more octets come behind the others
 
--- a line whose fields were put behind the others
-answer_at-kept : (old new payload octets signature : List ℕ) (place : Place) → KeepsFields old new payload octets signature place
-    → answer_at new place ≡ answer_by_fields payload octets signature
+pub Grows-none : (octets : List ℕ) (most : ℕ) → Grows octets octets most
+Grows-none octets most = record { more = []; appended = sym (append-nil octets); size = omega arith }
+
+pub Grows-more : (old new : List ℕ) (m n : ℕ) → Grows old new m → m ≤ n → Grows old new n
+Grows-more old new m n grows le = record { more = grows.more; appended = grows.appended; size = omega (arith, grows.size) }
+
+pub Grows-twice : (a b c : List ℕ) (m n k : ℕ) → Grows a b m → Grows b c n → m + n ≤ k → Grows a c k
+Grows-twice a b c m n k one two le = record {
+  more = one.more ++ two.more;
+  appended = two.appended ∙ ap (λ t. t ++ two.more) one.appended ∙ append_assoc a one.more two.more;
+  size = omega (arith, length-append one.more two.more, one.size, two.size);
+}
+
+pub length-Grows : (old new : List ℕ) (most : ℕ) → Grows old new most → length old ≤ length new
+length-Grows old new most grows = omega (arith, ap length grows.appended, length-append old grows.more)
+
+pub length-Grows-most : (old new : List ℕ) (most : ℕ) → Grows old new most → length new ≤ length old + most
+length-Grows-most old new most grows = omega (arith, ap length grows.appended, length-append old grows.more, grows.size)
+
+-- a field stays where it stands
+pub HasField-grows : (old new text : List ℕ) (span : Span) (most : ℕ) → Grows old new most → HasField old text span → HasField new text span
+HasField-grows old new text span most grows has = record {
+  field = has.field;
+  is_field = has.is_field;
+  spelt = has.spelt;
+  here = ap (λ t. part t span.start span.end) grows.appended ∙ part-append old grows.more span.start span.end has.within ∙ has.here;
+  within = omega (arith, has.within, length-Grows old new most grows);
+}
+
+pub IsKnown-grows : (old new : List ℕ) (known : Option Known) (most : ℕ) → Grows old new most → IsKnown old known → IsKnown new known
+IsKnown-grows old new None most grows h = tt
+IsKnown-grows old new (Some known) most grows h = HasField-grows old new known.text.now known.span most grows h
+
+pub KeepsPair-fields : (old middle new text left right : List ℕ) (first second : Span) → text ≡ left ++ sp ∷ right → KeepsField old middle left first
+    → KeepsField middle new right second → KeepsPair old new text first second
+KeepsPair-fields old middle new text left right first second spelt one two = record {
+  left = left;
+  right = right;
+  spelt = spelt;
+  one = HasField-grows middle new left first (length right) two.grows one.has;
+  two = two.has;
+  seam = one.end ∙ sym two.start;
+  grows = Grows-twice old middle new (length left) (length right) (length text) one.grows two.grows (omega (arith, ap length spelt, length-append left (sp ∷ right)));
+}
+
+-- a field that stands there has no space in its text
+pub Lacks-known : (octets text : List ℕ) (span : Span) → HasField octets text span → Lacks sp text
+Lacks-known octets text span has = rw has.spelt (Lacks-space has.field)
+
+-- the payload is one that stood there, or comes now
+pub KeepsTriple-known : (old new text rest : List ℕ) (known : Known) (first second : Span) → text ≡ known.text.now ++ sp ∷ rest
+    → HasField old known.text.now known.span → KeepsPair old new rest first second → KeepsTriple old new text known first second
+KeepsTriple-known old new text rest known first second spelt has pair = record {
+  left = pair.left;
+  right = pair.right;
+  spelt = spelt ∙ ap (λ t. known.text.now ++ sp ∷ t) pair.spelt;
+  payload = HasField-grows old new known.text.now known.span (length rest) pair.grows has;
+  one = pair.one;
+  two = pair.two;
+  seam = pair.seam;
+  grows = Grows-more old new (length rest) (length text) pair.grows (omega (arith, ap length spelt, length-append known.text.now (sp ∷ rest)));
+}
+
+pub KeepsTriple-fields : (old middle new text rest : List ℕ) (known : Known) (first second : Span) → text ≡ known.text.now ++ sp ∷ rest
+    → KeepsField old middle known.text.now known.span → KeepsPair middle new rest first second → KeepsTriple old new text known first second
+KeepsTriple-fields old middle new text rest known first second spelt payload pair = record {
+  left = pair.left;
+  right = pair.right;
+  spelt = spelt ∙ ap (λ t. known.text.now ++ sp ∷ t) pair.spelt;
+  payload = HasField-grows middle new known.text.now known.span (length rest) pair.grows payload.has;
+  one = pair.one;
+  two = pair.two;
+  seam = pair.seam;
+  grows = Grows-twice old middle new (length known.text.now) (length rest) (length text) payload.grows pair.grows
+      (omega (arith, ap length spelt, length-append known.text.now (sp ∷ rest)));
+}
+
+-- ---- the line at a place
+
+says_trust : (payload signature : List ℕ) → 0 < length payload → answer_by_fields payload [] signature ≡ Trust payload
+says_trust [] signature some = absurd (omega (arith, some))
+says_trust (x ∷ payload) signature some = refl
+
+says_yes : (payload octets signature : List ℕ) → 0 < length payload → 0 < length octets
+    → answer_by_fields payload octets signature ≡ Yes payload octets signature
+says_yes [] octets signature some more = absurd (omega (arith, some))
+says_yes (x ∷ payload) [] signature some more = absurd (omega (arith, more))
+says_yes (x ∷ payload) (y ∷ octets) signature some more = refl
+
+pub KeepsLine-trust : (old new text rest : List ℕ) (known : Known) → text ≡ codes "trust " ++ rest → KeepsPayload old new rest known
+    → KeepsLine old new text (place_of known.span no_span no_span)
 unfolding answer_at
-answer_at-kept old new payload octets signature place kept =
-    let first = part-middle old payload (octets ++ signature) place.start place.payload_end kept.start kept.payload_end in
-    let second : part (old ++ (payload ++ (octets ++ signature))) place.payload_end place.octets_end ≡ octets =
-    rw append_assoc at (part-middle (old ++ payload) octets signature place.payload_end place.octets_end
-    (omega (arith, length-append old payload, kept.payload_end)) (omega (arith, length-append old payload, kept.octets_end))) in
-    let third : part (old ++ (payload ++ (octets ++ signature))) place.octets_end place.end ≡ signature =
-    ap (λ t. part t place.octets_end place.end) (sym (regroup old payload octets signature))
-    ∙ part-middle (old ++ (payload ++ octets)) signature [] place.octets_end place.end
-    (omega (arith, length-append old (payload ++ octets), length-append payload octets, kept.octets_end))
-    (omega (arith, length-append old (payload ++ octets), length-append payload octets, kept.end)) in
-    rw (kept.appended, first, second, third) refl
+KeepsLine-trust old new text rest known spelt kept =
+    let has = kept.has in
+    record {
+      line = Trust has.field;
+      fields = has.is_field;
+      spelt = spelt ∙ ap (λ t. codes "trust " ++ t) (sym kept.same ∙ has.spelt);
+      says = rw (has.here, part-none) (says_trust has.field [] has.is_field.some);
+      within = (has.within, omega arith, omega arith);
+      grows = Grows-more old new (length rest) (length text) kept.grows (omega (arith, ap length spelt, length-append (codes "trust ") rest));
+    }
+
+-- the signature stands behind the octets
+second_here : (new right : List ℕ) (first second : Span) (two : HasField new right second) → first.end ≡ second.start → part new first.end second.end ≡ two.field
+second_here new right first second two seam = ap (λ n. part new n second.end) seam ∙ two.here
+
+pub KeepsLine-seal : (old new text rest : List ℕ) (first second : Span) → text ≡ codes "seal " ++ rest → KeepsPair old new rest first second
+    → KeepsLine old new text (place_of no_span first second)
+unfolding answer_at
+KeepsLine-seal old new text rest first second spelt kept =
+    let here = second_here new kept.right first second kept.two kept.seam in
+    record {
+      line = Seal kept.one.field kept.two.field;
+      fields = (kept.one.is_field, kept.two.is_field);
+      spelt = spelt ∙ ap (λ t. codes "seal " ++ t) (kept.spelt ∙ ap (λ t. t ++ sp ∷ kept.right) kept.one.spelt ∙ ap (λ t. base64 kept.one.field ++ sp ∷ t) kept.two.spelt);
+      says = rw (part-none, kept.one.here, here) refl;
+      within = (omega arith, kept.one.within, kept.two.within);
+      grows = Grows-more old new (length rest) (length text) kept.grows (omega (arith, ap length spelt, length-append (codes "seal ") rest));
+    }
+
+pub KeepsLine-yes : (old new text rest : List ℕ) (known : Known) (first second : Span) → text ≡ codes "yes " ++ rest
+    → KeepsTriple old new rest known first second → KeepsLine old new text (place_of known.span first second)
+unfolding answer_at
+KeepsLine-yes old new text rest known first second spelt kept =
+    let here = second_here new kept.right first second kept.two kept.seam in
+    let payload = kept.payload in
+    let fields : known.text.now ++ sp ∷ (kept.left ++ sp ∷ kept.right) ≡ base64 payload.field ++ sp ∷ (base64 kept.one.field ++ sp ∷ base64 kept.two.field) =
+    ap (λ t. t ++ sp ∷ (kept.left ++ sp ∷ kept.right)) payload.spelt ∙ ap (λ t. base64 payload.field ++ sp ∷ (t ++ sp ∷ kept.right)) kept.one.spelt
+    ∙ ap (λ t. base64 payload.field ++ sp ∷ (base64 kept.one.field ++ sp ∷ t)) kept.two.spelt in
+    record {
+      line = Yes payload.field kept.one.field kept.two.field;
+      fields = (payload.is_field, kept.one.is_field, kept.two.is_field);
+      spelt = spelt ∙ ap (λ t. codes "yes " ++ t) (kept.spelt ∙ fields);
+      says = rw (payload.here, kept.one.here, here) (says_yes payload.field kept.one.field kept.two.field payload.is_field.some kept.one.is_field.some);
+      within = (payload.within, kept.one.within, kept.two.within);
+      grows = Grows-more old new (length rest) (length text) kept.grows (omega (arith, ap length spelt, length-append (codes "yes ") rest));
+    }
+
+-- ---- one line more
 
 within-more : (m n : ℕ) (places : List Place) → m ≤ n → AllByRecursion (IsWithin m) places → AllByRecursion (IsWithin n) places
 within-more m n [] le h = tt
@@ -110,25 +250,15 @@ answers_at-push : (octets : List ℕ) (places : List Place) (place : Place) → 
 answers_at-push octets [] place = refl
 answers_at-push octets (x ∷ places) place = ap (λ t. answer_at octets x ∷ t) (answers_at-push octets places place)
 
-length-kept : (old new payload octets signature : List ℕ) (place : Place) → KeepsFields old new payload octets signature place
-    → length new ≡ length old + (length payload + (length octets + length signature))
-length-kept old new payload octets signature place kept =
-    omega (arith, ap length kept.appended, length-append old (payload ++ (octets ++ signature)), length-append payload (octets ++ signature), length-append octets signature)
+pub answers-push : (old new text : List ℕ) (places : List Place) (place : Place) (kept : KeepsLine old new text place)
+    → AllByRecursion (IsWithin (length old)) places → answers_at new (places ++ place ∷ []) ≡ answers_at old places ++ kept.line ∷ []
+answers-push old new text places place kept within =
+    answers_at-push new places place
+    ∙ ap (λ t. answers_at t places ++ answer_at new place ∷ []) kept.grows.appended
+    ∙ ap (λ t. t ++ answer_at new place ∷ []) (answers_at-append old kept.grows.more places within)
+    ∙ ap (λ x. answers_at old places ++ x ∷ []) kept.says
 
-pub KeepsLine-push : (old new : Lines) (payload octets signature : List ℕ) (place : Place) (line : Answer) → AreWithin old
-    → KeepsFields old.octets.items new.octets.items payload octets signature place → new.places.items ≡ old.places.items ++ place ∷ []
-    → answer_by_fields payload octets signature ≡ line → length payload + (length octets + length signature) ≡ size_of line → KeepsLine old new line
-KeepsLine-push old new payload octets signature place line within kept pushed says size =
-    let long = length-kept _ _ _ _ _ _ kept in
-    let more = payload ++ (octets ++ signature) in
-    record {
-      answers =
-          ap (answers_at new.octets.items) pushed ∙ answers_at-push new.octets.items old.places.items place
-          ∙ ap (λ t. answers_at t old.places.items ++ answer_at new.octets.items place ∷ []) kept.appended
-          ∙ ap (λ t. t ++ answer_at new.octets.items place ∷ []) (answers_at-append old.octets.items more old.places.items within)
-          ∙ ap (λ x. answers_at old.octets.items old.places.items ++ x ∷ []) (answer_at-kept _ _ _ _ _ _ kept ∙ says);
-      within = rw pushed (within-push _ _ _ (within-more _ _ _ (omega (arith, long)) within)
-          (omega (arith, long, kept.payload_end), omega (arith, long, kept.octets_end), omega (arith, long, kept.end)));
-      octets = omega (arith, long, size);
-      places = omega (arith, ap length pushed, length-append old.places.items (place ∷ []));
-    }
+pub within-kept : (old new text : List ℕ) (places : List Place) (place : Place) → KeepsLine old new text place
+    → AllByRecursion (IsWithin (length old)) places → AllByRecursion (IsWithin (length new)) (places ++ place ∷ [])
+within-kept old new text places place kept within =
+    within-push (length new) places place (within-more (length old) (length new) places (length-Grows old new (length text) kept.grows) within) kept.within

@@ -1,6 +1,7 @@
-mod Base64Text
 mod AnswerLaws
 mod AnswerLines
+mod Base64Text
+mod Decoded
 mod KeptLines
 mod OrderedLines
 mod ReadLines

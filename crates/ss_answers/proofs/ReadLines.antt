@@ -1,16 +1,14 @@
 -- A step of reading the lines of a text.
-use Rattle.std.proofs.Common.{◌≡◌, ℕ, ◌+◌, ◌<◌, ◌≤◌, codes, length-append, List, [], ◌∷◌, ◌++◌, length, sym, refl, ap, ◌∙◌, inl, inr, arith}
+use Rattle.std.proofs.Common.{◌≡◌, ℕ, ◌+◌, ◌<◌, ◌≤◌, length-append, List, [], ◌∷◌, ◌++◌, length, sym, refl, ap, ◌∙◌, inl, inr, arith}
 use Rattle.std.specs.List.{AllByRecursion}
 use Rattle.std.proofs.lemmas.List.{append-nil, append_assoc}
 use Rattle.std.proofs.lemmas.List.Elements.{recursion_from_All}
-use Rattle.ss_frame.specs.Ascii.{lf, sp}
+use Rattle.ss_frame.specs.Ascii.{lf}
 use Rattle.ss_answers.specs.declared.place.Place.{Place}
-use Rattle.ss_payload.specs.StrictBase64.{base64}
-use Rattle.ss_answers.specs.Answers.{Answer, Seal, Trust, Yes, HasFields, Lacks, ended, first_line, line_text}
+use Rattle.ss_answers.specs.Answers.{Answer, HasFields, Lacks, ended, first_line, line_text}
 use Rattle.ss_answers.specs.AnswerInput.{IsCutAfterLine, IsReadUpTo}
-use Rattle.ss_answers.specs.AnswerLine.{answers_at, size_of}
+use Rattle.ss_answers.specs.AnswerLine.{answers_at}
 use Rattle.ss_payload.proofs.Base64Text.{Clear}
-use Rattle.ss_answers.proofs.Base64Text.{length-base64}
 
 pub first_clear : (a b : List ℕ) → Clear lf a → first_line (a ++ lf ∷ b) ≡ a
 first_clear [] b h = refl
@@ -62,19 +60,3 @@ length-answers_at octets (x ∷ places) = omega (arith, length-answers_at octets
 pub cut_sizes : (text line after : List ℕ) → IsCutAfterLine text line after → length line + length after ≤ length text
 cut_sizes text line after (inl cut) = omega (arith, ap length cut, length-append line (lf ∷ after))
 cut_sizes text line after (inr cut) = omega (arith, ap length cut.0, ap length cut.1)
-
--- the fields of a line have no more octets than its text
-pub size_of-line_text : (line : Answer) → size_of line ≤ length (line_text line)
-size_of-line_text (Trust p) = omega (arith, length-base64 p, length-append (codes "trust ") (base64 p))
-size_of-line_text (Yes p o s) =
-    omega (
-      arith,
-      length-base64 p,
-      length-base64 o,
-      length-base64 s,
-      length-append (codes "yes ") (base64 p ++ sp ∷ (base64 o ++ sp ∷ base64 s)),
-      length-append (base64 p) (sp ∷ (base64 o ++ sp ∷ base64 s)),
-      length-append (base64 o) (sp ∷ base64 s),
-    )
-size_of-line_text (Seal o s) =
-    omega (arith, length-base64 o, length-base64 s, length-append (codes "seal ") (base64 o ++ sp ∷ base64 s), length-append (base64 o) (sp ∷ base64 s))

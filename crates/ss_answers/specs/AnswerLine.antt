@@ -1,30 +1,20 @@
 -- A line of an answer file as it is read, and as the program keeps it.
-use Rattle.std.specs.Prelude.{◌≡◌, ℕ, ◌+◌, ◌≤◌, Bool, ◌&&◌, nat_le, if◌then◌else◌, List, [], ◌∷◌, ◌++◌, length, map, slice_range}
+use Rattle.std.specs.Prelude.{◌≡◌, ℕ, ◌≤◌, Bool, ◌&&◌, nat_le, if◌then◌else◌, List, [], ◌∷◌, ◌++◌, length, map, slice_range, Option, Some, None}
 use Rattle.std.specs.List.{AllByRecursion}
 use Rattle.std.specs.Ordering.{is_eq, is_lt}
 use Rattle.std.specs.List.Sorted.{IsSortedBy}
-use Rattle.ss_answers.specs.declared.line.Line.{Line}
-use Rattle.ss_answers.specs.declared.line.Line.TheVariants as kept
-use Rattle.ss_answers.specs.declared.line.LineFault.{LineFault}
-use Rattle.ss_answers.specs.declared.line.LineFault.TheVariants as faults
+use Rattle.ss_answers.specs.declared.field.LineFault.{LineFault}
+use Rattle.ss_answers.specs.declared.field.LineFault.TheVariants as faults
+use Rattle.ss_answers.specs.declared.field.Span.{Span}
+use Rattle.ss_answers.specs.declared.line.Known.{Known}
+use Rattle.ss_frame.specs.Ascii.{sp}
+use Rattle.ss_payload.specs.StrictBase64.{base64}
 use Rattle.ss_origin.specs.declared.sealer.SealFault.{SealFault}
 use Rattle.ss_origin.specs.declared.sealer.SealFault.TheVariants as refusals
 use Rattle.ss_answers.specs.declared.place.Place.{Place}
 use Rattle.ss_answers.specs.declared.lines.Lines.{Lines}
 use Rattle.ss_answers.specs.AnswerKey.{SortKey, key_cmp, key_of}
-use Rattle.ss_answers.specs.Answers.{Answer, Trust, Yes, Seal}
-
--- what a line says
-abbrev pub answer_of : Line → Answer
-answer_of (kept.Trust payload) = Trust payload.items
-answer_of (kept.Yes payload octets signature) = Yes payload.items octets.items signature.items
-answer_of (kept.Seal octets signature) = Seal octets.items signature.items
-
--- how many octets its fields have
-abbrev pub size_of : Answer → ℕ
-size_of (Trust payload) = length payload
-size_of (Yes payload octets signature) = length payload + (length octets + length signature)
-size_of (Seal octets signature) = length octets + length signature
+use Rattle.ss_answers.specs.Answers.{Answer, Trust, Yes, Seal, HasFields, IsField, line_text}
 
 -- what a fault says of the text, where it isn't want of memory
 abbrev pub IfBad : LineFault → Type 0 → Type 0
@@ -50,8 +40,8 @@ part octets from to = if nat_le from to && nat_le to (length octets) then slice_
 
 -- what the line at a place says
 unfoldable pub answer_at : List ℕ → Place → Answer
-answer_at octets place = answer_by_fields (part octets place.start place.payload_end)
-    (part octets place.payload_end place.octets_end) (part octets place.octets_end place.end)
+answer_at octets place = answer_by_fields (part octets place.payload.start place.payload.end)
+    (part octets place.start place.middle) (part octets place.middle place.end)
 
 abbrev pub answers_at : List ℕ → List Place → List Answer
 answers_at octets places = map (answer_at octets) places
@@ -62,25 +52,82 @@ answers_of lines = answers_at lines.octets.items lines.places.items
 
 -- no field ends past the octets
 abbrev pub IsWithin : ℕ → Place → Type 0
-IsWithin limit place = (place.payload_end ≤ limit) × (place.octets_end ≤ limit) × (place.end ≤ limit)
+IsWithin limit place = (place.payload.end ≤ limit) × (place.middle ≤ limit) × (place.end ≤ limit)
 
 abbrev pub AreWithin : Lines → Type 0
 AreWithin lines = AllByRecursion (IsWithin (length lines.octets.items)) lines.places.items
 
--- the fields of a line stand behind the octets of the lines before it
-pub record KeepsFields (old new payload octets signature : List ℕ) (place : Place) : Type 0 where
-  pub appended : new ≡ old ++ (payload ++ (octets ++ signature))
-  pub start : place.start ≡ length old
-  pub payload_end : place.payload_end ≡ length old + length payload
-  pub octets_end : place.octets_end ≡ length old + (length payload + length octets)
-  pub end : place.end ≡ length old + (length payload + (length octets + length signature))
+-- where a field stands that a line lacks
+abbrev pub no_span : Span
+no_span = record { start = 0; end = 0 }
 
--- one more line is kept
-pub record KeepsLine (old new : Lines) (line : Answer) : Type 0 where
-  pub answers : answers_of new ≡ answers_of old ++ line ∷ []
-  pub within : AreWithin new
-  pub octets : length new.octets.items ≡ length old.octets.items + size_of line
-  pub places : length new.places.items ≡ length old.places.items + 1
+-- the place of a line whose signature stands behind its octets
+abbrev pub place_of : Span → Span → Span → Place
+place_of payload octets signature = record { payload = payload; start = octets.start; middle = octets.end; end = signature.end }
+
+-- ---- a step of the reading: a text is spelt, and the octets of its fields come behind the others
+
+-- at most so many octets came behind the others
+pub record Grows (old new : List ℕ) (most : ℕ) : Type 0 where
+  pub more : List ℕ
+  pub appended : new ≡ old ++ more
+  pub size : length more ≤ most
+
+-- the text spells a field, whose octets stand here
+pub record HasField (octets text : List ℕ) (span : Span) : Type 0 where
+  pub field : List ℕ
+  pub is_field : IsField field
+  pub spelt : text ≡ base64 field
+  pub here : part octets span.start span.end ≡ field
+  pub within : span.end ≤ length octets
+
+-- a field came behind the others
+pub record KeepsField (old new text : List ℕ) (span : Span) : Type 0 where
+  pub has : HasField new text span
+  pub grows : Grows old new (length text)
+  pub start : span.start ≡ length old
+  pub end : span.end ≡ length new
+
+-- a payload that is known stands where it is said to
+abbrev pub IsKnown : List ℕ → Option Known → Type 0
+IsKnown octets None = Unit {0}
+IsKnown octets (Some known) = HasField octets known.text.now known.span
+
+-- the text spells a payload, which came now or stood there before
+pub record KeepsPayload (old new text : List ℕ) (known : Known) : Type 0 where
+  pub has : HasField new known.text.now known.span
+  pub same : known.text.now ≡ text
+  pub grows : Grows old new (length text)
+
+-- the text is two fields, which came one behind the other
+pub record KeepsPair (old new text : List ℕ) (first second : Span) : Type 0 where
+  pub left : List ℕ
+  pub right : List ℕ
+  pub spelt : text ≡ left ++ sp ∷ right
+  pub one : HasField new left first
+  pub two : HasField new right second
+  pub seam : first.end ≡ second.start
+  pub grows : Grows old new (length text)
+
+-- the text is a payload, which came now or stood there before, and two fields
+pub record KeepsTriple (old new text : List ℕ) (known : Known) (first second : Span) : Type 0 where
+  pub left : List ℕ
+  pub right : List ℕ
+  pub spelt : text ≡ known.text.now ++ sp ∷ (left ++ sp ∷ right)
+  pub payload : HasField new known.text.now known.span
+  pub one : HasField new left first
+  pub two : HasField new right second
+  pub seam : first.end ≡ second.start
+  pub grows : Grows old new (length text)
+
+-- the text spells a line, which is that at the place
+pub record KeepsLine (old new text : List ℕ) (place : Place) : Type 0 where
+  pub line : Answer
+  pub fields : HasFields line
+  pub spelt : text ≡ line_text line
+  pub says : answer_at new place ≡ line
+  pub within : IsWithin (length new) place
+  pub grows : Grows old new (length text)
 
 -- ---- in order
 

@@ -2,6 +2,7 @@
 #![tactic(auto)]
 
 mod fault;
+mod field;
 mod file;
 mod input;
 mod key;

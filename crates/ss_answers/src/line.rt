@@ -1,115 +1,113 @@
 //! One line of an answer file.
-ghost use Rattle.std.specs.Prelude.{◌≡◌, ◌++◌, ◌∷◌, List, ℕ, IfOk, IfErr, MatchOption};
+ghost use Rattle.std.specs.Prelude.{◌≡◌, ◌++◌, ◌∷◌, ◌+◌, ◌<◌, ◌^◌, List, ℕ, length, codes, IfOk, IfErr, MatchOption};
 ghost use Rattle.ss_frame.specs.Ascii.{sp};
-ghost use Rattle.ss_payload.specs.StrictBase64.{base64};
-ghost use Rattle.ss_answers.specs.Answers.{IsField, IsNoField, IsPair, IsNoPair, IsTriple, IsNoTriple, IsNoLine, HasFields, line_text, Lacks};
-ghost use Rattle.ss_answers.specs.AnswerLine.{answer_of, IfBad};
+ghost use Rattle.ss_answers.specs.Answers.{IsNoField, IsNoPair, IsNoTriple, IsNoLine, Lacks};
+ghost use Rattle.ss_answers.specs.AnswerLine.{IfBad, IsKnown, KeepsLine, KeepsPair, KeepsPayload, KeepsTriple};
 
-use base64::DecodeAllocError;
-use base64::engine::general_purpose::STANDARD;
-use std::alloc::Global;
+use crate::field::{self, LineFault, Span};
+use crate::place::Place;
 
-/// What a line says. Each field holds at least one octet.
-#[derive(Debug, Drop)]
-pub enum Line {
-    /// A payload is trusted.
-    Trust(Vec<u8>),
-    /// Under a payload, octets have a valid signature: payload, octets, signature.
-    Yes(Vec<u8>, Vec<u8>, Vec<u8>),
-    /// Octets are given a signature: octets, signature.
-    Seal(Vec<u8>, Vec<u8>),
-}
-
-/// Why a line wasn't taken.
+/// A payload whose octets stand among those of the lines: its text, and where they stand.
 #[derive(Clone, Copy, Debug)]
-pub enum LineFault {
-    /// It is not spelt as an answer.
-    Bad,
-    /// Memory ran out.
-    Memory,
-}
-
-impl Line {
-    ghost use Rattle.std.specs.Prelude.{◌+◌, length};
-    ghost use Rattle.ss_answers.specs.AnswerLine.{answer_by_fields, answer_of, size_of};
-
-    /// Payload, octets and signature, of which those that the line lacks are empty.
-    pub fn fields(&self) -> (&[u8], &[u8], &[u8])
-        requires { HasFields (answer_of self.now) }
-        ensures answer { answer_by_fields result.0.now result.1.now result.2.now ≡ answer_of self.now }
-        ensures size { length result.0.now + (length result.1.now + length result.2.now) ≡ size_of (answer_of self.now) }
-    {
-        match self {
-            Line::Trust(payload) => (payload, &[], &[]),
-            Line::Yes(payload, octets, signature) => (payload, octets, signature),
-            Line::Seal(octets, signature) => (&[], octets, signature),
-        }
-    }
+pub struct Known<'a> {
+    /// How the payload is spelt.
+    pub text: &'a [u8],
+    /// Where its octets stand.
+    pub span: Span,
 }
 
 const SPACE: u8 = b' ';
 
-/// Reads a line, without its line feed.
-pub fn parse(alloc: Global, text: &[u8]) -> Result<Line, LineFault>
-    ensures ok { IfOk result (λ line. HasFields (answer_of line) × (text.now ≡ line_text (answer_of line))) }
+/// Keeps a line, which is given without its line feed: its fields are decoded behind the octets of the lines before it.
+/// The payload of the line before isn't decoded again; that of this line is told with its place.
+///
+/// # Errors
+///
+/// `Bad` where the text is no line; `Memory`. Some of the fields may stand there then.
+pub fn keep<'a>(
+    octets: &mut Vec<u8>,
+    text: &'a [u8],
+    last: Option<Known<'a>>,
+) -> Result<(Place, Option<Known<'a>>), LineFault>
+    requires room { length octets.old.items + length text.now < 2 ^ 32 }
+    requires known { IsKnown octets.old.items last }
+    ensures ok { IfOk result (λ kept. KeepsLine octets.old.items octets.new.items text.now kept.0) }
+    ensures known { IfOk result (λ kept. IsKnown octets.new.items kept.1) }
     ensures bad { IfErr result (λ fault. IfBad fault (IsNoLine text.now)) }
 {
     if let Some(fields) = text.strip_prefix(b"trust ") {
-        return Ok(Line::Trust(field(alloc, fields)?));
+        let payload = payload(octets, fields, last)?;
+        let place = Place::of(payload.span, Span::none(), Span::none());
+        return Ok((place, Some(payload)));
     }
     if let Some(fields) = text.strip_prefix(b"yes ") {
-        let (payload, octets, signature) = triple(alloc, fields)?;
-        return Ok(Line::Yes(payload, octets, signature));
+        let (payload, bytes, signature) = triple(octets, fields, last)?;
+        return Ok((Place::of(payload.span, bytes, signature), Some(payload)));
     }
     if let Some(fields) = text.strip_prefix(b"seal ") {
-        let (octets, signature) = pair(alloc, fields)?;
-        return Ok(Line::Seal(octets, signature));
+        let (bytes, signature) = pair(octets, fields)?;
+        return Ok((Place::of(Span::none(), bytes, signature), last));
     }
     Err(LineFault::Bad)
 }
 
-/// Three fields.
-fn triple(alloc: Global, text: &[u8]) -> Result<(Vec<u8>, Vec<u8>, Vec<u8>), LineFault>
-    ensures ok { IfOk result (λ t. IsTriple text.now t.0.items t.1.items t.2.items) }
+/// A payload alone.
+fn payload<'a>(
+    octets: &mut Vec<u8>,
+    text: &'a [u8],
+    last: Option<Known<'a>>,
+) -> Result<Known<'a>, LineFault>
+    requires room { length octets.old.items + length text.now < 2 ^ 32 }
+    requires known { IsKnown octets.old.items last }
+    ensures ok { IfOk result (λ known. KeepsPayload octets.old.items octets.new.items text.now known) }
+    ensures bad { IfErr result (λ fault. IfBad fault (IsNoField text.now)) }
+{
+    if let Some(known) = last
+        && known.text == text
+    {
+        return Ok(known);
+    }
+    let span = field::keep(octets, text)?;
+    Ok(Known { text, span })
+}
+
+/// Three fields, of which the first is a payload.
+fn triple<'a>(
+    octets: &mut Vec<u8>,
+    text: &'a [u8],
+    last: Option<Known<'a>>,
+) -> Result<(Known<'a>, Span, Span), LineFault>
+    requires room { length octets.old.items + length text.now < 2 ^ 32 }
+    requires known { IsKnown octets.old.items last }
+    ensures ok { IfOk result (λ t. KeepsTriple octets.old.items octets.new.items text.now t.0 t.1 t.2) }
     ensures bad { IfErr result (λ fault. IfBad fault (IsNoTriple text.now)) }
 {
+    if let Some(known) = last
+        && let Some(rest) = behind(text, known.text)
+    {
+        let (bytes, signature) = pair(octets, rest)?;
+        return Ok((known, bytes, signature));
+    }
     let Some((first, rest)) = cut(text) else {
         return Err(LineFault::Bad);
     };
-    let payload = field(alloc, first)?;
-    let (octets, signature) = pair(alloc, rest)?;
-    Ok((payload, octets, signature))
+    let span = field::keep(octets, first)?;
+    let (bytes, signature) = pair(octets, rest)?;
+    Ok((Known { text: first, span }, bytes, signature))
 }
 
 /// Two fields.
-fn pair(alloc: Global, text: &[u8]) -> Result<(Vec<u8>, Vec<u8>), LineFault>
-    ensures ok { IfOk result (λ p. IsPair text.now p.0.items p.1.items) }
+fn pair(octets: &mut Vec<u8>, text: &[u8]) -> Result<(Span, Span), LineFault>
+    requires { length octets.old.items + length text.now < 2 ^ 32 }
+    ensures ok { IfOk result (λ p. KeepsPair octets.old.items octets.new.items text.now p.0 p.1) }
     ensures bad { IfErr result (λ fault. IfBad fault (IsNoPair text.now)) }
 {
     let Some((first, second)) = cut(text) else {
         return Err(LineFault::Bad);
     };
-    let octets = field(alloc, first)?;
-    let signature = field(alloc, second)?;
-    Ok((octets, signature))
-}
-
-/// One field: the base64 of at least one octet.
-fn field(alloc: Global, text: &[u8]) -> Result<Vec<u8>, LineFault>
-    ensures ok { IfOk result (λ octets. IsField octets.items × (text.now ≡ base64 octets.items)) }
-    ensures bad { IfErr result (λ fault. IfBad fault (IsNoField text.now)) }
-{
-    match STANDARD.decode(alloc, text) {
-        Ok(octets) => {
-            if octets.is_empty() {
-                Err(LineFault::Bad)
-            } else {
-                Ok(octets)
-            }
-        }
-        Err(DecodeAllocError::OutOfMemory) => Err(LineFault::Memory),
-        Err(DecodeAllocError::DecodeError(_)) => Err(LineFault::Bad),
-    }
+    let bytes = field::keep(octets, first)?;
+    let signature = field::keep(octets, second)?;
+    Ok((bytes, signature))
 }
 
 /// What stands before the first space, and what stands after it.
@@ -119,4 +117,11 @@ fn cut(text: &[u8]) -> Option<(&[u8], &[u8])>
 {
     let at = text.iter().position(|octet| *octet == SPACE)?;
     Some((&text[..at], &text[at + 1..]))
+}
+
+/// What stands after a beginning and a space, where the text begins so.
+fn behind<'a>(text: &'a [u8], beginning: &[u8]) -> Option<&'a [u8]>
+    ensures { MatchOption result (Unit {0}) (λ rest. text.now ≡ beginning.now ++ sp ∷ rest.now) }
+{
+    text.strip_prefix(beginning)?.strip_prefix(b" ")
 }

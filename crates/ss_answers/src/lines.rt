@@ -1,42 +1,22 @@
 //! The lines of a file of answers.
-ghost use Rattle.std.specs.Prelude.{◌≡◌, ◌<◌, ◌+◌, ◌^◌, length, IfOk, IfErr, OnOk};
+ghost use Rattle.std.specs.Prelude.{◌<◌, ◌^◌, length, IfOk, IfErr};
 ghost use Rattle.ss_frame.specs.Ascii.{lf};
-ghost use Rattle.ss_answers.specs.Answers.{HasFields, HasLines, Lacks};
+ghost use Rattle.ss_answers.specs.Answers.{HasLines, Lacks};
 ghost use Rattle.ss_answers.specs.AnswerInput.{IsCutAfterLine, IsTextFault};
 
 use crate::fault::AnswerFault;
-use crate::line::{self, Line, LineFault};
+use crate::field::LineFault;
+use crate::line;
 use crate::place::Place;
-use std::alloc::{AllocError, Global};
+use std::alloc::Global;
 
 /// Lines by the places of their fields among the octets of all of them.
 #[derive(Debug, Drop)]
 pub struct Lines {
-    /// The fields of all lines, one behind the other.
+    /// The fields of all lines, one behind the other. A payload stands once for the lines that follow one another with it.
     pub octets: Vec<u8>,
     /// For each line, where its fields stand.
     pub places: Vec<Place>,
-}
-
-impl Lines {
-    ghost use Rattle.ss_answers.specs.AnswerLine.{AreWithin, KeepsLine, answer_of, size_of};
-
-    /// Keeps one more line.
-    ///
-    /// # Errors
-    ///
-    /// Want of memory alone.
-    fn push(&mut self, line: &Line) -> Result<(), AllocError>
-        requires fields { HasFields (answer_of line.now) }
-        requires within { AreWithin self.old }
-        requires room { length self.old.octets.items + size_of (answer_of line.now) < 2 ^ 32 }
-        ensures { OnOk result (KeepsLine self.old self.new (answer_of line.now)) }
-    {
-        let (payload, bytes, signature) = line.fields();
-        let place = Place::keep(&mut self.octets, payload, bytes, signature)?;
-        self.places.push(place)?;
-        Ok(())
-    }
 }
 
 const LINE_FEED: u8 = b'\n';
@@ -57,14 +37,16 @@ pub fn read_lines(alloc: Global, text: &[u8]) -> Result<Lines, AnswerFault>
         octets: Vec::new(alloc),
         places: Vec::new(alloc),
     };
+    let mut last = None;
     let mut rest = text;
     while !rest.is_empty() {
         let (first, after) = cut_line(rest);
-        match line::parse(alloc, first) {
-            Ok(line) => {
-                if lines.push(&line).is_err() {
+        match line::keep(&mut lines.octets, first, last) {
+            Ok((place, payload)) => {
+                if lines.places.push(place).is_err() {
                     return Err(AnswerFault::Memory);
                 }
+                last = payload;
             }
             Err(LineFault::Bad) => {
                 return Err(AnswerFault::BadLine {

@@ -1,61 +1,45 @@
 //! Where the fields of a line stand among the octets of all lines.
-ghost use Rattle.std.specs.Prelude.{◌≡◌, ◌+◌, ◌<◌, ◌^◌, length, IfOk};
+ghost use Rattle.std.specs.Prelude.{◌≡◌};
 ghost use Rattle.std.specs.Option.{option_copied};
 ghost use Rattle.ss_answers.specs.Answers.{given_signature};
 ghost use Rattle.ss_answers.specs.AnswerKey.{sort_key};
 ghost use Rattle.ss_answers.specs.AnswerLine.{part};
 
+use crate::field::Span;
 use crate::key::Key;
-use std::alloc::AllocError;
 
-/// The places of the fields of a line: payload, octets and signature, one behind the other. A field that the line
-/// lacks is empty.
+/// The places of the fields of a line: its payload, which other lines may have too, and octets and signature, one behind
+/// the other. A field that the line lacks is empty.
 #[derive(Clone, Copy, Debug)]
 pub struct Place {
+    payload: Span,
     start: u32,
-    payload_end: u32,
-    octets_end: u32,
+    middle: u32,
     end: u32,
 }
 
 impl Place {
-    ghost use Rattle.ss_answers.specs.AnswerLine.{answer_at, place_key, KeepsFields};
+    ghost use Rattle.ss_answers.specs.AnswerLine.{answer_at, place_key, place_of};
 
-    /// Puts the fields of a line behind the octets of the lines before it.
-    ///
-    /// # Errors
-    ///
-    /// Want of memory alone, after which some of the fields may stand there.
-    pub fn keep(
-        octets: &mut Vec<u8>,
-        payload: &[u8],
-        bytes: &[u8],
-        signature: &[u8],
-    ) -> Result<Place, AllocError>
-        requires { length octets.old.items + (length payload.now + (length bytes.now + length signature.now)) < 2 ^ 32 }
-        ensures { IfOk result (KeepsFields octets.old.items octets.new.items payload.now bytes.now signature.now) }
+    /// The signature stands behind the octets.
+    pub fn of(payload: Span, bytes: Span, signature: Span) -> Place
+        ensures { result ≡ place_of payload bytes signature }
     {
-        let start = octets.len() as u32;
-        octets.extend_from_slice(payload)?;
-        let payload_end = octets.len() as u32;
-        octets.extend_from_slice(bytes)?;
-        let octets_end = octets.len() as u32;
-        octets.extend_from_slice(signature)?;
-        Ok(Place {
-            start,
-            payload_end,
-            octets_end,
-            end: octets.len() as u32,
-        })
+        Place {
+            payload,
+            start: bytes.start,
+            middle: bytes.end,
+            end: signature.end,
+        }
     }
 
     /// What the line is found by.
     pub fn key<'a>(&self, octets: &'a [u8]) -> Key<'a>
         ensures { sort_key result ≡ place_key octets.now self.now }
     {
-        let payload = part(octets, self.start, self.payload_end);
-        let bytes = part(octets, self.payload_end, self.octets_end);
-        let signature = part(octets, self.octets_end, self.end);
+        let payload = part(octets, self.payload.start, self.payload.end);
+        let bytes = part(octets, self.start, self.middle);
+        let signature = part(octets, self.middle, self.end);
         if payload.is_empty() {
             Key::seal(bytes)
         } else if bytes.is_empty() {
@@ -69,8 +53,8 @@ impl Place {
     pub fn given_signature<'a>(&self, octets: &'a [u8]) -> Option<&'a [u8]>
         ensures { option_copied result ≡ given_signature (answer_at octets.now self.now) }
     {
-        if part(octets, self.start, self.payload_end).is_empty() {
-            Some(part(octets, self.octets_end, self.end))
+        if part(octets, self.payload.start, self.payload.end).is_empty() {
+            Some(part(octets, self.middle, self.end))
         } else {
             None
         }

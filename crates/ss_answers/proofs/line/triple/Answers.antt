@@ -2,19 +2,35 @@ use Rattle.std.proofs.Common.{◌++◌, ◌∷◌}
 use Rattle.std.proofs.lemmas.Result.{err_from_is_err_and}
 use Rattle.ss_frame.specs.Ascii.{sp}
 use Rattle.ss_payload.specs.StrictBase64.{base64}
+use Rattle.ss_answers.specs.AnswerLine.{HasField}
 use Rattle.ss_answers.proofs.AnswerLines.{IfBad-weaker, IsNoTriple-from_first, IsNoTriple-from_rest, nowhere}
+use Rattle.ss_answers.proofs.KeptLines.{KeepsTriple-fields, KeepsTriple-known, Lacks-known}
 use Rattle.ss_answers.proofs.line.triple.Goals as goal
 
 pub returns-in_default-clause-bad : goal.returns-in_default-clause-bad
 returns-in_default-clause-bad c = λ first second third triple.
-    nowhere sp (base64 first) (base64 second ++ sp ∷ base64 third) _ c.in_default.ensures triple.3
+    nowhere sp (base64 first) (base64 second ++ sp ∷ base64 third) _ c.in_default-2.ensures triple.3
 
-pub returns-in_err-payload-clause-bad : goal.returns-in_err-payload-clause-bad
-returns-in_err-payload-clause-bad c =
+pub returns-in_err-bytes-clause-bad : goal.returns-in_err-bytes-clause-bad
+returns-in_err-bytes-clause-bad c =
     let p = err_from_is_err_and c.from_residual.result c.from_residual.ensures.1 in
-    rw (p.1, p.2) (IfBad-weaker _ _ _ (IsNoTriple-from_first _ _ _ c.in-Some.ensures.0 c.in-Some.ensures.1) c.in_err-payload.ensures.bad)
+    let has : HasField c.args.octets.now.items c.in-Some.known.text.now c.in-Some.known.span = rw c.in-Some.is at c.requires.known in
+    rw (p.1, p.2) (IfBad-weaker _ _ _ (IsNoTriple-from_rest _ _ _ (Lacks-known _ _ _ has) c.in-Some-behind.ensures) c.in_err-bytes.ensures.bad)
 
-pub returns-in_err-octets-clause-bad : goal.returns-in_err-octets-clause-bad
-returns-in_err-octets-clause-bad c =
-    let p = err_from_is_err_and c.from_residual-in_err-octets.result c.from_residual-in_err-octets.ensures.1 in
-    rw (p.1, p.2) (IfBad-weaker _ _ _ (IsNoTriple-from_rest _ _ _ c.in-Some.ensures.0 c.in-Some.ensures.1) c.in_err-octets.ensures.bad)
+pub returns-clause-ok : goal.returns-clause-ok
+returns-clause-ok c =
+    KeepsTriple-known _ _ _ _ _ _ _ c.in-Some-behind.ensures (rw c.in-Some.is at c.requires.known) c.in_ok-bytes.ensures.ok
+
+pub returns-in_err-span-clause-bad : goal.returns-in_err-span-clause-bad
+returns-in_err-span-clause-bad c =
+    let p = err_from_is_err_and c.from_residual-in_err-span.result c.from_residual-in_err-span.ensures.1 in
+    rw (p.1, p.2) (IfBad-weaker _ _ _ (IsNoTriple-from_first _ _ _ c.in-Some-cut.ensures.0 c.in-Some-cut.ensures.1) c.in_err-span.ensures.bad)
+
+pub returns-in_err-bytes-2-clause-bad : goal.returns-in_err-bytes-2-clause-bad
+returns-in_err-bytes-2-clause-bad c =
+    let p = err_from_is_err_and c.from_residual-in_err-bytes-2.result c.from_residual-in_err-bytes-2.ensures.1 in
+    rw (p.1, p.2) (IfBad-weaker _ _ _ (IsNoTriple-from_rest _ _ _ c.in-Some-cut.ensures.0 c.in-Some-cut.ensures.1) c.in_err-bytes-2.ensures.bad)
+
+pub returns-2-clause-ok : goal.returns-2-clause-ok
+returns-2-clause-ok c =
+    KeepsTriple-fields _ _ _ _ _ _ _ _ c.in-Some-cut.ensures.1 c.in_ok-span.ensures.ok c.in_ok-bytes-2.ensures.ok

@@ -2,7 +2,7 @@ use Rattle.std.proofs.Common.{◌≡◌, true, false, get_or, sym, arith, rules}
 use Rattle.std.proofs.lemmas.List.Sorted.{IsPartitionPoint-from_clause}
 use Rattle.ss_answers.specs.declared.place.Place.{Place}
 use Rattle.ss_answers.specs.AnswerKey.{sort_key}
-use Rattle.ss_answers.specs.AnswerLine.{has_key}
+use Rattle.ss_answers.specs.AnswerLine.{has_key, no_span}
 use Rattle.ss_answers.proofs.OrderedLines.{IsPartitionedBy-is_below, find_absent, find_at, find_past, is_below}
 use Rattle.ss_answers.proofs.table.find.Goals as goal
 
@@ -16,7 +16,7 @@ returns-then-at-places c =
     sym (find_past bytes key places c.partition_point-at.result point (omega arith))
 
 nowhere : Place
-nowhere = record { start = 0; payload_end = 0; octets_end = 0; end = 0 }
+nowhere = record { payload = no_span; start = 0; middle = 0; end = 0 }
 
 pub returns-then-is_eq : goal.returns-then-is_eq
 unfolding nowhere

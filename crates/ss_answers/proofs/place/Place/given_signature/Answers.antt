@@ -11,7 +11,7 @@ returns-then-is_empty c =
     let none = sym c.is_empty.ensures ∙ c.if-is_empty.true in
     rw (← c.part.ensures)
     (ap Some c.part-then-is_empty.ensures
-    ∙ sym (given-seal c.part.result.now (part bytes place.payload_end place.octets_end) (part bytes place.octets_end place.end) none))
+    ∙ sym (given-seal c.part.result.now (part bytes place.start place.middle) (part bytes place.middle place.end) none))
 
 pub returns-else-is_empty : goal.returns-else-is_empty
 unfolding answer_at
@@ -20,4 +20,4 @@ returns-else-is_empty c =
     let place = c.args.self.now in
     let some = sym c.is_empty.ensures ∙ c.if-is_empty.false in
     rw (← c.part.ensures)
-    (sym (given-other c.part.result.now (part bytes place.payload_end place.octets_end) (part bytes place.octets_end place.end) some))
+    (sym (given-other c.part.result.now (part bytes place.start place.middle) (part bytes place.middle place.end) some))
