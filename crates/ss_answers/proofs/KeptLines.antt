@@ -1,6 +1,6 @@
 -- Lines by the places of their fields: what a place tells, and that octets put behind change no line.
-use Rattle.std.proofs.Common.{◌≡◌, ℕ, ◌+◌, ◌-◌, ◌<◌, ◌≤◌, true, false, eqb, codes, Option, List, [], ◌∷◌, ◌++◌, length, take, drop, Some, None, nat_le, sym, refl, ap, ◌∙◌, arith, length-append, length-drop, inl, inr}
-use Rattle.std.specs.List.{AllByRecursion, slice_range}
+use Rattle.std.proofs.Common.{◌≡◌, ℕ, ◌+◌, ◌-◌, ◌<◌, ◌≤◌, true, false, eqb, codes, Option, List, [], ◌∷◌, ◌++◌, length, take, drop, get_or, Some, None, nat_le, sym, refl, ap, ◌∙◌, arith, length-append, length-drop, inl, inr}
+use Rattle.std.specs.List.{AllByRecursion, IsAmong, slice_range}
 use Rattle.std.proofs.lemmas.List.{append-nil, append_assoc, take-append-le, drop-append-le}
 use Rattle.std.proofs.lemmas.Bool.Decides.{nat_tests}
 use Rattle.std.proofs.Math.Seq.{drop-append_seam, take-append_seam}
@@ -12,7 +12,7 @@ use Rattle.ss_frame.specs.Ascii.{sp}
 use Rattle.ss_payload.specs.StrictBase64.{base64}
 use Rattle.ss_answers.specs.Answers.{Trust, Yes, Seal, Lacks, given_signature}
 use Rattle.ss_answers.specs.AnswerKey.{key_of, seal_key, trust_key, yes_key}
-use Rattle.ss_answers.specs.AnswerLine.{Grows, HasField, IsKnown, IsWithin, KeepsField, KeepsLine, KeepsPair, KeepsPayload, KeepsTriple, answer_at, answer_by_fields, answers_at, no_span, part, place_of}
+use Rattle.ss_answers.specs.AnswerLine.{AreKnown, Grows, HasField, IsKnown, IsWithin, KeepsField, KeepsLine, KeepsPair, KeepsPayload, KeepsTriple, answer_at, answer_by_fields, answers_at, no_span, part, place_of}
 use Rattle.ss_answers.proofs.Base64Text.{Lacks-space}
 
 -- the key of a line by its fields
@@ -126,6 +126,14 @@ HasField-grows old new text span most grows has = record {
   within = omega (arith, has.within, length-Grows old new most grows);
 }
 
+pub AreKnown-grows : (old new : List ℕ) (payloads : List Known) (most : ℕ) → Grows old new most → AreKnown old payloads → AreKnown new payloads
+AreKnown-grows old new payloads most grows h = λ i d lt.
+    HasField-grows old new (get_or payloads i d).text.now (get_or payloads i d).span most grows (h i d lt)
+
+-- one of those that are known
+pub HasField-among : (octets : List ℕ) (payloads : List Known) (known : Known) → AreKnown octets payloads → IsAmong payloads known → HasField octets known.text.now known.span
+HasField-among octets payloads known h among = rw among.1.1 (h among.0 known among.1.0)
+
 pub IsKnown-grows : (old new : List ℕ) (known : Option Known) (most : ℕ) → Grows old new most → IsKnown old known → IsKnown new known
 IsKnown-grows old new None most grows h = tt
 IsKnown-grows old new (Some known) most grows h = HasField-grows old new known.text.now known.span most grows h
@@ -160,18 +168,17 @@ KeepsTriple-known old new text rest known first second spelt has pair = record {
   grows = Grows-more old new (length rest) (length text) pair.grows (omega (arith, ap length spelt, length-append known.text.now (sp ∷ rest)));
 }
 
-pub KeepsTriple-fields : (old middle new text rest : List ℕ) (known : Known) (first second : Span) → text ≡ known.text.now ++ sp ∷ rest
-    → KeepsField old middle known.text.now known.span → KeepsPair middle new rest first second → KeepsTriple old new text known first second
-KeepsTriple-fields old middle new text rest known first second spelt payload pair = record {
+pub KeepsTriple-payload : (old middle new text first rest : List ℕ) (known : Known) (left right : Span) → text ≡ first ++ sp ∷ rest
+    → KeepsPayload old middle first known → KeepsPair middle new rest left right → KeepsTriple old new text known left right
+KeepsTriple-payload old middle new text first rest known left right spelt payload pair = record {
   left = pair.left;
   right = pair.right;
-  spelt = spelt ∙ ap (λ t. known.text.now ++ sp ∷ t) pair.spelt;
+  spelt = spelt ∙ ap (λ t. t ++ sp ∷ rest) (sym payload.same) ∙ ap (λ t. known.text.now ++ sp ∷ t) pair.spelt;
   payload = HasField-grows middle new known.text.now known.span (length rest) pair.grows payload.has;
   one = pair.one;
   two = pair.two;
   seam = pair.seam;
-  grows = Grows-twice old middle new (length known.text.now) (length rest) (length text) payload.grows pair.grows
-      (omega (arith, ap length spelt, length-append known.text.now (sp ∷ rest)));
+  grows = Grows-twice old middle new (length first) (length rest) (length text) payload.grows pair.grows (omega (arith, ap length spelt, length-append first (sp ∷ rest)));
 }
 
 -- ---- the line at a place

@@ -1,6 +1,6 @@
 -- A line of an answer file as it is read, and as the program keeps it.
 use Rattle.std.specs.Prelude.{◌≡◌, ℕ, ◌≤◌, Bool, ◌&&◌, nat_le, if◌then◌else◌, List, [], ◌∷◌, ◌++◌, length, map, slice_range, Option, Some, None}
-use Rattle.std.specs.List.{AllByRecursion}
+use Rattle.std.specs.List.{All, AllByRecursion}
 use Rattle.std.specs.Ordering.{is_eq, is_lt}
 use Rattle.std.specs.List.Sorted.{IsSortedBy}
 use Rattle.ss_answers.specs.declared.field.LineFault.{LineFault}
@@ -92,6 +92,10 @@ pub record KeepsField (old new text : List ℕ) (span : Span) : Type 0 where
 abbrev pub IsKnown : List ℕ → Option Known → Type 0
 IsKnown octets None = Unit {0}
 IsKnown octets (Some known) = HasField octets known.text.now known.span
+
+-- payloads that are known stand where they are said to
+abbrev pub AreKnown : List ℕ → List Known → Type 0
+AreKnown octets payloads = All (λ known. HasField octets known.text.now known.span) payloads
 
 -- the text spells a payload, which came now or stood there before
 pub record KeepsPayload (old new text : List ℕ) (known : Known) : Type 0 where

@@ -1,11 +1,13 @@
 //! One line of an answer file.
-ghost use Rattle.std.specs.Prelude.{◌≡◌, ◌++◌, ◌∷◌, ◌+◌, ◌<◌, ◌^◌, List, ℕ, length, codes, IfOk, IfErr, MatchOption};
+ghost use Rattle.std.specs.Prelude.{◌≡◌, ◌++◌, ◌∷◌, ◌+◌, ◌<◌, ◌^◌, List, ℕ, length, codes, IfOk, IfErr, OnOk, MatchOption};
+ghost use Rattle.std.specs.BTreeMap.{values};
 ghost use Rattle.ss_frame.specs.Ascii.{sp};
 ghost use Rattle.ss_answers.specs.Answers.{IsNoField, IsNoPair, IsNoTriple, IsNoLine, Lacks};
-ghost use Rattle.ss_answers.specs.AnswerLine.{IfBad, IsKnown, KeepsLine, KeepsPair, KeepsPayload, KeepsTriple};
+ghost use Rattle.ss_answers.specs.AnswerLine.{AreKnown, IfBad, IsKnown, KeepsLine, KeepsPair, KeepsPayload, KeepsTriple};
 
 use crate::field::{self, LineFault, Span};
 use crate::place::Place;
+use std::collections::BTreeMap;
 
 /// A payload whose octets stand among those of the lines: its text, and where they stand.
 #[derive(Clone, Copy, Debug)]
@@ -28,11 +30,14 @@ pub fn keep<'a>(
     octets: &mut Vec<u8>,
     text: &'a [u8],
     last: Option<Known<'a>>,
+    payloads: &mut BTreeMap<&'a [u8], Known<'a>>,
 ) -> Result<(Place, Option<Known<'a>>), LineFault>
     requires room { length octets.old.items + length text.now < 2 ^ 32 }
     requires known { IsKnown octets.old.items last }
+    requires payloads { AreKnown octets.old.items (values payloads.old) }
     ensures ok { IfOk result (λ kept. KeepsLine octets.old.items octets.new.items text.now kept.0) }
     ensures known { IfOk result (λ kept. IsKnown octets.new.items kept.1) }
+    ensures payloads { OnOk result (AreKnown octets.new.items (values payloads.new)) }
     ensures bad { IfErr result (λ fault. IfBad fault (IsNoLine text.now)) }
 {
     if let Some(fields) = text.strip_prefix(b"trust ") {
@@ -41,7 +46,7 @@ pub fn keep<'a>(
         return Ok((place, Some(payload)));
     }
     if let Some(fields) = text.strip_prefix(b"yes ") {
-        let (payload, bytes, signature) = triple(octets, fields, last)?;
+        let (payload, bytes, signature) = triple(octets, fields, last, payloads)?;
         return Ok((Place::of(payload.span, bytes, signature), Some(payload)));
     }
     if let Some(fields) = text.strip_prefix(b"seal ") {
@@ -76,10 +81,13 @@ fn triple<'a>(
     octets: &mut Vec<u8>,
     text: &'a [u8],
     last: Option<Known<'a>>,
+    payloads: &mut BTreeMap<&'a [u8], Known<'a>>,
 ) -> Result<(Known<'a>, Span, Span), LineFault>
     requires room { length octets.old.items + length text.now < 2 ^ 32 }
     requires known { IsKnown octets.old.items last }
+    requires payloads { AreKnown octets.old.items (values payloads.old) }
     ensures ok { IfOk result (λ t. KeepsTriple octets.old.items octets.new.items text.now t.0 t.1 t.2) }
+    ensures payloads { OnOk result (AreKnown octets.new.items (values payloads.new)) }
     ensures bad { IfErr result (λ fault. IfBad fault (IsNoTriple text.now)) }
 {
     if let Some(known) = last
@@ -91,9 +99,34 @@ fn triple<'a>(
     let Some((first, rest)) = cut(text) else {
         return Err(LineFault::Bad);
     };
-    let span = field::keep(octets, first)?;
+    let payload = among(octets, first, payloads)?;
     let (bytes, signature) = pair(octets, rest)?;
-    Ok((Known { text: first, span }, bytes, signature))
+    Ok((payload, bytes, signature))
+}
+
+/// A payload, which isn't decoded again where it is among those that are known, and else is one of them from now on.
+fn among<'a>(
+    octets: &mut Vec<u8>,
+    text: &'a [u8],
+    payloads: &mut BTreeMap<&'a [u8], Known<'a>>,
+) -> Result<Known<'a>, LineFault>
+    requires room { length octets.old.items + length text.now < 2 ^ 32 }
+    requires payloads { AreKnown octets.old.items (values payloads.old) }
+    ensures ok { IfOk result (λ known. KeepsPayload octets.old.items octets.new.items text.now known) }
+    ensures payloads { OnOk result (AreKnown octets.new.items (values payloads.new)) }
+    ensures bad { IfErr result (λ fault. IfBad fault (IsNoField text.now)) }
+{
+    if let Some(known) = payloads.get(&text)
+        && known.text == text
+    {
+        return Ok(*known);
+    }
+    let span = field::keep(octets, text)?;
+    let known = Known { text, span };
+    match payloads.insert(text, known) {
+        Ok(_) => Ok(known),
+        Err(_) => Err(LineFault::Memory),
+    }
 }
 
 /// Two fields.

@@ -9,6 +9,7 @@ use crate::field::LineFault;
 use crate::line;
 use crate::place::Place;
 use std::alloc::Global;
+use std::collections::BTreeMap;
 
 /// Lines by the places of their fields among the octets of all of them.
 #[derive(Debug, Drop)]
@@ -38,10 +39,11 @@ pub fn read_lines(alloc: Global, text: &[u8]) -> Result<Lines, AnswerFault>
         places: Vec::new(alloc),
     };
     let mut last = None;
+    let mut payloads = BTreeMap::new(alloc);
     let mut rest = text;
     while !rest.is_empty() {
         let (first, after) = cut_line(rest);
-        match line::keep(&mut lines.octets, first, last) {
+        match line::keep(&mut lines.octets, first, last, &mut payloads) {
             Ok((place, payload)) => {
                 if lines.places.push(place).is_err() {
                     return Err(AnswerFault::Memory);

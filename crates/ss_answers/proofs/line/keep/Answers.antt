@@ -1,5 +1,5 @@
 use Rattle.std.proofs.Common.{◌≡◌, ◌++◌, codes, rules}
-use Rattle.ss_answers.proofs.KeptLines.{IsKnown-grows, KeepsLine-seal, KeepsLine-trust, KeepsLine-yes}
+use Rattle.ss_answers.proofs.KeptLines.{AreKnown-grows, IsKnown-grows, KeepsLine-seal, KeepsLine-trust, KeepsLine-yes}
 use Rattle.ss_answers.proofs.line.keep.Goals as goal
 
 pub returns-in-Some-clause-ok : goal.returns-in-Some-clause-ok
@@ -20,3 +20,9 @@ returns-in-Some-strip_prefix-2-clause-ok c =
 pub returns-in-Some-strip_prefix-2-clause-known : goal.returns-in-Some-strip_prefix-2-clause-known
 returns-in-Some-strip_prefix-2-clause-known c =
     IsKnown-grows _ _ _ _ c.in_ok-bytes.ensures.ok.grows c.requires.known
+
+pub returns-in-Some-clause-payloads : goal.returns-in-Some-clause-payloads
+returns-in-Some-clause-payloads c = AreKnown-grows _ _ _ _ c.in_ok-payload.ensures.ok.grows c.requires.payloads
+
+pub returns-in-Some-strip_prefix-2-clause-payloads : goal.returns-in-Some-strip_prefix-2-clause-payloads
+returns-in-Some-strip_prefix-2-clause-payloads c = AreKnown-grows _ _ _ _ c.in_ok-bytes.ensures.ok.grows c.requires.payloads

@@ -4,7 +4,7 @@ use Rattle.ss_frame.specs.Ascii.{sp}
 use Rattle.ss_payload.specs.StrictBase64.{base64}
 use Rattle.ss_answers.specs.AnswerLine.{HasField}
 use Rattle.ss_answers.proofs.AnswerLines.{IfBad-weaker, IsNoTriple-from_first, IsNoTriple-from_rest, nowhere}
-use Rattle.ss_answers.proofs.KeptLines.{KeepsTriple-fields, KeepsTriple-known, Lacks-known}
+use Rattle.ss_answers.proofs.KeptLines.{AreKnown-grows, KeepsTriple-payload, KeepsTriple-known, Lacks-known}
 use Rattle.ss_answers.proofs.line.triple.Goals as goal
 
 pub returns-in_default-clause-bad : goal.returns-in_default-clause-bad
@@ -21,10 +21,10 @@ pub returns-clause-ok : goal.returns-clause-ok
 returns-clause-ok c =
     KeepsTriple-known _ _ _ _ _ _ _ c.in-Some-behind.ensures (rw c.in-Some.is at c.requires.known) c.in_ok-bytes.ensures.ok
 
-pub returns-in_err-span-clause-bad : goal.returns-in_err-span-clause-bad
-returns-in_err-span-clause-bad c =
-    let p = err_from_is_err_and c.from_residual-in_err-span.result c.from_residual-in_err-span.ensures.1 in
-    rw (p.1, p.2) (IfBad-weaker _ _ _ (IsNoTriple-from_first _ _ _ c.in-Some-cut.ensures.0 c.in-Some-cut.ensures.1) c.in_err-span.ensures.bad)
+pub returns-in_err-payload-clause-bad : goal.returns-in_err-payload-clause-bad
+returns-in_err-payload-clause-bad c =
+    let p = err_from_is_err_and c.from_residual-in_err-payload.result c.from_residual-in_err-payload.ensures.1 in
+    rw (p.1, p.2) (IfBad-weaker _ _ _ (IsNoTriple-from_first _ _ _ c.in-Some-cut.ensures.0 c.in-Some-cut.ensures.1) c.in_err-payload.ensures.bad)
 
 pub returns-in_err-bytes-2-clause-bad : goal.returns-in_err-bytes-2-clause-bad
 returns-in_err-bytes-2-clause-bad c =
@@ -33,4 +33,10 @@ returns-in_err-bytes-2-clause-bad c =
 
 pub returns-2-clause-ok : goal.returns-2-clause-ok
 returns-2-clause-ok c =
-    KeepsTriple-fields _ _ _ _ _ _ _ _ c.in-Some-cut.ensures.1 c.in_ok-span.ensures.ok c.in_ok-bytes-2.ensures.ok
+    KeepsTriple-payload _ _ _ _ _ _ _ _ _ c.in-Some-cut.ensures.1 c.in_ok-payload.ensures.ok c.in_ok-bytes-2.ensures.ok
+
+pub returns-clause-payloads : goal.returns-clause-payloads
+returns-clause-payloads c = AreKnown-grows _ _ _ _ c.in_ok-bytes.ensures.ok.grows c.requires.payloads
+
+pub returns-2-clause-payloads : goal.returns-2-clause-payloads
+returns-2-clause-payloads c = AreKnown-grows _ _ _ _ c.in_ok-bytes-2.ensures.ok.grows c.in_ok-payload.ensures.payloads

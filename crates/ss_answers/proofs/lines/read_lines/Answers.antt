@@ -23,6 +23,7 @@ loop-last-preserved c =
       within = rw pushed (within-kept _ _ _ _ _ kept c.loop-last.invariant.within);
       counted = omega (arith, shorter, ap length pushed, length-append c.loop-last.lines.places.items (c.in-Ok.place ∷ []), c.loop-last.invariant.counted);
       known = c.in-Ok.ensures.known;
+      payloads = c.in-Ok.ensures.payloads;
       sized = omega (arith, most, sizes, c.loop-last.invariant.sized);
     }
 

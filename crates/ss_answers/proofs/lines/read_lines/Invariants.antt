@@ -1,8 +1,9 @@
 use Rattle.std.proofs.Common.{◌+◌, ◌≤◌, length}
+use Rattle.std.specs.BTreeMap.{values}
 use Rattle.std.specs.List.{AllByRecursion}
 use Rattle.ss_answers.specs.Answers.{HasFields}
 use Rattle.ss_answers.specs.AnswerInput.{IsReadUpTo}
-use Rattle.ss_answers.specs.AnswerLine.{AreWithin, IsKnown, answers_of}
+use Rattle.ss_answers.specs.AnswerLine.{AreKnown, AreWithin, IsKnown, answers_of}
 use Rattle.ss_answers.proofs.lines.read_lines.Given as goal
 
 abbrev pub invariant-loop-last : goal.invariant-loop-last
@@ -12,6 +13,7 @@ invariant-loop-last l = record {
   within : AreWithin l.lines;
   counted : length l.lines.places.items + length l.rest ≤ length l.text;
   known : IsKnown l.lines.octets.items l.last;
+  payloads : AreKnown l.lines.octets.items (values l.payloads);
   sized : length l.lines.octets.items + length l.rest ≤ length l.text;
 }
 
