@@ -2,12 +2,14 @@
 """What a file of answers costs: seconds and peak memory, against the octets of the file.
 
     bench/answers.py PROGRAM [--signed COUNT..] [--trust COUNT..] [--short-trust COUNT..] [--short-yes COUNT..]
+                              [--alternating COUNT..]
 
 PROGRAM is run as `PROGRAM review --answers FILE` with nothing on standard input, so that reading the answers is
 all of its work. `--signed` takes the answers of a signed log of COUNT messages, ten in a block, as tests/signed_log.py
 writes them. The others take COUNT lines: `--trust` those of payloads of eight octets, `--short-trust` and `--short-yes`
-the shortest that there are, each with a field of three octets that no other line has, up to 16,777,216 of them. The peak
-is that of the process less that of a run on an empty file, told as a ratio to the file's octets.
+the shortest that there are, each with a field of three octets that no other line has, up to 16,777,216 of them;
+`--alternating` `yes` lines of two payloads of 300 octets in turn, whose octets and signatures begin alike. The peak is
+that of the process less that of a run on an empty file, told as a ratio to the file's octets.
 """
 import argparse
 import base64
@@ -63,7 +65,20 @@ def short_yes(count, path):
             file.write(b"yes AAAA " + field(number, 3) + b" AAAA\n")
 
 
-KINDS = {"signed": signed, "trust": trust, "short-trust": short_trust, "short-yes": short_yes}
+def alternating(count, path):
+    payloads = [base64.b64encode(octet * 300) for octet in (b"a", b"b")]
+    with open(path, "wb") as file:
+        for number in range(count):
+            file.write(b"yes " + payloads[number % 2] + b" " + field(number, 170) + b" " + field(number, 48) + b"\n")
+
+
+KINDS = {
+    "signed": signed,
+    "trust": trust,
+    "short-trust": short_trust,
+    "short-yes": short_yes,
+    "alternating": alternating,
+}
 
 
 def positive(text):
