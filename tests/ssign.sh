@@ -1,6 +1,7 @@
 #!/usr/bin/env bash
-# The script ./ssign, over a copy of what it looks at: with a program that is up to date it is that program; else it
-# builds one, with the command rt, for which a small script stands here.
+# The script ./ssign, over a copy of what it looks at: with a program that is up to date it is that program; else it is
+# the recorded one, where that is of these sources; else it builds one, with the command rt, for which a small script
+# stands here. With it what belongs to the recorded build: release/sources.sh, release/renew.sh and tests/release.sh.
 # shellcheck source=tests/lib.sh
 . "$(dirname -- "$0")/lib.sh"
 need_program
@@ -18,24 +19,30 @@ absent="ssign: the program isn't built from these sources yet, and the command r
 tools=$scratch/tools
 with_rt=$scratch/with_rt:$tools
 mkdir -- "$tools" "$scratch/with_rt"
-for tool in bash cat chmod cp dirname env find flock grep mkdir nproc readlink rm sleep tail touch; do
+for tool in bash cat chmod cp dirname env find flock grep mkdir nproc readlink rm sha256sum sleep sort tail touch; do
     found=$(command -v "$tool") && ln -s -- "$found" "$tools/$tool"
 done
 
-# fresh: a copy of the script and of the sources that it looks at, all of an old date, without a program.
-fresh() {
-    local crate part
-    rm -rf -- "$copy"
-    for crate in "$root"/crates/*/; do
-        crate=${crate%/}
-        for part in src specs; do
-            [[ -d $crate/$part ]] || continue
-            mkdir -p -- "$copy/crates/${crate##*/}"
-            cp -r -- "$crate/$part" "$copy/crates/${crate##*/}/$part"
+# the script and a few of the sources that it looks at, all of an old date, and the same with a recorded build
+sources=$scratch/sources
+with_release=$scratch/with_release
+for crate in "$root"/crates/*/; do
+    crate=${crate%/}
+    for part in src specs; do
+        for file in lib.rt main.rt Lib.antt CommandLine.antt; do
+            [[ -f $crate/$part/$file ]] || continue
+            mkdir -p -- "$sources/crates/${crate##*/}/$part"
+            cp -- "$crate/$part/$file" "$sources/crates/${crate##*/}/$part/$file"
         done
     done
-    cp -- "$root/ssign" "$root/crates.txt" "$copy/"
-    find "$copy" -exec touch -d '2001-01-01 00:00' -- {} +
+done
+cp -- "$root/ssign" "$root/crates.txt" "$sources/"
+find "$sources" -exec touch -d '2001-01-01 00:00' -- {} +
+
+# fresh: a copy of the script and of the sources, without a program.
+fresh() {
+    rm -rf -- "$copy"
+    cp -a -- "$sources" "$copy"
 }
 
 # built: the same with the program.
@@ -179,5 +186,496 @@ fresh
 : >"$copy/crates/ssign/out"
 ssign "$with_rt" review <"$log"
 expect 'no folder to build in' 2 '' "ssign: the program isn't built from these sources yet, and nothing can be written to $copy/crates/ssign/out, where it is built"
+
+
+# The recorded build. In a copy it is the program of this test, with a text of the copy's own sources, so that these
+# checks say nothing of the one in release/, of which tests/release.sh speaks.
+recorded=$copy/release/ssign-x86_64-linux
+toolchain='a-kit logic 0123'
+told='ssign: running the recorded build of these sources; ./ssign --build proves and builds the program here'
+of_others='ssign: the recorded build is of other sources, so the program has to be built here'
+answers_of_others='ssign: the recorded build answers, which is of other sources; ./ssign --build builds those at hand'
+says_of_others='ssign: the recorded build says so, which is of other sources; ./ssign --build builds those at hand'
+not_built="ssign: the program isn't built from these sources yet; ./ssign --build proves and builds it"
+
+# sum_of FILE: its SHA-256, by another program than the scripts use.
+sum_of() {
+    python3 -c 'import hashlib, sys; print(hashlib.sha256(open(sys.argv[1], "rb").read()).hexdigest())' "$1"
+}
+
+# write_text FOLDER: the text beside the recorded program of the copy that is in this folder.
+write_text() {
+    local at=$1/release
+    printf 'program %s\ntoolchain %s\nsources %s\n' "$(sum_of "$at/ssign-x86_64-linux")" "$toolchain" \
+        "$("$at/sources.sh")" >"$at/ssign-x86_64-linux.txt"
+}
+
+cp -a -- "$sources" "$with_release"
+mkdir -- "$with_release/release" "$with_release/tests"
+cp -- "$root/release/sources.sh" "$root/release/renew.sh" "$with_release/release/"
+cp -- "$root/tests/lib.sh" "$root/tests/release.sh" "$with_release/tests/"
+cp -- "$program" "$with_release/release/ssign-x86_64-linux"
+chmod 755 -- "$with_release/release/ssign-x86_64-linux"
+write_text "$with_release"
+
+# with_record: a fresh copy with a recorded build of it.
+with_record() {
+    rm -rf -- "$copy"
+    cp -a -- "$with_release" "$copy"
+}
+
+# edit FILE OLD NEW: puts NEW in the place of the first OLD, both Python's octets, and keeps the date.
+edit() {
+    touch -r "$1" -- "$scratch/date"
+    python3 - "$@" <<'P'
+import ast, sys
+name, old, new = sys.argv[1], *(ast.literal_eval(f"b'{it}'") for it in sys.argv[2:])
+with open(name, "rb") as file:
+    octets = file.read()
+assert old in octets and old != new, "no such octets"
+with open(name, "wb") as file:
+    file.write(octets.replace(old, new, 1))
+P
+    touch -r "$scratch/date" -- "$1"
+}
+
+# other_source: one letter of a comment, in a file that keeps its length and date.
+other_source() {
+    edit "$copy/crates/ss_frame/src/lib.rt" '//!' '//?'
+}
+
+# rt that leaves a mark, so that whoever called it is found
+# shellcheck disable=SC2016 # for that script
+marks="touch $(printf '%q' "$scratch/called")
+[[ \$1 == version ]] && echo $(printf '%q' "$toolchain") && exit
+$proves"
+
+# quiet WHAT: one check, that rt wasn't called.
+quiet() {
+    holds "$1, and no build" test ! -e "$scratch/called"
+    rm -f -- "$scratch/called"
+}
+
+# as_program WHAT COMPLAINT ARG..: one check, that the script does with these words what the program does, and says
+# COMPLAINT besides in a line behind what the program says, or in front of it with a +.
+as_program() {
+    local what=$1 complaint=$2 first='' last=''
+    shift 2
+    run "$@" </dev/null
+    local wanted=$status output complained
+    output=$(<"$scratch/out")
+    complained=$(<"$scratch/err")
+    [[ $complaint == +* ]] && first=${complaint#+} || last=$complaint
+    ssign "$with_rt" "$@" </dev/null
+    expect "$what" "$wanted" "$output" "$first${first:+${complained:+$'\n'}}$complained${last:+${complained:+$'\n'}}$last"
+}
+
+# A clone that nothing was built in, as another user where that can be had
+chmod 711 -- "$scratch"
+clone=$scratch/clone
+mkdir -- "$clone"
+if git -C "$root" rev-parse --is-inside-work-tree >/dev/null 2>&1; then
+    (cd -- "$root" && git ls-files -z | grep -zv '^release/ssign-' | tar -c --null -T - 2>/dev/null) | tar -x -C "$clone"
+else
+    (cd -- "$root" && tar -c --exclude='./crates/*/out' .) | tar -x -C "$clone"
+fi
+mkdir -p -- "$clone/release"
+cp -- "$root/release/"*.sh "$clone/release/"
+cp -- "$program" "$clone/release/ssign-x86_64-linux"
+chmod 755 -- "$clone/release/ssign-x86_64-linux"
+write_text "$clone"
+as_another=()
+[[ $(id -u) == 0 ]] && command -v setpriv >/dev/null && as_another=(setpriv --reuid=65534 --regid=65534 --clear-groups)
+
+# in_clone ARG..: as ssign, in the clone, with an environment of a PATH alone.
+in_clone() {
+    local before after
+    before=$(date +%s%N)
+    timeout "$patience" "${as_another[@]}" env -i PATH="$tools" HOME=/nonexistent "$clone/ssign" "$@" >"$scratch/out" 2>"$scratch/err"
+    status=$?
+    after=$(date +%s%N)
+    took=$(((after - before) / 1000000))
+}
+if [[ ${as_another[*]-} ]]; then
+    in_clone inspect <"$log"
+    holds 'a clone that its user cannot write to: it is said' test "$(<"$scratch/err")" = "$told"
+    in_clone inspect <"$log"
+    holds 'and said again' test "$(<"$scratch/err")" = "$told"
+    chown -R 65534:65534 -- "$clone"
+fi
+cp -- "$answers" "$scratch/answers"
+chmod 644 -- "$scratch/answers"
+in_clone review --answers "$scratch/answers" <"$log"
+expect 'a clone that nothing was built in: input, output, status' 0 "$report" "$told"
+echo "$name: the first answer of a clone took $took ms"
+holds 'it answers within 5 s' test "$took" -lt 5000
+in_clone review --answers "$scratch/answers" <"$log"
+expect 'and again, where it is not said' 0 "$report" ''
+
+# The same in a copy, in each way that an own program runs
+with_record
+rt "$marks"
+as_program 'the recorded program, and what is said' "+$told" review
+as_program 'words with spaces and newlines' '' explain $'no such\ncode '
+as_program 'a wrong command line' '' reviev
+as_program 'no words' ''
+as_program 'an empty word' '' ''
+ssign "$with_rt" review <"$root"
+expect 'status 2, and a refusal' 2 '' 'ssign: F3'
+(cd / && PATH=$tools exec "$scratch/link" review --lines < <(printf 'one\ntwo\nthr')) >"$scratch/out" 2>"$scratch/err"
+status=$?
+expect 'from another folder, by a link' 1 $'unlisted 0\nunlisted 1\ntorn 8\nend 2' ''
+quiet 'the recorded program'
+touch -- "$copy/crates/ss_frame/src/lib.rt" "$copy/crates.txt"
+ssign "$tools" review </dev/null
+expect 'a source with another date alone' 0 'end 0' ''
+rm -rf -- "$copy/crates/ssign/out"
+: >"$copy/crates/ssign/out"
+ssign "$tools" review </dev/null
+expect 'where no mark can be made' 0 'end 0' "$told"
+ssign "$tools" review </dev/null
+expect 'there it is said each time' 0 'end 0' "$told"
+
+# two at once, of which one says it
+with_record
+for one in 1 2 3 4; do
+    PATH=$tools bash "$copy/ssign" review <"$log" >"$scratch/out.$one" 2>"$scratch/err.$one" &
+done
+wait
+run review <"$log"
+for one in 1 2 3 4; do
+    holds 'several first runs at once: the report' cmp -- "$scratch/out" "$scratch/out.$one"
+done
+cat -- "$scratch"/err.? >"$scratch/err"
+holds 'one of them says it' test "$(<"$scratch/err")" = "$told"
+
+# A program of one's own goes first
+with_record
+mkdir -- "$copy/crates/ssign/out"
+printf '#!/usr/bin/env bash\necho own\n' >"$copy/crates/ssign/out/ssign"
+chmod +x "$copy/crates/ssign/out/ssign"
+ssign "$tools" review </dev/null
+expect 'a program of one'\''s own that is up to date' 0 'own' ''
+touch -- "$copy/crates/ss_frame/src/lib.rt"
+ssign "$tools" review </dev/null
+expect 'and one that is older than a source' 0 'end 0' "$told"
+
+# Of other sources
+with_record
+other_source
+ssign "$tools" review <"$log"
+expect 'one octet of a source, and no rt' 2 '' "$of_others"$'\n'"$absent"
+for part in crates.txt crates/ssign/specs/CommandLine.antt crates/ss_block/src/lib.rt; do
+    with_record
+    printf '\n' >>"$copy/$part"
+    ssign "$tools" review <"$log"
+    expect "an octet more in $part" 2 '' "$of_others"$'\n'"$absent"
+done
+with_record
+mv -- "$copy/crates/ss_frame/src/lib.rt" "$copy/crates/ss_frame/src/bil.rt"
+ssign "$tools" review <"$log"
+expect 'a file with another name' 2 '' "$of_others"$'\n'"$absent"
+with_record
+for part in proofs/more.antt must-fail/more.edit README.md; do
+    mkdir -p -- "$copy/crates/ss_frame/${part%/*}" 2>/dev/null
+    echo more >"$copy/crates/ss_frame/${part/README.md/..\/README.md}"
+done
+printf '\n' >>"$copy/crates/rows/src/lib.rt"
+ssign "$tools" review </dev/null
+expect 'a proof, a page and a test crate do not count' 0 'end 0' "$told"
+
+# What needs no build is done without
+rt "$marks"
+with_record
+other_source
+as_program 'of other sources: --help' "+$answers_of_others" --help
+as_program 'of other sources: -h' "+$answers_of_others" -h
+as_program 'of other sources: --version' "+$answers_of_others" --version
+as_program 'of other sources: the help of a command' "+$answers_of_others" sign --help
+as_program 'of other sources: the help of a command, behind options' "+$answers_of_others" review --lines -h
+as_program 'of other sources: help' "+$answers_of_others" help plan
+as_program 'of other sources: explain' "+$answers_of_others" explain gap
+as_program 'of other sources: explain, refused' "+$answers_of_others" explain nothing
+as_program 'of other sources: no words' "$says_of_others"
+as_program 'of other sources: no command' "$says_of_others" reviev
+as_program 'of other sources: an unknown option' "$says_of_others" review --frobnicate
+as_program 'of other sources: a file as an argument' "$says_of_others" review $'a file\n'
+as_program 'of other sources: no file behind --answers' "$says_of_others" review --answers
+as_program 'of other sources: an option behind --answers' "$says_of_others" review --answers --lines
+as_program 'of other sources: numbers out of order' "$says_of_others" plan --payload 'N -' --rsid 1 --groups 1,01
+quiet 'of other sources'
+with_record
+edit "$recorded" 'RFC 5424' 'RFC 5425'
+fault="ssign: the recorded build isn't run: $recorded hasn't the SHA-256 that $recorded.txt gives"
+for words in --help --version -V help 'sign --help' 'explain gap' explain; do
+    # shellcheck disable=SC2086 # several words
+    ssign "$with_rt" $words </dev/null
+    expect "no recorded program that may run: $words" 2 '' "$fault"$'\n'"$not_built"
+done
+first="ssign: the first word has to be a command, one of: $(sed -n 's/^commands=(\(.*\))$/\1/p' "$root/ssign")"
+for words in reviev '' --lines --build=x; do
+    # shellcheck disable=SC2086 # none of them
+    ssign "$with_rt" $words </dev/null
+    expect "no recorded program that may run: no command, $words" 2 '' "$fault"$'\n'"$first"
+done
+rm -r -- "$copy/release"
+ssign "$with_rt" --help </dev/null
+expect 'no recorded program: --help' 2 '' "$not_built"
+ssign "$with_rt" reviev </dev/null
+expect 'no recorded program: no command' 2 '' "$first"
+quiet 'no recorded program'
+run --help </dev/null
+holds 'the commands of the script are those of the program' test "${first##*: }" = \
+    "$(sed -n '/^Commands:/,/^$/s/^  \([a-z]*\) .*/\1/p' "$scratch/out" | grep -vx help | tr '\n' ' ' | sed 's/ $//')"
+
+# Where words are right the build comes, and what --answers names is opened then and not before
+mkfifo -- "$scratch/pipe"
+for option in '--answers ' --answers=; do
+    with_record
+    other_source
+    timeout "$patience" cp -- "$answers" "$scratch/pipe" &
+    # shellcheck disable=SC2086 # one or two words
+    ssign "$with_rt" review ${option}$scratch/pipe <"$log"
+    expect "a pipe as ${option}FILE" 0 "$report" 'SOME TEXT'
+    said 'that it has to be built' "$of_others"
+    holds 'and it was' test -e "$scratch/called"
+    wait
+done
+rm -f -- "$scratch/called"
+
+# A recorded program that isn't one, or whose text isn't whole, is never run
+# never WHAT FAULT: three checks, that it isn't run, why, and that tests/release.sh fails over it.
+never() {
+    ssign "$tools" review <"$log"
+    expect "$1: not run" 2 '' "ssign: the recorded build isn't run: $2"$'\n'"$absent"
+    gate
+    holds "$1: tests/release.sh fails" test "$status" = 1
+}
+
+# gate WORD..: runs tests/release.sh of the copy with these settings, on the program of this test.
+gate() {
+    timeout "$patience" env -u CI SSIGN="$program" PATH="$scratch/with_rt:$PATH" "$@" bash "$copy/tests/release.sh" \
+        >"$scratch/out" 2>"$scratch/err" </dev/null
+    status=$?
+}
+
+# gate_says WHAT STATUS TEXT: two checks of it.
+gate_says() {
+    holds "$1: status $2" test "$status" = "$2"
+    holds "$1: it says so" grep -qF -- "$3" "$scratch/out"
+}
+for at in first last; do
+    with_record
+    if [[ $at == first ]]; then
+        edit "$recorded" '\177ELF' '#!LF'
+    else
+        printf '\0' >>"$recorded"
+    fi
+    never "the $at octet of the recorded program" "$recorded hasn't the SHA-256 that $recorded.txt gives"
+done
+for line in program toolchain sources; do
+    with_record
+    sed -i "/^$line /d" "$recorded.txt"
+    never "a text without the line $line" "$recorded.txt isn't as release/renew.sh writes it"
+    with_record
+    sed -i "s/^$line .*/$line /" "$recorded.txt"
+    never "a text with an empty line $line" "$recorded.txt isn't as release/renew.sh writes it"
+done
+with_record
+echo more >>"$recorded.txt"
+never 'a text with a line more' "$recorded.txt isn't as release/renew.sh writes it"
+with_record
+rm -- "$recorded.txt"
+never 'no text' "$recorded.txt isn't as release/renew.sh writes it"
+with_record
+rm -- "$recorded"
+never 'a text alone' "$recorded hasn't the SHA-256 that $recorded.txt gives"
+with_record
+chmod a-x -- "$recorded"
+never 'a program that may not be executed' "$recorded can't be executed here"
+
+# with the right SHA-256 and of the right sources, but for another machine
+cannot="ssign: the recorded build isn't run: $recorded doesn't run on this machine"
+with_record
+python3 -c 'import sys
+with open(sys.argv[1], "r+b") as file: file.seek(18); file.write(b"\xb7\0")' "$recorded"
+write_text "$copy"
+ssign "$tools" review <"$log"
+expect 'a program for another processor' 2 '' "$cannot"$'\n'"$absent"
+with_record
+edit "$recorded" 'ld-linux-x86-64.so.2' 'ld-linux-x86-64.so.9'
+write_text "$copy"
+ssign "$tools" review <"$log"
+expect 'a program for another C library' 2 '' "$cannot"$'\n'"$absent"
+with_record
+printf 'touch %q\n' "$scratch/called" >"$recorded"
+write_text "$copy"
+rm -f -- "$scratch/called"
+ssign "$tools" review <"$log"
+expect 'a text in its place' 2 '' "$cannot"$'\n'"$absent"
+quiet 'a text in its place isn'\''t run as a script'
+
+# --build
+rt "$marks"
+with_record
+ssign "$with_rt" --build </dev/null
+expect '--build: status, and no output' 0 '' 'SOME TEXT'
+said 'it is the recorded one' "ssign: it is the recorded build, octet for octet: SHA-256 $(sum_of "$program")"
+holds 'it was built' cmp -- "$program" "$copy/crates/ssign/out/ssign"
+rm -- "$scratch/called"
+ssign "$with_rt" --build </dev/null
+expect '--build again' 0 '' $'ssign: the program is built from these sources already\nssign: it is the recorded build, octet for octet: SHA-256 '"$(sum_of "$program")"
+quiet '--build again'
+ssign "$with_rt" --build review </dev/null
+expect '--build with more words' 2 '' 'ssign: --build stands alone'
+ssign "$tools" review </dev/null
+expect 'the program that was built, of which nothing is said' 0 'end 0' ''
+cp -- "$program" "$scratch/longer"
+printf '\0' >>"$scratch/longer"
+write_differing="${marks/\$made/$(printf '%q' "$scratch/longer")}"
+rt "$write_differing"
+with_record
+ssign "$with_rt" --build </dev/null
+said 'another program' "ssign: it is another program than the recorded build, with the same sources and toolchain: SHA-256 $(sum_of "$scratch/longer"), and $(sum_of "$program") is recorded"
+holds 'another program: status 0' test "$status" = 0
+rt "${write_differing/"$(printf '%q' "$toolchain")"/another}"
+ssign "$with_rt" --build </dev/null
+said 'another toolchain' "ssign: it is another program than the recorded build, which another toolchain made: $toolchain, and here another"
+ssign "$tools" --build </dev/null
+said 'no toolchain' "which toolchain built it isn't known"
+rt "$write_differing"
+with_record
+other_source
+ssign "$with_rt" --build </dev/null
+said 'other sources' 'ssign: it is another program than the recorded build, which is of other sources'
+rm -r -- "$copy/release"
+ssign "$with_rt" --build </dev/null
+said 'no recorded build' 'ssign: there is no recorded build to compare it with'
+holds 'no recorded build: status 0' test "$status" = 0
+rt 'exit 1'
+with_record
+ssign "$with_rt" --build </dev/null
+expect '--build that fails' 2 '' 'SOME TEXT'
+
+# tests/release.sh over copies
+rt "$marks"
+with_record
+gate CI=true
+gate_says 'the gate over a recorded build of this program' 0 '6 passed, 0 failed'
+other_source
+gate
+gate_says 'the gate over other sources' 1 'release/renew.sh renews'
+rm -- "$copy/crates/ss_frame/src/lib.rt"
+gate
+gate_says 'the gate over a source less' 1 'release/renew.sh renews'
+with_record
+cp -- "$scratch/longer" "$recorded"
+write_text "$copy"
+both=$(printf '%s here, and %s is recorded' "$(sum_of "$program")" "$(sum_of "$scratch/longer")")
+gate
+gate_says 'the gate over another program, elsewhere' 0 "$both"
+gate_says 'the gate over another program, elsewhere' 0 'release: warning: '
+gate CI=true
+gate_says 'the gate over another program, where CI is set' 1 "$both"
+sed -i 's/^toolchain .*/toolchain another/' "$recorded.txt"
+gate CI=true
+gate_says 'the gate over another toolchain' 0 "another toolchain made: another, and here $toolchain"
+
+# release/renew.sh
+renew() {
+    timeout "$patience" env PATH="$scratch/with_rt:$PATH" bash "$copy/release/renew.sh" >"$scratch/out" 2>"$scratch/err" </dev/null
+    status=$?
+}
+with_record
+other_source
+rm -- "$recorded"
+renew
+holds 'renew.sh: status 0' test "$status" = 0
+holds 'renew.sh: the program' cmp -- "$program" "$recorded"
+holds 'renew.sh: the program may be executed' test -x "$recorded"
+gate CI=true
+gate_says 'renew.sh: the gate behind it' 0 '6 passed, 0 failed'
+rm -r -- "$copy/crates/ssign/out"
+ssign "$tools" review </dev/null
+expect 'renew.sh: the recorded program runs' 0 'end 0' "$told"
+rt "$marks
+printf '\n' >>../ss_frame/src/lib.rt
+touch -d '1 minute' ../ss_frame/src/lib.rt"
+with_record
+cp -- "$recorded.txt" "$scratch/text"
+other_source
+renew
+holds 'renew.sh: a source that changes meanwhile: status 2' test "$status" = 2
+holds 'renew.sh: and nothing is recorded' cmp -- "$recorded.txt" "$scratch/text"
+holds 'renew.sh: nor left' test "$(find "$copy/release" | wc -l)" = 5
+
+# release/sources.sh
+cat >"$scratch/sources.py" <<'P'
+"""Prints the hash of the sources below a folder, by its definition and not by the script."""
+import hashlib, os, sys
+root = os.fsencode(sys.argv[1])
+libraries = {}
+with open(os.path.join(root, b"crates.txt"), "rb") as file:
+    for line in file:
+        name, colon, below = line.partition(b"#")[0].partition(b":")
+        if colon:
+            libraries[name.split()[0]] = below.split()
+seen, left = set(), [b"ssign"]
+while left:
+    crate = left.pop()
+    if crate in libraries and crate not in seen:
+        seen.add(crate)
+        left += libraries[crate]
+names = [b"crates.txt"]
+for crate in seen:
+    for part in b"src", b"specs":
+        for folder, _, files in os.walk(os.path.join(root, b"crates", crate, part)):
+            names += [os.path.relpath(os.path.join(folder, it), root) for it in files]
+rows = []
+for name in names:
+    with open(os.path.join(root, name), "rb") as file:
+        rows.append(hashlib.sha256(file.read()).hexdigest().encode() + b"  " + name + b"\0")
+print(hashlib.sha256(b"".join(sorted(rows))).hexdigest())
+P
+# same_sources WHAT: one check, that the script gives what the definition does.
+same_sources() {
+    holds "sources.sh: $1" test "$("$copy/release/sources.sh")" = "$(python3 "$scratch/sources.py" "$copy")"
+}
+with_record
+same_sources 'as defined'
+before=$("$copy/release/sources.sh")
+find "$copy" -exec touch -d '2031-01-01' -- {} +
+chmod -R go-rwx -- "$copy"
+holds 'sources.sh: dates, modes, umask and locale do not count' test "$before" = \
+    "$(umask 077; cd / && env -i PATH="$tools" LC_ALL=C.UTF-8 TZ=Asia/Tokyo "$copy/release/sources.sh")"
+odd=$'-o \xff\n\\\'"*'
+echo one >"$copy/crates/ss_frame/src/$odd"
+same_sources 'a name of any octets'
+holds 'sources.sh: it counts' test "$before" != "$("$copy/release/sources.sh")"
+printf '# behind all others\nss_else: ss_frame\nss_frame may_abort=0: itoa thiserror rows#' >>"$copy/crates.txt"
+same_sources 'a comment, a crate that the program does not stand on, and one that it does'
+printf '\n# nothing\n\n' >>"$copy/crates.txt"
+same_sources 'a last line that says nothing'
+mkfifo -- "$copy/crates/ss_frame/src/pipe"
+holds 'sources.sh: a pipe among the sources is refused' test "$(timeout 10 "$copy/release/sources.sh" 2>&1; echo $?)" = \
+    $'sources.sh: crates/ss_frame/src/pipe is neither a file nor a folder\n2'
+ssign "$tools" review </dev/null
+expect 'and ./ssign does not hang there' 2 '' 'SOME TEXT'
+
+# A limit of file sizes is a failed write and no signal: 1024 octets come, and then W1
+seq 1 500 >"$scratch/many"
+run inspect --lines <"$scratch/many"
+head -c 1024 -- "$scratch/out" >"$scratch/front"
+limited() {
+    (ulimit -f 1 && ssign "$tools" inspect --lines <"$scratch/many"; exit "$status")
+    status=$?
+    expect "$1: status" 2 'SOME TEXT' 'ssign: W1'
+    holds "$1: what fits" cmp -- "$scratch/front" "$scratch/out"
+}
+with_record
+ssign "$tools" --version </dev/null
+limited 'a file size limit, the recorded program'
+built
+limited 'a file size limit, a program of one'\''s own'
 
 finish
