@@ -1,6 +1,6 @@
 #!/usr/bin/env bash
 # Records the program of these sources in release/: proves and builds it where it isn't up to date, copies it, and writes
-# the text that says what it is. It never records a program that is older than a source.
+# the text that says what it is. A program that is older than a source is never recorded.
 set -u
 
 root=$(dirname -- "$(readlink -f -- "${BASH_SOURCE[0]}")")/.. || exit 2
@@ -17,6 +17,11 @@ refuse() {
 toolchain=$(rt version </dev/null) || refuse "the command rt of the Rattle toolchain isn't in PATH"
 sources=$(release/sources.sh) || exit 2
 ./ssign --build </dev/null || exit 2
+# Dates can lie, and say nothing of the toolchain. rt knows by contents whether what it built itself is up to date, and
+# builds again where it isn't; what `rt ci` built from nothing has no such stamp.
+if [[ -e $program.stamp ]]; then
+    (cd crates/ssign && exec rt run -- --help) </dev/null >/dev/null 2>&1 || refuse 'rt cannot build the program: ./ssign --build'
+fi
 
 new=$(mktemp -d release/new.XXXXXX) || exit 2
 trap 'rm -rf -- "$new"' EXIT

@@ -530,6 +530,9 @@ ssign "$with_rt" --build review </dev/null
 expect '--build with more words' 2 '' 'ssign: --build stands alone'
 ssign "$tools" review </dev/null
 expect 'the program that was built, of which nothing is said' 0 'end 0' ''
+touch -- "$copy/crates/ss_frame/src/lib.rt"
+ssign "$tools" review </dev/null
+expect 'the recorded one again, and what is said again' 0 'end 0' "$told"
 cp -- "$program" "$scratch/longer"
 printf '\0' >>"$scratch/longer"
 write_differing="${marks/\$made/$(printf '%q' "$scratch/longer")}"
@@ -550,7 +553,7 @@ ssign "$with_rt" --build </dev/null
 said 'other sources' 'ssign: it is another program than the recorded build, which is of other sources'
 rm -r -- "$copy/release"
 ssign "$with_rt" --build </dev/null
-said 'no recorded build' 'ssign: there is no recorded build to compare it with'
+said 'no recorded build' "ssign: there is no recorded build to compare it with, or its text isn't whole"
 holds 'no recorded build: status 0' test "$status" = 0
 rt 'exit 1'
 with_record
@@ -598,6 +601,12 @@ gate_says 'renew.sh: the gate behind it' 0 '6 passed, 0 failed'
 rm -r -- "$copy/crates/ssign/out"
 ssign "$tools" review </dev/null
 expect 'renew.sh: the recorded program runs' 0 'end 0' "$told"
+rt "${marks/"$proves"/"[[ -e out/ssign.stamp ]] && made=$(printf '%q' "$scratch/longer")
+$proves
+touch out/ssign.stamp"}"
+with_record
+renew
+holds 'renew.sh: a program that rt builds again, by contents' cmp -- "$scratch/longer" "$recorded"
 rt "$marks
 printf '\n' >>../ss_frame/src/lib.rt
 touch -d '1 minute' ../ss_frame/src/lib.rt"
@@ -648,6 +657,9 @@ find "$copy" -exec touch -d '2031-01-01' -- {} +
 chmod -R go-rwx -- "$copy"
 holds 'sources.sh: dates, modes, umask and locale do not count' test "$before" = \
     "$(umask 077; cd / && env -i PATH="$tools" LC_ALL=C.UTF-8 TZ=Asia/Tokyo "$copy/release/sources.sh")"
+mv -- "$copy/crates/ss_frame/src/lib.rt" "$scratch/lib.rt"
+ln -s -- "$scratch/lib.rt" "$copy/crates/ss_frame/src/lib.rt"
+holds 'sources.sh: a link counts as what it leads to' test "$before" = "$("$copy/release/sources.sh")"
 odd=$'-o \xff\n\\\'"*'
 echo one >"$copy/crates/ss_frame/src/$odd"
 same_sources 'a name of any octets'
