@@ -277,7 +277,7 @@ mkdir -- "$clone"
 if git -C "$root" rev-parse --is-inside-work-tree >/dev/null 2>&1; then
     (cd -- "$root" && git ls-files -z | grep -zv '^release/ssign-' | tar -c --null -T - 2>/dev/null) | tar -x -C "$clone"
 else
-    (cd -- "$root" && tar -c --exclude='./crates/*/out' .) | tar -x -C "$clone"
+    (cd -- "$root" && tar -c --exclude='./crates/*/out' --exclude=./.git .) | tar -x -C "$clone"
 fi
 mkdir -p -- "$clone/release"
 cp -- "$root/release/"*.sh "$clone/release/"
@@ -286,6 +286,7 @@ chmod 755 -- "$clone/release/ssign-x86_64-linux"
 write_text "$clone"
 as_another=()
 [[ $(id -u) == 0 ]] && command -v setpriv >/dev/null && as_another=(setpriv --reuid=65534 --regid=65534 --clear-groups)
+"${as_another[@]}" test -r "$clone/ssign" 2>/dev/null || as_another=()
 
 # in_clone ARG..: as ssign, in the clone, with an environment of a PATH alone.
 in_clone() {
@@ -335,6 +336,11 @@ ssign "$tools" review </dev/null
 expect 'where no mark can be made' 0 'end 0' "$told"
 ssign "$tools" review </dev/null
 expect 'there it is said each time' 0 'end 0' "$told"
+
+with_record
+sed -i 's/^toolchain .*/toolchain another/' "$recorded.txt"
+ssign "$tools" review </dev/null
+expect 'of another toolchain' 0 'end 0' "$told"
 
 # two at once, of which one says it
 with_record
