@@ -524,6 +524,7 @@ quiet 'a text in its place isn'\''t run as a script'
 # --build
 rt "$marks"
 with_record
+ssign "$tools" review </dev/null
 ssign "$with_rt" --build </dev/null
 expect '--build: status, and no output' 0 '' 'SOME TEXT'
 said 'it is the recorded one' "ssign: it is the recorded build, octet for octet: SHA-256 $(sum_of "$program")"
