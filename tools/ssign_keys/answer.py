@@ -1,0 +1,15 @@
+"""The command answer."""
+from __future__ import annotations
+
+import argparse
+
+from .faults import Fault
+
+
+def add_arguments(parser: argparse.ArgumentParser) -> None:
+    """Says which words the command takes."""
+
+
+def run(arguments: argparse.Namespace) -> int:
+    """Refuses, since nothing of this command is written yet."""
+    raise Fault("the command answer isn't written yet")
