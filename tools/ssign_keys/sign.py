@@ -1,15 +1,93 @@
-"""The command sign."""
+"""Signs a log: plans it, signs what the plan wants, and has ssign write it with its blocks."""
 from __future__ import annotations
 
 import argparse
+import subprocess
+from typing import Iterator, List
 
-from .faults import Fault
+from .keys import PrivateKey, read_private_key
+from .logs import Log, open_log
+from .payloads import present_stamp, state_key
+from .programs import Refused, Run, add_log_arguments, add_program_argument, explain, find_program, handed_on, log_words
+from .progress import Progress
+from .seal import seals
+from .workplace import Workplace, finish, put
+
+# the options of `ssign plan` that are handed on, with what each is
+OPTIONS = {
+    "rsid": ("N", "the number of the session, RSID: 0 to 9999999999; greater than that of any log signed before"),
+    "payload": ("TEXT", "the payload, and not the name of its file (default: the present time, K and the key)"),
+    "stamp": ("TEXT", "TIMESTAMP of all blocks (default: -)"),
+    "pri": ("N", "PRI of all blocks: 0 to 191 (default: 110)"),
+    "host": ("TEXT", "HOSTNAME of all blocks (default: -)"),
+    "app": ("TEXT", "APP-NAME of all blocks (default: -)"),
+    "procid": ("TEXT", "PROCID of all blocks (default: -)"),
+    "msgid": ("TEXT", "MSGID of all blocks (default: -)"),
+    "ver": ("VER", "0111 (SHA-1) or 0121 (SHA-256) (default: 0111)"),
+    "groups": ("TEXT", "the groups: one, pri, or the highest PRI of each range (default: one)"),
+    "count": ("N", "the most hashes in a signature block: 1 to 99 (default: 10)"),
+    "frag": ("N", "the most octets of the payload in a certificate block: 1 to 9999 (default: 500)"),
+    "copies": ("N", "how often each block is written: 1 to 9 (default: 1)"),
+}
 
 
 def add_arguments(parser: argparse.ArgumentParser) -> None:
     """Says which words the command takes."""
+    parser.add_argument("--key", required=True, metavar="PRIVATE.pem", help="the private key to sign with")
+    for name, (value, meaning) in OPTIONS.items():
+        parser.add_argument(f"--{name}", action="append", required=name == "rsid", metavar=value, help=meaning)
+    add_log_arguments(parser)
+    add_program_argument(parser)
+    parser.add_argument("log", metavar="LOG", help="the log of messages without blocks; - is standard input")
 
 
 def run(arguments: argparse.Namespace) -> int:
-    """Refuses, since nothing of this command is written yet."""
-    raise Fault("the command sign isn't written yet")
+    """Writes the signed log to standard output, and gives the status of `ssign sign`."""
+    program = find_program(arguments)
+    progress = Progress()
+    try:
+        with Workplace() as workplace:
+            key = read_private_key(arguments.key)
+            if not arguments.payload:
+                arguments.payload = [state_key(key.public, present_stamp()).decode("ascii")]
+            words = log_words(arguments) + handed_on(arguments, list(OPTIONS))
+            log = open_log([arguments.log], arguments.lines, workplace, progress)
+            answers = seal(program, words, key, log, workplace, progress)
+            return write(program, words, answers, log, workplace, progress)
+    except Refused as refused:
+        progress.clear()
+        explain(program, refused.code)
+        return 2
+    finally:
+        progress.clear()
+
+
+def seal(program: str, words: List[str], key: PrivateKey, log: Log, workplace: Workplace, progress: Progress) -> str:
+    """Plans the log and signs what that wants. Gives the path of the answers file."""
+    planning = Run(program, ["plan", *words], workplace, progress, log.rewind(), subprocess.PIPE)
+
+    def tick() -> None:
+        progress.show("planning", log.position(), log.size, "octets")
+
+    def counted() -> Iterator[bytes]:
+        for count, line in enumerate(seals(planning.lines(tick), key), 1):
+            progress.show("signing", count, 0, "blocks")
+            yield line
+
+    with workplace.new_file("seals") as file:
+        for line in counted():
+            put(file, line)
+        finish(file)
+    return workplace.path("seals")
+
+
+def write(program: str, words: List[str], seals_path: str, log: Log, workplace: Workplace, progress: Progress) -> int:
+    """Has ssign write the signed log. It writes nothing before all has succeeded."""
+    log.check_unchanged()
+    signing = Run(program, ["sign", *words, f"--answers={seals_path}"], workplace, progress, log.rewind(), 1)
+    try:
+        return signing.end(lambda: progress.show("writing", log.position(), log.size, "octets"))
+    except Refused:
+        # whoever writes to a log meanwhile has the blocks fit no longer
+        log.check_unchanged()
+        raise

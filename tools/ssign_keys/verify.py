@@ -1,15 +1,164 @@
-"""The command verify."""
+"""Says what a signed log proves: asks ssign, answers what it asks about keys, and tells what it reports."""
 from __future__ import annotations
 
 import argparse
+import os
+import shutil
+import subprocess
+import tempfile
+from typing import BinaryIO, Callable, List, Optional, Type, Union
 
+from . import trust as trust_options
+from .answer import answers
 from .faults import Fault
+from .logs import Log, open_log
+from .machine import Machine
+from .person import Person
+from .programs import Refused, Run, add_log_arguments, add_program_argument, explain, find_program, log_words
+from .progress import Progress
+from .report import Reading
+from .strays import Finder
+from .trust import Trust
+from .vouched import Notes, noted
+from .words import shown_name
+from .workplace import Workplace, finish, put, say, write_out
 
 
 def add_arguments(parser: argparse.ArgumentParser) -> None:
     """Says which words the command takes."""
+    parser.add_argument("--key", dest="keys", action="append", default=[], metavar="PUBLIC.pem",
+                        help="an originator's public key, which you got by another way than with the log")
+    trust_options.add_arguments(parser)
+    add_log_arguments(parser)
+    parser.add_argument("--jobs", type=positive, default=1, metavar="N", help="check signatures by so many processes "
+                        "(default: 1)")
+    form = parser.add_mutually_exclusive_group()
+    form.add_argument("--raw", action="store_true", help="print the report of `ssign review` as it stands")
+    form.add_argument("--json", action="store_true", help="print a JSON object for each line of the report, and one for "
+                      "the verdict")
+    parser.add_argument("--answers-out", metavar="FILE", help="keep the answers file, for `ssign review --answers`; FILE "
+                        "may not be there yet")
+    add_program_argument(parser)
+    parser.add_argument("logs", nargs="+", metavar="LOG", help="the stored log, or several that follow one another; - is "
+                        "standard input; each plain, or compressed by gzip, xz or zstd")
+
+
+def positive(text: str) -> int:
+    """A number of processes."""
+    if not text.isascii() or not text.isdigit() or not 1 <= int(text[:5]) <= 1024:
+        raise argparse.ArgumentTypeError(f"{text!r} is no number from 1 to 1024")
+    return int(text)
 
 
 def run(arguments: argparse.Namespace) -> int:
-    """Refuses, since nothing of this command is written yet."""
-    raise Fault("the command verify isn't written yet")
+    """Prints the verdict, and gives the status of `ssign review`."""
+    program = find_program(arguments)
+    progress = Progress()
+    log: Optional[Log] = None
+    try:
+        with Workplace() as workplace:
+            refuse_to_overwrite(arguments.answers_out)
+            trust = Trust.from_arguments(arguments)
+            log = open_log(arguments.logs, arguments.lines, workplace, progress)
+            verifier = Verifier(program, log_words(arguments), log, workplace, progress)
+            notes = verifier.answer(trust, arguments.jobs)
+            status = verifier.review()
+            out = verifier.report
+            if not arguments.raw:
+                out = workplace.new_file("out")
+                verifier.tell(Machine if arguments.json else Person, out, notes, status)
+            log.check_unchanged()
+            if arguments.answers_out is not None:
+                keep_answers(verifier.answers_path, arguments.answers_out)
+            progress.clear()
+            write_out(out)
+            return status
+    except Refused as refused:
+        progress.clear()
+        tell_file(refused, log)
+        explain(program, refused.code)
+        return 2
+    finally:
+        progress.clear()
+
+
+class Verifier:
+    """The runs of ssign over a log, with what is kept of them."""
+
+    def __init__(self, program: str, words: List[str], log: Log, workplace: Workplace, progress: Progress) -> None:
+        self._program = program
+        self._words = words
+        self._log = log
+        self._workplace = workplace
+        self._progress = progress
+        self.answers_path = workplace.path("answers")
+        self.report = workplace.new_file("report")
+
+    def answer(self, trust: Trust, jobs: int) -> Notes:
+        """Has ssign ask, and keeps what holds as the answers file."""
+        asking = Run(self._program, ["questions", *self._words], self._workplace, self._progress, self._log.rewind(),
+                     subprocess.PIPE)
+        notes = self._workplace.new_file("notes")
+        with self._workplace.new_file("answers") as file, \
+                answers(asking.lines(self._reading("asking about signatures")), trust, jobs) as answered:
+            for count, it in enumerate(noted(answered, notes), 1):
+                put(file, it.line)
+                self._progress.show("checking signatures", count, 0, "valid blocks")
+            finish(file)
+        self._log.check_unchanged()
+        return Notes(notes)
+
+    def review(self) -> int:
+        """Has ssign review the log under the answers that were kept, and gives its status."""
+        reviewing = Run(self._program, ["review", f"--answers={self.answers_path}", *self._words], self._workplace,
+                        self._progress, self._log.rewind(), self.report)
+        try:
+            return reviewing.end(self._reading("reviewing"))
+        except Refused:
+            # a log that was cut meanwhile may be refused for that alone
+            self._log.check_unchanged()
+            raise
+
+    def tell(self, form: Union[Type[Machine], Type[Person]], out: BinaryIO, notes: Notes, status: int) -> None:
+        """Tells the report and the verdict in one of the two forms."""
+        teller = form(out, self._log, Finder(self._log, self._progress), notes)
+        Reading(teller).read(self.report, self._progress)
+        teller.verdict(status)
+        finish(out)
+
+    def _reading(self, phase: str) -> Callable[[], None]:
+        return lambda: self._progress.show(phase, self._log.position(), self._log.size, "octets")
+
+
+def refuse_to_overwrite(path: Optional[str]) -> None:
+    """Refuses a file of answers that is there already, before anything is done."""
+    if path is not None and os.path.lexists(path):
+        raise Fault(f"the file {shown_name(path)} is there already, and isn't overwritten")
+
+
+def keep_answers(path: str, wanted: str) -> None:
+    """Copies the answers file to where it is wanted, so that the whole of it stands there, or nothing."""
+    folder = os.path.dirname(wanted) or "."
+    try:
+        number, part = tempfile.mkstemp(prefix=".ssign-keys-", dir=folder)
+        try:
+            with open(path, "rb") as source, os.fdopen(number, "wb") as target:
+                shutil.copyfileobj(source, target)
+            mask = os.umask(0)
+            os.umask(mask)
+            os.chmod(part, 0o666 & ~mask)
+            refuse_to_overwrite(wanted)
+            os.rename(part, wanted)
+        except BaseException:
+            os.unlink(part)
+            raise
+    except OSError as error:
+        raise Fault(f"the answers can't be kept in {shown_name(wanted)}: {error.strerror}") from error
+
+
+def tell_file(refused: Refused, log: Optional[Log]) -> None:
+    """Says in which of several logs the octet lies that a refusal names."""
+    if log is None or len(log.parts) < 2 or refused.where is None or (refused.code or "")[:1] != "F":
+        return
+    part = log.part_of_offset(refused.where)
+    say(f"ssign-keys: this is the octet {refused.where - part.offset} of the log {shown_name(part.name)}")

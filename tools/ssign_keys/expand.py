@@ -1,0 +1,125 @@
+"""Expands compressed logs: gzip and xz by the standard library, zstd by its command."""
+from __future__ import annotations
+
+import lzma
+import os
+import subprocess
+import zlib
+from typing import BinaryIO, Callable, Dict, Iterator, Optional, Protocol
+
+from .faults import Fault
+from .words import shown, shown_name
+from .workplace import Workplace
+
+PIECE = 1 << 20
+# the first octets of a file tell its form; the longest of them are xz's
+FRONT = 6
+FORMS = {b"\x1f\x8b": "gzip", b"\xfd7zXZ\x00": "xz", b"\x28\xb5\x2f\xfd": "zstd"}
+# no file of `xz -9` asks for more than 65 MiB
+XZ_MEMORY = 1 << 28
+
+
+class Decoder(Protocol):
+    """Expands one stream."""
+
+    def expand(self, octets: bytes) -> Iterator[bytes]:
+        """What these octets expand to, in pieces that memory has room for."""
+
+    def rest(self) -> Optional[bytes]:
+        """What stands behind the end of the stream, or None where that hasn't come."""
+
+
+class Gzip:
+    """Expands one member of a gzip file (RFC 1952)."""
+
+    def __init__(self) -> None:
+        self._decoder = zlib.decompressobj(16 + zlib.MAX_WBITS)
+
+    def expand(self, octets: bytes) -> Iterator[bytes]:
+        """What these octets expand to, in pieces that memory has room for."""
+        while octets and not self._decoder.eof:
+            yield self._decoder.decompress(octets, PIECE)
+            octets = self._decoder.unconsumed_tail
+
+    def rest(self) -> Optional[bytes]:
+        """What stands behind the end of the member, or None where that hasn't come."""
+        return self._decoder.unused_data if self._decoder.eof else None
+
+
+class Xz:
+    """Expands one stream of an xz file."""
+
+    def __init__(self) -> None:
+        self._decoder = lzma.LZMADecompressor(lzma.FORMAT_XZ, XZ_MEMORY)
+
+    def expand(self, octets: bytes) -> Iterator[bytes]:
+        """What these octets expand to, in pieces that memory has room for."""
+        while not self._decoder.eof and (octets or not self._decoder.needs_input):
+            yield self._decoder.decompress(octets, PIECE)
+            octets = b""
+
+    def rest(self) -> Optional[bytes]:
+        """What stands behind the end of the stream, or None where that hasn't come."""
+        return self._decoder.unused_data if self._decoder.eof else None
+
+
+DECODERS: Dict[str, Callable[[], Decoder]] = {"gzip": Gzip, "xz": Xz}
+
+
+def form_of(front: bytes) -> Optional[str]:
+    """How a file that begins so is compressed, or None where it isn't."""
+    for octets, form in FORMS.items():
+        if front.startswith(octets):
+            return form
+    return None
+
+
+def damaged(name: str, form: str, why: str) -> Fault:
+    """What is said of a compressed file that can't be expanded to its end."""
+    return Fault(f"{shown_name(name)} is compressed by {form} and damaged, so there is no verdict: {why}")
+
+
+def expanded(name: str, form: str, pieces: Iterator[bytes]) -> Iterator[bytes]:
+    """Expands streams of gzip or xz that stand behind one another. Zeros may stand behind each, as both formats allow.
+
+    The modules of the standard library leave out what follows a stream where it isn't the front of another one. Here
+    that is damage, since messages may have stood there.
+    """
+    decoder: Optional[Decoder] = None
+    try:
+        for piece in pieces:
+            while piece:
+                if decoder is None:
+                    piece = piece.lstrip(b"\0")
+                    if not piece:
+                        break
+                    decoder = DECODERS[form]()
+                yield from decoder.expand(piece)
+                rest = decoder.rest()
+                if rest is None:
+                    break
+                decoder, piece = None, rest
+    except (zlib.error, lzma.LZMAError) as error:
+        raise damaged(name, form, str(error)) from error
+    if decoder is not None:
+        raise damaged(name, form, "its end is missing")
+
+
+def expand_zstd(name: str, packed: BinaryIO, plain: BinaryIO, workplace: Workplace) -> None:
+    """Expands a file of zstd behind what stands in another file, at whose end it leaves that."""
+    plain.flush()
+    with workplace.new_file("zstd.errors") as errors:
+        try:
+            child = subprocess.Popen(["zstd", "-dcq"], stdin=packed, stdout=plain, stderr=errors)
+        except OSError as error:
+            raise Fault(
+                f"{shown_name(name)} is compressed by zstd, and there is no command zstd here that can be run: "
+                "apt-get install zstd"
+            ) from error
+        workplace.adopt(child)
+        status = child.wait()
+        errors.seek(0)
+        said = errors.read(1000).splitlines()
+    if status != 0:
+        raise damaged(name, "zstd", shown(said[-1]) if said else f"zstd ended with status {status}")
+    plain.seek(0, os.SEEK_END)

@@ -1,0 +1,202 @@
+"""The logs that are given: opened, made plain where they are compressed, and put behind one another.
+
+A single plain file is read where it lies. Everything else is spooled, so that each program that reads the log reads the
+same octets.
+"""
+from __future__ import annotations
+
+import bisect
+import itertools
+import os
+import stat
+import sys
+from dataclasses import dataclass
+from typing import BinaryIO, Iterable, Iterator, List, Optional, Sequence, Tuple, cast
+
+from .expand import FRONT, PIECE, expand_zstd, expanded, form_of
+from .faults import Fault
+from .progress import Progress
+from .walk import LENGTH, LONGEST, Walk
+from .words import shown_name
+from .workplace import Workplace, finish, put
+
+
+@dataclass(frozen=True)
+class Part:
+    """One of the given logs within all of them: its name, its first octet, and how many messages stand before it."""
+
+    name: str
+    offset: int
+    place: int
+
+
+class Log:
+    """All that was given, as one plain file."""
+
+    def __init__(self, file: BinaryIO, parts: Sequence[Part], are_lines: bool, is_copy: bool) -> None:
+        self.file = file
+        self.parts = parts
+        self.are_lines = are_lines
+        self._is_copy = is_copy
+        self._places = [it.place for it in parts]
+        self._offsets = [it.offset for it in parts]
+        self._seen = look(file)
+        self.size = self._seen[0]
+
+    def rewind(self) -> BinaryIO:
+        """The file, from its front on."""
+        self.file.seek(0)
+        return self.file
+
+    def position(self) -> int:
+        """How far whoever reads the file has come, since a child that was given it moves the same position."""
+        return os.lseek(self.file.fileno(), 0, os.SEEK_CUR)
+
+    def check_unchanged(self) -> None:
+        """Refuses a file that somebody wrote to meanwhile, since two runs over it may have read two logs."""
+        if not self._is_copy and look(self.file) != self._seen:
+            raise self.changed()
+
+    def changed(self) -> Fault:
+        """What is said of a log that isn't what it was."""
+        return Fault(f"the log {shown_name(self.parts[0].name)} was changed while it was read: run again, or hand over a copy")
+
+    def part_of_place(self, place: int) -> Part:
+        """The part in which the message at this place lies. A part without a message has none."""
+        return self.parts[bisect.bisect_right(self._places, place) - 1]
+
+    def part_of_offset(self, offset: int) -> Part:
+        """The part in which this octet lies."""
+        return self.parts[bisect.bisect_right(self._offsets, offset) - 1]
+
+
+def look(file: BinaryIO) -> Tuple[int, int]:
+    """What tells that a file was written to: its size, and when it was changed last."""
+    seen = os.fstat(file.fileno())
+    return seen.st_size, seen.st_mtime_ns
+
+
+def open_log(names: Sequence[str], are_lines: bool, workplace: Workplace, progress: Progress) -> Log:
+    """Opens the given logs as one."""
+    if list(names).count("-") > 1:
+        raise Fault("standard input, `-`, can be given only once")
+    if len(names) == 1 and names[0] != "-":
+        file = open_file(names[0])
+        if stat.S_ISREG(os.fstat(file.fileno()).st_mode) and form_of(os.pread(file.fileno(), FRONT, 0)) is None:
+            return Log(file, [Part(names[0], 0, 0)], are_lines, False)
+        file.close()
+    spool = workplace.new_file("log")
+    starts = []
+    for name in names:
+        starts.append((name, spool.tell()))
+        spool_log(name, spool, workplace, progress)
+    parts = [Part(names[0], 0, 0)] if len(names) == 1 else measure(spool, starts, are_lines, progress)
+    return Log(spool, parts, are_lines, True)
+
+
+def open_file(name: str) -> BinaryIO:
+    """Opens a log that isn't standard input."""
+    try:
+        file = cast(BinaryIO, open(name, "rb", buffering=0))
+    except (OSError, ValueError) as error:
+        why = error.strerror if isinstance(error, OSError) else str(error)
+        raise Fault(f"the log {shown_name(name)} can't be read: {why}") from error
+    return file
+
+
+def open_standard_input() -> BinaryIO:
+    """Opens standard input a second time, so that it can be closed."""
+    if sys.stdin is None:
+        raise Fault("standard input is closed")
+    try:
+        return cast(BinaryIO, os.fdopen(os.dup(0), "rb", buffering=0))
+    except OSError as error:
+        raise Fault(f"standard input can't be read: {error.strerror}") from error
+
+
+# ---- copies
+
+def spool_log(name: str, spool: BinaryIO, workplace: Workplace, progress: Progress) -> None:
+    """Puts the plain octets of a log behind those that stand there."""
+    with open_standard_input() if name == "-" else open_file(name) as source:
+        pieces = read_pieces(source, name, progress)
+        front = b""
+        for piece in pieces:
+            front += piece
+            if len(front) >= FRONT:
+                break
+        form = form_of(front)
+        pieces = itertools.chain([front], pieces)
+        if form == "zstd":
+            with workplace.new_file("zstd") as packed:
+                put_all(packed, pieces)
+                packed.seek(0)
+                expand_zstd(name, packed, spool, workplace)
+            os.remove(workplace.path("zstd"))
+        else:
+            put_all(spool, expanded(name, form, pieces) if form else pieces)
+
+
+def put_all(file: BinaryIO, pieces: Iterable[bytes]) -> None:
+    """Has these pieces stand in a passing file."""
+    for piece in pieces:
+        put(file, piece)
+    finish(file)
+
+
+def read_pieces(source: BinaryIO, name: str, progress: Progress) -> Iterator[bytes]:
+    """The octets of a file that are left."""
+    total = 0
+    while True:
+        try:
+            piece = source.read(PIECE)
+        except OSError as error:
+            raise Fault(f"the log {shown_name(name)} can't be read: {error.strerror}") from error
+        if piece is None:
+            raise Fault(f"the log {shown_name(name)} can't be read: it has nothing yet, and doesn't wait")
+        if not piece:
+            return
+        yield piece
+        total += len(piece)
+        progress.show("copying the log", total, 0, "octets")
+
+
+# ---- several logs
+
+def measure(spool: BinaryIO, starts: Sequence[Tuple[str, int]], are_lines: bool, progress: Progress) -> List[Part]:
+    """Where each log begins. Refuses one that breaks off in a message, but for the last.
+
+    The octets of the next log would be read as the rest of that message. Whether they are its rest, only whoever cut
+    the logs knows.
+    """
+    size = look(spool)[0]
+    parts: List[Part] = []
+    place = 0
+    for number, (name, start) in enumerate(starts):
+        parts.append(Part(name, start, place))
+        end = starts[number + 1][1] if number + 1 < len(starts) else size
+        walk = Walk(spool, are_lines, start, end)
+        while walk.step(1 << 20):
+            progress.show("counting messages", walk.offset, size, "octets")
+        place += walk.place
+        if number + 1 < len(starts) and walk.offset < end:
+            if not is_torn(spool, walk.offset, end, are_lines):
+                # this is for ssign to refuse, and nothing behind it counts
+                parts += [Part(it, at, place) for it, at in starts[number + 1:]]
+                break
+            octet = walk.offset - start
+            raise Fault(
+                f"the log {shown_name(name)} breaks off in the message that begins at its octet {octet}, so the next log "
+                f"can't be read behind it: keep only what stands before (`head -c {octet}`), or, where the next log goes "
+                "on with this message, join the two (`cat`) and hand them over as one"
+            )
+    return parts
+
+
+def is_torn(file: BinaryIO, offset: int, end: int, are_lines: bool) -> bool:
+    """Whether the octets from there to the end are the front of a message, and not something else."""
+    if are_lines:
+        return end - offset <= LONGEST
+    digits, space, _ = os.pread(file.fileno(), min(LENGTH, end - offset), offset).partition(b" ")
+    is_whole = bool(space) or end - offset < LENGTH
+    return is_whole and digits.isdigit() and not digits.startswith(b"0") and int(digits) <= LONGEST

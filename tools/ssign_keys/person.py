@@ -1,0 +1,149 @@
+"""Tells a person of a report: sessions and groups in a few lines each, then what is wrong, then the verdict."""
+from __future__ import annotations
+
+from typing import BinaryIO, List, Optional, Sequence, Tuple
+
+from .blocks import Session
+from .logs import Log
+from .report import Group, Teller
+from .strays import SHOWN, Finder
+from .verdict import sentence
+from .vouched import Notes, Vouched
+from .words import counted, shown, shown_name
+from .workplace import put
+
+STATES = {
+    "joined": "its key is trusted, and its certificate blocks are validly signed",
+    "disputed": "its certificate blocks contradict each other, so its key isn't known and nothing of it counts",
+    "incomplete": "certificate blocks of it are missing, so its key isn't known and nothing of it counts",
+    "malformed": "its certificate blocks hold no payload of RFC 5848, section 5.2.1, so nothing of it counts",
+    "untrusted": "its key is none that you trust, so nothing of it counts",
+    "unaccepted": "its key is trusted, but its certificate blocks aren't all validly signed, so nothing of it counts",
+}
+HEADINGS = {
+    "unlisted": "Stored messages that no block announces, or copies too many (unlisted):",
+    "refused": "Blocks that aren't believed (refused):",
+    "spoilt": "Messages that look like blocks and are none (spoilt):",
+}
+
+
+def session_words(session: Session) -> str:
+    """The four names of a session."""
+    host, app, procid, rsid = map(shown, session)
+    return f"HOSTNAME {host}, APP-NAME {app}, PROCID {procid}, RSID {rsid}"
+
+
+def group_words(sg: int, spri: int) -> str:
+    """A group, with the messages that belong to it (RFC 5848, section 4.2.3)."""
+    members = ("all messages", f"messages of PRI {spri}", f"messages of a range up to PRI {spri}", "by private arrangement")
+    return f"SG {sg}, SPRI {spri} ({members[sg]})"
+
+
+def numbers_words(first: int, last: int) -> str:
+    """A run of numbers with its length."""
+    if first == last:
+        return f"number {first}"
+    return f"numbers {first} to {last} ({last - first + 1} messages)"
+
+
+class Person(Teller):
+    """Writes for a person, into a passing file, as the report is read."""
+
+    def __init__(self, out: BinaryIO, log: Log, finder: Finder, notes: Notes) -> None:
+        super().__init__()
+        self._out = out
+        self._log = log
+        self._finder = finder
+        self._notes = notes
+        self._vouched: Optional[Vouched] = None
+        # the joined sessions and their groups, with the last number and the greatest GBC
+        self._reach: List[Tuple[Group, Optional[int]]] = []
+        self._lost: Optional[Tuple[int, int]] = None
+        self._heading = ""
+
+    def _put(self, line: str) -> None:
+        put(self._out, line.encode("utf-8", "backslashreplace") + b"\n")
+
+    def session(self, session: Session, state: str) -> None:
+        self._put(f"Session: {session_words(session)}")
+        self._put(f"  state: {state}; {STATES.get(state, 'a state that is not known here')}")
+        self._vouched = self._notes.of(session)
+        if self._vouched is not None:
+            self._put(f"  key: {shown_name(self._vouched.key)}")
+
+    def begin_group(self, group: Group) -> None:
+        self._put(f"  group: {group_words(group.sg, group.spri)}")
+
+    def listed(self, group: Group, numbers: Sequence[int], places: Sequence[int]) -> None:
+        self._end_lost()
+
+    def gap(self, group: Group, number: int, why: str) -> None:
+        if why == "lost":
+            if self._lost is not None and self._lost[1] + 1 == number:
+                self._lost = self._lost[0], number
+                return
+            self._end_lost()
+            self._lost = number, number
+            return
+        self._end_lost()
+        self._put(f"    disputed: number {number}; valid blocks announce two different messages for it")
+
+    def hole(self, group: Group, first: int, last: int) -> None:
+        self._end_lost()
+        self._put(f"    not announced: {numbers_words(first, last)}; the block that did is missing, or isn't believed")
+
+    def _end_lost(self) -> None:
+        if self._lost is not None:
+            self._put(f"    missing: {numbers_words(*self._lost)}")
+            self._lost = None
+
+    def end_group(self, group: Group) -> None:
+        self._end_lost()
+        self._put(f"    numbers {group.first} to {group.last}: {group.listed} listed"
+                  + (f", {group.lost} missing" if group.lost else "")
+                  + (f", {group.disputed} disputed" if group.disputed else "")
+                  + (f", {group.unannounced} not announced" if group.unannounced else ""))
+        if group.fallen:
+            self._put(f"    order: {counted(group.fallen, 'listed message stands', 'listed messages stand')} in front of the "
+                      f"one with the number before, first number {group.first_fallen}")
+        elif group.listed > 1:
+            self._put("    order: the places of the listed messages rise with their numbers")
+        greatest = None if self._vouched is None else self._vouched.greatest.get((group.sg, group.spri))
+        self._reach.append((group, greatest))
+
+    def stray(self, kind: str, place: int, cause: str) -> None:
+        if self._heading != kind:
+            self._heading = kind
+            self._put(HEADINGS[kind])
+        found = self._finder.find(place)
+        where = f"place {place}"
+        if len(self._log.parts) > 1:
+            where += f" (place {found.place} of {shown_name(found.file)})"
+        if cause:
+            where += f", {cause}"
+        self._put(f"  {where}: {found.text}{' ..' if found.octets > SHOWN else ''}")
+
+    def torn(self, offset: int) -> None:
+        part = self._log.part_of_offset(offset)
+        where = shown_name(part.name)
+        self._put(f"Torn: the log breaks off in the message that begins at octet {offset - part.offset} of {where}")
+
+    def end(self, count: int) -> None:
+        blocks = count - self.totals.listed - self.totals.unlisted - self.totals.refused - self.totals.spoilt
+        said = f"{counted(self.totals.listed, 'is', 'are')} listed, {counted(blocks, 'is a valid block', 'are valid blocks')}"
+        self._put(f"Stored messages: {count}; {said}")
+
+    def verdict(self, status: int) -> None:
+        """Tells the verdict, and what it says nothing of."""
+        self._put("")
+        self._put(f"Verdict: {sentence(status, self.totals, self.states)}")
+        if not self._reach:
+            return
+        self._put("")
+        self._put("The verdict says nothing of what was sent behind the last block that is here:")
+        for group, greatest in self._reach:
+            host, app, procid, rsid = map(shown, group.session)
+            counter = "" if greatest is None else f", and to the signature block that GBC counts as {greatest}"
+            self._put(f"  session {host} {app} {procid} {rsid}, SG {group.sg}, SPRI {group.spri}: known up to the message "
+                      f"with number {group.last}{counter}")
+        self._put("Whether anything came behind these, and is missing, nobody can tell from this log.")

@@ -1,0 +1,46 @@
+"""Finds the text, and the file, of the messages that a report names by their place."""
+from __future__ import annotations
+
+from typing import NamedTuple
+
+from .logs import Log
+from .progress import Progress
+from .walk import Walk
+from .words import shown
+
+# how many octets of a message are shown
+SHOWN = 60
+
+
+class Found(NamedTuple):
+    """A stored message: its file, its place there, its length, and the front of its text, escaped."""
+
+    file: str
+    place: int
+    octets: int
+    text: str
+
+
+class Finder:
+    """Looks up messages by rising place, in one walk over the log; a smaller place begins the walk anew."""
+
+    def __init__(self, log: Log, progress: Progress) -> None:
+        self._log = log
+        self._progress = progress
+        self._walk = Walk(log.file, log.are_lines)
+
+    def find(self, place: int) -> Found:
+        """The message at this place of the log."""
+        if place < self._walk.place:
+            self._walk = Walk(self._log.file, self._log.are_lines)
+        walk = self._walk
+        while walk.place < place:
+            if not walk.step(place - walk.place):
+                raise self._log.changed()
+            self._progress.show("looking up messages", walk.offset, self._log.size, "octets")
+        front = walk.front(SHOWN)
+        if front is None:
+            raise self._log.changed()
+        text, octets = front
+        part = self._log.part_of_place(place)
+        return Found(part.name, place - part.place, octets, shown(text))

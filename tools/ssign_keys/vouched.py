@@ -1,0 +1,119 @@
+"""What valid blocks vouch for besides hashes: whose key signed them, and how many signature blocks their sender counted.
+
+A report names neither. Both are kept while the questions of a review are answered, a session after the other, and are
+read again beside the report, in which the sessions stand in the same order.
+"""
+from __future__ import annotations
+
+import base64
+import json
+import re
+from dataclasses import dataclass, field
+from typing import BinaryIO, Dict, Iterable, Iterator, List, Optional, Set, Tuple
+
+from .answer import Answered
+from .blocks import FIRST_ELEMENT, HEADER, LATER_ELEMENT, LONGEST_HEADER, Session
+from .workplace import put
+
+# what follows RSID in a signature block (RFC 5848, section 4.2); a certificate block has no GBC
+COUNTERS = re.compile(rb'SG="([0-3])" SPRI="([0-9]{1,3})" GBC="([0-9]{1,10})" ')
+
+GroupName = Tuple[int, int]
+
+
+@dataclass
+class Vouched:
+    """Of one session: the file of its key, the greatest GBC of each group, and how many values of GBC its blocks have."""
+
+    key: str
+    greatest: Dict[GroupName, int] = field(default_factory=dict)
+    values: int = 0
+
+
+def counters_of(octets: bytes) -> Optional[Tuple[GroupName, int]]:
+    """The group and the GBC of a signature block, from the octets that its signature covers."""
+    header = HEADER.match(octets[:LONGEST_HEADER])
+    if header is None:
+        return None
+    behind = header.end()
+    element = FIRST_ELEMENT.match(octets, behind) or LATER_ELEMENT.search(octets, behind)
+    counters = element and COUNTERS.match(octets, element.end())
+    if not counters:
+        return None
+    return (int(counters[1]), int(counters[2])), int(counters[3])
+
+
+class Counted:
+    """A set of numbers that mostly rise one by one, kept as one run and the few that don't belong to it."""
+
+    def __init__(self) -> None:
+        self._first = 0
+        self._behind = 0
+        self._others: Set[int] = set()
+
+    def add(self, number: int) -> None:
+        """Adds a number, which may be there already."""
+        if self._first == self._behind:
+            self._first, self._behind = number, number + 1
+        elif number == self._behind:
+            self._behind += 1
+        elif not self._first <= number < self._behind:
+            self._others.add(number)
+
+    def __len__(self) -> int:
+        """How many numbers were added."""
+        return self._behind - self._first + sum(not self._first <= it < self._behind for it in self._others)
+
+
+def noted(answered: Iterable[Answered], notes: BinaryIO) -> Iterator[Answered]:
+    """Gives on what was answered, and keeps what its blocks vouch for."""
+    session: Optional[Session] = None
+    vouched = Vouched("")
+    values = Counted()
+    for it in answered:
+        if not it.is_payload and it.session is not None:
+            if it.session != session:
+                if session is not None:
+                    put_note(notes, session, vouched, values)
+                session, vouched, values = it.session, Vouched(it.key), Counted()
+            counters = counters_of(base64.b64decode(it.line.split(b" ", 3)[2]))
+            if counters is not None:
+                group, gbc = counters
+                vouched.greatest[group] = max(gbc, vouched.greatest.get(group, 0))
+                values.add(gbc)
+        yield it
+    if session is not None:
+        put_note(notes, session, vouched, values)
+
+
+def put_note(notes: BinaryIO, session: Session, vouched: Vouched, values: Counted) -> None:
+    """Keeps a line of JSON."""
+    groups = [[*group, gbc] for group, gbc in vouched.greatest.items()]
+    names = [it.decode("latin-1") for it in session]
+    put(notes, json.dumps([names, vouched.key, groups, len(values)]).encode("ascii") + b"\n")
+
+
+class Notes:
+    """Reads again what was kept, beside the sessions of a report."""
+
+    def __init__(self, notes: BinaryIO) -> None:
+        notes.seek(0)
+        self._notes = notes
+        self._next = self._read()
+
+    def of(self, session: Session) -> Optional[Vouched]:
+        """What valid blocks of this session vouch for, or None where it has none. Asked for in the order of a report."""
+        if self._next is None or self._next[0] != session:
+            return None
+        vouched = self._next[1]
+        self._next = self._read()
+        return vouched
+
+    def _read(self) -> Optional[Tuple[Session, Vouched]]:
+        line = self._notes.readline()
+        if not line:
+            return None
+        names, key, groups, values = json.loads(line)
+        host, app, procid, rsid = (str(it).encode("latin-1") for it in names)
+        rows: List[List[int]] = groups
+        return Session(host, app, procid, rsid), Vouched(key, {(sg, spri): gbc for sg, spri, gbc in rows}, values)

@@ -1,0 +1,23 @@
+"""How octets of a log and names of files are shown to a person, so that neither can send a terminal a command."""
+from __future__ import annotations
+
+import os
+
+_SHOWN = {octet: chr(octet) if 32 <= octet < 127 and octet != 92 else f"\\x{octet:02x}" for octet in range(256)}
+
+
+def shown(octets: bytes) -> str:
+    """Octets as printable ASCII: each other octet, and the backslash, as `\\xNN`, so that two texts never look alike."""
+    return "".join(map(_SHOWN.__getitem__, octets))
+
+
+def shown_name(name: str) -> str:
+    """The name of a file: letters of every language stay, and all that isn't printable becomes `\\xNN`."""
+    if name.isascii() and name.isprintable() and "\\" not in name:
+        return name
+    return "".join(it if it.isprintable() and it != "\\" else shown(os.fsencode(it)) for it in name)
+
+
+def counted(count: int, one: str, many: str = "") -> str:
+    """A number with its noun: `1 message`, `2 messages`."""
+    return f"{count} {one}" if count == 1 else f"{count} {many or one + 's'}"

@@ -1,0 +1,152 @@
+"""Where a run keeps its passing files, and how it ends: whatever happens, no file and no child of it is left behind."""
+from __future__ import annotations
+
+import os
+import signal
+import subprocess
+import sys
+import tempfile
+from types import FrameType, TracebackType
+from typing import BinaryIO, List, Optional, Type
+
+from .faults import Fault
+
+
+class Ended(BaseException):
+    """A signal asked this process to end. It is no `Exception`, so that nothing on the way takes it for a fault."""
+
+    def __init__(self, number: int) -> None:
+        super().__init__(number)
+        self.number = number
+
+
+class Workplace:
+    """A folder for passing files, and the children that were started; both go when the block of `with` ends.
+
+    A signal that asks the process to end is raised as `Ended` within the block. Behind it the process dies by that same
+    signal, so that a shell that waits for it learns of it.
+    """
+
+    SIGNALS = (signal.SIGINT, signal.SIGTERM, signal.SIGHUP)
+
+    def __init__(self) -> None:
+        self._children: List[subprocess.Popen[bytes]] = []
+
+    def __enter__(self) -> Workplace:
+        fill_standard_files()
+        owner = os.getpid()
+
+        def end(number: int, frame: Optional[FrameType]) -> None:
+            if os.getpid() != owner:
+                # a helper that was forked has nothing to put away
+                os._exit(128 + number)
+            for it in self.SIGNALS:
+                signal.signal(it, signal.SIG_IGN)
+            raise Ended(number)
+
+        # what whoever started this process had ignored, as nohup does, stays ignored
+        self._before = {it: signal.getsignal(it) for it in self.SIGNALS}
+        for it, before in self._before.items():
+            if before is not signal.SIG_IGN:
+                signal.signal(it, end)
+        try:
+            self._folder = tempfile.TemporaryDirectory(prefix="ssign-keys-")
+        except OSError as error:
+            raise Fault(f"no folder for passing files can be made: {error.strerror}; look at TMPDIR") from error
+        return self
+
+    def __exit__(
+        self, kind: Optional[Type[BaseException]], error: Optional[BaseException], trace: Optional[TracebackType]
+    ) -> None:
+        for child in self._children:
+            if child.poll() is None:
+                child.kill()
+                child.wait()
+        self._folder.cleanup()
+        for it, before in self._before.items():
+            signal.signal(it, before)
+        if isinstance(error, Ended):
+            signal.signal(error.number, signal.SIG_DFL)
+            os.kill(os.getpid(), error.number)
+
+    def path(self, name: str) -> str:
+        """The path of a passing file of this name."""
+        return os.path.join(self._folder.name, name)
+
+    def new_file(self, name: str) -> BinaryIO:
+        """A passing file of this name, open for writing and reading."""
+        try:
+            return open(self.path(name), "w+b")
+        except OSError as error:
+            raise no_room(error) from error
+
+    def adopt(self, child: subprocess.Popen[bytes]) -> None:
+        """Ends this child with the block, where it hasn't ended by itself."""
+        self._children.append(child)
+
+
+def no_room(error: OSError) -> Fault:
+    """What is said where a passing file can't be written."""
+    return Fault(f"a passing file can't be written: {error.strerror}; TMPDIR names the folder for it")
+
+
+def put(file: BinaryIO, octets: bytes) -> None:
+    """Writes to a passing file. What was put stands there once `finish` was called."""
+    try:
+        file.write(octets)
+    except OSError as error:
+        raise no_room(error) from error
+
+
+def finish(file: BinaryIO) -> None:
+    """Has all that was put stand in the passing file."""
+    try:
+        file.flush()
+    except OSError as error:
+        raise no_room(error) from error
+
+
+def fill_standard_files() -> None:
+    """Refuses a closed standard output, and has no other file take the place of a closed one."""
+    if sys.stdout is None:
+        raise Fault("standard output is closed")
+    while True:
+        number = os.open(os.devnull, os.O_RDWR)
+        if number > 2:
+            os.close(number)
+            return
+
+
+def say(sentence: str) -> None:
+    """Writes a line to standard error. That nobody reads it is no fault of the run."""
+    try:
+        sys.stderr.write(sentence + "\n")
+        sys.stderr.flush()
+    except (OSError, ValueError, AttributeError):
+        pass
+
+
+def write_out(file: BinaryIO) -> None:
+    """Copies a finished text to standard output, from the front of the file on."""
+    file.seek(0)
+    try:
+        out = sys.stdout.buffer
+        while True:
+            piece = file.read(1 << 20)
+            if not piece:
+                break
+            out.write(piece)
+        out.flush()
+    except (OSError, ValueError, AttributeError) as error:
+        abandon_output()
+        raise Fault(f"standard output can't be written: {getattr(error, 'strerror', None) or error}") from error
+
+
+def abandon_output() -> None:
+    """Has the interpreter not try once more, at its end, to write what couldn't be written."""
+    try:
+        nothing = os.open(os.devnull, os.O_WRONLY)
+        os.dup2(nothing, 1)
+        os.close(nothing)
+    except OSError:
+        pass
