@@ -2,13 +2,22 @@
 from __future__ import annotations
 
 import argparse
+import os
+import sys
 from dataclasses import dataclass
 from types import TracebackType
-from typing import Iterable, Iterator, NamedTuple, Optional, Type
+from typing import Generator, Iterable, Iterator, NamedTuple, Optional, Type
 
+from . import trust as trusts
 from .blocks import Session
+from .checking import Held
 from .faults import Fault
+from .processes import Workers
+from .questions import Line, Reader
+from .streams import Output, input_lines
 from .trust import Trust
+
+MOST_JOBS = 256
 
 
 class Answered(NamedTuple):
@@ -36,6 +45,15 @@ class Counts:
     blocks: int = 0
     valid_blocks: int = 0
 
+    def add(self, line: Line, holds: bool) -> None:
+        """Counts a line."""
+        if line.is_block:
+            self.blocks += 1
+            self.valid_blocks += holds
+        else:
+            self.payloads += 1
+            self.trusted_payloads += holds
+
 
 class Answers(Iterator[Answered]):
     """The lines that hold, in their order. `counts` is complete once they were all taken.
@@ -43,7 +61,10 @@ class Answers(Iterator[Answered]):
     Used with `with`, or ended by `close`, it leaves no process behind, wherever the taking stopped.
     """
 
-    counts: Counts
+    def __init__(self, lines: Iterable[bytes], trust: Trust, jobs: int) -> None:
+        """Takes no line yet."""
+        self.counts = Counts()
+        self._taken = self._take(lines, trust, jobs)
 
     def __iter__(self) -> Answers:
         """Itself."""
@@ -51,7 +72,7 @@ class Answers(Iterator[Answered]):
 
     def __next__(self) -> Answered:
         """The next line that holds."""
-        raise NotImplementedError
+        return next(self._taken)
 
     def __enter__(self) -> Answers:
         """Itself."""
@@ -64,6 +85,28 @@ class Answers(Iterator[Answered]):
 
     def close(self) -> None:
         """Ends the processes that check signatures."""
+        self._taken.close()
+
+    def _take(self, lines: Iterable[bytes], trust: Trust, jobs: int) -> Generator[Answered, None, None]:
+        """The lines that hold. Raises Fault at the first that is no question."""
+        workers = Workers(trust, jobs)
+        try:
+            for asked, checked in workers.check(Reader().chunks(lines)):
+                for line in asked:
+                    # lines behind the first wrong one have no answer
+                    if line.question < len(checked.held):
+                        yield from self._answer(line, checked.held[line.question])
+                if checked.fault is not None:
+                    raise Fault(checked.fault)
+        finally:
+            workers.close()
+
+    def _answer(self, line: Line, held: Optional[Held]) -> Iterator[Answered]:
+        """A line, where it holds."""
+        self.counts.add(line, held is not None)
+        if held:
+            text = line.text if line.text.endswith(b"\n") else line.text + b"\n"
+            yield Answered(text, held.session, held.key)
 
 
 def answers(lines: Iterable[bytes], trust: Trust, jobs: int = 1) -> Answers:
@@ -71,13 +114,49 @@ def answers(lines: Iterable[bytes], trust: Trust, jobs: int = 1) -> Answers:
 
     No more lines are held at once than a few chunks. Raises Fault, while lines are taken, at one that is no question.
     """
-    raise NotImplementedError
+    return Answers(lines, trust, jobs)
+
+
+def read_jobs(word: str) -> int:
+    """What an option --jobs says."""
+    if not (word.isascii() and word.isdigit() and 1 <= int(word[:9]) <= MOST_JOBS):
+        raise argparse.ArgumentTypeError(f"'{word}' isn't a number from 1 to {MOST_JOBS}")
+    return int(word)
+
+
+def processors() -> int:
+    """How many processes can be at work at once here."""
+    try:
+        found = len(os.sched_getaffinity(0))
+    except AttributeError:
+        found = os.cpu_count() or 1
+    return min(found, MOST_JOBS)
+
+
+def add_jobs(parser: argparse.ArgumentParser) -> None:
+    """Says how many processes check signatures; `jobs` of the parsed arguments."""
+    parser.add_argument("--jobs", type=read_jobs, default=processors(), metavar="N",
+                        help="by how many processes signatures are checked; without it as many as there are processors")
 
 
 def add_arguments(parser: argparse.ArgumentParser) -> None:
     """Says which words the command takes."""
+    parser.add_argument("keys", nargs="*", metavar="PUBLIC.pem",
+                        help="a file with public keys: trust a payload that states one of them")
+    trusts.add_arguments(parser)
+    add_jobs(parser)
 
 
 def run(arguments: argparse.Namespace) -> int:
-    """Refuses, since nothing of this command is written yet."""
-    raise Fault("the command answer isn't written yet")
+    """Writes those lines of standard input that hold. Status 1 where payloads are asked about and none is trusted."""
+    trust = Trust.from_arguments(arguments)
+    with Output() as output, answers(input_lines(), trust, arguments.jobs) as held:
+        for answered in held:
+            output.add(answered.line)
+        output.release()
+        counts = held.counts
+    if not counts.payloads or counts.trusted_payloads:
+        return 0
+    what = "state this key" if trust.has_one_key else "are trusted"
+    print(f"ssign-keys: {counts.trusted_payloads} of {counts.payloads} payloads {what}", file=sys.stderr)
+    return 1

@@ -1,7 +1,25 @@
 """DSA keys and their signatures, all of whose numbers `cryptography` handles (RFC 5848, section 4.2.8)."""
 from __future__ import annotations
 
-from typing import NamedTuple
+from typing import Any, List, NamedTuple, Optional, Tuple
+
+from .encoding import read_numbers, spell_numbers
+from .faults import Fault
+from .files import pem_parts, read_file
+
+try:
+    from cryptography.exceptions import InvalidSignature, UnsupportedAlgorithm
+    from cryptography.hazmat.primitives import hashes, serialization
+    from cryptography.hazmat.primitives.asymmetric import dsa
+    from cryptography.hazmat.primitives.asymmetric.utils import decode_dss_signature, encode_dss_signature
+except ImportError as missing:
+    raise Fault("the Python module cryptography is missing; on Debian and Ubuntu "
+                "`apt-get install python3-cryptography` installs it") from missing
+
+# Which hash VER names, and how many bits it has.
+HASHES = {b"0111": (hashes.SHA1, 160), b"0121": (hashes.SHA256, 256)}
+# What `cryptography` raises for a text that spells no key that it knows.
+NO_KEY = (ValueError, TypeError, UnsupportedAlgorithm)
 
 
 class Numbers(NamedTuple):
@@ -16,23 +34,142 @@ class Numbers(NamedTuple):
 class PublicKey:
     """A public key, which can be handed to another process."""
 
-    numbers: Numbers
+    def __init__(self, numbers: Numbers) -> None:
+        """Raises ValueError where a key of DSA can't have these numbers."""
+        self.numbers = numbers
+        p, q, g, y = numbers
+        if not 160 <= q.bit_length() <= 256:
+            raise ValueError(f"its number q has {q.bit_length()} bits, and not 160 to 256")
+        self._key = dsa.DSAPublicNumbers(y, dsa.DSAParameterNumbers(p, q, g)).public_key()
+
+    def __reduce__(self) -> Tuple[Any, ...]:
+        """The numbers stand for the key, since that of `cryptography` doesn't go from process to process."""
+        return PublicKey, (self.numbers,)
 
     def is_signature(self, octets: bytes, version: bytes, signature: bytes) -> bool:
         """Whether the value of SIGN is this key's signature of the octets, by the hash that VER names."""
-        raise NotImplementedError
+        q = self.numbers.q
+        hashed, hash_bits = HASHES[version]
+        if q.bit_length() > hash_bits or len(signature) > 2 * (2 + (q.bit_length() + 7) // 8):
+            return False
+        numbers = read_numbers(signature)
+        if numbers is None or len(numbers) != 2 or not all(0 < number < q for number in numbers):
+            return False
+        try:
+            self._key.verify(encode_dss_signature(numbers[0], numbers[1]), octets, hashed())
+        except InvalidSignature:
+            return False
+        except UnsupportedAlgorithm as fault:
+            raise Fault(f"cryptography checks no signature with {hashed.name} here: {fault}") from fault
+        return True
 
 
 class PrivateKey:
     """A private key without a passphrase."""
 
-    public: PublicKey
+    def __init__(self, key: dsa.DSAPrivateKey) -> None:
+        """Raises ValueError where a key of DSA can't have these numbers."""
+        self._key = key
+        self.public = PublicKey(numbers_of(key.public_key()))
+
+    @classmethod
+    def generate(cls, key_bits: int, q_bits: int) -> PrivateKey:
+        """A new key, whose p and q have so many bits."""
+        try:
+            key = cls(dsa.generate_private_key(key_bits))
+        except NO_KEY as fault:
+            raise Fault(f"cryptography makes no DSA key of {key_bits} bits here: {fault}") from fault
+        if key.public.numbers.q.bit_length() != q_bits:
+            raise Fault(f"cryptography makes no DSA key of {key_bits} bits here whose number q has {q_bits}")
+        return key
 
     def sign(self, octets: bytes, version: bytes) -> bytes:
         """The value of SIGN. Raises Fault where the hash that VER names is shorter than q."""
-        raise NotImplementedError
+        hashed, hash_bits = HASHES[version]
+        q_bits = self.public.numbers.q.bit_length()
+        if q_bits > hash_bits:
+            raise Fault(f"VER {version.decode()} has a hash of {hash_bits} bits, and the number q of the key has {q_bits}: "
+                        "use --ver 0121, or another key")
+        try:
+            spelled = self._key.sign(octets, hashed())
+        except UnsupportedAlgorithm as fault:
+            raise Fault(f"cryptography doesn't sign with {hashed.name} here: {fault}") from fault
+        return spell_numbers(decode_dss_signature(spelled))
+
+    def pem(self) -> bytes:
+        """The key without a passphrase, as `read_private_key` takes it."""
+        return self._key.private_bytes(serialization.Encoding.PEM, serialization.PrivateFormat.PKCS8,
+                                       serialization.NoEncryption())
+
+    def public_pem(self) -> bytes:
+        """The public key, as `read_public_keys` takes it."""
+        return self._key.public_key().public_bytes(serialization.Encoding.PEM,
+                                                   serialization.PublicFormat.SubjectPublicKeyInfo)
+
+
+def numbers_of(key: dsa.DSAPublicKey) -> Numbers:
+    """The numbers of a key of `cryptography`."""
+    public = key.public_numbers()
+    parameters = public.parameter_numbers
+    return Numbers(parameters.p, parameters.q, parameters.g, public.y)
+
+
+def public_key_of(key: object) -> Optional[PublicKey]:
+    """A key of `cryptography` as ours, or None where it is no DSA key that can be checked with."""
+    if not isinstance(key, dsa.DSAPublicKey):
+        return None
+    try:
+        return PublicKey(numbers_of(key))
+    except NO_KEY:
+        return None
 
 
 def read_private_key(path: str) -> PrivateKey:
     """The key in a file of PEM. Raises Fault where there is none, or one that is no DSA key or has a passphrase."""
-    raise NotImplementedError
+    text = read_file(path)
+    if b"PRIVATE KEY-----" not in text:
+        raise Fault(f"{path} holds no private key in PEM")
+    try:
+        key = serialization.load_pem_private_key(text, None)
+    except TypeError as fault:
+        raise Fault(f"the private key in {path} has a passphrase, and has to be one without") from fault
+    except NO_KEY as fault:
+        if b"ENCRYPTED" in text:
+            raise Fault(f"the private key in {path} has a passphrase, and has to be one without") from fault
+        raise Fault(f"the private key in {path} can't be read: {one_line(fault)}") from fault
+    if not isinstance(key, dsa.DSAPrivateKey):
+        raise Fault(f"the key in {path} is no DSA key")
+    try:
+        return PrivateKey(key)
+    except NO_KEY as fault:
+        raise Fault(f"the key in {path} can't be used: {one_line(fault)}") from fault
+
+
+def read_pem_keys(path: str, text: bytes) -> List[PublicKey]:
+    """The public keys in a text of PEM, at least one. Raises Fault where one is no DSA key."""
+    if b"PRIVATE KEY-----" in text:
+        raise Fault(f"{path} holds a private key: signatures are checked with the public key alone")
+    parts = pem_parts(text, "PUBLIC KEY")
+    if not parts:
+        what = ", but a certificate: it goes with --cert or --ca" if b"BEGIN CERTIFICATE-----" in text else ""
+        raise Fault(f"{path} holds no public key{what}")
+    return [read_pem_key(path, part) for part in parts]
+
+
+def read_pem_key(path: str, part: bytes) -> PublicKey:
+    """The public key of one part of a text of PEM."""
+    try:
+        key = serialization.load_pem_public_key(part)
+    except NO_KEY as fault:
+        raise Fault(f"the public key in {path} can't be read: {one_line(fault)}") from fault
+    if not isinstance(key, dsa.DSAPublicKey):
+        raise Fault(f"the key in {path} is no DSA key")
+    try:
+        return PublicKey(numbers_of(key))
+    except NO_KEY as fault:
+        raise Fault(f"the key in {path} can't be used: {one_line(fault)}") from fault
+
+
+def one_line(fault: Exception) -> str:
+    """What a library says of a failure, in one line."""
+    return " ".join(str(fault).split()) or type(fault).__name__

@@ -1,14 +1,66 @@
 """Payloads, which say what the key of a session is (RFC 5848, section 5.2.1)."""
 from __future__ import annotations
 
-from .keys import PublicKey
+import base64
+import re
+from datetime import datetime, timezone
+from typing import NamedTuple, Optional
+
+from .encoding import decode, read_numbers, spell_numbers
+from .keys import Numbers, PublicKey
+
+# No longer payload is looked at: it isn't trusted. A DSA key has four numbers of at most 10,000 bits, which fit in a
+# tenth of that; a certificate or an OpenPGP key of this length is none of a signer of logs.
+LONGEST = 65536
+# RFC 5424, section 6.2.3, then the type, then the key blob, which the type N lacks.
+STAMP = rb"-|[0-9]{4}-[0-9]{2}-[0-9]{2}T[0-9]{2}:[0-9]{2}:[0-9]{2}(?:\.[0-9]{1,6})?(?:Z|[+-][0-9]{2}:[0-9]{2})"
+PAYLOAD = re.compile(rb"(%s) (?:([CKPU]) ([A-Za-z0-9+/]+=*)|(N) ?)" % STAMP)
+
+
+class Payload(NamedTuple):
+    """A payload of a type that RFC 5848 names."""
+
+    stamp: str
+    """A TIMESTAMP, or `-`."""
+    kind: str
+    """C, K, P, N or U."""
+    blob: bytes
+    """The octets of the key blob; none where the type is N."""
+
+
+def read_payload(octets: bytes) -> Optional[Payload]:
+    """The payload that has these octets, or None where they are none."""
+    if len(octets) > LONGEST:
+        return None
+    parts = PAYLOAD.fullmatch(octets)
+    if not parts:
+        return None
+    if parts[4]:
+        return Payload(parts[1].decode(), "N", b"")
+    blob = decode(parts[3])
+    return None if blob is None else Payload(parts[1].decode(), parts[2].decode(), blob)
+
+
+def stated_numbers(blob: bytes) -> Optional[Numbers]:
+    """The numbers that the key blob of a payload of the type K states, or None where they aren't those of DSA."""
+    numbers = read_numbers(blob)
+    return Numbers(*numbers) if numbers is not None and len(numbers) == 4 else None
+
+
+def seconds(stamp: str) -> Optional[int]:
+    """The time of a TIMESTAMP in whole seconds since 1970, or None where it is `-`. Raises ValueError where there is no
+    such time."""
+    if stamp == "-":
+        return None
+    whole = re.sub(r"\.[0-9]+", "", stamp).replace("Z", "+00:00")
+    return int(datetime.strptime(whole, "%Y-%m-%dT%H:%M:%S%z").timestamp())
 
 
 def state_key(key: PublicKey, stamp: str) -> bytes:
     """The payload of the type K that states a key, with a TIMESTAMP or `-` as its time. It ends without LF."""
-    raise NotImplementedError
+    return stamp.encode() + b" K " + base64.b64encode(spell_numbers(key.numbers))
 
 
 def present_stamp() -> str:
     """The present time as a TIMESTAMP, in whole seconds of UTC."""
-    raise NotImplementedError
+    return datetime.now(timezone.utc).strftime("%Y-%m-%dT%H:%M:%SZ")

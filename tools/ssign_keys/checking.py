@@ -1,0 +1,115 @@
+"""Checks questions about keys and signatures, a chunk at a time."""
+from __future__ import annotations
+
+from dataclasses import dataclass, field
+from typing import List, NamedTuple, Optional, Sequence, Tuple
+
+from .blocks import Block, Session, read_block
+from .encoding import decode, is_base64
+from .faults import Fault
+from .trust import Trust
+
+# The longest text of a signature of DSA: two numbers of 256 bits, each with its count.
+LONGEST_SIGNATURE = 92
+
+
+class Question(NamedTuple):
+    """A line of `ssign questions`, but for its payload."""
+
+    line_number: int
+    payload: int
+    """Which of the chunk's payloads."""
+    is_block: bool
+    """Whether it is a `yes` line."""
+    rest: bytes
+    """What stands behind the payload of a `yes` line: OCTETS SIGNATURE."""
+
+
+@dataclass
+class Chunk:
+    """Questions that are checked together."""
+
+    payloads: List[Optional[bytes]] = field(default_factory=list)
+    """Payloads in base64; None for one that is too long for any key."""
+    questions: List[Question] = field(default_factory=list)
+    fault: Optional[str] = None
+    """What is wrong with the line behind the last question; None where that isn't known to be wrong."""
+
+
+class Held(NamedTuple):
+    """What is known of a question that holds."""
+
+    session: Optional[Session]
+    key: str
+    """The file of the key."""
+
+
+class Checked(NamedTuple):
+    """The answers to a chunk, up to the first question that is none."""
+
+    held: List[Optional[Held]]
+    fault: Optional[str]
+    """What is wrong with the question behind the last answer; None where all are answered."""
+
+
+def is_block_part(rest: bytes) -> bool:
+    """Whether this is the base64 of octets, a space and the base64 of a signature."""
+    octets, space, signature = rest.partition(b" ")
+    return bool(space) and is_base64(octets) and is_base64(signature)
+
+
+def block_of(question: Question) -> Tuple[bytes, Block]:
+    """The octets of the block that a `yes` line asks about, and what they say."""
+    octets = decode(question.rest.partition(b" ")[0])
+    block = read_block(octets) if octets else None
+    if not octets or not block:
+        raise Fault(f"line {question.line_number}: the octets are no block of VER 0111 or 0121")
+    return octets, block
+
+
+def check_chunk(trust: Trust, chunk: Chunk) -> Checked:
+    """Checks each question of a chunk."""
+    held: List[Optional[Held]] = []
+    payloads = [text and decode(text) for text in chunk.payloads]
+    try:
+        for place, question in enumerate(chunk.questions):
+            payload = payloads[question.payload]
+            if question.is_block:
+                held.append(check_block(trust, question, payload))
+            else:
+                held.append(check_payload(trust, question, payload, chunk.questions[place + 1:place + 2]))
+    except Fault as fault:
+        return Checked(held, str(fault))
+    return Checked(held, chunk.fault)
+
+
+def check_block(trust: Trust, question: Question, payload: Optional[bytes]) -> Optional[Held]:
+    """Whether a `yes` line holds. Raises Fault where it is no question."""
+    if not is_block_part(question.rest):
+        raise Fault(no_question(question.line_number))
+    if not payload:
+        return None
+    octets, block = block_of(question)
+    spelled = question.rest.partition(b" ")[2]
+    signature = decode(spelled) if len(spelled) <= LONGEST_SIGNATURE else None
+    signer = trust.signer_of(payload, block, octets, signature) if signature else None
+    return Held(block.session, signer.name) if signer else None
+
+
+def check_payload(trust: Trust, question: Question, payload: Optional[bytes],
+                  following: Sequence[Question]) -> Optional[Held]:
+    """Whether a `trust` line holds: for the session of the block that is asked about behind it."""
+    if not payload:
+        return None
+    session = None
+    if following and following[0].is_block and following[0].payload == question.payload:
+        if not is_block_part(following[0].rest):
+            raise Fault(no_question(following[0].line_number))
+        session = block_of(following[0])[1].session
+    trusted = trust.key_of(payload, session)
+    return Held(session, trusted.name) if trusted else None
+
+
+def no_question(line_number: int) -> str:
+    """The sentence for a line that is no question."""
+    return f"line {line_number} is no line `trust PAYLOAD` or `yes PAYLOAD OCTETS SIGNATURE` of ssign questions"

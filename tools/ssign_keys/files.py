@@ -1,0 +1,42 @@
+"""Files that the command line names: short ones, read whole, with a sentence for each that can't be."""
+from __future__ import annotations
+
+from typing import List
+
+from .faults import Fault
+
+# No file of keys or certificates comes near to it.
+LONGEST = 16 * 1024 * 1024
+
+
+def read_file(path: str) -> bytes:
+    """What stands in a file of keys."""
+    try:
+        with open(path, "rb") as file:
+            octets = file.read(LONGEST + 1)
+    except (OSError, ValueError) as fault:
+        raise Fault(f"{path} can't be read: {reason(fault)}") from fault
+    if len(octets) > LONGEST:
+        raise Fault(f"{path} is no file of keys: it has more than {LONGEST} octets")
+    return octets
+
+
+def reason(fault: Exception) -> str:
+    """What the system says of a failure, without the name of the file."""
+    return (fault.strerror if isinstance(fault, OSError) else None) or str(fault)
+
+
+def pem_parts(text: bytes, label: str) -> List[bytes]:
+    """The parts of a PEM text that have a label, each from its BEGIN line to its END line (RFC 7468)."""
+    begin = f"-----BEGIN {label}-----".encode()
+    end = f"-----END {label}-----".encode()
+    parts = []
+    place = text.find(begin)
+    while place >= 0:
+        behind = text.find(end, place)
+        if behind < 0:
+            break
+        behind += len(end)
+        parts.append(text[place:behind] + b"\n")
+        place = text.find(begin, behind)
+    return parts
