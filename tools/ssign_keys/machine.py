@@ -41,8 +41,10 @@ class Machine(Teller):
     def session(self, session: Session, state: str) -> None:
         self._vouched = self._notes.of(session)
         key = None if self._vouched is None else self._vouched.key
-        state_of: Fields = {"state": state, "key": key}
-        self._put({"line": "session", **names_of(session), **state_of})
+        fields: Fields = {"line": "session"}
+        fields.update(names_of(session))
+        fields.update(state=state, key=key)
+        self._put(fields)
 
     def begin_group(self, group: Group) -> None:
         front: Fields = {"line": "ok", **names_of(group.session), "sg": group.sg, "spri": group.spri}

@@ -8,7 +8,7 @@ import select
 import shutil
 import signal
 import subprocess
-from typing import BinaryIO, Callable, Dict, Iterator, List, Optional, Sequence, Union
+from typing import BinaryIO, Callable, Dict, Iterable, Iterator, List, Optional, Sequence, Union
 
 from .faults import Fault
 from .progress import Progress
@@ -55,8 +55,8 @@ class Run:
     """A run of ssign that was begun. What it says on standard error is passed on as it comes."""
 
     def __init__(self, program: str, words: Sequence[str], workplace: Workplace, progress: Progress,
-                 log: BinaryIO, out: Union[BinaryIO, int]) -> None:
-        """Where the output goes to subprocess.PIPE, it is read with `lines`."""
+                 log: Union[BinaryIO, int], out: Union[BinaryIO, int]) -> None:
+        """Where the output goes to subprocess.PIPE, it is read with `lines`; where the log comes from there, `feed` it."""
         self.name = f"ssign {words[0]}"
         self._progress = progress
         self._said = workplace.new_file("said")
@@ -69,6 +69,16 @@ class Run:
             why = error.strerror if isinstance(error, OSError) else str(error)
             raise Fault(f"the program {shown_name(program)} can't be run: {why}") from error
         workplace.adopt(self.child)
+
+    def feed(self, pieces: Iterable[bytes]) -> None:
+        """Writes the log. Where the run ends before the log does, its own words say why."""
+        assert self.child.stdin is not None
+        try:
+            with self.child.stdin as log:
+                for piece in pieces:
+                    log.write(piece)
+        except BrokenPipeError:
+            pass
 
     def lines(self, tick: Callable[[], None]) -> Iterator[bytes]:
         """The lines of its output, each with its LF. Raises Refused behind the last, where that is how it ended."""

@@ -6,7 +6,7 @@ import os
 import shutil
 import subprocess
 import tempfile
-from typing import BinaryIO, Callable, List, Optional, Type, Union
+from typing import BinaryIO, Callable, Iterator, List, Optional, Type, Union
 
 from . import trust as trust_options
 from .answer import answers
@@ -20,6 +20,7 @@ from .report import Reading
 from .strays import Finder
 from .trust import Trust
 from .vouched import Notes, noted
+from .walk import Walk
 from .words import shown_name
 from .workplace import Workplace, finish, put, say, write_out
 
@@ -96,17 +97,28 @@ class Verifier:
 
     def answer(self, trust: Trust, jobs: int) -> Notes:
         """Has ssign ask, and keeps what holds as the answers file."""
-        asking = Run(self._program, ["questions", *self._words], self._workplace, self._progress, self._log.rewind(),
+        asking = Run(self._program, ["questions", *self._words], self._workplace, self._progress, subprocess.PIPE,
                      subprocess.PIPE)
+        asking.feed(self._candidates())
         notes = self._workplace.new_file("notes")
         with self._workplace.new_file("answers") as file, \
-                answers(asking.lines(self._reading("asking about signatures")), trust, jobs) as answered:
+                answers(asking.lines(lambda: None), trust, jobs) as answered:
             for count, it in enumerate(noted(answered, notes), 1):
                 put(file, it.line)
                 self._progress.show("checking signatures", count, 0, "valid blocks")
             finish(file)
         self._log.check_unchanged()
         return Notes(notes)
+
+    def _candidates(self) -> Iterator[bytes]:
+        """The messages that may be blocks, since nothing is asked about the others. This takes a tenth of the time.
+
+        Which of them are blocks, and what is asked, ssign says; the log is refused, where it has to be, by the review.
+        """
+        walk = Walk(self._log.file, self._log.are_lines)
+        for it in walk.candidates():
+            yield it
+            self._progress.show("looking for blocks", walk.offset, self._log.size, "octets")
 
     def review(self) -> int:
         """Has ssign review the log under the answers that were kept, and gives its status."""
