@@ -92,7 +92,10 @@ def check_block(trust: Trust, question: Question, payload: Optional[bytes]) -> O
     octets, block = block_of(question)
     spelled = question.rest.partition(b" ")[2]
     signature = decode(spelled) if len(spelled) <= LONGEST_SIGNATURE else None
-    signer = trust.signer_of(payload, block, octets, signature) if signature else None
+    try:
+        signer = trust.signer_of(payload, block, octets, signature) if signature else None
+    except Fault as fault:
+        raise Fault(f"line {question.line_number}: {fault}") from fault
     return Held(block.session, signer.name) if signer else None
 
 
@@ -106,7 +109,10 @@ def check_payload(trust: Trust, question: Question, payload: Optional[bytes],
         if not is_block_part(following[0].rest):
             raise Fault(no_question(following[0].line_number))
         session = block_of(following[0])[1].session
-    trusted = trust.key_of(payload, session)
+    try:
+        trusted = trust.key_of(payload, session)
+    except Fault as fault:
+        raise Fault(f"line {question.line_number}: {fault}") from fault
     return Held(session, trusted.name) if trusted else None
 
 

@@ -50,7 +50,7 @@ class PublicKey:
         """Whether the value of SIGN is this key's signature of the octets, by the hash that VER names."""
         q = self.numbers.q
         hashed, hash_bits = HASHES[version]
-        if q.bit_length() > hash_bits or len(signature) > 2 * (2 + (q.bit_length() + 7) // 8):
+        if q.bit_length() > hash_bits:
             return False
         numbers = read_numbers(signature)
         if numbers is None or len(numbers) != 2 or not all(0 < number < q for number in numbers):

@@ -2,16 +2,19 @@
 from __future__ import annotations
 
 import argparse
-from typing import Dict, List, NamedTuple, Optional, Sequence, Tuple
+from typing import TYPE_CHECKING, Dict, List, NamedTuple, Optional, Sequence, Tuple
 
-from . import certificates, openpgp
+from . import openpgp
 from .blocks import Block, Session, read_block
-from .certificates import Authority
 from .faults import Fault
 from .files import read_file
 from .keys import Numbers, PublicKey, read_pem_keys
 from .payloads import Payload, read_payload, seconds, stated_numbers
 
+if TYPE_CHECKING:
+    from .certificates import Authority, Certificate
+
+# The module of certificates is loaded where one is looked at, since that takes half of the time of a start.
 ANY = b"*"
 
 
@@ -78,6 +81,19 @@ def read_session_key(words: str, path: str) -> SessionKey:
     return SessionKey(Session(*parts), Trusted(path, keys[0]))
 
 
+def read_certificates(certs: Sequence[str], cas: Sequence[str]) -> Tuple[Dict[bytes, Trusted], List[Authority]]:
+    """What the options --cert and --ca say."""
+    signers: Dict[bytes, Trusted] = {}
+    if not (certs or cas):
+        return signers, []
+    from . import certificates
+    for path in certs:
+        for signer in certificates.read_signers(path):
+            if signer.key:
+                signers.setdefault(signer.der, Trusted(path, signer.key))
+    return signers, [certificates.read_authority(path) for path in cas]
+
+
 class Trust:
     """The keys, sessions and certificates that the reviewer gave. It can be handed to another process."""
 
@@ -105,12 +121,7 @@ class Trust:
             first = patterns.setdefault(it.pattern, it)
             if first.trusted.key.numbers != it.trusted.key.numbers:
                 raise Fault(f"the session '{it.pattern}' is given two keys: {first.trusted.name} and {it.trusted.name}")
-        signers: Dict[bytes, Trusted] = {}
-        for path in arguments.cert:
-            for signer in certificates.read_signers(path):
-                if signer.key:
-                    signers.setdefault(signer.der, Trusted(path, signer.key))
-        authorities = [certificates.read_authority(path) for path in arguments.ca]
+        signers, authorities = read_certificates(arguments.cert, arguments.ca)
         if not (keys or session_keys or signers or authorities):
             raise Fault("nothing says which key is to be trusted: give a public key, --session-key, --ca or --cert")
         return cls(keys, session_keys, authorities, signers)
@@ -170,13 +181,17 @@ class Trust:
 
     def _state_certificate(self, payload: Payload) -> Stated:
         """What a payload with a certificate states."""
+        if not (self._signers or self._authorities or self._session_keys):
+            return Stated("C", None, None)
+        from . import certificates
         found = certificates.read_certificate(payload.blob)
         if not found or not found.key or found.der != payload.blob:
             return Stated("C", None, None)
         return Stated("C", found.key.numbers, self._signers.get(found.der) or self._issued(found, payload.stamp))
 
-    def _issued(self, found: certificates.Certificate, stamp: str) -> Optional[Trusted]:
+    def _issued(self, found: Certificate, stamp: str) -> Optional[Trusted]:
         """The key of a certificate that one of --ca issued."""
+        from . import certificates
         try:
             moment = seconds(stamp)
         except ValueError:
