@@ -9,7 +9,7 @@ one-message.log        a message, as a line
 one-message.seals      what a signer says who gives every block of that log the same signature
 
 The two messages are the samples of FIPS 180, whose hashes are published, and the signatures are the three octets 0:
-these files show the layout, and nothing in them is signed by a real key (for that see openssl/ beside this file).
+these files show the layout, and nothing in them is signed by a real key (for that see signed/ beside this file).
 """
 import base64
 import hashlib

@@ -59,7 +59,7 @@ run review --answers /dev/null <"$log"
 expect 'no answers' 1 $'session h s - 1 untrusted\n'"$refused" ''
 run review --answers "$answers" </dev/null
 expect 'answers, and an empty log' 0 'end 0' ''
-run review --answers "$root/examples/openssl/signed.answers" <"$root/examples/openssl/signed.frames"
+run review --answers "$root/examples/signed/signed.answers" <"$root/examples/signed/signed.frames"
 expect 'real signatures, and what openssl said of them' 0 'session gate.example.org signer - 1 joined
 ok gate.example.org signer - 1 0 0 1 2
 ok gate.example.org signer - 1 0 0 2 3

@@ -34,8 +34,8 @@ gives 'no answers' 1 '' <"$log"
 gives 'an empty log' 0 '' </dev/null
 gives 'messages with octets that are no text' 1 '' < <(printf '3 \000\n]')
 gives 'real signatures, and what openssl said of them' 0 \
-    "$(while IFS= read -r message; do frame "$message"; done <"$root/examples/openssl/ten-messages.log")" \
-    --answers "$root/examples/openssl/signed.answers" <"$root/examples/openssl/signed.frames"
+    "$(while IFS= read -r message; do frame "$message"; done <"$root/examples/signed/ten-messages.log")" \
+    --answers "$root/examples/signed/signed.answers" <"$root/examples/signed/signed.frames"
 run extract --answers "$answers" <"$log"
 cp -- "$scratch/out" "$scratch/extract"
 gives 'an extract of an extract, which has no block' 1 '' --answers "$answers" <"$scratch/extract"

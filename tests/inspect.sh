@@ -31,7 +31,7 @@ unparsed 1 M1 0
 certificate 2 h s - 1 0 0 27 1 27
 signature 3 h s - 1 0 0 0 1 2
 end 4' ''
-run inspect <"$root/examples/openssl/signed.frames"
+run inspect <"$root/examples/signed/signed.frames"
 expect 'real signatures' 0 'certificate 0 gate.example.org signer - 1 0 0 575 1 500
 certificate 1 gate.example.org signer - 1 0 0 575 501 75
 plain 2

@@ -39,8 +39,8 @@ unlisted 1
 refused 2
 refused 3
 end 4' ''
-as_lines "$root/examples/openssl/signed.frames" >"$scratch/signed"
-run review --answers "$root/examples/openssl/signed.answers" --lines <"$scratch/signed"
+as_lines "$root/examples/signed/signed.frames" >"$scratch/signed"
+run review --answers "$root/examples/signed/signed.answers" --lines <"$scratch/signed"
 expect 'real signatures, and what openssl said of them' 0 'session gate.example.org signer - 1 joined
 ok gate.example.org signer - 1 0 0 1 2
 ok gate.example.org signer - 1 0 0 2 3

@@ -29,7 +29,7 @@ run review < <(dd if="$log" bs=1 2>/dev/null)
 expect 'the same, an octet at a time' 1 "$untrusted" ''
 run review <"$root/examples/torn.frames"
 expect 'a log that is torn in its third frame' 1 $'unlisted 0\nunlisted 1\ntorn 64\nend 2' ''
-run review <"$root/examples/openssl/signed.frames"
+run review <"$root/examples/signed/signed.frames"
 expect 'a log with real signatures, nothing trusted' 1 'session gate.example.org signer - 1 untrusted
 unlisted 2
 unlisted 3
