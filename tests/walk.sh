@@ -49,17 +49,20 @@ read_page() {
 }
 
 read_page
-has_openssl=yes
-if ! command -v openssl >/dev/null; then
-    has_openssl=
-    echo "$name: no openssl here, so only what examples/README.md does without it is done"
+has_keys=yes
+if ! python3 -c 'import cryptography' 2>/dev/null; then
+    has_keys=
+    echo "$name: no cryptography for python3 here, so only what examples/README.md does without keys is done"
 fi
+# ssign-keys runs this program too
+export SSIGN=$program
 
 mkdir -- "$scratch/way" && cd -- "$scratch/way" || exit 1
 ln -s -- "$program" ssign
 ln -s -- "$root/examples" examples
+ln -s -- "$root/tools" tools
 for number in "${!commands[@]}"; do
-    [[ $has_openssl || ${commands[number]} != *walk* ]] || continue
+    [[ $has_keys || ${commands[number]} != *walk* ]] || continue
     printf '{\n%s\n} >%q 2>%q </dev/null\n' "${commands[number]}" "$scratch/out.$number" "$scratch/err.$number"
     printf 'echo $? >%q\n' "$scratch/status.$number"
 done >"$scratch/script"
@@ -67,7 +70,7 @@ timeout $((5 * patience)) bash "$scratch/script"
 
 for number in "${!commands[@]}"; do
     command=${commands[number]}
-    [[ $has_openssl || $command != *walk* ]] || continue
+    [[ $has_keys || $command != *walk* ]] || continue
     command=${command//$'\n'/; }
     if [[ ! ${statuses[number]-} ]]; then
         tell "$command" '    the page says nothing of what it gives'

@@ -135,11 +135,9 @@ class Person(Teller):
 
     def verdict(self, status: int) -> None:
         """Tells the verdict, and what it says nothing of."""
-        self._put("")
         self._put(f"Verdict: {sentence(status, self.totals, self.states)}")
         if not self._reach:
             return
-        self._put("")
         self._put("The verdict says nothing of what was sent behind the last block that is here:")
         for group, greatest in self._reach:
             host, app, procid, rsid = map(shown, group.session)

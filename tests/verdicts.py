@@ -1,0 +1,154 @@
+#!/usr/bin/env python3
+"""Helps tests/verify.sh: cuts and damages logs, and compares JSON with the report that it stands for.
+
+    verdicts.py json REPORT JSON LOG STATUS [--lines]   the JSON has each line of the report, and the verdict
+    verdicts.py plain LOG | lines LOG                   the messages without a block, or all, as lines
+    verdicts.py split LOG N FIRST SECOND                a log of N messages, and one of the others
+    verdicts.py last LOG | count LOG                    where the torn frame begins; how many messages there are
+    verdicts.py damage KIND LOG                         the log, damaged
+    verdicts.py signal NAME FILE WORD..                 runs a command, sends it a signal once FILE is there, and tells
+                                                        the signal by which it ended
+"""
+from __future__ import annotations
+
+import json
+import os
+import signal
+import subprocess
+import sys
+import time
+from typing import Callable, Dict, List, Optional, Tuple
+
+from review_runs import frame, read_frames, read_lines
+
+
+def messages(path: str) -> Tuple[List[bytes], Optional[int]]:
+    """The messages of frames, and where a torn one begins."""
+    with open(path, "rb") as file:
+        found: Tuple[List[bytes], Optional[int]] = read_frames(file.read())
+    return found
+
+
+def escaped(octets: bytes) -> str:
+    """The front of a text as verify shows it."""
+    return "".join(chr(it) if 32 <= it < 127 and it != ord("\\") else "\\x%02x" % it for it in octets[:60])
+
+
+def wanted(line: str, stored: List[bytes], log: str) -> Dict[str, object]:
+    """The object for a line of a report, but for the name of a key."""
+    word, *fields = line.split(" ")
+    names: Dict[str, object] = {"line": word}
+    if word in ("session", "ok", "gap", "hole"):
+        names.update(host=fields[0], app=fields[1], procid=fields[2], rsid=int(fields[3]))
+    if word in ("ok", "gap", "hole"):
+        names.update(sg=int(fields[4]), spri=int(fields[5]))
+    if word == "session":
+        names.update(state=fields[4])
+    elif word == "ok":
+        names.update(number=int(fields[6]), place=int(fields[7]))
+    elif word == "gap":
+        names.update(number=int(fields[6]), why=fields[7])
+    elif word == "hole":
+        names.update(first=int(fields[6]), last=int(fields[7]))
+    elif word == "end":
+        names.update(count=int(fields[0]))
+    elif word == "torn":
+        names.update(offset=int(fields[0]), file=log, file_offset=int(fields[0]))
+    else:
+        text = stored[int(fields[0])]
+        names.update(place=int(fields[0]))
+        names.update({"cause": fields[1]} if word == "spoilt" else {})
+        names.update(file=log, file_place=int(fields[0]), octets=len(text), text=escaped(text))
+    return names
+
+
+def check_json(report: str, path: str, log: str, status: str, *options: str) -> None:
+    """Compares the two line by line, in the order of the keys too."""
+    with open(log, "rb") as file:
+        stored, _ = (read_lines if "--lines" in options else read_frames)(file.read())
+    with open(report, encoding="ascii") as file_of_lines, open(path, encoding="ascii") as file_of_objects:
+        lines, objects = file_of_lines.read().splitlines(), [json.loads(it) for it in file_of_objects]
+    assert len(objects) == len(lines) + 1, (len(objects), len(lines))
+    for line, it in zip(lines, objects):
+        if it["line"] == "session":
+            assert it.pop("key") == ("keys/public-key.pem" if line.endswith(" joined") else None), it
+        assert list(it.items()) == list(wanted(line, stored, log).items()), (line, it)
+    verdict = objects[-1]
+    assert verdict["line"] == "verdict" and verdict["status"] == int(status)
+    words = [it.split(" ")[0] for it in lines]
+    for count, word in (("listed", "ok"), ("unlisted", "unlisted"), ("refused", "refused"), ("spoilt", "spoilt")):
+        assert verdict[count] == words.count(word), count
+    assert verdict["lost"] + verdict["disputed"] == words.count("gap")
+    assert sum(verdict["sessions"].values()) == words.count("session")
+
+
+def is_block(text: bytes) -> bool:
+    """Whether a message of these logs is a block."""
+    return b"[ssign" in text
+
+
+def damaged(kind: str, stored: List[bytes]) -> List[bytes]:
+    """The messages of a log with two certificate or signature blocks at its front, and one behind each four messages."""
+    plain = [place for place, text in enumerate(stored) if not is_block(text)]
+    if kind == "put-in":
+        return [*stored[:3], b"<13>1 - - - - - - put in", *stored[3:]]
+    if kind == "twice":
+        return [*stored[:5], stored[plain[1]], *stored[5:]]
+    if kind == "block":
+        block = plain[7] + 1
+        return [*stored[:block], stored[block].replace(b'GBC="1"', b'GBC="7"'), *stored[block + 1:]]
+    if kind == "tail":
+        return stored[:plain[8]]
+    if kind == "order":
+        swapped = list(stored)
+        swapped[plain[2]], swapped[plain[3]] = stored[plain[3]], stored[plain[2]]
+        return swapped
+    if kind == "run":
+        return [text for place, text in enumerate(stored) if place not in (plain[0], plain[1], plain[2], plain[8])]
+    raise AssertionError(kind)
+
+
+def ended_by(name: str, path: str, *words: str) -> str:
+    """The signal that ends a command to which a signal was sent."""
+    with subprocess.Popen(words) as child:
+        for _ in range(300):
+            if os.path.exists(path) and os.path.getsize(path):
+                break
+            time.sleep(0.1)
+        child.send_signal(signal.Signals[f"SIG{name}"])
+        status = child.wait(30)
+    return signal.Signals(-status).name if status < 0 else f"status {status}"
+
+
+def write(texts: List[bytes], form: Callable[[bytes], bytes], path: str = "/dev/stdout") -> None:
+    """Writes messages in a form."""
+    with open(path, "wb") as file:
+        file.write(b"".join(map(form, texts)))
+
+
+def main(command: str, *words: str) -> None:
+    """Does one of the commands."""
+    if command == "json":
+        check_json(*words)
+    elif command == "plain":
+        write([it for it in messages(words[0])[0] if not is_block(it)], lambda it: it + b"\n")
+    elif command == "lines":
+        write(messages(words[0])[0], lambda it: it + b"\n")
+    elif command == "split":
+        stored, count = messages(words[0])[0], int(words[1])
+        write(stored[:count], frame, words[2])
+        write(stored[count:], frame, words[3])
+    elif command == "last":
+        print(messages(words[0])[1])
+    elif command == "count":
+        print(len(messages(words[0])[0]))
+    elif command == "damage":
+        write(damaged(words[0], messages(words[1])[0]), frame)
+    elif command == "signal":
+        print(ended_by(*words))
+    else:
+        raise AssertionError(command)
+
+
+if __name__ == "__main__":
+    main(*sys.argv[1:])

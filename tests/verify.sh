@@ -1,0 +1,305 @@
+#!/usr/bin/env bash
+# `ssign-keys verify` and `ssign-keys sign`, with real keys over real logs: what a person reads of clean and of damaged
+# logs, that the raw report is that of `ssign review`, that the JSON has each of its lines, and each refusal.
+# shellcheck source=tests/lib.sh
+. "$(dirname -- "$0")/lib.sh"
+need_program
+export SSIGN=$program
+keys_program=$root/tools/ssign-keys
+if ! python3 -c 'import cryptography' 2>/dev/null; then
+    echo "$name: no cryptography for python3 here (apt-get install python3-cryptography), so nothing of ssign-keys is run"
+    holds 'ssign-keys is there' test -x "$keys_program"
+    finish
+fi
+# passing files go to a folder that has to be empty at the end
+mkdir -- "$scratch/passing"
+export TMPDIR=$scratch/passing
+cd -- "$scratch" || exit 1
+
+# keys ARG..: runs ssign-keys as `run` does the program.
+keys() {
+    timeout "$patience" "$keys_program" "$@" >"$scratch/out" 2>"$scratch/err"
+    status=$?
+}
+# says WHAT STATUS LINE..: the last run ended so, complained of nothing, and each LINE stands in its output.
+says() {
+    local what=$1 wanted=$2 line fault=''
+    [[ $status == "$wanted" ]] || fault+="    status $status, and not $wanted"$'\n'
+    [[ ! -s err ]] || fault+="    stderr: $(head -c 300 err | cat -v)"$'\n'
+    for line in "${@:3}"; do
+        grep -Fqx -e "$line" out || fault+="    no line: $line"$'\n'
+    done
+    [[ -z $fault ]] || fault+="$(head -c 2000 out | cat -v)"
+    tell "$what" "$fault"
+}
+# refuses WHAT COMPLAINT: the last run ended with status 2, this complaint, and no output.
+refuses() {
+    expect "$1" 2 '' "$2"
+}
+# as_reviewed WHAT OPTION.. < LOG: --raw of the log is octet for octet what `ssign review` says under the kept answers,
+# with its status, and the JSON has the lines of it, and the verdict.
+as_reviewed() {
+    local what=$1 log=$2
+    shift 2
+    rm -f answers
+    keys verify --key keys/public-key.pem --raw --answers-out answers "$@" "$log"
+    mv out raw
+    local raw_status=$status
+    timeout "$patience" "$program" review --answers answers "$@" <"$log" >reviewed
+    holds "$what: the status of ssign review" test "$?" = "$raw_status"
+    holds "$what: the report of ssign review" cmp raw reviewed
+    keys verify --key keys/public-key.pem --json "$@" "$log"
+    holds "$what: the JSON" python3 -B "$root/tests/verdicts.py" json raw out "$log" "$status" "$@"
+}
+
+# shellcheck disable=SC2317
+# is_gone FILE: whether the process whose number stands in the file has ended.
+is_gone() {
+    ! kill -0 "$(<"$1")" 2>/dev/null
+}
+
+# ---- real keys
+mkdir keys others
+keys make keys
+expect 'a key' 0 '' ''
+keys make others
+ten=$root/examples/signed/ten-messages.log
+words=(--key keys/private-key.pem --host gate --app signer)
+keys sign "${words[@]}" --rsid 1 --count 4 --lines "$ten"
+cp out signed
+expect 'a log is signed' 0 'SOME TEXT' ''
+holds 'its messages are those of the log' cmp <(python3 -B "$root/tests/verdicts.py" plain signed) "$ten"
+session='Session: HOSTNAME gate, APP-NAME signer, PROCID -, RSID 1'
+joined='  state: joined; its key is trusted, and its certificate blocks are validly signed'
+rising='    order: the places of the listed messages rise with their numbers'
+all_there='Verdict: All 10 signed messages are there, unchanged, and nothing else is.'
+keys verify --key keys/public-key.pem signed
+says 'a clean log' 0 "$session" "$joined" '  key: keys/public-key.pem' '  group: SG 0, SPRI 0 (all messages)' \
+    '    numbers 1 to 10: 10 listed' "$rising" 'Stored messages: 15; 10 are listed, 5 are valid blocks' "$all_there" \
+    '  session gate signer - 1, SG 0, SPRI 0: known up to the message with number 10, and to the signature block that GBC counts as 2'
+keys verify --key others/public-key.pem --key keys/public-key.pem --jobs 2 signed
+says 'two keys, two processes' 0 '  key: keys/public-key.pem' "$all_there"
+as_reviewed 'a clean log' signed
+python3 -B "$root/tests/verdicts.py" lines signed >signed.lines
+keys verify --key keys/public-key.pem --lines signed.lines
+says 'the same as lines' 0 "$all_there"
+as_reviewed 'lines' signed.lines --lines
+
+# ---- where a log comes from
+keys verify --key keys/public-key.pem - <signed
+says 'standard input' 0 "$all_there"
+keys verify --key keys/public-key.pem <(cat signed)
+says 'a pipe' 0 "$all_there"
+declare -A packers=([gz]=gzip [xz]=xz)
+gzip -k signed && xz -k signed
+for form in gz xz; do
+    cp "signed.$form" "named.otherwise"
+    keys verify --key keys/public-key.pem named.otherwise
+    says "compressed: $form" 0 "$all_there"
+    keys verify --key keys/public-key.pem - <"signed.$form"
+    says "compressed on standard input: $form" 0 "$all_there"
+    head -c -20 "signed.$form" >broken
+    keys verify --key keys/public-key.pem broken
+    holds "damaged: $form: status 2" test "$status" = 2
+    holds "damaged: $form: nothing said of the log" test ! -s out
+    holds "damaged: $form: what is said" grep -qx 'ssign-keys: broken is compressed by .* and damaged, so there is no verdict: .*' err
+    { cat "signed.$form"; echo x; } >behind
+    keys verify --key keys/public-key.pem behind
+    holds "octets behind: $form: status 2" test "$status" = 2
+    size=$(stat -c %s signed)
+    { head -c $((size / 2)) signed | "${packers[$form]}" && tail -c +$((size / 2 + 1)) signed | "${packers[$form]}"; } >two
+    keys verify --key keys/public-key.pem two
+    says "two streams: $form" 0 "$all_there"
+done
+if command -v zstd >/dev/null; then
+    zstd -q -k signed
+    keys verify --key keys/public-key.pem signed.zst
+    says 'compressed: zst' 0 "$all_there"
+    keys verify --key keys/public-key.pem - <signed.zst
+    says 'compressed on standard input: zst' 0 "$all_there"
+    head -c -20 signed.zst >broken
+    keys verify --key keys/public-key.pem broken
+    holds 'damaged: zst: status 2' test "$status" = 2
+    holds 'damaged: zst: what is said' grep -q '^ssign-keys: broken is compressed by zstd and damaged, so there is no verdict: ' err
+else
+    echo "$name: no zstd here, so logs that it compressed are left out"
+fi
+keys verify --key keys/public-key.pem <(printf '') && says 'an empty log' 0 \
+    'Verdict: NOTHING WAS SIGNED: the log is empty, so nothing in it is changed, and nobody can say what is missing.'
+
+# several files: the first ends behind the seventh message, the second holds the rest and a message that nobody signed
+python3 -B "$root/tests/verdicts.py" split signed 7 first second
+{ cat second; frame '<13>1 - - - - - - nobody signed this'; } >third
+keys verify --key keys/public-key.pem first second
+says 'two files' 0 "$all_there"
+keys verify --key keys/public-key.pem first third
+says 'a place in the second file' 1 '  place 15 (place 8 of third): <13>1 - - - - - - nobody signed this' \
+    'Verdict: FINDINGS: of 10 signed messages 10 are there, unchanged; 1 stored message isn'\''t signed.'
+keys verify --key keys/public-key.pem first - <third
+says 'a file and standard input' 1 '  place 15 (place 8 of -): <13>1 - - - - - - nobody signed this'
+gzip -k first
+keys verify --key keys/public-key.pem first.gz second
+says 'one file compressed' 0 "$all_there"
+head -c -5 first >torn
+start=$(python3 -B "$root/tests/verdicts.py" last torn)
+keys verify --key keys/public-key.pem torn second
+refuses 'a torn file in front' "ssign-keys: the log torn breaks off in the message that begins at its octet $start, so the next log can't be read behind it: keep only what stands before (\`head -c $start\`), or, where the next log goes on with this message, join the two (\`cat\`) and hand them over as one"
+keys verify --key keys/public-key.pem second torn
+says 'a torn file behind' 1 "Torn: the log breaks off in the message that begins at octet $start of torn"
+printf 'x' | cat second - >bad
+keys verify --key keys/public-key.pem first bad
+size=$(stat -c %s second)
+refuses 'no frame in the second file' "ssign: F1 $(($(stat -c %s first) + size))
+ssign-keys: this is the octet $size of the log bad"
+keys verify --key keys/public-key.pem - - <signed
+refuses 'standard input twice' "ssign-keys: standard input, \`-\`, can be given only once"
+
+# ---- damage
+# edit SED: the signed log with a text of one message changed, of the same length
+edit() {
+    LC_ALL=C sed -e "$1" signed >stored
+}
+edit 's/name=mallory,/name=gregory,/'
+keys verify --key keys/public-key.pem stored
+says 'a message changed' 1 '    missing: number 6' '    numbers 1 to 10: 9 listed, 1 missing' \
+    '  place 8: <86>1 2026-01-15T09:15:07.311Z gate.example.org useradd 1040 ..' \
+    'Verdict: FINDINGS: of 10 signed messages 9 are there, unchanged, and 1 is missing or changed; 1 stored message isn'\''t signed.'
+as_reviewed 'a message changed' stored
+edit 's/83 <37>1 2026-01-15T09:16:30Z.*became root//'
+keys verify --key keys/public-key.pem stored
+says 'a message taken out' 1 '    missing: number 7' \
+    'Verdict: FINDINGS: of 10 signed messages 9 are there, unchanged, and 1 is missing or changed.'
+# messages N by N: `damage KIND` writes them to the file stored
+damage() {
+    python3 -B "$root/tests/verdicts.py" damage "$1" signed >stored
+    keys verify --key keys/public-key.pem stored
+}
+damage put-in
+says 'a message put in' 1 '  place 3: <13>1 - - - - - - put in' \
+    'Verdict: FINDINGS: of 10 signed messages 10 are there, unchanged; 1 stored message isn'\''t signed.'
+damage twice
+says 'a copy too many' 1 'Verdict: FINDINGS: of 10 signed messages 10 are there, unchanged; 1 stored message isn'\''t signed.' \
+    'Stored messages that no block announces, or copies too many (unlisted):'
+damage block
+says 'a block changed' 1 '    not announced: numbers 5 to 8 (4 messages); the block that did is missing, or isn'\''t believed' \
+    'Blocks that aren'\''t believed (refused):' '    numbers 1 to 10: 6 listed, 4 not announced' \
+    'Verdict: FINDINGS: of 6 signed messages 6 are there, unchanged; 4 numbers aren'\''t announced; 4 stored messages aren'\''t signed; 1 block isn'\''t believed.'
+as_reviewed 'a block changed' stored
+damage tail
+says 'the tail cut off behind a block' 0 'Verdict: All 8 signed messages are there, unchanged, and nothing else is.' \
+    '  session gate signer - 1, SG 0, SPRI 0: known up to the message with number 8, and to the signature block that GBC counts as 1'
+damage order
+says 'another order' 0 '    order: 1 listed message stands in front of the one with the number before, first number 4' \
+    'Verdict: All 10 signed messages are there, unchanged, and nothing else is. But they don'\''t stand in the order in which they were signed.'
+damage run
+says 'a run of messages taken out' 1 '    missing: numbers 1 to 3 (3 messages)' '    missing: number 9' '    numbers 1 to 10: 6 listed, 4 missing'
+head -c -3 signed >stored
+keys verify --key keys/public-key.pem stored
+says 'a torn end' 1 'Verdict: FINDINGS: of 8 signed messages 8 are there, unchanged; 2 stored messages aren'\''t signed; the log breaks off.'
+nothing='Verdict: NOTHING IS SHOWN: no session here has a key that you trust and certificate blocks that hold, so no signature counts, and nobody can say of the 15 stored messages what was sent.'
+keys verify --key others/public-key.pem signed
+says 'another key' 1 '  state: untrusted; its key is none that you trust, so nothing of it counts' "$nothing"
+keys sign --key others/private-key.pem --host gate --app signer --rsid 2 --lines "$ten"
+cat signed out >both
+keys verify --key keys/public-key.pem both
+says 'a session of another key behind' 1 'Session: HOSTNAME gate, APP-NAME signer, PROCID -, RSID 2' "$joined" \
+    '  state: untrusted; its key is none that you trust, so nothing of it counts'
+holds 'its blocks and copies' grep -q '^Verdict: FINDINGS: of 10 signed messages 10 are there, unchanged; 10 stored messages aren.t signed; . blocks aren.t believed; 1 session isn.t believed\.$' out
+keys verify --key keys/public-key.pem --key others/public-key.pem both
+says 'both keys' 0 '  key: keys/public-key.pem' '  key: others/public-key.pem' 'Verdict: All 20 signed messages are there, unchanged, and nothing else is.'
+as_reviewed 'a session of another key' both
+
+# ---- what no block signed, and hostile texts
+for it in logger rsyslog syslog-ng; do
+    log=$root/examples/producers/$it.log
+    count=$(python3 -B "$root/tests/verdicts.py" count "$log")
+    keys verify --key keys/public-key.pem "$log"
+    says "$it: no block" 1 "Verdict: NOTHING WAS SIGNED: the log holds no block, so nobody can say of its $count messages what was sent."
+    keys sign "${words[@]}" --rsid 3 --count 99 "$log"
+    holds "$it: signed" test "$status" = 0
+    cp out real
+    keys verify --key keys/public-key.pem real
+    says "$it: as it is" 0 "Verdict: All $count signed messages are there, unchanged, and nothing else is."
+done
+frame $'<13>1 - - - - - - \e]0;owned\a\e[2J\x80\xff\\x1b\r\n\x7f' >hostile
+keys verify --key keys/public-key.pem hostile
+says 'hostile octets' 1 '  place 0: <13>1 - - - - - - \x1b]0;owned\x07\x1b[2J\x80\xff\x5cx1b\x0d\x0a\x7f'
+holds 'nothing but printable ASCII and LF' python3 -c 'import sys; sys.exit(any(it != 10 and not 32 <= it < 127 for it in open("out", "rb").read()))'
+as_reviewed 'hostile octets' hostile
+mv hostile $'hostile\e[2J'
+keys verify --key keys/public-key.pem first $'hostile\e[2J'
+holds 'a hostile name' grep -Fq 'of hostile\x1b[2J)' out
+
+# ---- refusals
+keys verify --key keys/public-key.pem none
+refuses 'no such log' 'ssign-keys: the log none can'\''t be read: No such file or directory'
+keys verify --key keys/public-key.pem "$root"
+holds 'a folder: status 2' test "$status" = 2
+keys verify --key none signed
+holds 'no such key: status 2' test "$status" = 2
+holds 'no such key: one sentence' test "$(grep -c '^ssign-keys: ' err)" = 1
+keys verify signed
+holds 'no key: status 2' test "$status" = 2
+holds 'no key: nothing on standard output' test ! -s out
+keys verify --key keys/public-key.pem --max-len 100 signed
+holds 'a limit: status 2' test "$status" = 2
+holds 'a limit: the words of ssign' grep -qx 'ssign: F2 [0-9]*' err
+keys verify --key keys/public-key.pem --max-messages 3 signed
+holds 'another limit: the words of ssign' grep -qx 'ssign: F5 [0-9]*' err
+keys verify --key keys/public-key.pem --max-len=-1 signed
+holds 'no limit: status 2' test "$status" = 2
+holds 'no limit: nothing on standard output' test ! -s out
+keys verify --key keys/public-key.pem --answers-out keys/payload signed
+refuses 'answers over a file' 'ssign-keys: the file keys/payload is there already, and isn'\''t overwritten'
+keys verify --key keys/public-key.pem --answers-out nowhere/answers signed
+holds 'answers into no folder: status 2' test "$status" = 2
+holds 'answers into no folder: nothing on standard output' test ! -s out
+keys verify --key keys/public-key.pem --ssign ./none signed
+refuses 'no program' 'ssign-keys: the program ./none can'\''t be run: No such file or directory'
+# shellcheck disable=SC2016
+printf '#!/bin/sh\nkill -9 $$\n' >dying && chmod +x dying
+keys verify --key keys/public-key.pem --ssign ./dying signed
+refuses 'a program that dies' 'ssign-keys: ssign questions was ended by the signal SIGKILL, as where memory runs out'
+# shellcheck disable=SC2016
+printf '#!/bin/sh\ncase $1 in review) kill -9 $$ ;; *) exec %q "$@" ;; esac\n' "$program" >dying
+keys verify --key keys/public-key.pem --ssign ./dying signed
+refuses 'a review that dies' 'ssign-keys: ssign review was ended by the signal SIGKILL, as where memory runs out'
+timeout "$patience" "$keys_program" verify --key keys/public-key.pem signed >/dev/full 2>err
+holds 'a full device: status 2' test "$?" = 2
+holds 'a full device: what is said' cmp err <(echo "ssign-keys: standard output can't be written: No space left on device")
+"$keys_program" verify --key keys/public-key.pem --json signed 2>err | true
+holds 'a closed pipe: status 2' test "${PIPESTATUS[0]}" = 2
+holds 'a closed pipe: what is said' cmp err <(echo "ssign-keys: standard output can't be written: Broken pipe")
+keys sign --key keys/public-key.pem --rsid 1 signed
+holds 'a public key to sign with: status 2' test "$status" = 2
+keys sign "${words[@]}" --rsid 1 signed
+refuses 'a log that is signed already' 'ssign: O3 0'
+keys sign "${words[@]}" --rsid -1 "$ten"
+holds 'a number that ssign refuses: status 2' test "$status" = 2
+holds 'a number that ssign refuses: nothing on standard output' test ! -s out
+keys sign "${words[@]}" --rsid 1 --stamp never --lines "$ten"
+refuses 'a text that ssign refuses' 'ssign: P2'
+keys sign "${words[@]}" --rsid 1 --rsid 2 --lines "$ten"
+holds 'an option twice: status 2' test "$status" = 2
+keys sign "${words[@]}" --rsid 1 --payload "$(<keys/payload)" --stamp - --pri 14 --procid 7 --msgid M --groups pri --frag 99 --copies 2 --lines - <"$ten"
+cp out signed
+holds 'all options, and standard input' test "$status" = 0
+keys verify --key keys/public-key.pem signed
+says 'what they gave' 0 'Session: HOSTNAME gate, APP-NAME signer, PROCID 7, RSID 1' "$all_there" '  group: SG 1, SPRI 86 (messages of PRI 86)'
+timeout "$patience" "$keys_program" sign "${words[@]}" --rsid 1 --lines "$ten" >/dev/full 2>err
+holds 'a signed log to a full device: status 2' test "$?" = 2
+holds 'a signed log to a full device: what is said' cmp err <(echo 'ssign: W1')
+
+# ---- signals: a program that waits is ended with ssign-keys
+# shellcheck disable=SC2016
+printf '#!/bin/sh\necho $$ >waiting\nexec sleep 100\n' >dying
+for signal in INT TERM HUP; do
+    rm -f waiting
+    python3 -B "$root/tests/verdicts.py" signal "$signal" waiting "$keys_program" verify --key keys/public-key.pem --ssign ./dying signed >out 2>err
+    holds "SIG$signal ends it by this signal" cmp out <(echo "SIG$signal")
+    holds "SIG$signal: no traceback" test ! -s err
+    holds "SIG$signal: its child is ended" is_gone waiting
+done
+holds 'no passing file is left' test -z "$(ls -A -- "$TMPDIR")"
+
+finish
