@@ -75,11 +75,10 @@ refuses 'a folder with a payload' 'there is a file half/payload, which is not ov
 refuses 'a folder with a link' 'there is a file dangling/public-key.pem, which is not overwritten' make dangling
 holds 'nothing was written there' test "$(ls half dangling)" = $'dangling:\npublic-key.pem\n\nhalf:\npayload'
 
-# wants LETTER COUNT VERSION..: wants blocks of these versions in turn.
-wants() {
+# wanted LETTER COUNT VERSION..: wants blocks of these versions in turn.
+wanted() {
     "$python" - "$@" <<'END'
 import base64, sys
-sys.path.insert(0, sys.argv[0] or ".")
 letter, count, *versions = sys.argv[1:]
 for number in range(int(count)):
     for version in versions:
@@ -89,12 +88,12 @@ END
 }
 
 # Seals
-wants a 20 0111 0121 >wants
+wanted a 20 0111 0121 >wants
 keys seal one/private-key.pem <wants
 holds 'seals: status 0' test "$status" = 0
 cp out seals
 holds 'seals of both versions are valid, in the spelling of RFC 4880' cases seals wants seals one/public-key.pem 0111 0121
-wants c 20 0121 >wants-0121
+wanted c 20 0121 >wants-0121
 keys seal long/private-key.pem <wants-0121
 cp out seals-0121
 holds 'seals with a longer key are valid too' cases seals wants-0121 seals-0121 long/public-key.pem 0121
@@ -274,7 +273,7 @@ row none 'a key in N' "$(sed 's/ K / N /' one/payload)" $mine 0111 'h s - 1' | c
 judge 'no payload' --session-key 'h s - 1' one/public-key.pem
 row none 'N without a key' '- N' $mine 0111 'h s - 1' | cases payloads >rows
 judge 'a key, but none of a session' one/public-key.pem
-for words in '' 'h s -' 'h s - 1 2' 'h  s - 1' ' h s - 1' 'h s - 1 '; do
+for words in '' 'h s - 1 2' 'h  s 1'; do
     refuses "the session '$words'" "the session '$words' isn't four words HOST APP PROCID RSID with one space between two" \
         answer --session-key "$words" one/public-key.pem
 done
@@ -334,21 +333,53 @@ ln -s -- "$root/tools/ssign-keys" linked
 holds 'the program by a link to it' test "$(wc -l <out)" = 40
 
 # ---- Lines that aren't what they must be
+# told COMMAND LINE..: what a command says of each of these lines alone, in one process: a line `0`, or the sentence.
+told() {
+    "$python" -B - "$root/tools" "$@" <<'END'
+import argparse, sys
+sys.path.insert(0, sys.argv[1])
+from ssign_keys import answer, seal
+from ssign_keys.faults import Fault
+from ssign_keys.keys import read_private_key
+from ssign_keys.trust import Trust
+trust = Trust.from_arguments(argparse.Namespace(keys=["one/public-key.pem"], session_key=[], ca=[], cert=[]))
+key = read_private_key("one/private-key.pem")
+for line in sys.argv[3:]:
+    octets = line.encode() + b"\n"
+    try:
+        list(seal.seals([octets], key) if sys.argv[2] == "seal" else answer.answers([octets], trust))
+        print(0)
+    except Fault as fault:
+        print(fault)
+END
+}
+
+# bad COMMAND SENTENCE LINE..: each of these lines is refused so.
+bad() {
+    local line said
+    while IFS= read -r -u 3 said; do
+        line=$3
+        [[ $said == "$2" ]] && said='' || said="    $said"
+        tell "$1: '$line'" "$said"
+        set -- "$1" "$2" "${@:4}"
+    done 3< <(told "$1" "${@:3}")
+    tell "$1: each line was tried" "${*:3}"
+}
+
 wrong=" is no line \`want OCTETS\` of ssign plan"
-for line in '' 'want' 'want ' 'want S0V' 'want S0VZ ' ' want S0VZ' 'want  S0VZ' 'Want S0VZ' $'want S0VZ\r' 'want S0V?' 'want =AAA' 'want A===' \
-    'want S0VZ S0VZ' 'want S0V=' 'seal S0VZ AAAA'; do
-    refuses "seal: '$line'" "line 1$wrong" seal one/private-key.pem <<<"$line"
-done
+bad seal "line 1$wrong" '' 'want' 'want ' 'want S0V' 'want S0VZ ' ' want S0VZ' 'want  S0VZ' 'Want S0VZ' $'want S0VZ\r' 'want S0V?' 'want =AAA' \
+    'want A===' 'want S0VZ S0VZ' 'want S0V=' 'want S0VZS0VZS0U' 'seal S0VZ AAAA'
+refuses 'a line that is wanted of nothing' "line 1$wrong" seal one/private-key.pem <<<'want '
 refuses 'seal: octets that are no block' 'line 1: the octets are no block of VER 0111 or 0121' seal one/private-key.pem <<<'want S0VZ'
 refuses 'a wrong line behind good ones' "line 4$wrong" seal one/private-key.pem < <(head -n 3 wants && echo want)
 refuses 'a hash that is shorter than q' \
     'line 1: VER 0111 has a hash of 160 bits, and the number q of the key has 256: use --ver 0121, or another key' \
     seal long/private-key.pem < <(head -n 1 wants)
 wrong=" is no line \`trust PAYLOAD\` or \`yes PAYLOAD OCTETS SIGNATURE\` of ssign questions"
-for line in '' 'trust' 'trust ' 'trust S0V' 'trust S0VZ ' ' trust S0VZ' 'trust  S0VZ' 'Trust S0VZ' $'trust S0VZ\r' 'trust S0VZ S0VZ' \
-    'yes S0VZ S0VZ' 'yes S0VZ S0VZ AAAA AAAA' 'yes S0VZ S0VZ AAA' 'yes S0VZ S0VZ ' 'yes S0VZ S0V= AAAA' 'seal S0VZ AAAA' 'want S0VZ'; do
-    refuses "answer: '$line'" "line 1$wrong" answer one/public-key.pem <<<"$line"
-done
+bad answer "line 1$wrong" '' 'trust' 'trust ' 'trust S0V' 'trust S0VZ ' ' trust S0VZ' 'trust  S0VZ' 'Trust S0VZ' $'trust S0VZ\r' 'trust S0VZ S0VZ' \
+    'trust S0V=' 'yes S0VZ S0VZ' 'yes S0VZ' 'yes S0VZ S0VZ AAAA AAAA' 'yes S0VZ S0VZ AAA' 'yes S0VZ S0VZ ' 'yes S0VZ S0V= AAAA' 'yes S0VZ  AAAA' \
+    "yes $payload $octets AAA" 'seal S0VZ AAAA' 'want S0VZ'
+refuses 'a question of nothing' "line 1$wrong" answer one/public-key.pem <<<'trust '
 refuses 'an empty signature' "line 1$wrong" answer one/public-key.pem <<<"yes $payload $octets "
 refuses 'a long line of spaces' "line 1$wrong" answer one/public-key.pem < <(long ' ')
 refuses 'a long line that is no base64' "line 1$wrong" answer one/public-key.pem < <(printf 'trust '; long 'A'; echo '!')
@@ -528,7 +559,7 @@ check_openpgp() {
         gpg --batch --quiet --passphrase '' --export-secret-keys "${it%:*}" >"${it%:*}-secret.gpg" 2>>gpg.said
     done
     # a DSA subkey below a primary key of RSA is none that a payload states
-    gpg --batch --quiet --passphrase '' --quick-add-key "$(gpg --with-colons --list-keys rsa | awk -F: '$1 == "fpr" { print $10; exit }')" \
+    gpg --batch --quiet --passphrase '' --quick-add-key "$(gpg --with-colons --list-keys rsa 2>>gpg.said | awk -F: '$1 == "fpr" { print $10; exit }')" \
         dsa2048 sign 2>>gpg.said
     gpg --export rsa >rsa-with-dsa.gpg
     gpg --armor --export dsa >dsa.asc
