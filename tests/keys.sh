@@ -201,8 +201,8 @@ for jobs in 1 3; do
         "line 1001 is no line \`trust PAYLOAD\` or \`yes PAYLOAD OCTETS SIGNATURE\` of ssign questions" \
         answer one/public-key.pem --jobs "$jobs" < <(head -n 1000 many; echo ' '; tail -n 300 many; echo)
 done
-for jobs in 0 257 ''; do
-    refuses "jobs '$jobs'" "argument --jobs: '$jobs' isn't a number from 1 to 256 (see \`ssign-keys answer --help\`)" \
+for jobs in 0 1025 ''; do
+    refuses "jobs '$jobs'" "argument --jobs: '$jobs' isn't a number from 1 to 1024 (see \`ssign-keys answer --help\`)" \
         answer one/public-key.pem "--jobs=$jobs"
 done
 
@@ -273,6 +273,21 @@ row none 'a key in N' "$(sed 's/ K / N /' one/payload)" $mine 0111 'h s - 1' | c
 judge 'no payload' --session-key 'h s - 1' one/public-key.pem
 row none 'N without a key' '- N' $mine 0111 'h s - 1' | cases payloads >rows
 judge 'a key, but none of a session' one/public-key.pem
+# a payload that names no key, and whose `trust` line has its session from the line behind it, wherever a chunk ends
+{
+    row both 'N' '- N' $mine 0111 'h s - 1'
+    row both 'N at a time' '2026-01-15T09:16:30Z N' $mine 0111 'h s - 1'
+} | cases payloads | cut -f 3 >pair
+{
+    tail -n 1 pair
+    for ((count = 0; count < 100; count++)); do
+        cat pair
+    done
+} >pairs
+for jobs in 1 3; do
+    keys answer --session-key 'h s - 1' one/public-key.pem --jobs "$jobs" <pairs
+    holds "sessions in many chunks, by $jobs processes" cmp pairs out
+done
 for words in '' 'h s - 1 2' 'h  s 1'; do
     refuses "the session '$words'" "the session '$words' isn't four words HOST APP PROCID RSID with one space between two" \
         answer --session-key "$words" one/public-key.pem

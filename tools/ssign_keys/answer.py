@@ -2,7 +2,6 @@
 from __future__ import annotations
 
 import argparse
-import os
 import sys
 from dataclasses import dataclass
 from types import TracebackType
@@ -17,7 +16,7 @@ from .questions import Line, Reader
 from .streams import Output, input_lines
 from .trust import Trust
 
-MOST_JOBS = 256
+MOST_JOBS = 1024
 
 
 class Answered(NamedTuple):
@@ -124,19 +123,10 @@ def read_jobs(word: str) -> int:
     return int(word)
 
 
-def processors() -> int:
-    """How many processes can be at work at once here."""
-    try:
-        found = len(os.sched_getaffinity(0))
-    except AttributeError:
-        found = os.cpu_count() or 1
-    return min(found, MOST_JOBS)
-
-
 def add_jobs(parser: argparse.ArgumentParser) -> None:
     """Says how many processes check signatures; `jobs` of the parsed arguments."""
-    parser.add_argument("--jobs", type=read_jobs, default=processors(), metavar="N",
-                        help="by how many processes signatures are checked; without it as many as there are processors")
+    parser.add_argument("--jobs", type=read_jobs, default=1, metavar="N", help="check signatures by so many processes "
+                        "(default: 1)")
 
 
 def add_arguments(parser: argparse.ArgumentParser) -> None:

@@ -6,7 +6,8 @@ import signal
 from collections import deque
 from multiprocessing.connection import Connection
 from multiprocessing.process import BaseProcess
-from typing import Deque, Iterable, Iterator, List, NamedTuple, Sequence, Tuple, TypeVar
+from types import FrameType
+from typing import Deque, Iterable, Iterator, List, NamedTuple, Optional, Sequence, Tuple, TypeVar
 
 from .checking import Checked, Chunk, check_chunk
 from .faults import Fault
@@ -24,7 +25,13 @@ class Worker(NamedTuple):
 
 def work(trust: Trust, connection: Connection, foreign: Sequence[Connection]) -> None:
     """What a process does until the other end is closed."""
+    def stop(number: int, frame: Optional[FrameType]) -> None:
+        raise SystemExit(0)
+
+    # Who asks ends this process; whatever passing files there are go with it.
     signal.signal(signal.SIGINT, signal.SIG_IGN)
+    signal.signal(signal.SIGTERM, stop)
+    signal.signal(signal.SIGHUP, stop)
     # A copy that stays open here would hide the end of the process that asks.
     for it in foreign:
         it.close()
