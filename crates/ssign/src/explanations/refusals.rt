@@ -5,63 +5,64 @@ use super::Explanation;
 pub static REFUSALS: [Explanation; 26] = [
     Explanation {
         code: "F1",
-        text: "F1 OFFSET: the octet there can't stand in the length of a frame, which begins with 1 to 9 and \
-            goes on with digits to a space. At offset 0 the log most often is one message a line: say \
-            --lines. Further on, something stands between two frames, such as a line feed, or a length is \
-            wrong: look at the octets there.",
+        text: "F1 OFFSET: the octet there can't stand in the length of a frame. A length begins with 1 to 9, goes on \
+            with digits, and ends with a space. At offset 0 the log is usually one message a line: say --lines. \
+            Further on, something stands between two frames, such as a line feed, or a length is wrong: look at the \
+            octets there.",
     },
     Explanation {
         code: "F2",
-        text: "F2 OFFSET: a message is longer than --max-len allows. The offset is that of the digit with which \
-            its length gets too great, or of the octet with which its line does. Raise --max-len, up to \
-            1048576; if the log is frames and not lines, leave --lines out.",
+        text: "F2 OFFSET: a message is longer than --max-len allows. In frames this is the offset of the digit that \
+            makes the length too great; in lines, of the first octet too many. Raise --max-len, up to 1048576. If the \
+            log is frames and not lines, leave --lines out.",
     },
     Explanation {
         code: "F3",
-        text: "Reading the log failed, as on a broken disk, or because standard input is a folder. See that it \
-            can be read, and run again.",
+        text: "Reading the log failed. The disk may be broken, or standard input is a folder. A standard input that \
+            doesn't wait (non-blocking) and has nothing yet also ends so (EAGAIN). See that the log can be read, and \
+            run again.",
     },
     Explanation {
         code: "F4",
-        text: "There was no memory for a message of the log. Give the program more of it.",
+        text: "There wasn't enough memory for a message of the log. Give the program more memory.",
     },
     Explanation {
         code: "F5",
-        text: "F5 OFFSET: as many messages as --max-messages allows were read, and the log goes on there. Raise \
-            --max-messages, up to 10000000, or cut the log into parts, each with the blocks that announce \
-            its messages.",
+        text: "F5 OFFSET: the log has more messages than --max-messages allows, and goes on at this octet. Raise \
+            --max-messages, up to 10000000, or cut the log into parts. Each part needs the certificate blocks of its \
+            session and the signature blocks that announce its messages.",
     },
     Explanation {
         code: "F9",
-        text: "F9 OFFSET: the line feed there ends a line without an octet, and a message has at least one. \
-            Take the empty line out, if nothing was lost there.",
+        text: "F9 OFFSET: the line feed there ends an empty line, and a message has at least one octet. If nothing was \
+            lost there, take the empty line out.",
     },
     Explanation {
         code: "A1",
-        text: "A1 LINE: this line of the answers file is none of the forms trust PAYLOAD, yes PAYLOAD OCTETS \
-            SIGNATURE and seal OCTETS SIGNATURE, with one space between two fields and base64 in each but \
-            the first. An empty line is none either, and a CR at the end of a line makes it wrong. The first \
-            such line is told: mend it.",
+        text: "A1 LINE: this line of the answers file has none of the forms trust PAYLOAD, yes PAYLOAD OCTETS \
+            SIGNATURE and seal OCTETS SIGNATURE. One space stands between two fields, and each field but the first is \
+            base64. An empty line is wrong too, and so is a CR at the end of a line. Only the first such line is \
+            named: mend it.",
     },
     Explanation {
         code: "A2",
-        text: "The answers file can't be opened, is a folder, or reading it failed. See that the path behind \
-            --answers is right, and that the file can be read.",
+        text: "The answers file can't be opened, is a folder, or reading it failed. See that the path after --answers \
+            is right, and that the file can be read.",
     },
     Explanation {
         code: "A3",
-        text: "The answers file has more than 4294967295 octets. Leave out lines that stand twice, and those \
-            that answer no question of ssign questions.",
+        text: "The answers file has more than 4294967295 octets. Leave out repeated lines, and lines that answer no \
+            question of ssign questions.",
     },
     Explanation {
         code: "A4",
-        text: "There was no memory for the answers. Give the program more of it, or leave out the lines that \
+        text: "There wasn't enough memory for the answers. Give the program more memory, or leave out lines that \
             answer no question of ssign questions.",
     },
     Explanation {
         code: "V1",
-        text: "There was no memory to review the messages. Give the program more of it, or cut the log into \
-            parts, each with the blocks that announce its messages.",
+        text: "There wasn't enough memory to review the log. Give the program more memory, or cut the log into parts. \
+            Each part needs the certificate blocks of its session and the signature blocks that announce its messages.",
     },
     Explanation {
         code: "V2",
@@ -70,42 +71,44 @@ pub static REFUSALS: [Explanation; 26] = [
     },
     Explanation {
         code: "W1",
-        text: "Writing the output failed, as on a full disk or into a closed pipe. What was written is the \
-            front of the output, and worth nothing. Make room, and run again.",
+        text: "Writing the output failed: the disk is full, for example, or the pipe was closed. What was written is \
+            only the beginning of the output: don't use it. Make room, and run again. A file size limit (ulimit -f) \
+            ends the program by its signal, SIGXFSZ, without W1, unless that signal is ignored. Under ./ssign it is \
+            ignored, so there it is W1.",
     },
     Explanation {
         code: "W2",
-        text: "There was no memory for the run or its output. Give the program more of it.",
+        text: "There wasn't enough memory for the run or its output. Give the program more memory.",
     },
     Explanation {
         code: "P1",
-        text: "P1 OFFSET: the log to be signed breaks off in the frame or line that begins there, and a log is \
-            signed whole or not at all. Get the rest, or cut the log off there. With --lines the last line needs its \
+        text: "P1 OFFSET: the log to be signed breaks off in the frame or line that begins there. A log is signed \
+            whole or not at all. Get the rest, or cut the log off at this octet. With --lines the last line needs its \
             line feed too.",
     },
     Explanation {
         code: "P2",
-        text: "A text of the command line is out of its form: --payload (a time stamp or -, a letter for the kind of \
-            key, and but for the kind N the key in base64, with one space between two), --stamp (a time stamp or -), --groups (one, \
-            pri, or numbers that rise to 191, joined by commas), or --host, --app, --procid or --msgid (visible \
-            ASCII, at most 255, 48, 128 or 32 octets, or -). Quote it, so that the shell passes it on whole, and \
-            compare it with its form.",
+        text: "A text of the command line isn't in its form. --payload is a time stamp or -, a letter for the type of \
+            key, and the key in base64, with one space between two. It takes the text itself, not the name of a file; \
+            only the type N has no key. --stamp is a time stamp or -. --groups is one, pri, or numbers that rise to \
+            191, joined by commas. --host, --app, --procid and --msgid are visible ASCII, at most 255, 48, 128 and 32 \
+            octets, or -. Quote the text, so that the shell passes it as one word.",
     },
     Explanation {
         code: "O1",
-        text: "An originator was set up with a number out of its range, or with a payload of more than 99999999 \
-            octets. ssign refuses such numbers before, and few systems let an option be so long: give a shorter \
-            payload. The library tells it to other programs.",
+        text: "A number for the originator is out of its range, or the payload has more than 99999999 octets. ssign \
+            refuses such numbers before, and few systems let an option be so long: give a shorter payload. The library \
+            tells it to other programs.",
     },
     Explanation {
         code: "O2",
-        text: "O2 PLACE: the message at this place of the log is none of RFC 5424, so it can't be signed. ssign \
-            inspect says which part of it fails: mend its sender, or take the message out.",
+        text: "O2 PLACE: the message at this place of the log isn't a message of RFC 5424, so it can't be signed. Run \
+            ssign inspect to see which part of it fails. Mend its sender, or take the message out.",
     },
     Explanation {
         code: "O3",
-        text: "O3 PLACE: the message at this place has an element ssign or ssign-cert, so it is a block, or looks \
-            like one, and blocks aren't signed again. Sign the log without its blocks.",
+        text: "O3 PLACE: the message at this place has an element ssign or ssign-cert. So it is a block, or looks like \
+            one, and blocks aren't signed again. Sign the log without its blocks.",
     },
     Explanation {
         code: "O4",
@@ -119,15 +122,15 @@ pub static REFUSALS: [Explanation; 26] = [
     },
     Explanation {
         code: "O6",
-        text: "O6 or O6 PLACE: there is no seal line for a block that is due, behind the message at this place, or \
-            without a place at the front or the end of the log. Without --answers there is none at all. Run ssign \
-            plan over the same log with the same options, have each of its lines signed, and hand all seal lines \
-            over with --answers.",
+        text: "O6 or O6 PLACE: a block is due, and the answers file has no seal line for it. With a place, the block \
+            is due behind the message there; without one, at the front or the end of the log. Without --answers there \
+            are no seal lines at all. Run ssign plan over the same log with the same options, and have each of its \
+            lines signed. Then give all seal lines to ssign sign with --answers.",
     },
     Explanation {
         code: "O7",
-        text: "O7 or O7 PLACE: the signature of the seal line for a block has more than 1024 octets; the place is \
-            told as with O6. See what the signer puts behind the octets that it signed.",
+        text: "O7 or O7 PLACE: the signature in the seal line for a block has more than 1024 octets. The place is that \
+            of O6. See what your signer writes: the last field of the line has to be the signature alone.",
     },
     Explanation {
         code: "O8",
@@ -143,7 +146,7 @@ pub static REFUSALS: [Explanation; 26] = [
     },
     Explanation {
         code: "O10",
-        text: "O10 or O10 PLACE: there was no memory to sign the log. Give the program more of it, or sign the log \
-            in parts, each as a session of its own.",
+        text: "O10 or O10 PLACE: there wasn't enough memory to sign the log. Give the program more memory, or sign the \
+            log in parts, each as a session of its own.",
     },
 ];

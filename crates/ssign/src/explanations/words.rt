@@ -1,125 +1,152 @@
-//! What the words of the output mean: lines and states of a report, and lines of an inspection.
+//! What the words of the output mean: lines and states of a report, lines of an inspection, and lines of answers, plans
+//! and questions.
 use super::Explanation;
 
-/// Lines of a report, states of a session, and lines of an inspection.
-pub static WORDS: [Explanation; 20] = [
+/// Lines of a report, states of a session, lines of an inspection, and lines of answers, plans and questions.
+pub static WORDS: [Explanation; 24] = [
     Explanation {
         code: "session",
-        text: "A session of an originator, named by HOSTNAME, APP-NAME, PROCID and RSID, and what became of it: \
-            joined, disputed, incomplete, malformed, untrusted or unaccepted. Only of a joined session do \
-            signature blocks count. Its ok, gap and hole lines follow.",
+        text: "A session is one run of a sender: its blocks share HOSTNAME, APP-NAME, PROCID and a number, the RSID. \
+            The line ends with its state: joined, disputed, incomplete, malformed, untrusted or unaccepted. Only in a \
+            joined session do signature blocks count. The session's ok, gap and hole lines follow.",
     },
     Explanation {
         code: "ok",
-        text: "The message at this place is the one that was signed under this number: a signature block that \
-            the answers call valid has its hash there. Nothing is to be done.",
+        text: "The message at this place is exactly the one that was signed under this number. A signature block holds \
+            its hash, and the answers call the signature of that block valid. There is nothing to do.",
     },
     Explanation {
         code: "gap",
-        text: "A message was signed under this number, and no stored message is listed for it: it is lost, or \
-            disputed. A message that was changed shows as a gap, and as unlisted where it stands: look at \
-            its neighbours.",
+        text: "A message was signed under this number, and no stored message is listed for it. The number is lost or \
+            disputed. A changed message shows as a gap, and as unlisted where it stands: look at its neighbours.",
     },
     Explanation {
         code: "lost",
-        text: "Of a gap: no stored message is left that has the hash of this number. The message was taken out \
-            or changed, or stored in another form than it was sent in. Where every number is lost, suspect \
-            the storing before an intruder: an LF, CR or byte order mark that came or went, or escaped \
-            control characters.",
+        text: "No stored message is left that has the hash of this number. The message was taken out or changed, or \
+            stored in another form than it was sent in. Or two numbers announce the same message, as two originators \
+            may, and it is stored only once: the first number has it. If every number is lost, suspect the storing \
+            before an intruder: an LF, CR or byte order mark came or went, or control characters were escaped.",
     },
     Explanation {
         code: "hole",
-        text: "No signature block that counts announces the numbers from the first to the last of these, though \
-            one announces a later number. A signature block was lost, or isn't believed: look for refused \
-            lines, and for the block in the logs before and after this one. The messages of these numbers, \
-            if stored, are unlisted.",
+        text: "No signature block that counts announces the numbers from the first to the last of these, though one \
+            announces a later number. The block for them was lost, or isn't believed. Look for refused lines, and for \
+            the block in the logs before and after this one. The messages of these numbers, if stored, are unlisted.",
     },
     Explanation {
         code: "unlisted",
-        text: "A stored message that is listed under no number. It may be genuine, and never signed, or its \
-            block lost or not believed; or it was put in, or stored once more than it was sent, or changed, \
-            and then a gap stands for what it was. Look at the session and at the gaps beside it.",
+        text: "No number lists this stored message. There are four cases, and the lines beside it tell which. A hole, \
+            a refused line or a session that isn't joined: its block may be lost, or isn't believed. A gap and this \
+            line together usually mean that a message was changed, or put in for one that was taken out. An ok line \
+            for an equal message: this is a copy too many. None of these: it was never signed, its block lies behind \
+            the end of this log, or somebody put it in.",
     },
     Explanation {
         code: "refused",
-        text: "A block that isn't believed: its session isn't joined, or its own signature isn't valid under \
-            the session's payload. Look at the state of the session; if that is joined, the block was \
-            changed, or the answers file lacks its yes line.",
+        text: "This block isn't believed: its session isn't joined, or its own signature isn't valid under the \
+            session's payload. Look at the state of the session first. If that is joined, the block was changed, or \
+            the answers file lacks its yes line.",
     },
     Explanation {
         code: "spoilt",
-        text: "A message with an element ssign or ssign-cert that is no block, and the first cause, S1 to S9. \
-            It announces nothing, and can't be listed. It was changed, or its sender makes blocks in another \
-            way than RFC 5848: compare it with what the sender sends.",
+        text: "A message with an element ssign or ssign-cert that isn't a block, and the first cause, S1 to S9. It \
+            announces nothing, and can't be listed. It was changed, or its sender writes blocks in another way than \
+            RFC 5848: compare it with what the sender sends.",
     },
     Explanation {
         code: "torn",
-        text: "The log breaks off in the frame or line that begins at this octet; what stands before it counts. \
-            The log was cut off, or is still being written. Get the rest, and run again.",
+        text: "The log breaks off in the frame or line that begins at this octet; what stands before it counts. The \
+            log was cut off, or is still being written. Get the rest, and run again.",
     },
     Explanation {
         code: "end",
-        text: "Always the last line: how many messages the log has. Output without it wasn't written to its \
-            end.",
+        text: "Always the last line: how many messages the log has, blocks among them. Output without this line is \
+            incomplete: don't use it.",
     },
     Explanation {
         code: "joined",
-        text: "The payload of the session, which holds its key, is whole and trusted, and certificate blocks \
-            that are valid under it cover all of it. So its signature blocks count, each by its own \
-            signature. Nothing is to be done.",
+        text: "The payload of the session, which states its key, is whole and trusted, and certificate blocks with \
+            valid signatures cover all of it. So its signature blocks count, each by its own signature. There is \
+            nothing to do.",
     },
     Explanation {
         code: "disputed",
-        text: "Of a session: its certificate blocks state two lengths of the payload, or two octets at one \
-            place of it, so its key isn't known and nothing of it counts. Of a gap: signature blocks that \
-            count have two different hashes for the number. Somebody else's blocks stand in the log, or the \
-            originator used the session, or the number, twice: look at its blocks with ssign inspect.",
+        text: "Of a session: its certificate blocks state two lengths of the payload, or two octets at one place of \
+            it. So its key isn't known, and nothing of it counts. Of a gap: signature blocks that count have two \
+            different hashes for the number. Either blocks of somebody else stand in the log, or the originator used \
+            the session, or the number, twice. Look at the blocks with ssign inspect.",
     },
     Explanation {
         code: "incomplete",
-        text: "The session has no certificate block, or a part of its payload stands in none, so its key isn't \
-            known and nothing of it counts. Certificate blocks were lost, or stand in the log before this \
-            one: put them in front.",
+        text: "The session has no certificate block, or a part of its payload stands in none of them. So its key isn't \
+            known, and nothing of it counts. Certificate blocks were lost, or stand in an earlier log: put them in \
+            front of this one.",
     },
     Explanation {
         code: "malformed",
-        text: "The fragments of the session's payload were put together, and the text is no payload: a time \
-            stamp, a letter for the kind of key, and the key in base64 (RFC 5848, section 5.2.1). Nothing of \
+        text: "The fragments of the session's payload were put together, and the result isn't a payload. A payload is \
+            a time stamp, a letter for the type of key, and the key in base64 (RFC 5848, section 5.2.1). Nothing of \
             the session counts. See what its originator is set up to send.",
     },
     Explanation {
         code: "untrusted",
-        text: "No answer trusts the payload of the session, so nothing of it counts. Without --answers nothing \
-            is trusted. If you know by another way that this is the originator's key, put its trust line, \
-            which ssign questions prints, into the answers file.",
+        text: "The answers file has no trust line for this session's key, so nothing of the session counts. Without \
+            --answers no key is trusted. If you know by another way that this is the originator's key, put its trust \
+            line into the answers file. ssign questions prints that line.",
     },
     Explanation {
         code: "unaccepted",
-        text: "The payload of the session is trusted, but the certificate blocks that are valid under it don't \
-            cover all of it, so nothing of the session counts. Certificate blocks were changed, or the \
-            answers file lacks their yes lines.",
+        text: "Some certificate block has no valid signature, so the key isn't confirmed, and nothing of the session \
+            counts. The payload itself is trusted. Certificate blocks were changed, or the answers file lacks their \
+            yes lines.",
     },
     Explanation {
         code: "plain",
-        text: "A message of RFC 5424 without a block. It can be signed and listed. Nothing is to be done.",
+        text: "A message of RFC 5424 without an element ssign or ssign-cert. It can be signed and listed. There is \
+            nothing to do.",
     },
     Explanation {
         code: "unparsed",
-        text: "A stored text that is no message of RFC 5424: the first part that fails, M1 to M12, and the \
-            octet of the text, from 0, where it does. It is reviewed as a message without a block, and \
-            listed where an originator signed it; ssign sign doesn't (O2). But a block that was changed may \
-            show so.",
+        text: "This stored text isn't a message of RFC 5424. M1 to M12 names the first part that fails, and the number \
+            behind it the octet of the text, from 0, where it fails. A review treats the text as a message without a \
+            block, and lists it if an originator signed it. ssign sign refuses it (O2). A block that was changed may \
+            show so too.",
     },
     Explanation {
         code: "signature",
-        text: "A signature block: its session, its group (SG and SPRI), how many were sent before it (GBC), the \
-            number of the first message that it announces (FMN), and how many it announces (CNT). Whether it \
-            counts, a review says.",
+        text: "A signature block: first its session, then its group (SG and SPRI). GBC is how many signature blocks \
+            were sent before it. FMN is the number of the first message that it announces, and CNT how many it \
+            announces. Run ssign review to see whether it counts.",
     },
     Explanation {
         code: "certificate",
-        text: "A certificate block: its session, its group (SG and SPRI), the length of the session's payload \
-            (TPBL), and where in it the block's fragment begins (INDEX) and how long that is (FLEN). Whether \
-            it counts, a review says.",
+        text: "A certificate block: first its session, then its group (SG and SPRI). TPBL is the length of the \
+            session's payload. INDEX is where in it the block's fragment begins, and FLEN how long that fragment is. \
+            Run ssign review to see whether it counts.",
+    },
+    Explanation {
+        code: "want",
+        text: "A line of ssign plan: these octets, in base64, have to be signed. Whoever holds the key makes a line \
+            seal OCTETS SIGNATURE of it, as ssign-keys seal does. All seal lines together are the answers file of \
+            ssign sign.",
+    },
+    Explanation {
+        code: "seal",
+        text: "A line of an answers file for ssign sign: the signature for these octets, both in base64. Each \
+            signature fits its own block alone; after any change, plan and seal again. A review doesn't use these \
+            lines.",
+    },
+    Explanation {
+        code: "trust",
+        text: "A trust line that ssign questions prints is a question and no answer, until a checker has kept it. In \
+            an answers file it says that this payload, in base64, states the originator's key. Whoever can change the \
+            log can put another key into it. So keep the line only if you know by another way that this is the \
+            originator's key. ssign-keys answer compares it with the key that you give.",
+    },
+    Explanation {
+        code: "yes",
+        text: "A yes line that ssign questions prints is a question and no answer, until a checker has kept it. In an \
+            answers file it says that the signature is valid for these octets, under the key of this payload. \
+            Unchecked lines make any forged log pass. ssign-keys answer checks each one, and keeps those that hold.",
     },
 ];
