@@ -180,8 +180,17 @@ ok gate signer - 7 0 0 3 4
 ok gate signer - 7 0 0 4 5
 end 7' < <(cat -- "$scratch/now" && places past 4 5 6)
 message 13 now1 now2 | signed later gate 7 '2026-01-16T00:00:00Z K S0VZ'
+# the older block is asked about under the later payload, which states the same key
+(cat -- "$scratch/later" && places past 4 5 6) >"$scratch/mixed"
+accepted mixed
+told 'so they do where the payload of the later run has another time' 0 'session gate signer - 7 joined
+ok gate signer - 7 0 0 1 1
+ok gate signer - 7 0 0 2 2
+ok gate signer - 7 0 0 3 4
+ok gate signer - 7 0 0 4 5
+end 7' <"$scratch/mixed"
 accepted past later
-told 'where the time of the payload is another, they do not, and the session is disputed' 1 'session gate signer - 7 disputed
+told 'with the certificate blocks of both, the session is disputed' 1 'session gate signer - 7 disputed
 unlisted 1
 unlisted 2
 unlisted 5
