@@ -72,7 +72,7 @@ holds 'its messages are those of the log' cmp <(python3 -B "$root/tests/verdicts
 session='Session: HOSTNAME gate, APP-NAME signer, PROCID -, RSID 1'
 joined='  state: joined; its key is trusted, and its certificate blocks are validly signed'
 rising='    order: the places of the listed messages rise with their numbers'
-all_there='Verdict: All 10 signed messages are there, unchanged, and nothing else is.'
+all_there='Verdict: All 10 announced messages are there, unchanged, and nothing else is.'
 keys verify --key keys/public-key.pem signed
 says 'a clean log' 0 "$session" "$joined" '  key: keys/public-key.pem' '  group: SG 0, SPRI 0 (all messages)' \
     '    numbers 1 to 10: 10 listed' "$rising" 'Stored messages: 15; 10 are listed, 5 are valid blocks' "$all_there" \
@@ -134,7 +134,7 @@ keys verify --key keys/public-key.pem first second
 says 'two files' 0 "$all_there"
 keys verify --key keys/public-key.pem first third
 says 'a place in the second file' 1 '  place 15 (place 8 of third): <13>1 - - - - - - nobody signed this' \
-    'Verdict: FINDINGS: of 10 signed messages 10 are there, unchanged; 1 stored message isn'\''t signed.'
+    'Verdict: FINDINGS: of 10 announced messages 10 are there, unchanged; 1 stored message is unlisted.'
 keys verify --key keys/public-key.pem first - <third
 says 'a file and standard input' 1 '  place 15 (place 8 of -): <13>1 - - - - - - nobody signed this'
 gzip -k first
@@ -163,12 +163,12 @@ edit 's/name=mallory,/name=gregory,/'
 keys verify --key keys/public-key.pem stored
 says 'a message changed' 1 '    missing: number 6' '    numbers 1 to 10: 9 listed, 1 missing' \
     '  place 8: <86>1 2026-01-15T09:15:07.311Z gate.example.org useradd 1040 ..' \
-    'Verdict: FINDINGS: of 10 signed messages 9 are there, unchanged, and 1 is missing or changed; 1 stored message isn'\''t signed.'
+    'Verdict: FINDINGS: of 10 announced messages 9 are there, unchanged, and 1 is missing or changed; 1 stored message is unlisted.'
 as_reviewed 'a message changed' stored
 edit 's/83 <37>1 2026-01-15T09:16:30Z.*became root//'
 keys verify --key keys/public-key.pem stored
 says 'a message taken out' 1 '    missing: number 7' \
-    'Verdict: FINDINGS: of 10 signed messages 9 are there, unchanged, and 1 is missing or changed.'
+    'Verdict: FINDINGS: of 10 announced messages 9 are there, unchanged, and 1 is missing or changed.'
 # messages N by N: `damage KIND` writes them to the file stored
 damage() {
     python3 -B "$root/tests/verdicts.py" damage "$1" signed >stored
@@ -176,26 +176,26 @@ damage() {
 }
 damage put-in
 says 'a message put in' 1 '  place 3: <13>1 - - - - - - put in' \
-    'Verdict: FINDINGS: of 10 signed messages 10 are there, unchanged; 1 stored message isn'\''t signed.'
+    'Verdict: FINDINGS: of 10 announced messages 10 are there, unchanged; 1 stored message is unlisted.'
 damage twice
-says 'a copy too many' 1 'Verdict: FINDINGS: of 10 signed messages 10 are there, unchanged; 1 stored message isn'\''t signed.' \
+says 'a copy too many' 1 'Verdict: FINDINGS: of 10 announced messages 10 are there, unchanged; 1 stored message is unlisted.' \
     'Stored messages that no block announces, or copies too many (unlisted):'
 damage block
 says 'a block changed' 1 '    not announced: numbers 5 to 8 (4 messages); the block that did is missing, or isn'\''t believed' \
     'Blocks that aren'\''t believed (refused):' '    numbers 1 to 10: 6 listed, 4 not announced' \
-    'Verdict: FINDINGS: of 6 signed messages 6 are there, unchanged; 4 numbers aren'\''t announced; 4 stored messages aren'\''t signed; 1 block isn'\''t believed.'
+    'Verdict: FINDINGS: of 6 announced messages 6 are there, unchanged; 4 numbers aren'\''t announced; 4 stored messages are unlisted; 1 block isn'\''t believed.'
 as_reviewed 'a block changed' stored
 damage tail
-says 'the tail cut off behind a block' 0 'Verdict: All 8 signed messages are there, unchanged, and nothing else is.' \
+says 'the tail cut off behind a block' 0 'Verdict: All 8 announced messages are there, unchanged, and nothing else is.' \
     '  session gate signer - 1, SG 0, SPRI 0: known up to the message with number 8, and to the signature block that GBC counts as 1'
 damage order
 says 'another order' 0 '    order: 1 listed message stands in front of the one with the number before, first number 4' \
-    'Verdict: All 10 signed messages are there, unchanged, and nothing else is. But they don'\''t stand in the order in which they were signed.'
+    'Verdict: All 10 announced messages are there, unchanged, and nothing else is. But they don'\''t stand in the order in which they were signed.'
 damage run
 says 'a run of messages taken out' 1 '    missing: numbers 1 to 3 (3 messages)' '    missing: number 9' '    numbers 1 to 10: 6 listed, 4 missing'
 head -c -3 signed >stored
 keys verify --key keys/public-key.pem stored
-says 'a torn end' 1 'Verdict: FINDINGS: of 8 signed messages 8 are there, unchanged; 2 stored messages aren'\''t signed; the log breaks off.'
+says 'a torn end' 1 'Verdict: FINDINGS: of 8 announced messages 8 are there, unchanged; 2 stored messages are unlisted; the log breaks off.'
 nothing='Verdict: NOTHING IS SHOWN: no session here has a key that you trust and certificate blocks that hold, so no signature counts, and nobody can say of the 15 stored messages what was sent.'
 keys verify --key others/public-key.pem signed
 says 'another key' 1 '  state: untrusted; its key is none that you trust, so nothing of it counts' "$nothing"
@@ -204,9 +204,9 @@ cat signed out >both
 keys verify --key keys/public-key.pem both
 says 'a session of another key behind' 1 'Session: HOSTNAME gate, APP-NAME signer, PROCID -, RSID 2' "$joined" \
     '  state: untrusted; its key is none that you trust, so nothing of it counts'
-holds 'its blocks and copies' grep -q '^Verdict: FINDINGS: of 10 signed messages 10 are there, unchanged; 10 stored messages aren.t signed; . blocks aren.t believed; 1 session isn.t believed\.$' out
+holds 'its blocks and copies' grep -q '^Verdict: FINDINGS: of 10 announced messages 10 are there, unchanged; 10 stored messages are unlisted; . blocks aren.t believed; 1 session isn.t believed\.$' out
 keys verify --key keys/public-key.pem --key others/public-key.pem both
-says 'both keys' 0 '  key: keys/public-key.pem' '  key: others/public-key.pem' 'Verdict: All 20 signed messages are there, unchanged, and nothing else is.'
+says 'both keys' 0 '  key: keys/public-key.pem' '  key: others/public-key.pem' 'Verdict: All 20 announced messages are there, unchanged, and nothing else is.'
 as_reviewed 'a session of another key' both
 
 # ---- what no block signed, and hostile texts
@@ -219,7 +219,7 @@ for it in logger rsyslog syslog-ng; do
     holds "$it: signed" test "$status" = 0
     cp out real
     keys verify --key keys/public-key.pem real
-    says "$it: as it is" 0 "Verdict: All $count signed messages are there, unchanged, and nothing else is."
+    says "$it: as it is" 0 "Verdict: All $count announced messages are there, unchanged, and nothing else is."
 done
 frame $'<13>1 - - - - - - \e]0;owned\a\e[2J\x80\xff\\x1b\r\n\x7f' >hostile
 keys verify --key keys/public-key.pem hostile

@@ -45,9 +45,9 @@ def clean(totals: Totals) -> str:
     if totals.listed == 0:
         return "NOTHING WAS SIGNED: the log holds blocks alone, and they announce no message."
     if totals.listed == 1:
-        said = "The one signed message is there, unchanged, and nothing else is."
+        said = "The one announced message is there, unchanged, and nothing else is."
     else:
-        said = f"All {totals.listed} signed messages are there, unchanged, and nothing else is."
+        said = f"All {totals.listed} announced messages are there, unchanged, and nothing else is."
     return said + order(totals)
 
 
@@ -67,14 +67,14 @@ def findings(totals: Totals, unbelieved: int) -> str:
     if totals.disputed:
         parts.append(f"{totals.disputed} {'is' if totals.disputed == 1 else 'are'} disputed")
     said = (
-        f"FINDINGS: of {counted(signed, 'signed message')} "
+        f"FINDINGS: of {counted(signed, 'announced message')} "
         f"{totals.listed} {'is' if totals.listed == 1 else 'are'} there, unchanged"
     )
     if parts:
         said += ", and " + ", and ".join(parts)
     others = [
         (totals.unannounced, "number isn't announced", "numbers aren't announced"),
-        (totals.unlisted, "stored message isn't signed", "stored messages aren't signed"),
+        (totals.unlisted, "stored message is unlisted", "stored messages are unlisted"),
         (totals.refused, "block isn't believed", "blocks aren't believed"),
         (totals.spoilt, "message is a spoilt block", "messages are spoilt blocks"),
         (unbelieved, "session isn't believed", "sessions aren't believed"),
