@@ -8,11 +8,14 @@
     verdicts.py damage KIND LOG                         the log, damaged
     verdicts.py signal NAME FILE WORD..                 runs a command, sends it a signal once FILE is there, and tells
                                                         the signal by which it ended
+    verdicts.py terminal WORD..                         runs a command whose standard error is a terminal, and tells what
+                                                        that shows
 """
 from __future__ import annotations
 
 import json
 import os
+import pty
 import signal
 import subprocess
 import sys
@@ -120,6 +123,21 @@ def ended_by(name: str, path: str, *words: str) -> str:
     return signal.Signals(-status).name if status < 0 else f"status {status}"
 
 
+def on_terminal(*words: str) -> str:
+    """What a command writes to standard error where that is a terminal, and its status."""
+    ours, theirs = pty.openpty()
+    status = subprocess.run(words, stdin=subprocess.DEVNULL, stdout=subprocess.DEVNULL, stderr=theirs, timeout=60).returncode
+    os.close(theirs)
+    shown = b""
+    try:
+        while piece := os.read(ours, 4096):
+            shown += piece
+    except OSError:
+        # so a terminal that nobody writes to any more ends
+        pass
+    return f"{shown.decode()}status {status}".replace("\r\n", "\n")
+
+
 def write(texts: List[bytes], form: Callable[[bytes], bytes], path: str = "/dev/stdout") -> None:
     """Writes messages in a form."""
     with open(path, "wb") as file:
@@ -144,6 +162,8 @@ def main(command: str, *words: str) -> None:
         print(len(messages(words[0])[0]))
     elif command == "damage":
         write(damaged(words[0], messages(words[1])[0]), frame)
+    elif command == "terminal":
+        print(on_terminal(*words))
     elif command == "signal":
         print(ended_by(*words))
     else:

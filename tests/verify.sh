@@ -208,6 +208,9 @@ holds 'its blocks and copies' grep -q '^Verdict: FINDINGS: of 10 announced messa
 keys verify --key keys/public-key.pem --key others/public-key.pem both
 says 'both keys' 0 '  key: keys/public-key.pem' '  key: others/public-key.pem' 'Verdict: All 20 announced messages are there, unchanged, and nothing else is.'
 as_reviewed 'a session of another key' both
+keys verify --key others/public-key.pem both
+says 'the key of the session behind alone' 1 '  key: others/public-key.pem'
+holds 'the session in front has no key' test "$(sed -n '/RSID 1$/,/RSID 2$/p' out | grep -c '  key: ')" = 0
 
 # ---- what no block signed, and hostile texts
 for it in logger rsyslog syslog-ng; do
@@ -244,6 +247,9 @@ holds 'no key: nothing on standard output' test ! -s out
 keys verify --key keys/public-key.pem --max-len 100 signed
 holds 'a limit: status 2' test "$status" = 2
 holds 'a limit: the words of ssign' grep -qx 'ssign: F2 [0-9]*' err
+python3 -B "$root/tests/verdicts.py" terminal "$keys_program" verify --key keys/public-key.pem --max-len 100 signed >out 2>err
+holds 'a refusal on a terminal: the sentence of ssign explain' \
+    cmp out <(grep -x 'ssign: F2 [0-9]*' out && "$program" explain F2 && echo 'status 2')
 keys verify --key keys/public-key.pem --max-messages 3 signed
 holds 'another limit: the words of ssign' grep -qx 'ssign: F5 [0-9]*' err
 keys verify --key keys/public-key.pem --max-len=-1 signed
