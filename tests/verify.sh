@@ -276,6 +276,14 @@ holds 'a full device: what is said' cmp err <(echo "ssign-keys: standard output 
 "$keys_program" verify --key keys/public-key.pem --json signed 2>err | true
 holds 'a closed pipe: status 2' test "${PIPESTATUS[0]}" = 2
 holds 'a closed pipe: what is said' cmp err <(echo "ssign-keys: standard output can't be written: Broken pipe")
+keys sign "${words[@]}" --rsid 4 --count 1 "$root/examples/producers/logger.log"
+cp out many
+for log in many -; do
+    (ulimit -f 64 && timeout "$patience" "$keys_program" verify --key keys/public-key.pem "$log" <many >out 2>err)
+    holds "no room for passing files, $log: status 2" test "$?" = 2
+    holds "no room for passing files, $log: what is said" \
+        cmp err <(echo "ssign-keys: a passing file can't be written: File too large; TMPDIR names the folder for it")
+done
 keys sign --key keys/public-key.pem --rsid 1 signed
 holds 'a public key to sign with: status 2' test "$status" = 2
 keys sign "${words[@]}" --rsid 1 signed

@@ -1,6 +1,7 @@
 """Where a run keeps its passing files, and how it ends: whatever happens, no file and no child of it is left behind."""
 from __future__ import annotations
 
+import errno
 import os
 import signal
 import subprocess
@@ -10,6 +11,9 @@ from types import FrameType, TracebackType
 from typing import BinaryIO, List, Optional, Type
 
 from .faults import Fault
+
+
+NO_ROOM = (errno.ENOSPC, errno.EDQUOT, errno.EFBIG)
 
 
 class Ended(BaseException):
@@ -65,6 +69,9 @@ class Workplace:
         self._folder.cleanup()
         for it, before in self._before.items():
             signal.signal(it, before)
+        if isinstance(error, OSError) and error.errno in NO_ROOM:
+            # a file that couldn't be written fails once more where it is closed
+            raise no_room(error) from error
         if isinstance(error, Ended):
             signal.signal(error.number, signal.SIG_DFL)
             os.kill(os.getpid(), error.number)
