@@ -1,5 +1,6 @@
 mod Commands
 mod Options
 mod Commas
+mod Spaces
 mod ReadBounds
-mod Heads
+mod Openings

@@ -2,6 +2,7 @@
 use Rattle.std.specs.Prelude.{◌≡◌, ◌≢◌, ◌⊎◌, ℕ, pos, Bool, true, false, List, [], ◌∷◌, Option, Some, None, Result, Ok, Err, codes}
 use Rattle.std.specs.Str.Parse.{IsNumeral, digits_value, without_leading_plus}
 use Rattle.clap.specs.Words.{App, IsAmong, Kinds, Rule, app_of, fault_of, found_of, new_app, new_rule, one_text, with_rule, with_subcommand}
+use Rattle.clap.specs.Lexer.{usize_max}
 use Rattle.clap.specs.declared.builder.command.Command.{Command}
 use Rattle.clap.specs.declared.builder.command.Command.TheViews.{out-Command}
 use Rattle.clap.specs.declared.builder.ArgAction.TheVariants.{Set, SetTrue}
@@ -63,9 +64,14 @@ max_len_rule = usual_rule (number_rule (codes "max-len") (pos 1) (pos longest_me
 abbrev pub max_messages_rule : Rule
 max_messages_rule = usual_rule (number_rule (codes "max-messages") (pos 1) (pos most_messages)) (codes "10000000")
 
--- what `explain` is asked about
+-- what `explain` is asked about: one word or more
 abbrev pub code_rule : Rule
-code_rule = record (new_rule (codes "code")) { action = Some Set; value_names = 1; required = true }
+code_rule = record (new_rule (codes "code")) {
+  action = Some Set;
+  range = Some (record { start_inclusive = 1; end_inclusive = usize_max });
+  value_names = 1;
+  required = true;
+}
 
 -- the options of a command over a log
 abbrev pub with_limits : App → App

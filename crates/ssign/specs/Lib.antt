@@ -5,3 +5,6 @@ pub mod Settings
 pub mod Task
 pub mod Signing
 pub mod Explanation
+pub mod Opening
+pub mod LikelyCause
+pub mod Remark

@@ -1,9 +1,11 @@
 -- What the options of a command that signs say: their numbers and texts, and the settings that these spell.
-use Rattle.std.specs.Prelude.{◌≡◌, ℕ, ◌≤◌, Bool, ◌&&◌, List, Option, Some, None, Result, Ok, Err, nat_le, codes, option_and_then, if◌then◌else◌}
+use Rattle.std.specs.Prelude.{◌≡◌, ℕ, ◌≤◌, Bool, true, false, ◌&&◌, not, List, Option, Some, None, Result, Ok, Err, nat_le, codes, is_some, option_and_then, if◌then◌else◌}
 use Rattle.std.specs.Str.{bytes_eq}
 use Rattle.clap.specs.Words.{first_value, found_of}
 use Rattle.clap.specs.declared.parser.matches.ArgMatches.{ArgMatches}
 use Rattle.ss_message.specs.Message.{is_field}
+use Rattle.ss_message.specs.Draft.{drafted_field}
+use Rattle.ss_message.specs.declared.draft.Field.{Field}
 use Rattle.ss_message.specs.Octets.{is_absent}
 use Rattle.ss_message.specs.StampReading.{◌>>=◌}
 use Rattle.ss_payload.specs.PayloadReading.{payload_in, stamp_in}
@@ -12,11 +14,13 @@ use Rattle.ss_block.specs.declared.hash.Alg.TheVariants.{Sha1, Sha256}
 use Rattle.ss_block.specs.Head.{HeadValue}
 use Rattle.ssign.specs.CommandLine.{HasNumber}
 use Rattle.ssign.specs.GroupsText.{grouping_in}
-use Rattle.ssign.specs.declared.settings.Choices.{Choices}
+use Rattle.ssign.specs.declared.choices.Choices.{Choices}
 use Rattle.ssign.specs.declared.settings.Texts.{Texts}
 use Rattle.ssign.specs.declared.settings.Settings.{Settings}
 use Rattle.ssign.specs.declared.settings.SettingsFault.{SettingsFault}
 use Rattle.ssign.specs.declared.settings.SettingsFault.TheVariants.{OutOfForm, Memory}
+use Rattle.ssign.specs.declared.text_option.TextOption.{TextOption}
+use Rattle.ssign.specs.declared.text_option.TextOption.TheVariants.{Payload, Stamp, Groups, Host, App, Procid, Msgid}
 use Rattle.ss_block.specs.Ranges.{last_number}
 
 -- ---- what the texts spell
@@ -69,6 +73,46 @@ settings_in c t = do
     stamp = stamp;
   })
 
+-- ---- which text is out of its form
+
+abbrev pub option_name : TextOption → List ℕ
+option_name Payload = codes "payload"
+option_name Stamp = codes "stamp"
+option_name Groups = codes "groups"
+option_name Host = codes "host"
+option_name App = codes "app"
+option_name Procid = codes "procid"
+option_name Msgid = codes "msgid"
+
+-- the first option of a field of the header whose text is out of its form
+abbrev pub refused_field : Texts → Option TextOption
+refused_field t =
+    if not (is_field 255 (field_in t.host.now)) then Some Host
+    else (if not (is_field 48 (field_in t.app.now)) then Some App
+    else (if not (is_field 128 (field_in t.procid.now)) then Some Procid
+    else (if not (is_field 32 (field_in t.msgid.now)) then Some Msgid
+    else None)))
+
+-- the first option, in this order, whose text is read as nothing
+unfoldable pub refused_option : Texts → Option TextOption
+refused_option t =
+    if not (is_some (payload_in t.payload.now)) then Some Payload
+    else (if not (is_some (stamp_in t.stamp.now)) then Some Stamp
+    else (if not (is_some (grouping_in t.groups.now)) then Some Groups
+    else refused_field t))
+
+-- what becomes of the text of a field, of at most so many octets
+abbrev pub FieldGives : ℕ → List ℕ → TextOption → Result Field SettingsFault → Type 0
+FieldGives limit text option (Ok field) = (drafted_field field ≡ field_in text) × (is_field limit (field_in text) ≡ true)
+FieldGives limit text option (Err (OutOfForm refused)) = (is_field limit (field_in text) ≡ false) × (refused ≡ option)
+FieldGives limit text option (Err Memory) = Unit {0}
+
+-- what becomes of the fields of the header
+abbrev pub HeadGives : Choices → Texts → Result HeadValue SettingsFault → Type 0
+HeadGives c t (Ok head) = head_in c t ≡ Some head
+HeadGives c t (Err (OutOfForm option)) = (head_in c t ≡ None) × (refused_field t ≡ Some option)
+HeadGives c t (Err Memory) = Unit {0}
+
 -- ---- what the options say
 
 -- the option has a number, in this range
@@ -96,11 +140,11 @@ pub record HasTexts (matches : ArgMatches) (t : Texts) : Type 0 where
   pub msgid : first_value (found_of matches) (codes "msgid") ≡ Some t.msgid.now
   pub groups : first_value (found_of matches) (codes "groups") ≡ Some t.groups.now
 
--- the settings, or that a text is out of its form
-abbrev pub Gives : Option Settings → Result Settings SettingsFault → Type 0
-Gives o (Ok settings) = o ≡ Some settings
-Gives o (Err OutOfForm) = o ≡ None
-Gives o (Err Memory) = Unit {0}
+-- the settings, or that there are none, and the first option whose text is out of its form
+abbrev pub Gives : Choices → Texts → Result Settings SettingsFault → Type 0
+Gives c t (Ok settings) = settings_in c t ≡ Some settings
+Gives c t (Err (OutOfForm option)) = (settings_in c t ≡ None) × (refused_option t ≡ Some option)
+Gives c t (Err Memory) = Unit {0}
 
 -- what the options say, and what becomes of it
 pub record IsRead (matches : ArgMatches) (result : Result Settings SettingsFault) : Type 0 where
@@ -108,4 +152,4 @@ pub record IsRead (matches : ArgMatches) (result : Result Settings SettingsFault
   pub texts : Texts
   pub chosen : HasChoices matches choices
   pub given : HasTexts matches texts
-  pub gives : Gives (settings_in choices texts) result
+  pub gives : Gives choices texts result

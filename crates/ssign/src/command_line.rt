@@ -1,13 +1,15 @@
 //! The command line.
-ghost use Rattle.std.specs.Prelude.{◌≡◌, ◌<◌, ◌^◌, ℕ, Bool, false, Some, codes, decimal, IfOk, IfSome, MatchOption, option_map};
+ghost use Rattle.std.specs.Prelude.{◌≡◌, ◌<◌, ◌^◌, ℕ, Bool, false, Some, codes, decimal, IfOk, IfSome, MatchOption, option_and_then, option_map};
 ghost use Rattle.std.specs.Option.{SomeIff};
-ghost use Rattle.clap.specs.Words.{App, app_of, first_value, found_of, new_app, rule_of};
+ghost use Rattle.clap.specs.Words.{App, app_of, first_value, found_of, matched_of, new_app, raw_values, rule_of};
 ghost use Rattle.ss_frame.specs.Limits.{InRange};
 ghost use Rattle.ssign.specs.CommandLine.{answers_rule, code_rule, lines_rule, max_len_rule, max_messages_rule};
 ghost use Rattle.ssign.specs.CommandLine.{bare_app, explain_app, extract_app, inspect_app, plan_app, questions_app, review_app, sign_app, ssign_app};
+ghost use Rattle.ssign.specs.Explanation.{asked_of};
 ghost use Rattle.ssign.specs.SigningOptions.{AreVersions, Kept};
 ghost use Rattle.ssign.specs.CommandLine.{FlagIs, HasNumber, IsLocalApp, IsNoCommand, limits_with, name_of, text_of, with_limits};
 
+use crate::asked::asked_of;
 use crate::signing::Signing;
 use crate::signing_options::{versions, with_signing_options};
 use crate::task::Task;
@@ -18,9 +20,28 @@ use std::alloc::{AllocError, Global};
 /// The version of the program.
 const VERSION: &str = "0.1.0";
 /// How an answers file helps a review.
-const CHECKED: &str = "The answers of a signature checker; without it nothing is trusted";
+const CHECKED: &str =
+    "The file with the answers of a signature checker; without it no key is trusted, and no message counts as signed";
 /// How an answers file helps to sign.
-const SEALED: &str = "A file of lines seal OCTETS SIGNATURE; without it nothing is signed";
+const SEALED: &str =
+    "The file with a line seal OCTETS SIGNATURE for each line of the plan; without it nothing is signed";
+/// How a code is asked about.
+const EXAMPLES: &str = "Examples:
+  ssign explain F1
+  ssign explain 'ssign: F1 0'
+  ssign explain gap
+  ssign explain m8";
+
+/// The options of a number.
+const NUMBERS: [&str; 7] = [
+    "max-len",
+    "max-messages",
+    "rsid",
+    "pri",
+    "count",
+    "frag",
+    "copies",
+];
 
 /// What a command asks for.
 #[derive(Clone, Copy, Debug, PartialEq, Eq)]
@@ -48,6 +69,27 @@ pub fn command<'a>(alloc: Global) -> Result<Command<'a>, AllocError>
         .subcommand(explain(alloc)?)
 }
 
+/// The same commands, of which each option of a number takes a negative one as its value, and then says its range.
+pub fn negative_command<'a>(alloc: Global) -> Result<Command<'a>, AllocError> {
+    let versions = versions();
+    bare(alloc)
+        .subcommand(with_negatives(review(alloc)?)?)?
+        .subcommand(with_negatives(questions(alloc)?)?)?
+        .subcommand(with_negatives(extract(alloc)?)?)?
+        .subcommand(with_negatives(inspect(alloc)?)?)?
+        .subcommand(with_negatives(plan(alloc, versions)?)?)?
+        .subcommand(with_negatives(sign(alloc, versions)?)?)?
+        .subcommand(explain(alloc)?)
+}
+
+fn with_negatives<'a>(command: Command<'a>) -> Result<Command<'a>, AllocError> {
+    let mut command = command;
+    for name in NUMBERS {
+        command = command.mut_arg(name, |arg| Ok(arg.allow_negative_numbers(true)))?;
+    }
+    Ok(command)
+}
+
 /// The program without its commands.
 fn bare<'a>(alloc: Global) -> Command<'a>
     ensures { IsLocalApp result bare_app }
@@ -62,7 +104,8 @@ fn bare<'a>(alloc: Global) -> Command<'a>
 fn review<'a>(alloc: Global) -> Result<Command<'a>, AllocError>
     ensures { IfOk result (λ c. IsLocalApp c review_app) }
 {
-    let about = "Reviews the log on standard input, and writes the report to standard output";
+    let about =
+        "Reports which messages of the log on standard input are exactly those that their sender signed";
     let usage = "ssign review [OPTIONS] < FILE";
     let review = over_log(alloc, "review", about, usage);
     limited(alloc, review.arg(answers(alloc, CHECKED))?)
@@ -71,7 +114,9 @@ fn review<'a>(alloc: Global) -> Result<Command<'a>, AllocError>
 fn questions<'a>(alloc: Global) -> Result<Command<'a>, AllocError>
     ensures { IfOk result (λ c. IsLocalApp c questions_app) }
 {
-    let about = "Writes what a review would ask a signature checker, as lines of an answers file";
+    let about =
+        "Writes lines that are questions: used as answers unchecked, they make any forged log pass. \
+        A signature checker leaves out each line that it can't confirm; the rest are answers";
     let usage = "ssign questions [OPTIONS] < FILE";
     limited(alloc, over_log(alloc, "questions", about, usage))
 }
@@ -79,7 +124,7 @@ fn questions<'a>(alloc: Global) -> Result<Command<'a>, AllocError>
 fn extract<'a>(alloc: Global) -> Result<Command<'a>, AllocError>
     ensures { IfOk result (λ c. IsLocalApp c extract_app) }
 {
-    let about = "Writes the messages that a review lists, as octet-counted frames";
+    let about = "Writes the messages that a review of the log lists, as octet-counted frames";
     let usage = "ssign extract [OPTIONS] < FILE";
     let extract = over_log(alloc, "extract", about, usage);
     limited(alloc, extract.arg(answers(alloc, CHECKED))?)
@@ -88,7 +133,7 @@ fn extract<'a>(alloc: Global) -> Result<Command<'a>, AllocError>
 fn inspect<'a>(alloc: Global) -> Result<Command<'a>, AllocError>
     ensures { IfOk result (λ c. IsLocalApp c inspect_app) }
 {
-    let about = "Says of each message what it is";
+    let about = "Writes what each message of the log is: plain, a block, or unparsed, and why";
     let usage = "ssign inspect [OPTIONS] < FILE";
     limited(alloc, over_log(alloc, "inspect", about, usage))
 }
@@ -96,7 +141,8 @@ fn inspect<'a>(alloc: Global) -> Result<Command<'a>, AllocError>
 fn plan<'a>(alloc: Global, versions: &'a [&'a str]) -> Result<Command<'a>, AllocError>
     ensures { IfOk result (λ c. IsLocalApp c (plan_app versions.entry)) }
 {
-    let about = "Writes what a signer has to sign for a log, as a line want OCTETS for each block";
+    let about =
+        "Writes what has to be signed for the log on standard input: a line want OCTETS for each block";
     let usage = "ssign plan --payload TEXT --rsid N [OPTIONS] < FILE";
     let plan = over_log(alloc, "plan", about, usage);
     limited(alloc, with_signing_options(alloc, plan, versions)?)
@@ -105,7 +151,8 @@ fn plan<'a>(alloc: Global, versions: &'a [&'a str]) -> Result<Command<'a>, Alloc
 fn sign<'a>(alloc: Global, versions: &'a [&'a str]) -> Result<Command<'a>, AllocError>
     ensures { IfOk result (λ c. IsLocalApp c (sign_app versions.entry)) }
 {
-    let about = "Writes a log with the blocks that sign it, as octet-counted frames";
+    let about =
+        "Writes the log on standard input with the blocks that sign it, as octet-counted frames";
     let usage = "ssign sign --answers FILE --payload TEXT --rsid N [OPTIONS] < FILE";
     let sign = over_log(alloc, "sign", about, usage).arg(answers(alloc, SEALED))?;
     limited(alloc, with_signing_options(alloc, sign, versions)?)
@@ -115,7 +162,8 @@ fn explain<'a>(alloc: Global) -> Result<Command<'a>, AllocError>
     ensures { IfOk result (λ c. IsLocalApp c explain_app) }
 {
     Command::new(alloc, "explain")
-        .about("Says in words what a refusal or a word of the output means")
+        .about("Says what a refusal, or a word of the output, means and what to do")
+        .after_help(EXAMPLES)
         .arg(code(alloc))
 }
 
@@ -143,10 +191,12 @@ fn code<'a>(alloc: Global) -> Arg<'a>
 {
     Arg::new(alloc, "code")
         .value_name("CODE")
+        .num_args(1..)
         .required(true)
         .action(ArgAction::Set)
         .help(
-            "A refusal (F1), a word of a report or an inspection (gap, untrusted), or a cause (M8, S3)",
+            "A refusal as it was printed, or its code (F1), a word of the output (gap, untrusted), or a cause (M8, S3), \
+                in letters of either case",
         )
 }
 
@@ -169,7 +219,9 @@ fn lines<'a>(alloc: Global) -> Arg<'a>
     Arg::new(alloc, "lines")
         .long("lines")
         .action(ArgAction::SetTrue)
-        .help("The log has one message a line, ended by LF, in place of octet-counted frames")
+        .help(
+            "Reads one message a line, each ended by LF; without it the log is octet-counted frames",
+        )
 }
 
 fn max_len<'a>(alloc: Global) -> Arg<'a>
@@ -181,7 +233,7 @@ fn max_len<'a>(alloc: Global) -> Arg<'a>
         .value_name("N")
         .action(ArgAction::Set)
         .value_parser(clap::value_parser!(u32).range(1..=LONGEST_MESSAGE as i64))
-        .help("The longest message, in octets: 1 to 1048576")
+        .help("Refuses a message of more than N octets, 1 to 1048576")
         .default_value("65536")
 }
 
@@ -194,7 +246,7 @@ fn max_messages<'a>(alloc: Global) -> Arg<'a>
         .value_name("N")
         .action(ArgAction::Set)
         .value_parser(clap::value_parser!(u32).range(1..=MOST_MESSAGES as i64))
-        .help("The most messages: 1 to 10000000")
+        .help("Refuses a log of more than N messages, 1 to 10000000")
         .default_value("10000000")
 }
 
@@ -214,11 +266,12 @@ pub fn order_of(name: &str) -> Option<Order>
     }
 }
 
-/// The code that is asked about, if one was given.
+/// The code that is asked about, if a word names one.
 pub fn asked_code<'a>(matches: &ArgMatches<'a>) -> Option<&'a str>
-    ensures { option_map (λ s. s.now) result ≡ first_value (found_of matches.now) (codes "code") }
+    ensures { option_map (λ s. s.now) result
+        ≡ option_and_then (λ found. asked_of (raw_values found)) (matched_of (found_of matches.now) (codes "code")) }
 {
-    matches.get_str("code")
+    asked_of(matches.get_strs("code")?)
 }
 
 /// The file of answers, if one was given.

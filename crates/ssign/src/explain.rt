@@ -12,21 +12,23 @@ use ss_report::{RunFault, write_whole};
 use std::alloc::Global;
 use std::io::Write;
 
-/// The first entry of three tables, one behind the other, with this code, letter by letter. `None` exactly where no
-/// entry has it.
+/// The first entry of four tables, one behind the other, with this code, in letters of either case. `None` exactly
+/// where no entry has it.
 pub fn explanation_of<'t>(
     first: &'t [Explanation],
     second: &'t [Explanation],
     third: &'t [Explanation],
+    fourth: &'t [Explanation],
     code: &str,
 ) -> Option<&'t Explanation>
-    ensures { option_copied result ≡ find (has_code code.now) (first.now ++ second.now ++ third.now) }
+    ensures { option_copied result ≡ find (has_code code.now) (first.now ++ second.now ++ third.now ++ fourth.now) }
 {
     first
         .iter()
         .chain(second.iter())
         .chain(third.iter())
-        .find(|entry| entry.code == code)
+        .chain(fourth.iter())
+        .find(|entry| entry.code.eq_ignore_ascii_case(code))
 }
 
 /// Writes the text of an entry as one line, and flushes the writer.

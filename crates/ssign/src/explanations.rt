@@ -1,11 +1,13 @@
-//! What the codes and the words of the program's output mean, in three tables. `docs/guide.md` has the same, in the same
-//! order: refusals, words and faults.
+//! What the codes and the words of the program's output mean, in four tables. `docs/guide.md` has those that the
+//! program prints, in the same order: refusals, words and faults.
 mod faults;
 mod refusals;
+mod unprinted;
 mod words;
 
 pub use faults::FAULTS;
 pub use refusals::REFUSALS;
+pub use unprinted::UNPRINTED;
 pub use words::WORDS;
 
 /// What a code or a word of the output means.

@@ -1,24 +1,43 @@
 //! Reviews stored logs of signed syslog messages (RFC 5424, RFC 5848), and signs logs.
 #![tactic(auto)]
 
+mod asked;
+mod choices;
 mod command_line;
 mod explain;
 mod explanations;
 mod groups_text;
+mod likely_cause;
+mod negatives;
 mod nobody;
+mod opening;
 mod program;
+mod refusing;
 mod settings;
 mod signing;
 mod signing_options;
+mod streams;
 mod task;
+mod text_option;
 
+pub use asked::{asked_of, asked_word};
 pub use explain::{explanation_of, write_explanation};
-pub use explanations::{Explanation, FAULTS, REFUSALS, WORDS};
+pub use explanations::{Explanation, FAULTS, REFUSALS, UNPRINTED, WORDS};
+pub use likely_cause::{LikelyCause, run_cause, signing_cause};
 pub use nobody::Nobody;
+pub use opening::Opening;
 pub use settings::{Settings, SettingsFault};
 pub use signing::{Signing, run_signing};
+use std::io::IsTerminal;
 use std::process::ExitCode;
 pub use task::{Task, run_task};
+pub use text_option::TextOption;
+
+impl refusing::Screen for HostRuntime {
+    fn shows_refusals(&self) -> bool {
+        self.stderr().is_terminal()
+    }
+}
 
 fn main(rt: HostRuntime) -> ExitCode {
     ExitCode::from(program::run(&rt))

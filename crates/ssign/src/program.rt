@@ -1,27 +1,30 @@
-//! The program: its command line, its streams and its exit statuses.
-ghost use Rattle.std.specs.Prelude.{◌≡◌, ◌≤◌, ◌++◌, false, map, None, IfOk};
+//! The program: its command line and its exit statuses.
+ghost use Rattle.std.specs.Prelude.{◌≡◌, ◌≤◌, ◌++◌, map, None};
 ghost use Rattle.std.specs.List.{find};
-ghost use Rattle.ss_frame.specs.Watched.{has_failed};
 ghost use Rattle.ssign.specs.CommandLine.{AreMistaken, signing_status, status_of};
 ghost use Rattle.ssign.specs.Explanation.{has_code};
 
 use crate::command_line::{Order, answers_file, asked_code, command, limits_of, order_of};
-use crate::explain::{explanation_of, write_explanation};
-use crate::explanations::{Explanation, FAULTS, REFUSALS, WORDS};
+use crate::explain::explanation_of;
+use crate::explanations::{Explanation, FAULTS, REFUSALS, UNPRINTED, WORDS};
+use crate::likely_cause::{run_cause, signing_cause};
+use crate::negatives::tells_negative;
 use crate::nobody::Nobody;
-use crate::settings::{Settings, settings_of};
-use crate::signing::{Signing, run_signing};
-use crate::task::{Task, run_task};
+use crate::opening::Opening;
+use crate::refusing::{
+    REFUSED, Remark, Screen, cause_remark, refuse, refuse_code, refuse_words, settings_remark,
+};
+use crate::settings::settings_of;
+use crate::signing::Signing;
+use crate::streams::{explain_on_output, run_streams, sign_streams};
+use crate::task::Task;
 use clap::ArgMatches;
 use clap::error::ErrorKind;
-use ss_answers::{Answers, open_answers};
-use ss_frame::{Buffered, Limits, Watched};
+use ss_answers::open_answers;
+use ss_frame::Form;
 use ss_report::{RunFault, Verdict};
-use ss_review::Judge;
 use ss_signing::SignFault;
 use std::alloc::AllocError;
-use std::fmt::Display;
-use std::io::{BufWriter, Printer};
 use std::rt::{Env, Files};
 use std::{env, io};
 
@@ -29,20 +32,15 @@ use std::{env, io};
 const CLEAN: u8 = 0;
 /// Findings.
 const FINDINGS: u8 = 1;
-/// A refusal or a usage fault.
-const REFUSED: u8 = 2;
-
-/// How much is written at once, in octets.
-const BUFFER_SIZE: usize = 65_536;
 
 /// Runs the program, and gives its exit status.
-pub fn run<R: Input + Print + Eprint + Env + Files + AllocGlobal>(rt: &R) -> u8
+pub fn run<R: Input + Print + Eprint + Screen + Env + Files + AllocGlobal>(rt: &R) -> u8
     ensures { result ≤ 2 }
 {
     match words(rt) {
         Ok(words) => run_words(rt, words.as_slice()),
         Err(fault) if fault.kind() == io::ErrorKind::InvalidData => refuse_words(rt),
-        Err(_) => refuse(rt, &RunFault::Memory),
+        Err(_) => refuse(rt, &RunFault::Memory, Remark::Nothing),
     }
 }
 
@@ -55,28 +53,34 @@ fn words<R: Env + AllocGlobal>(rt: &R) -> io::Result<Vec<String>> {
     Ok(words)
 }
 
-fn run_words<R: Input + Print + Eprint + Files + AllocGlobal>(rt: &R, words: &[String]) -> u8
+fn run_words<R: Input + Print + Eprint + Screen + Files + AllocGlobal>(
+    rt: &R,
+    words: &[String],
+) -> u8
     ensures most { result ≤ 2 }
     ensures usage { AreMistaken (map (λ word. word.bytes.items) words.now) → result ≡ 2 }
 {
     let Ok(command) = command(rt.alloc()) else {
-        return refuse(rt, &RunFault::Memory);
+        return refuse(rt, &RunFault::Memory, Remark::Nothing);
     };
     match command.try_get_matches_from(words) {
         Ok(matches) => run_command(rt, &matches),
         Err(fault) => {
             if fault.kind() == ErrorKind::OutOfMemory {
-                return refuse(rt, &RunFault::Memory);
+                return refuse(rt, &RunFault::Memory, Remark::Nothing);
+            }
+            if fault.kind() == ErrorKind::UnknownArgument && tells_negative(rt, words) {
+                return REFUSED;
             }
             if fault.print(rt).is_err() {
-                return refuse(rt, &RunFault::Write);
+                return refuse(rt, &RunFault::Write, Remark::Nothing);
             }
             if fault.use_stderr() { REFUSED } else { CLEAN }
         }
     }
 }
 
-fn run_command<R: Input + Print + Eprint + Files + AllocGlobal>(
+fn run_command<R: Input + Print + Eprint + Screen + Files + AllocGlobal>(
     rt: &R,
     matches: &ArgMatches<'_>,
 ) -> u8
@@ -94,7 +98,7 @@ fn run_command<R: Input + Print + Eprint + Files + AllocGlobal>(
 }
 
 /// Makes a run over standard input. The answers file is read before.
-fn run_log<R: Input + Print + Eprint + Files + AllocGlobal>(
+fn run_log<R: Input + Print + Eprint + Screen + Files + AllocGlobal>(
     rt: &R,
     task: Task,
     options: &ArgMatches<'_>,
@@ -104,19 +108,20 @@ fn run_log<R: Input + Print + Eprint + Files + AllocGlobal>(
     let Some(limits) = limits_of(options) else {
         return REFUSED;
     };
+    let mut input = Opening::new(rt.reader());
     let ended = match answers_file(options) {
-        None => run_streams(rt, task, &Nobody, limits),
+        None => run_streams(rt, &mut input, task, &Nobody, limits),
         Some(file) => match open_answers(rt, file) {
-            Ok(answers) => run_streams(rt, task, &answers, limits),
-            Err(fault) => return refuse(rt, &fault),
+            Ok(answers) => run_streams(rt, &mut input, task, &answers, limits),
+            Err(fault) => return refuse(rt, &fault, Remark::AnswersFile(file)),
         },
     };
-    end(rt, ended)
+    end(rt, ended, limits.form(), input.kept())
 }
 
 /// Makes a run that signs over standard input. The texts of the options are looked at first, and then the answers file
 /// is read, before the log.
-fn run_sent<R: Input + Print + Eprint + Files + AllocGlobal>(
+fn run_sent<R: Input + Print + Eprint + Screen + Files + AllocGlobal>(
     rt: &R,
     signing: Signing,
     options: &ArgMatches<'_>,
@@ -128,170 +133,83 @@ fn run_sent<R: Input + Print + Eprint + Files + AllocGlobal>(
     };
     let settings = match settings_of(rt.alloc(), options) {
         Some(Ok(settings)) => settings,
-        Some(Err(fault)) => return refuse(rt, &fault),
+        Some(Err(fault)) => return refuse(rt, &fault, settings_remark(fault, options)),
         None => return REFUSED,
     };
     let answers = match answers_file(options) {
         None => None,
         Some(file) => match open_answers(rt, file) {
             Ok(answers) => Some(answers),
-            Err(fault) => return refuse(rt, &fault),
+            Err(fault) => return refuse(rt, &fault, Remark::AnswersFile(file)),
         },
     };
-    end_signing(rt, sign_streams(rt, signing, settings, answers, limits))
+    let mut input = Opening::new(rt.reader());
+    let ended = sign_streams(rt, &mut input, signing, settings, answers, limits);
+    end_signing(rt, ended, limits.form(), input.kept())
 }
 
 /// Explains the code that is asked about.
-fn run_explain<R: Print + Eprint + AllocGlobal>(rt: &R, options: &ArgMatches<'_>) -> u8
+fn run_explain<R: Print + Eprint + Screen + AllocGlobal>(rt: &R, options: &ArgMatches<'_>) -> u8
     ensures { result ≤ 2 }
 {
-    let Some(code) = asked_code(options) else {
-        return REFUSED;
-    };
-    explain(rt, &REFUSALS, &WORDS, &FAULTS, code)
-}
-
-/// Makes a run from standard input to standard output.
-fn run_streams<R: Input + Print + AllocGlobal, J: Judge>(
-    rt: &R,
-    task: Task,
-    judge: &J,
-    limits: Limits,
-) -> Result<Verdict, RunFault>
-    requires { J.sound judge.now }
-{
-    let mut reader = standard_input(rt)?;
-    let mut writer = standard_output(rt)?;
-    run_task(rt.alloc(), &mut reader, &mut writer, task, judge, limits)
-}
-
-/// Makes a run that signs from standard input to standard output.
-fn sign_streams<R: Input + Print + AllocGlobal>(
-    rt: &R,
-    signing: Signing,
-    settings: Settings,
-    answers: Option<Answers>,
-    limits: Limits,
-) -> Result<(), SignFault> {
-    let mut reader = standard_input(rt)?;
-    let mut writer = standard_output(rt)?;
-    let alloc = rt.alloc();
-    run_signing(
-        alloc,
-        &mut reader,
-        &mut writer,
-        signing,
-        settings,
-        answers,
-        limits,
-    )
+    let code = asked_code(options).unwrap_or("");
+    explain(rt, &REFUSALS, &WORDS, &FAULTS, &UNPRINTED, code)
 }
 
 /// Tells on standard output what a code means, by its entry in one of the tables.
-fn explain<R: Print + Eprint + AllocGlobal>(
+fn explain<R: Print + Eprint + Screen + AllocGlobal>(
     rt: &R,
     refusals: &[Explanation],
     words: &[Explanation],
     faults: &[Explanation],
+    unprinted: &[Explanation],
     code: &str,
 ) -> u8
     ensures most { result ≤ 2 }
-    ensures unknown { find (has_code code.now) (refusals.now ++ words.now ++ faults.now) ≡ None → result ≡ 2 }
+    ensures unknown { find (has_code code.now) (refusals.now ++ words.now ++ faults.now ++ unprinted.now) ≡ None → result ≡ 2 }
 {
-    let Some(explanation) = explanation_of(refusals, words, faults, code) else {
+    let Some(explanation) = explanation_of(refusals, words, faults, unprinted, code) else {
         return refuse_code(rt, refusals, words, faults, code);
     };
     match explain_on_output(rt, explanation) {
         Ok(()) => CLEAN,
-        Err(fault) => refuse(rt, &fault),
+        Err(fault) => refuse(rt, &fault, Remark::Nothing),
     }
 }
 
-fn explain_on_output<R: Print + AllocGlobal>(
+/// The exit status of a run that ended so, over a log of this form that begins with these octets.
+fn end<R: Eprint + Screen>(
     rt: &R,
-    explanation: &Explanation,
-) -> Result<(), RunFault> {
-    let mut writer = standard_output(rt)?;
-    write_explanation(rt.alloc(), &mut writer, explanation)
-}
-
-/// Standard input, through a buffer.
-fn standard_input<R: Input + AllocGlobal>(rt: &R) -> Result<Watched<Buffered<R::Reader>>, RunFault>
-    ensures { IfOk result (λ reader. has_failed reader ≡ false) }
-{
-    let Ok(input) = Buffered::new(rt.alloc(), rt.reader()) else {
-        return Err(RunFault::Memory);
-    };
-    Ok(Watched::new(input))
-}
-
-/// Standard output, through a buffer.
-fn standard_output<R: Print + AllocGlobal>(
-    rt: &R,
-) -> Result<Watched<BufWriter<Printer<'_, R>>>, RunFault>
-    ensures { IfOk result (λ writer. has_failed writer ≡ false) }
-{
-    let Ok(output) = BufWriter::with_capacity(rt.alloc(), BUFFER_SIZE, io::writer(rt)) else {
-        return Err(RunFault::Memory);
-    };
-    Ok(Watched::new(output))
-}
-
-/// The exit status of a run that ended so.
-fn end<R: Eprint>(rt: &R, ended: Result<Verdict, RunFault>) -> u8
+    ended: Result<Verdict, RunFault>,
+    form: Form,
+    octets: &[u8],
+) -> u8
     ensures status { result ≡ status_of ended }
     ensures most { result ≤ 2 }
 {
     match ended {
         Ok(Verdict::Clean) => CLEAN,
         Ok(Verdict::Findings) => FINDINGS,
-        Err(fault) => refuse(rt, &fault),
+        Err(fault) => refuse(rt, &fault, cause_remark(run_cause(&fault, form, octets))),
     }
 }
 
-/// The exit status of a run that signs and ended so.
-fn end_signing<R: Eprint>(rt: &R, ended: Result<(), SignFault>) -> u8
+/// The exit status of a run that signs and ended so, over a log of this form that begins with these octets.
+fn end_signing<R: Eprint + Screen>(
+    rt: &R,
+    ended: Result<(), SignFault>,
+    form: Form,
+    octets: &[u8],
+) -> u8
     ensures status { result ≡ signing_status ended }
     ensures most { result ≤ 2 }
 {
     match ended {
         Ok(()) => CLEAN,
-        Err(fault) => refuse(rt, &fault),
+        Err(fault) => refuse(
+            rt,
+            &fault,
+            cause_remark(signing_cause(&fault, form, octets)),
+        ),
     }
-}
-
-/// Says on standard error why there is no output.
-fn refuse<R: Eprint, F: Display>(rt: &R, fault: &F) -> u8
-    ensures { result ≡ 2 }
-{
-    let _ = eprintln!(rt; "ssign: {fault}");
-    REFUSED
-}
-
-/// Says on standard error that a word of the command line can't be read.
-fn refuse_words<R: Eprint>(rt: &R) -> u8
-    ensures { result ≡ 2 }
-{
-    let _ = eprintln!(rt;
-        "error: a word of the command line isn't UTF-8\n\nFor more information, try '--help'."
-    );
-    REFUSED
-}
-
-/// Says on standard error that nothing is told of a code, and of which something is.
-fn refuse_code<R: Eprint>(
-    rt: &R,
-    refusals: &[Explanation],
-    words: &[Explanation],
-    faults: &[Explanation],
-    code: &str,
-) -> u8
-    ensures { result ≡ 2 }
-{
-    let _ = eprint!(rt; "error: no explanation of {code:?}\n\nThe codes:");
-    for entry in refusals.iter().chain(words.iter()).chain(faults.iter()) {
-        let _ = eprint!(rt; " {}", entry.code);
-    }
-    let _ = eprintln!(rt; "\n\nFor more information, try '--help'.");
-    REFUSED
 }

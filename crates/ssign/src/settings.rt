@@ -5,12 +5,14 @@ ghost use Rattle.ss_message.specs.Draft.{drafted_field};
 ghost use Rattle.ss_message.specs.StampReading.{stamp_of as moment_in};
 ghost use Rattle.ssign.specs.CommandLine.{HasNumber};
 ghost use Rattle.ssign.specs.Settings.{HasChoices, HasNumberIn, HasTexts, IsRead};
-ghost use Rattle.ssign.specs.Settings.{field_in, head_in, settings_in, version_in};
-ghost use Rattle.ssign.specs.declared.settings.Choices.{Choices};
+ghost use Rattle.ssign.specs.Settings.{FieldGives, Gives, HeadGives, field_in, version_in};
+ghost use Rattle.ssign.specs.declared.choices.Choices.{Choices};
 ghost use Rattle.ssign.specs.declared.settings.Texts.{Texts};
 ghost use Rattle.ssign.specs.declared.settings.SettingsFault.TheVariants.{Memory};
 
+use crate::choices::Choices;
 use crate::groups_text::grouping_of;
+use crate::text_option::TextOption;
 use clap::ArgMatches;
 use ss_block::{Alg, Head, LAST_NUMBER, Payload};
 use ss_frame::Bytes;
@@ -18,17 +20,6 @@ use ss_message::{Field, NoMemory, Stamp, timestamp_in_range};
 use ss_origin::Config;
 use std::alloc::Global;
 use thiserror::Error;
-
-/// The version and the numbers that the options give.
-#[derive(Clone, Copy, Debug)]
-struct Choices {
-    alg: Alg,
-    rsid: u64,
-    pri: u8,
-    count: u8,
-    frag: u16,
-    copies: u8,
-}
 
 /// The texts that the options give.
 #[derive(Clone, Copy, Debug)]
@@ -56,9 +47,9 @@ pub struct Settings {
 /// Why options give no settings.
 #[derive(Clone, Copy, Debug, PartialEq, Eq, Error)]
 pub enum SettingsFault {
-    /// P2: the payload, the stamp, the groups or a field of the header is out of its form.
+    /// P2: the text of this option is out of its form.
     #[error("P2")]
-    OutOfForm,
+    OutOfForm(TextOption),
     /// W2: memory ran out.
     #[error("W2")]
     Memory,
@@ -77,7 +68,8 @@ impl From<NoMemory> for SettingsFault {
 ///
 /// # Errors
 ///
-/// `OutOfForm` exactly where a text is none of its form; `Memory`.
+/// `OutOfForm` exactly where a text is none of its form, with the first such option in this order: payload, stamp,
+/// groups, host, app, procid, msgid. `Memory`.
 pub fn settings_of(
     alloc: Global,
     matches: &ArgMatches<'_>,
@@ -87,11 +79,7 @@ pub fn settings_of(
 {
     let choices = choices_of(matches)?;
     let texts = texts_of(matches)?;
-    Some(match settings_from(alloc, choices, &texts) {
-        Ok(Some(settings)) => Ok(settings),
-        Ok(None) => Err(SettingsFault::OutOfForm),
-        Err(_) => Err(SettingsFault::Memory),
-    })
+    Some(settings_from(alloc, choices, &texts))
 }
 
 fn choices_of(matches: &ArgMatches<'_>) -> Option<Choices>
@@ -145,27 +133,25 @@ fn version_of(text: &str) -> Option<Alg>
     }
 }
 
-/// The settings that choices and texts say; `None` where a text is out of its form.
-#[tactic(auto, unfolding(crate::specs::Settings::settings_in))]
+/// The settings that choices and texts say.
+#[tactic(auto, unfolding(crate::specs::Settings::settings_in, crate::specs::Settings::refused_option))]
 fn settings_from(
     alloc: Global,
     choices: Choices,
     texts: &Texts<'_>,
-) -> Result<Option<Settings>, NoMemory>
-    ensures { IfOk result (λ o. o ≡ settings_in choices texts.now) }
+) -> Result<Settings, SettingsFault>
+    ensures { Gives choices texts.now result }
 {
     let Some(payload) = Payload::parse(alloc, texts.payload.as_bytes())? else {
-        return Ok(None);
+        return Err(SettingsFault::OutOfForm(TextOption::Payload));
     };
     let Some(stamp) = stamp_of(texts.stamp.as_bytes()) else {
-        return Ok(None);
+        return Err(SettingsFault::OutOfForm(TextOption::Stamp));
     };
     let Some(grouping) = grouping_of(alloc, texts.groups)? else {
-        return Ok(None);
+        return Err(SettingsFault::OutOfForm(TextOption::Groups));
     };
-    let Some(head) = head_of(alloc, choices, texts)? else {
-        return Ok(None);
-    };
+    let head = head_of(alloc, choices, texts)?;
     let config = Config {
         head,
         alg: choices.alg,
@@ -175,11 +161,11 @@ fn settings_from(
         copies: choices.copies,
         frag: choices.frag,
     };
-    Ok(Some(Settings {
+    Ok(Settings {
         config,
         payload,
         stamp,
-    }))
+    })
 }
 
 fn moment_of(text: &[u8]) -> Option<Stamp>
@@ -212,13 +198,33 @@ fn field_of(alloc: Global, text: &str) -> Result<Field, NoMemory>
     Ok(Field::Text(Bytes::from_vec(octets)))
 }
 
-/// PRI and the fields of the header; `None` where a field is out of its form.
-fn head_of(alloc: Global, choices: Choices, texts: &Texts<'_>) -> Result<Option<Head>, NoMemory>
-    ensures { IfOk result (λ o. o ≡ head_in choices texts.now) }
+/// The field that the text of an option spells, in at most `limit` octets.
+fn fitting_field(
+    alloc: Global,
+    text: &str,
+    limit: usize,
+    option: TextOption,
+) -> Result<Field, SettingsFault>
+    ensures { FieldGives limit text.now option result }
 {
-    let host = field_of(alloc, texts.host)?;
-    let app = field_of(alloc, texts.app)?;
-    let procid = field_of(alloc, texts.procid)?;
-    let msgid = field_of(alloc, texts.msgid)?;
-    Ok(Head::new(choices.pri, host, app, procid, msgid))
+    let field = field_of(alloc, text)?;
+    if field.fits(limit) {
+        Ok(field)
+    } else {
+        Err(SettingsFault::OutOfForm(option))
+    }
+}
+
+/// PRI and the fields of the header.
+fn head_of(alloc: Global, choices: Choices, texts: &Texts<'_>) -> Result<Head, SettingsFault>
+    ensures { HeadGives choices texts.now result }
+{
+    let host = fitting_field(alloc, texts.host, 255, TextOption::Host)?;
+    let app = fitting_field(alloc, texts.app, 48, TextOption::App)?;
+    let procid = fitting_field(alloc, texts.procid, 128, TextOption::Procid)?;
+    let msgid = fitting_field(alloc, texts.msgid, 32, TextOption::Msgid)?;
+    let Some(head) = Head::new(choices.pri, host, app, procid, msgid) else {
+        unreachable!();
+    };
+    Ok(head)
 }

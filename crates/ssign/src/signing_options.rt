@@ -36,14 +36,17 @@ fn with_key_options<'a>(alloc: Global, command: Command<'a>) -> Result<Command<'
     ensures { (app : App) → IsLocalApp command.entry app → IfOk result (λ c. IsLocalApp c (with_key_options app)) }
 {
     let payload = text(alloc, "payload", "TEXT").required(true).help(
-        "The payload block: TIMESTAMP, SP, type of key, SP, key in base64",
+        "The text of the payload block, not the name of its file, as in --payload \"$(cat keys/payload)\": a time stamp \
+            or -, the type of the key, and the key in base64, with one space between two",
     );
     let rsid = number(alloc, "rsid", 0, LAST_NUMBER as i64)
         .required(true)
-        .help("The reboot session, 0 to 9999999999: a greater one for each log that is signed");
-    let stamp = text(alloc, "stamp", "TEXT")
-        .default_value("-")
-        .help("TIMESTAMP of all block messages");
+        .help(
+            "The number of the session, 0 to 9999999999: give each log that you sign a greater one",
+        );
+    let stamp = text(alloc, "stamp", "TEXT").default_value("-").help(
+        "The time stamp of all block messages, as in 2009-05-03T14:00:39Z, or - for none",
+    );
     command.arg(payload)?.arg(rsid)?.arg(stamp)
 }
 
@@ -52,19 +55,19 @@ fn with_header_options<'a>(alloc: Global, command: Command<'a>) -> Result<Comman
 {
     let pri = number(alloc, "pri", 0, 191)
         .default_value("110")
-        .help("PRI of the block messages, 0 to 191");
-    let host = text(alloc, "host", "TEXT")
-        .default_value("-")
-        .help("HOSTNAME of the block messages");
-    let app = text(alloc, "app", "TEXT")
-        .default_value("-")
-        .help("APP-NAME of the block messages");
-    let procid = text(alloc, "procid", "TEXT")
-        .default_value("-")
-        .help("PROCID of the block messages");
-    let msgid = text(alloc, "msgid", "TEXT")
-        .default_value("-")
-        .help("MSGID of the block messages");
+        .help("The PRI of the block messages, 0 to 191");
+    let host = text(alloc, "host", "TEXT").default_value("-").help(
+        "The HOSTNAME of the block messages, at most 255 visible ASCII octets, or - for none",
+    );
+    let app = text(alloc, "app", "TEXT").default_value("-").help(
+        "The APP-NAME of the block messages, at most 48 visible ASCII octets, or - for none",
+    );
+    let procid = text(alloc, "procid", "TEXT").default_value("-").help(
+        "The PROCID of the block messages, at most 128 visible ASCII octets, or - for none",
+    );
+    let msgid = text(alloc, "msgid", "TEXT").default_value("-").help(
+        "The MSGID of the block messages, at most 32 visible ASCII octets, or - for none",
+    );
     command
         .arg(pri)?
         .arg(host)?
@@ -83,18 +86,19 @@ fn with_block_options<'a>(
     let version = text(alloc, "ver", "VER")
         .value_parser(versions)
         .default_value("0111")
-        .help("The version of the blocks: hashes by SHA-1 (0111) or SHA-256 (0121)");
+        .help("The hash algorithm, as the version of the blocks: 0111 is SHA-1, 0121 is SHA-256");
     let groups = text(alloc, "groups", "TEXT").default_value("one").help(
-        "The groups of messages: one, pri (one for each PRI), or the highest PRI of each, as 63,127,191",
+        "Which messages share a signature group: one (all of them), pri (those of one PRI), or the highest PRI of \
+            each range, as in 63,127,191",
     );
     let count = number(alloc, "count", 1, 99).default_value("10").help(
-        "The most messages that a signature block announces, 1 to 99",
+        "How many messages one signature block announces at most, 1 to 99",
     );
     let frag = number(alloc, "frag", 1, 9_999).default_value("500").help(
-        "The most octets of the payload in a certificate block, 1 to 9999",
+        "How many octets of the payload one certificate block carries at most, 1 to 9999",
     );
     let copies = number(alloc, "copies", 1, 9).default_value("1").help(
-        "How often each block message is written, 1 to 9; a plan has each once",
+        "How many times each block message is written, 1 to 9; a plan lists each once",
     );
     command
         .arg(version)?

@@ -2,7 +2,7 @@
 use super::Explanation;
 
 /// The faults of messages and of blocks.
-pub static FAULTS: [Explanation; 22] = [
+pub static FAULTS: [Explanation; 21] = [
     Explanation {
         code: "M1",
         text: "The text doesn't begin with a PRI, <0> to <191> without a needless zero. What is stored isn't what was \
@@ -65,11 +65,6 @@ pub static FAULTS: [Explanation; 22] = [
         text: "The text of the message begins with a byte order mark, which says that it is UTF-8, and it isn't. The \
             sender wrote another encoding behind the mark, or cut the text within a character. Have it write UTF-8, or \
             leave the mark out.",
-    },
-    Explanation {
-        code: "M13",
-        text: "There was no memory to read a message. ssign never prints this, but the refusal O10 where it \
-            signs, and else W2 or V1; the library tells it to other programs.",
     },
     Explanation {
         code: "S1",

@@ -2,7 +2,7 @@
 use super::Explanation;
 
 /// The numbers that a refusal prints.
-pub static REFUSALS: [Explanation; 26] = [
+pub static REFUSALS: [Explanation; 21] = [
     Explanation {
         code: "F1",
         text: "F1 OFFSET: the octet there can't stand in the length of a frame. A length begins with 1 to 9, goes on \
@@ -65,11 +65,6 @@ pub static REFUSALS: [Explanation; 26] = [
             Each part needs the certificate blocks of its session and the signature blocks that announce its messages.",
     },
     Explanation {
-        code: "V2",
-        text: "A reviewer was given more messages than it was made for. ssign never prints this, since it \
-            refuses such a log with F5 before; the library tells it to other programs.",
-    },
-    Explanation {
         code: "W1",
         text: "Writing the output failed: the disk is full, for example, or the pipe was closed. What was written is \
             only the beginning of the output: don't use it. Make room, and run again. A file size limit (ulimit -f) \
@@ -111,16 +106,6 @@ pub static REFUSALS: [Explanation; 26] = [
             one, and blocks aren't signed again. Sign the log without its blocks.",
     },
     Explanation {
-        code: "O4",
-        text: "An originator was given a message, or flushed, before it had begun. ssign never prints this; the \
-            library tells it to other programs.",
-    },
-    Explanation {
-        code: "O5",
-        text: "An originator was begun twice, or one was begun that goes on behind another. ssign never prints this; the \
-            library tells it to other programs.",
-    },
-    Explanation {
         code: "O6",
         text: "O6 or O6 PLACE: a block is due, and the answers file has no seal line for it. With a place, the block \
             is due behind the message there; without one, at the front or the end of the log. Without --answers there \
@@ -131,18 +116,6 @@ pub static REFUSALS: [Explanation; 26] = [
         code: "O7",
         text: "O7 or O7 PLACE: the signature in the seal line for a block has more than 1024 octets. The place is that \
             of O6. See what your signer writes: the last field of the line has to be the signature alone.",
-    },
-    Explanation {
-        code: "O8",
-        text: "O8 PLACE: the number of a message would be over 9999999999. ssign never prints this, since no log \
-            that it takes has so many messages; the library tells it to other programs, which have to begin a new \
-            session.",
-    },
-    Explanation {
-        code: "O9",
-        text: "O9 or O9 PLACE: the count of signature blocks, GBC, would be over 9999999999. ssign never prints \
-            this, since no log that it takes has so many messages; the library tells it to other programs, which \
-            have to begin a new session.",
     },
     Explanation {
         code: "O10",

@@ -10,8 +10,9 @@ use Rattle.ssign.proofs.command_line.explain.Goals as goal
 
 pub returns : goal.returns
 returns c =
-    let bare : IsLocalApp c.about.result (new_app (codes "explain")) = record {
-      shape = ap app_of_fields c.about.ensures ∙ c.new.ensures.app;
-      local = ap (λ (f : Command-F Command). f.has_globals) c.about.ensures ∙ c.new.ensures.local;
+    let bare : IsLocalApp c.after_help.result (new_app (codes "explain")) = record {
+      shape = ap app_of_fields c.after_help.ensures ∙ (ap app_of_fields c.about.ensures ∙ c.new.ensures.app);
+      local = ap (λ (f : Command-F Command). f.has_globals) c.after_help.ensures
+          ∙ (ap (λ (f : Command-F Command). f.has_globals) c.about.ensures ∙ c.new.ensures.local);
     } in
     IfOk-weaker c.arg.result _ _ (λ r adds. with_argument adds bare c.code.ensures.rule c.code.ensures.local) c.arg.ensures

@@ -1,0 +1,19 @@
+//! Negative numbers in options, which are mistakes: saying the range of the option.
+use crate::command_line::negative_command;
+use clap::error::ErrorKind;
+use std::alloc::AllocError;
+
+/// Reads the words once more, with options that take negative numbers as values, and says on standard error which
+/// range such a number is out of. Answers whether it was said: it isn't where the mistake is another one.
+///
+/// The commands themselves take no word that begins with a hyphen as a value, and so would only say that `-1` is an
+/// unexpected argument.
+pub fn tells_negative<R: Print + Eprint + AllocGlobal>(rt: &R, words: &[String]) -> bool {
+    let Ok(command) = negative_command(rt.alloc()) else {
+        return false;
+    };
+    match command.try_get_matches_from(words) {
+        Ok(_) => false,
+        Err(fault) => fault.kind() == ErrorKind::ValueValidation && fault.print(rt).is_ok(),
+    }
+}

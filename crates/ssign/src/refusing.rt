@@ -1,0 +1,137 @@
+//! Saying why there is no output: in one line for programs, and in words where a person looks.
+ghost use Rattle.std.specs.Prelude.{◌≡◌};
+ghost use Rattle.ssign.specs.Remark.{cause_remark, SaysOfSettings};
+
+use crate::asked::asked_word;
+use crate::explain::explanation_of;
+use crate::explanations::{Explanation, FAULTS, REFUSALS, UNPRINTED, WORDS};
+use crate::likely_cause::LikelyCause;
+use crate::settings::SettingsFault;
+use crate::text_option::TextOption;
+use arrayvec::ArrayString;
+use clap::ArgMatches;
+use std::fmt;
+use std::fmt::{Display, Write};
+
+/// A refusal or a usage fault.
+pub const REFUSED: u8 = 2;
+
+/// The most octets of a refusal as it is printed: a code, a space and a number of up to 20 digits take fewer.
+const LONGEST_REFUSAL: usize = 32;
+
+/// Where refusals are shown.
+pub trait Screen {
+    /// Whether a person looks: standard error is a terminal.
+    fn shows_refusals(&self) -> bool;
+}
+
+/// What a refusal is about, beside its explanation.
+#[derive(Clone, Copy, Debug)]
+pub enum Remark<'a> {
+    /// Nothing more is known.
+    Nothing,
+    /// This answers file.
+    AnswersFile(&'a str),
+    /// This option, and its text.
+    Text(TextOption, &'a str),
+    /// The log, of which this most likely is the cause.
+    Cause(LikelyCause),
+}
+
+impl Display for Remark<'_> {
+    fn fmt<W: Write>(&self, f: &mut fmt::Formatter<W>) -> fmt::Result {
+        match self {
+            Remark::Nothing => Ok(()),
+            Remark::AnswersFile(file) => writeln!(f, "The answers file is --answers {file:?}."),
+            Remark::Text(option, text) => {
+                writeln!(f, "The option is --{} {text:?}.", option.name())?;
+                if *option == TextOption::Payload && !text.contains(' ') {
+                    writeln!(
+                        f,
+                        "--payload wants the text of the payload block, not the name of a file: say \
+                        --payload \"$(cat keys/payload)\"."
+                    )?;
+                }
+                Ok(())
+            }
+            Remark::Cause(cause) => writeln!(f, "{cause}"),
+        }
+    }
+}
+
+/// What is said of options that give no settings: the option whose text is out of its form, and that text.
+pub fn settings_remark<'a>(fault: SettingsFault, options: &ArgMatches<'a>) -> Remark<'a>
+    ensures { SaysOfSettings fault options.now result }
+{
+    match fault {
+        SettingsFault::OutOfForm(option) => match option.value_in(options) {
+            Some(text) => Remark::Text(option, text),
+            None => Remark::Nothing,
+        },
+        SettingsFault::Memory => Remark::Nothing,
+    }
+}
+
+/// What is said of a log of which a cause is known, or isn't.
+pub fn cause_remark<'a>(cause: Option<LikelyCause>) -> Remark<'a>
+    ensures { result ≡ cause_remark cause }
+{
+    match cause {
+        Some(cause) => Remark::Cause(cause),
+        None => Remark::Nothing,
+    }
+}
+
+/// Says on standard error why there is no output. Where a person looks, the code is explained, and the remark follows.
+pub fn refuse<R: Eprint + Screen, F: Display>(rt: &R, fault: &F, remark: Remark<'_>) -> u8
+    ensures { result ≡ 2 }
+{
+    let _ = eprintln!(rt; "ssign: {fault}");
+    if rt.shows_refusals() {
+        explain_refusal(rt, fault);
+        let _ = eprint!(rt; "{remark}");
+    }
+    REFUSED
+}
+
+/// Says what `explain` says of the refusal as it is printed.
+fn explain_refusal<R: Eprint, F: Display>(rt: &R, fault: &F) {
+    let mut line = ArrayString::<LONGEST_REFUSAL>::new();
+    if write!(line, "{fault}").is_err() {
+        return;
+    }
+    let Some(code) = asked_word(line.as_str()) else {
+        return;
+    };
+    if let Some(explanation) = explanation_of(&REFUSALS, &WORDS, &FAULTS, &UNPRINTED, code) {
+        let _ = eprintln!(rt; "{}", explanation.text);
+    }
+}
+
+/// Says on standard error that a word of the command line can't be read.
+pub fn refuse_words<R: Eprint>(rt: &R) -> u8
+    ensures { result ≡ 2 }
+{
+    let _ = eprintln!(rt;
+        "error: a word of the command line isn't UTF-8\n\nFor more information, try '--help'."
+    );
+    REFUSED
+}
+
+/// Says on standard error that nothing is told of a code, and of which something is.
+pub fn refuse_code<R: Eprint>(
+    rt: &R,
+    refusals: &[Explanation],
+    words: &[Explanation],
+    faults: &[Explanation],
+    code: &str,
+) -> u8
+    ensures { result ≡ 2 }
+{
+    let _ = eprint!(rt; "error: no explanation of {code:?}\n\nThe codes:");
+    for entry in refusals.iter().chain(words.iter()).chain(faults.iter()) {
+        let _ = eprint!(rt; " {}", entry.code);
+    }
+    let _ = eprintln!(rt; "\n\nFor more information, try '--help'.");
+    REFUSED
+}

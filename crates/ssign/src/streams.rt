@@ -1,0 +1,89 @@
+//! Runs from standard input to standard output.
+ghost use Rattle.std.specs.Prelude.{◌≡◌, false, IfOk};
+ghost use Rattle.ss_frame.specs.Watched.{has_failed};
+
+use crate::explain::write_explanation;
+use crate::explanations::Explanation;
+use crate::settings::Settings;
+use crate::signing::{Signing, run_signing};
+use crate::task::{Task, run_task};
+use ss_answers::Answers;
+use ss_frame::{Buffered, Limits, Watched};
+use ss_report::{RunFault, Verdict};
+use ss_review::Judge;
+use ss_signing::SignFault;
+use std::alloc::Global;
+use std::io;
+use std::io::{BufWriter, Printer, Read};
+
+/// How much is written at once, in octets.
+const BUFFER_SIZE: usize = 65_536;
+
+/// Makes a run from the input to standard output.
+pub fn run_streams<R: Print + AllocGlobal, I: Read + Drop, J: Judge>(
+    rt: &R,
+    input: I,
+    task: Task,
+    judge: &J,
+    limits: Limits,
+) -> Result<Verdict, RunFault>
+    requires { J.sound judge.now }
+{
+    let mut reader = buffered(rt.alloc(), input)?;
+    let mut writer = standard_output(rt)?;
+    run_task(rt.alloc(), &mut reader, &mut writer, task, judge, limits)
+}
+
+/// Makes a run that signs from the input to standard output.
+pub fn sign_streams<R: Print + AllocGlobal, I: Read + Drop>(
+    rt: &R,
+    input: I,
+    signing: Signing,
+    settings: Settings,
+    answers: Option<Answers>,
+    limits: Limits,
+) -> Result<(), SignFault> {
+    let mut reader = buffered(rt.alloc(), input)?;
+    let mut writer = standard_output(rt)?;
+    let alloc = rt.alloc();
+    run_signing(
+        alloc,
+        &mut reader,
+        &mut writer,
+        signing,
+        settings,
+        answers,
+        limits,
+    )
+}
+
+/// Writes an explanation to standard output.
+pub fn explain_on_output<R: Print + AllocGlobal>(
+    rt: &R,
+    explanation: &Explanation,
+) -> Result<(), RunFault> {
+    let mut writer = standard_output(rt)?;
+    write_explanation(rt.alloc(), &mut writer, explanation)
+}
+
+/// The input, through a buffer.
+fn buffered<I: Drop>(alloc: Global, input: I) -> Result<Watched<Buffered<I>>, RunFault>
+    ensures { IfOk result (λ reader. has_failed reader ≡ false) }
+{
+    let Ok(input) = Buffered::new(alloc, input) else {
+        return Err(RunFault::Memory);
+    };
+    Ok(Watched::new(input))
+}
+
+/// Standard output, through a buffer.
+fn standard_output<R: Print + AllocGlobal>(
+    rt: &R,
+) -> Result<Watched<BufWriter<Printer<'_, R>>>, RunFault>
+    ensures { IfOk result (λ writer. has_failed writer ≡ false) }
+{
+    let Ok(output) = BufWriter::with_capacity(rt.alloc(), BUFFER_SIZE, io::writer(rt)) else {
+        return Err(RunFault::Memory);
+    };
+    Ok(Watched::new(output))
+}
