@@ -1,6 +1,6 @@
 #!/usr/bin/env bash
-# The tables of codes in docs/guide.md are what `ssign explain` tells: the same codes, and of each the same text but for
-# backquotes.
+# The tables of codes in docs/guide.md are what `ssign explain` lists: the same codes, and of each the same text but for
+# backquotes. It explains codes too that the program never prints, and finds a code in what a refusal prints.
 # shellcheck source=tests/lib.sh
 . "$(dirname -- "$0")/lib.sh"
 need_program
@@ -31,10 +31,70 @@ tell 'the codes of the guide are those of the program, in their order' "$said"
 twice=$(tr ' ' '\n' <<<"$codes" | sort | uniq -d)
 tell 'no code is told of twice' "${twice:+    $twice}"
 
-for code in '' f1 F 'F1 ' F10 Gap; do
+# without_case WORD..: the words in small letters, a line each.
+without_case() {
+    printf '%s\n' "$@" | tr '[:upper:]' '[:lower:]'
+}
+
+# codes that the program never prints: explained where they are asked about, and listed nowhere
+unprinted=(F6 F7 F8 O4 O5 O8 O9 V2 M13)
+for code in "${unprinted[@]}"; do
     run explain "$code" </dev/null
-    [[ $status == 2 && ! -s $scratch/out ]] && said='' || said="    status $status, or something on standard output"
-    tell "nothing is told of '$code'" "$said"
+    expect "$code is explained" 0 'SOME TEXT' ''
+    holds "what is told of $code is one line" test "$(wc -l <"$scratch/out")" = 1
+    holds "$code is said never to be printed" grep -q 'ssign never prints this' "$scratch/out"
+    holds "$code is listed nowhere" test -z "$(grep -w -- "$code" <<<"$codes")"
 done
+twice=$(without_case "${told[@]}" "${unprinted[@]}" | sort | uniq -d)
+tell 'no two codes differ in the case of their letters alone' "${twice:+    $twice}"
+
+# the same code, written in other ways
+asked() {
+    local code=$1
+    shift
+    "$program" explain "$code" >"$scratch/wanted" </dev/null
+    run explain "$@" </dev/null
+    expect "explain $*" 0 "$(<"$scratch/wanted")" ''
+}
+for code in "${told[@]}" "${unprinted[@]}"; do
+    asked "$code" "${code,,}"
+    asked "$code" "${code^^}"
+done
+asked gap Gap
+asked F1 'F1 0'
+asked F1 F1 0
+asked F1 f1 0
+asked F1 'ssign: F1 0'
+asked F1 ssign: F1 0
+asked F1 ssign: 'F1 0'
+asked F1 'F1 '
+asked F1 ' F1'
+asked F1 '' F1
+asked F1 'ssign:  F1'
+asked F1 ssign: ssign: F1
+asked F1 F1 F2 nothing
+asked O6 'ssign: O6 12'
+asked W1 -- W1
+
+# nothing is told of the first word: LAST is what the program says it was asked about
+unknown() {
+    local last=$1
+    shift
+    run explain "$@" </dev/null
+    [[ $status == 2 && ! -s $scratch/out ]] && said='' || said="    status $status, or something on standard output"
+    tell "nothing is told of '$*'" "$said"
+    holds "'$last' is what nothing is told of" test "$(head -n 1 "$scratch/err")" = "error: no explanation of \"$last\""
+}
+unknown '' ''
+unknown '' ' '
+unknown '' ssign:
+unknown F F
+unknown F10 F10
+unknown nothing nothing
+unknown nothing nothing F1
+unknown ssign ssign F1
+unknown SSIGN: SSIGN: F1
+unknown F1: 'F1: 0'
+unknown ssign:F1 ssign:F1
 
 finish
