@@ -6,7 +6,7 @@ pub static FAULTS: [Explanation; 21] = [
     Explanation {
         code: "M1",
         text: "The text doesn't begin with a PRI, <0> to <191> without a needless zero. What is stored isn't what was \
-            sent, or it isn't syslog: have the log written raw.",
+            sent, or isn't syslog: have the log written raw.",
     },
     Explanation {
         code: "M2",
@@ -20,30 +20,30 @@ pub static FAULTS: [Explanation; 21] = [
     },
     Explanation {
         code: "M4",
-        text: "HOSTNAME isn't 1 to 255 visible ASCII octets with a space behind. A name with a space in it, or with \
+        text: "HOSTNAME isn't 1 to 255 visible ASCII octets followed by a space. A name with a space in it, or with \
             letters that aren't ASCII, fails so. Set the sender to write it in ASCII, or - if it has none.",
     },
     Explanation {
         code: "M5",
-        text: "APP-NAME isn't 1 to 48 visible ASCII octets with a space behind. The name of the program may be too \
+        text: "APP-NAME isn't 1 to 48 visible ASCII octets followed by a space. The name of the program may be too \
             long, or hold a space. Set the sender to shorten it, or to write -.",
     },
     Explanation {
         code: "M6",
-        text: "PROCID isn't 1 to 128 visible ASCII octets with a space behind. Set the sender to write the number of \
+        text: "PROCID isn't 1 to 128 visible ASCII octets followed by a space. Set the sender to write the number of \
             its process there, or -.",
     },
     Explanation {
         code: "M7",
-        text: "MSGID isn't 1 to 32 visible ASCII octets with a space behind. If a field of the header was left out, \
+        text: "MSGID isn't 1 to 32 visible ASCII octets followed by a space. If a field of the header was left out, \
             each later field is read in place of the one before, and the mistake shows here. Set the sender to write - \
             for an absent field.",
     },
     Explanation {
         code: "M8",
-        text: "An octet in the structured data, or right behind it, can't stand there, or the text ends too early. If \
+        text: "An octet in the structured data, or right after it, can't stand there, or the text ends too early. If \
             it is the last octet of the text, it is usually a line feed that the sender counted into the frame: have \
-            the sender leave it out. If it is so with every block, a CR or LF was added when the log was stored.",
+            the sender leave it out. If every block fails so, a CR or LF was added when the log was stored.",
     },
     Explanation {
         code: "M9",
@@ -63,7 +63,7 @@ pub static FAULTS: [Explanation; 21] = [
     Explanation {
         code: "M12",
         text: "The text of the message begins with a byte order mark, which says that it is UTF-8, and it isn't. The \
-            sender wrote another encoding behind the mark, or cut the text within a character. Have it write UTF-8, or \
+            sender wrote another encoding after the mark, or cut the text within a character. Have it write UTF-8, or \
             leave the mark out.",
     },
     Explanation {
@@ -106,7 +106,7 @@ pub static FAULTS: [Explanation; 21] = [
     },
     Explanation {
         code: "S8",
-        text: "The fragment ends behind the end of the payload, or its length isn't FLEN. The block was changed, or \
+        text: "The fragment goes beyond the end of the payload, or its length isn't FLEN. The block was changed, or \
             its originator counts something else than octets: compare it with what the originator sends.",
     },
     Explanation {

@@ -6,7 +6,7 @@ pub static REFUSALS: [Explanation; 21] = [
     Explanation {
         code: "F1",
         text: "F1 OFFSET: the octet there can't stand in the length of a frame. A length begins with 1 to 9, goes on \
-            with digits, and ends with a space. At offset 0 the log is usually one message a line: say --lines. \
+            with digits, and ends with a space. At offset 0 the log is usually one message a line: use --lines. \
             Further on, something stands between two frames, such as a line feed, or a length is wrong: look at the \
             octets there.",
     },
@@ -18,9 +18,8 @@ pub static REFUSALS: [Explanation; 21] = [
     },
     Explanation {
         code: "F3",
-        text: "Reading the log failed. The disk may be broken, or standard input is a folder. A standard input that \
-            doesn't wait (non-blocking) and has nothing yet also ends so (EAGAIN). See that the log can be read, and \
-            run again.",
+        text: "Reading the log failed. The disk may be broken, or standard input is a folder. A non-blocking standard \
+            input that has no data yet also fails so (EAGAIN). See that the log can be read, and run again.",
     },
     Explanation {
         code: "F4",
@@ -30,12 +29,13 @@ pub static REFUSALS: [Explanation; 21] = [
         code: "F5",
         text: "F5 OFFSET: the log has more messages than --max-messages allows, and goes on at this octet. Raise \
             --max-messages, up to 10000000, or cut the log into parts. Each part needs the certificate blocks of its \
-            session and the signature blocks that announce its messages.",
+            session and the signature blocks that announce its messages. If the session began before the part, a hole \
+            stands for the numbers before its own.",
     },
     Explanation {
         code: "F9",
         text: "F9 OFFSET: the line feed there ends an empty line, and a message has at least one octet. If nothing was \
-            lost there, take the empty line out.",
+            lost there, remove the empty line.",
     },
     Explanation {
         code: "A1",
@@ -62,14 +62,15 @@ pub static REFUSALS: [Explanation; 21] = [
     Explanation {
         code: "V1",
         text: "There wasn't enough memory to review the log. Give the program more memory, or cut the log into parts. \
-            Each part needs the certificate blocks of its session and the signature blocks that announce its messages.",
+            Each part needs the certificate blocks of its session and the signature blocks that announce its messages. \
+            If the session began before the part, a hole stands for the numbers before its own.",
     },
     Explanation {
         code: "W1",
-        text: "Writing the output failed: the disk is full, for example, or the pipe was closed. What was written is \
-            only the beginning of the output: don't use it. Make room, and run again. A file size limit (ulimit -f) \
-            ends the program by its signal, SIGXFSZ, without W1, unless that signal is ignored. Under ./ssign it is \
-            ignored, so there it is W1.",
+        text: "Writing the output failed: the disk is full, for example, or the pipe was closed. Only the beginning of \
+            the output was written: don't use it. Make room, and run again. A file size limit (ulimit -f) ends the \
+            program by its signal, SIGXFSZ, without W1, unless that signal is ignored. ./ssign ignores it, so there \
+            you get W1.",
     },
     Explanation {
         code: "W2",
@@ -98,7 +99,7 @@ pub static REFUSALS: [Explanation; 21] = [
     Explanation {
         code: "O2",
         text: "O2 PLACE: the message at this place of the log isn't a message of RFC 5424, so it can't be signed. Run \
-            ssign inspect to see which part of it fails. Mend its sender, or take the message out.",
+            ssign inspect to see which part of it fails. Correct its sender, or leave the message out.",
     },
     Explanation {
         code: "O3",
@@ -108,14 +109,14 @@ pub static REFUSALS: [Explanation; 21] = [
     Explanation {
         code: "O6",
         text: "O6 or O6 PLACE: a block is due, and the answers file has no seal line for it. With a place, the block \
-            is due behind the message there; without one, at the front or the end of the log. Without --answers there \
-            are no seal lines at all. Run ssign plan over the same log with the same options, and have each of its \
-            lines signed. Then give all seal lines to ssign sign with --answers.",
+            is due after the message there; without one, at the beginning or the end of the log. Without --answers \
+            there are no seal lines at all. Run ssign plan over the same log with the same options, and have each of \
+            its lines signed. Then give all seal lines to ssign sign with --answers.",
     },
     Explanation {
         code: "O7",
-        text: "O7 or O7 PLACE: the signature in the seal line for a block has more than 1024 octets. The place is that \
-            of O6. See what your signer writes: the last field of the line has to be the signature alone.",
+        text: "O7 or O7 PLACE: the signature in the seal line for a block has more than 1024 octets. PLACE means what \
+            it means for O6. See what your signer writes: the last field of the line has to be the signature alone.",
     },
     Explanation {
         code: "O10",

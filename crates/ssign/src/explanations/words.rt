@@ -8,7 +8,7 @@ pub static WORDS: [Explanation; 24] = [
         code: "session",
         text: "A session is one run of a sender: its blocks share HOSTNAME, APP-NAME, PROCID and a number, the RSID. \
             The line ends with its state: joined, disputed, incomplete, malformed, untrusted or unaccepted. Only in a \
-            joined session do signature blocks count. The session's ok, gap and hole lines follow.",
+            joined session do blocks count. The session's ok, gap and hole lines follow.",
     },
     Explanation {
         code: "ok",
@@ -25,56 +25,58 @@ pub static WORDS: [Explanation; 24] = [
         text: "No stored message is left that has the hash of this number. The message was taken out or changed, or \
             stored in another form than it was sent in. Or two numbers announce the same message, as two originators \
             may, and it is stored only once: the first number has it. If every number is lost, suspect the storing \
-            before an intruder: an LF, CR or byte order mark came or went, or control characters were escaped.",
+            before an intruder: an LF or a byte order mark was dropped from each message, or control characters were \
+            escaped.",
     },
     Explanation {
         code: "hole",
-        text: "No signature block that counts announces the numbers from the first to the last of these, though one \
-            announces a later number. The block for them was lost, or isn't believed. Look for refused lines, and for \
-            the block in the logs before and after this one. The messages of these numbers, if stored, are unlisted.",
+        text: "The line ends with the first and the last of some numbers. No signature block that counts announces \
+            these numbers, but one announces a later number. The block for them was lost, or doesn't count. Look for \
+            refused lines, and for the block in the logs before and after this one. The messages of these numbers, if \
+            stored, are unlisted.",
     },
     Explanation {
         code: "unlisted",
-        text: "No number lists this stored message. There are four cases, and the lines beside it tell which. A hole, \
-            a refused line or a session that isn't joined: its block may be lost, or isn't believed. A gap and this \
-            line together usually mean that a message was changed, or put in for one that was taken out. An ok line \
-            for an equal message: this is a copy too many. None of these: it was never signed, its block lies behind \
-            the end of this log, or somebody put it in.",
+        text: "No number lists this stored message. There are four cases. It was never signed, or its block comes only \
+            after the end of this log: no other line shows this. Its block was lost, or doesn't count: a hole, a \
+            refused line or a session that isn't joined may show this. Nothing shows that the last block of a group \
+            was lost. Somebody changed it or put it in: a gap and this line together usually mean that a message was \
+            changed. It is a copy too many: an ok line lists an equal message at an earlier place.",
     },
     Explanation {
         code: "refused",
-        text: "This block isn't believed: its session isn't joined, or its own signature isn't valid under the \
+        text: "This block doesn't count: its session isn't joined, or its own signature isn't valid under the \
             session's payload. Look at the state of the session first. If that is joined, the block was changed, or \
             the answers file lacks its yes line.",
     },
     Explanation {
         code: "spoilt",
-        text: "A message with an element ssign or ssign-cert that isn't a block, and the first cause, S1 to S9. It \
-            announces nothing, and can't be listed. It was changed, or its sender writes blocks in another way than \
-            RFC 5848: compare it with what the sender sends.",
+        text: "This message has an element ssign or ssign-cert, but isn't a block. The line ends with the first cause, \
+            S1 to S9. The message announces nothing, and can't be listed. It was changed, or its sender writes blocks \
+            in another way than RFC 5848: compare it with what the sender sends.",
     },
     Explanation {
         code: "torn",
-        text: "The log breaks off in the frame or line that begins at this octet; what stands before it counts. The \
+        text: "The log breaks off in the frame or line that begins at this octet. What stands before it was read. The \
             log was cut off, or is still being written. Get the rest, and run again.",
     },
     Explanation {
         code: "end",
-        text: "Always the last line: how many messages the log has, blocks among them. Output without this line is \
+        text: "Always the last line: how many messages were read, blocks included. Output without this line is \
             incomplete: don't use it.",
     },
     Explanation {
         code: "joined",
         text: "The payload of the session, which states its key, is whole and trusted, and certificate blocks with \
-            valid signatures cover all of it. So its signature blocks count, each by its own signature. There is \
+            valid signatures cover all of it. So each of its blocks counts if its own signature is valid. There is \
             nothing to do.",
     },
     Explanation {
         code: "disputed",
-        text: "Of a session: its certificate blocks state two lengths of the payload, or two octets at one place of \
-            it. So its key isn't known, and nothing of it counts. Of a gap: signature blocks that count have two \
-            different hashes for the number. Either blocks of somebody else stand in the log, or the originator used \
-            the session, or the number, twice. Look at the blocks with ssign inspect.",
+        text: "Of a session: its certificate blocks state two lengths of the payload, or two different octets at one \
+            place of it. So its key isn't known, and nothing of it counts. Of a gap: signature blocks that count have \
+            two different hashes for the number. Either blocks of somebody else stand in the log, or the originator \
+            used the session, or the number, twice. Look at the blocks with ssign inspect.",
     },
     Explanation {
         code: "incomplete",
@@ -92,13 +94,14 @@ pub static WORDS: [Explanation; 24] = [
         code: "untrusted",
         text: "The answers file has no trust line for this session's key, so nothing of the session counts. Without \
             --answers no key is trusted. If you know by another way that this is the originator's key, put its trust \
-            line into the answers file. ssign questions prints that line.",
+            line into the answers file. ssign questions prints that line. With ssign-keys verify, give the key with \
+            --key.",
     },
     Explanation {
         code: "unaccepted",
-        text: "Some certificate block has no valid signature, so the key isn't confirmed, and nothing of the session \
-            counts. The payload itself is trusted. Certificate blocks were changed, or the answers file lacks their \
-            yes lines.",
+        text: "The certificate blocks with valid signatures don't cover the whole payload, so the key isn't confirmed, \
+            and nothing of the session counts. The payload itself is trusted. Certificate blocks were changed, or the \
+            answers file lacks their yes lines.",
     },
     Explanation {
         code: "plain",
@@ -107,8 +110,8 @@ pub static WORDS: [Explanation; 24] = [
     },
     Explanation {
         code: "unparsed",
-        text: "This stored text isn't a message of RFC 5424. M1 to M12 names the first part that fails, and the number \
-            behind it the octet of the text, from 0, where it fails. A review treats the text as a message without a \
+        text: "This stored text isn't a message of RFC 5424. M1 to M12 names the first part that fails. The number \
+            after it is the octet of the text, from 0, where it fails. A review treats the text as a message without a \
             block, and lists it if an originator signed it. ssign sign refuses it (O2). A block that was changed may \
             show so too.",
     },
@@ -121,8 +124,8 @@ pub static WORDS: [Explanation; 24] = [
     Explanation {
         code: "certificate",
         text: "A certificate block: first its session, then its group (SG and SPRI). TPBL is the length of the \
-            session's payload. INDEX is where in it the block's fragment begins, and FLEN how long that fragment is. \
-            Run ssign review to see whether it counts.",
+            session's payload. INDEX is where the block's fragment begins in the payload, from 1, and FLEN is how long \
+            the fragment is. Run ssign review to see whether it counts.",
     },
     Explanation {
         code: "want",
