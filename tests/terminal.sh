@@ -123,7 +123,10 @@ printf '3 abc' >"$log"
 refused 'a message that is none of RFC 5424' 'O2 0' '' plan "${given[@]}"
 printf '<13>1 - - - - - - a\n' >"$log"
 refused 'no seal line' 'O6' '' sign --lines "${given[@]}"
-shown review <"$root"
+# Python itself can't begin on a folder
+timeout "$patience" python3 -B "$scratch/on_terminal.py" "$scratch/err" bash -c 'exec "$1" review <"$2"' _ "$program" "$root" \
+    >"$scratch/out" </dev/null
+status=$?
 expect 'a folder as standard input' 2 '' "ssign: F3"$'\n'"$(explained F3)"
 timeout "$patience" python3 -B "$scratch/on_terminal.py" "$scratch/err" "$program" review >/dev/full </dev/null
 status=$?

@@ -82,8 +82,7 @@ pub fn negative_command<'a>(alloc: Global) -> Result<Command<'a>, AllocError> {
         .subcommand(explain(alloc)?)
 }
 
-fn with_negatives<'a>(command: Command<'a>) -> Result<Command<'a>, AllocError> {
-    let mut command = command;
+fn with_negatives<'a>(mut command: Command<'a>) -> Result<Command<'a>, AllocError> {
     for name in NUMBERS {
         command = command.mut_arg(name, |arg| Ok(arg.allow_negative_numbers(true)))?;
     }
@@ -162,7 +161,7 @@ fn explain<'a>(alloc: Global) -> Result<Command<'a>, AllocError>
     ensures { IfOk result (λ c. IsLocalApp c explain_app) }
 {
     Command::new(alloc, "explain")
-        .about("Says what a refusal, or a word of the output, means and what to do")
+        .about("Explains a refusal or a word of the output: what it means, and what to do")
         .after_help(EXAMPLES)
         .arg(code(alloc))
 }
