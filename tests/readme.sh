@@ -1,7 +1,7 @@
 #!/usr/bin/env bash
-# The examples of README.md and docs/guide.md: a block that is one line with `./ssign` is a command, the block behind it
-# is what the program prints, and between the two stands `status N`. Where the command has `./ssign` twice, the last one
-# prints.
+# The examples of README.md and docs/guide.md: a block that is one line with `./ssign`, or with `./tools/ssign-keys` over a
+# file of examples/, is a command, the block behind it is what the program prints, and between the two stands `status N`.
+# Where the command has `./ssign` twice, the last one prints.
 # shellcheck source=tests/lib.sh
 . "$(dirname -- "$0")/lib.sh"
 need_program
@@ -17,10 +17,24 @@ example() {
         return
     fi
     local wanted=${BASH_REMATCH[1]}
-    # shellcheck disable=SC2016
-    command=${command//.\/ssign /'"$program" '}
-    eval "${command%'"$program" '*}run ${command##*'"$program" '}"
+    if [[ $command == ./tools/ssign-keys\ * ]]; then
+        if ! python3 -c 'import cryptography' 2>"$scratch/err"; then
+            echo "$name: $file: $command: skipped, since the Python module cryptography is missing"
+            return
+        fi
+        SSIGN=$program timeout "$patience" bash -c "$command" >"$scratch/out" 2>"$scratch/err"
+        status=$?
+    else
+        # shellcheck disable=SC2016
+        command=${command//.\/ssign /'"$program" '}
+        eval "${command%'"$program" '*}run ${command##*'"$program" '}"
+    fi
     expect "$file: $command" "$wanted" "$output" ''
+}
+
+# is_command BLOCK: whether a block is the command of an example.
+is_command() {
+    [[ $1 != *$'\n'* && ($1 == *./ssign\ * || $1 == ./tools/ssign-keys\ *examples/*) ]]
 }
 
 # examples FILE: one check for each of its examples.
@@ -28,11 +42,11 @@ examples() {
     local file=$1 line block='' command='' text=''
     # the line that is added ends the last block
     while IFS= read -r line; do
-        if [[ $line == '    '[^\ ]* ]]; then
+        if [[ $line == '    '[^\ ]* || $block && $line == '    '* ]]; then
             block+=${block:+$'\n'}${line:4}
             continue
         fi
-        if [[ $block == *./ssign\ * && $block != *$'\n'* ]]; then
+        if is_command "$block"; then
             [[ -z $command ]] || tell "$file: $command" '    its output is not shown'
             command=$block
             text=''
