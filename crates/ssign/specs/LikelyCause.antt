@@ -1,14 +1,14 @@
 -- What the first octets of a log, and the form that it is read in, say of why it can't be read.
-use Rattle.std.specs.Prelude.{ℕ, Bool, true, false, ◌==◌, ◌&&◌, nat_le, List, [], ◌∷◌, length, take, Option, Some, None, codes, if◌then◌else◌}
+use Rattle.std.specs.Prelude.{ℕ, Bool, true, false, ◌&&◌, nat_le, List, [], ◌∷◌, length, take, Option, Some, None, codes, if◌then◌else◌}
 use Rattle.std.specs.Str.{bytes_eq}
 use Rattle.ss_frame.specs.declared.fault.FrameFault.{FrameFault}
-use Rattle.ss_frame.specs.declared.fault.FrameFault.TheVariants.{BadLength, TooLong, Read, Memory, TooManyMessages, Failed, EmptyLine}
+use Rattle.ss_frame.specs.declared.fault.FrameFault.TheVariants.{BadLength, TooLong, TooManyMessages, EmptyLine}
 use Rattle.ss_frame.specs.declared.limits.Form.{Form}
 use Rattle.ss_frame.specs.declared.limits.Form.TheVariants.{Frames, Lines}
 use Rattle.ss_report.specs.declared.fault.RunFault.{RunFault}
-use Rattle.ss_report.specs.declared.fault.RunFault.TheVariants.{Frame, Review, Write, Memory as NoMemory}
+use Rattle.ss_report.specs.declared.fault.RunFault.TheVariants.{Frame}
 use Rattle.ss_signing.specs.declared.fault.SignFault.{SignFault}
-use Rattle.ss_signing.specs.declared.fault.SignFault.TheVariants.{Run, TornInput, Origin}
+use Rattle.ss_signing.specs.declared.fault.SignFault.TheVariants.{Run, TornInput}
 use Rattle.ssign.specs.declared.likely_cause.LikelyCause.{LikelyCause}
 use Rattle.ssign.specs.declared.likely_cause.LikelyCause.TheVariants.{Gzip, Xz, Zstd, ByteOrderMark, Unframed, Framed}
 

@@ -5,7 +5,7 @@ use Rattle.clap.specs.declared.parser.matches.ArgMatches.{ArgMatches}
 use Rattle.ssign.specs.Settings.{option_name}
 use Rattle.ssign.specs.declared.likely_cause.LikelyCause.{LikelyCause}
 use Rattle.ssign.specs.declared.refusing.Remark.{Remark}
-use Rattle.ssign.specs.declared.refusing.Remark.TheVariants.{Nothing, AnswersFile, Text, Cause}
+use Rattle.ssign.specs.declared.refusing.Remark.TheVariants.{Nothing, Text, Cause}
 use Rattle.ssign.specs.declared.settings.SettingsFault.{SettingsFault}
 use Rattle.ssign.specs.declared.settings.SettingsFault.TheVariants.{OutOfForm, Memory}
 
