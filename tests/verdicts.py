@@ -112,13 +112,17 @@ def damaged(kind: str, stored: List[bytes]) -> List[bytes]:
 
 
 def ended_by(name: str, path: str, *words: str) -> str:
-    """The signal that ends a command to which a signal was sent."""
-    with subprocess.Popen(words) as child:
+    """The signal that ends a command to which a signal was sent.
+
+    It begins as from a terminal: whoever starts a script in the background has SIGINT ignored in all that it starts.
+    """
+    number = signal.Signals[f"SIG{name}"]
+    with subprocess.Popen(words, preexec_fn=lambda: signal.signal(number, signal.SIG_DFL)) as child:
         for _ in range(300):
             if os.path.exists(path) and os.path.getsize(path):
                 break
             time.sleep(0.1)
-        child.send_signal(signal.Signals[f"SIG{name}"])
+        child.send_signal(number)
         status = child.wait(30)
     return signal.Signals(-status).name if status < 0 else f"status {status}"
 
