@@ -3,7 +3,7 @@
 # the text that says what it is. A program that is older than a source is never recorded.
 set -u
 
-root=$(dirname -- "$(readlink -f -- "${BASH_SOURCE[0]}")")/.. || exit 2
+self=$(readlink -f -- "${BASH_SOURCE[0]}") && root=$(dirname -- "$self")/.. || exit 2
 cd -- "$root" || exit 2
 program=crates/ssign/out/ssign
 recorded=release/ssign-x86_64-linux
@@ -31,7 +31,7 @@ printf 'program %s\ntoolchain %s\nsources %s\n' "${sum%% *}" "$toolchain" "$sour
 chmod 644 -- "$new/text" || exit 2
 
 # A source may have changed since the hash was made, or since the build began.
-newer=$(find crates.txt crates/*/src crates/*/specs -newer "$program" -print -quit) || exit 2
+newer=$(find -L crates.txt crates/*/src crates/*/specs -newer "$program" -print -quit) || exit 2
 [[ -z $newer ]] || refuse "$newer is newer than the program: nothing is recorded"
 [[ $(release/sources.sh) == "$sources" ]] || refuse 'a source changed meanwhile: nothing is recorded'
 

@@ -13,7 +13,7 @@ refuse() {
     exit 2
 }
 
-root=$(dirname -- "$(readlink -f -- "${BASH_SOURCE[0]}")") || exit 2
+self=$(readlink -f -- "${BASH_SOURCE[0]}") && root=$(dirname -- "$self") || exit 2
 cd -- "$root/.." || exit 2
 
 # The crates of the repository and the libraries of each: the lines of crates.txt, `NAME WORD..: LIBRARY..`. A library

@@ -1,7 +1,9 @@
 #!/usr/bin/env bash
-# The recorded build of release/: its text is whole, it is of the sources at hand, and it has the SHA-256 that the text
-# gives. Where the toolchain here is the recorded one, the program that was built here has to be the same, octet for
-# octet: where CI is set another one fails, and elsewhere it is warned of, since what was proved here is the one here.
+# The recorded build of release/: its text is whole, it is of the sources at hand, it was built by the toolchain that
+# docs/PROOFS.md names, and it has the SHA-256 that the text gives. Where the toolchain here is the recorded one, the
+# program that was built here has to be the same, octet for octet: where CI is set another one fails, and elsewhere it is
+# warned of, since what was proved here is the one here. With another toolchain nothing can be compared, so there too CI
+# fails: what is published has been compared.
 # shellcheck source=tests/lib.sh
 . "$(dirname -- "$0")/lib.sh"
 need_program
@@ -35,10 +37,14 @@ tell 'the recorded build is of these sources' "$fault"
 fault=$(differ 'SHA-256 of the program' "$(sum_of "$recorded")" "$(fact program)")
 tell 'the recorded program is the one that the text speaks of' "$fault"
 holds 'the recorded program may be executed' test -x "$recorded"
+holds "docs/PROOFS.md names the toolchain of the recorded build, $toolchain" grep -qF -- "\`$toolchain\`" "$root/docs/PROOFS.md"
 
-here=$(rt version </dev/null 2>&1) || here='a toolchain without the command rt in PATH'
+# what rt complains of beside its version is no part of it
+here=$(rt version </dev/null 2>"$scratch/fault") || here='a toolchain without the command rt in PATH'
 if [[ $sources != "$(fact sources)" ]]; then
     : # told above
+elif [[ $here != "$toolchain" && ${CI-} ]]; then
+    tell 'the program built here is the recorded one' "$(differ toolchain "$here" "$toolchain")"
 elif [[ $here != "$toolchain" ]]; then
     echo "$name: the program built here isn't compared with the recorded one, which another toolchain made: $toolchain, and here $here"
 elif [[ $(sum_of "$program") == "$(fact program)" || ${CI-} ]]; then

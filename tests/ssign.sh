@@ -211,7 +211,9 @@ write_text() {
 }
 
 cp -a -- "$sources" "$with_release"
-mkdir -- "$with_release/release" "$with_release/tests"
+mkdir -- "$with_release/release" "$with_release/tests" "$with_release/docs"
+# shellcheck disable=SC2016 # backquotes of a page
+printf 'It was proved with `%s`.\n' "$toolchain" >"$with_release/docs/PROOFS.md"
 cp -- "$root/release/sources.sh" "$root/release/renew.sh" "$with_release/release/"
 cp -- "$root/tests/lib.sh" "$root/tests/release.sh" "$with_release/tests/"
 cp -- "$program" "$with_release/release/ssign-x86_64-linux"
@@ -355,16 +357,58 @@ done
 cat -- "$scratch"/err.? >"$scratch/err"
 holds 'one of them says it' test "$(<"$scratch/err")" = "$told"
 
-# A program of one's own goes first
-with_record
-mkdir -- "$copy/crates/ssign/out"
-printf '#!/usr/bin/env bash\necho own\n' >"$copy/crates/ssign/out/ssign"
-chmod +x "$copy/crates/ssign/out/ssign"
+# A program of one's own goes first: here one that prints its words
+own=$copy/crates/ssign/out/ssign
+# with_own: a copy with a recorded build, and with a program of one's own
+with_own() {
+    with_record
+    mkdir -- "$copy/crates/ssign/out"
+    cp -- "$(type -P echo)" "$own"
+}
+with_own
 ssign "$tools" review </dev/null
-expect 'a program of one'\''s own that is up to date' 0 'own' ''
+expect 'a program of one'\''s own that is up to date' 0 'review' ''
 touch -- "$copy/crates/ss_frame/src/lib.rt"
 ssign "$tools" review </dev/null
 expect 'and one that is older than a source' 0 'end 0' "$told"
+with_own
+touch -- "$copy/crates/ss_frame/src/lib.rt"
+timeout "$patience" env PATH="$tools" SHELLOPTS=noglob bash "$copy/ssign" review >"$scratch/out" 2>"$scratch/err" </dev/null
+status=$?
+expect 'and where no pattern stands for a file' 0 'end 0' "$told"
+with_own
+touch -- "$copy/crates/ss_frame/src/lib.rt"
+mkdir -- "$scratch/no_find"
+cp -P -- "$tools"/* "$scratch/no_find/" && rm -- "$scratch/no_find/find"
+ssign "$scratch/no_find" review </dev/null
+expect 'and where nothing can tell' 2 '' 'SOME TEXT'
+with_own
+mv -- "$copy/crates/ss_frame/src/lib.rt" "$scratch/elsewhere.rt"
+touch -- "$scratch/elsewhere.rt"
+ln -s -- "$scratch/elsewhere.rt" "$copy/crates/ss_frame/src/lib.rt"
+touch -d '2001-01-01 00:00' -- "$copy/crates/ss_frame/src"
+touch -h -d '2001-01-01 00:00' -- "$copy/crates/ss_frame/src/lib.rt"
+ssign "$tools" review </dev/null
+expect 'and where a link leads to a newer source' 0 'end 0' "$told"
+for text in '' 'abc' $'\177ELF and nothing else'; do
+    with_own
+    printf '%s' "$text" >"$own"
+    ssign "$tools" review </dev/null
+    expect "a program of one's own of ${#text} octets" 0 'end 0' "$told"
+done
+rt "$proves"
+with_own
+touch -- "$copy/crates/ss_frame/src/lib.rt"
+ssign "$with_rt" --build </dev/null
+ssign "$tools" review </dev/null
+expect 'a program that was built' 0 'end 0' ''
+cp -- "$(type -P echo)" "$own"
+ssign "$tools" review </dev/null
+expect 'another one in its place, which is as new' 0 'review' ''
+printf '\n' >>"$copy/crates/ss_frame/src/lib.rt"
+touch -d '2001-01-01 00:00' -- "$copy/crates/ss_frame/src/lib.rt"
+ssign "$tools" review <"$log"
+expect 'and a source with other contents and an old date' 2 '' "$of_others"$'\n'"$absent"
 
 # Of other sources
 with_record
@@ -399,6 +443,8 @@ as_program 'of other sources: -h' "+$answers_of_others" -h
 as_program 'of other sources: --version' "+$answers_of_others" --version
 as_program 'of other sources: the help of a command' "+$answers_of_others" sign --help
 as_program 'of other sources: the help of a command, behind options' "+$answers_of_others" review --lines -h
+as_program 'of other sources: two short options in one' "+$answers_of_others" -Vh
+as_program 'of other sources: the help of a command, in front of another option' "+$answers_of_others" review -hx
 as_program 'of other sources: help' "+$answers_of_others" help plan
 as_program 'of other sources: explain' "+$answers_of_others" explain gap
 as_program 'of other sources: explain, refused' "+$answers_of_others" explain nothing
@@ -408,6 +454,8 @@ as_program 'of other sources: an unknown option' "$says_of_others" review --frob
 as_program 'of other sources: a file as an argument' "$says_of_others" review $'a file\n'
 as_program 'of other sources: no file behind --answers' "$says_of_others" review --answers
 as_program 'of other sources: an option behind --answers' "$says_of_others" review --answers --lines
+as_program 'of other sources: a file of answers that is not there' "$says_of_others" review --answers 'no such file'
+as_program 'of other sources: one that is not there, in one word' "$says_of_others" review --answers=/nowhere
 as_program 'of other sources: numbers out of order' "$says_of_others" plan --payload 'N -' --rsid 1 --groups 1,01
 quiet 'of other sources'
 with_record
@@ -498,7 +546,7 @@ rm -- "$recorded"
 never 'a text alone' "$recorded hasn't the SHA-256 that $recorded.txt gives"
 with_record
 chmod a-x -- "$recorded"
-never 'a program that may not be executed' "$recorded can't be executed here"
+never 'a program that may not be executed' "$recorded can't be executed here: chmod +x it"
 
 # with the right SHA-256 and of the right sources, but for another machine
 cannot="ssign: the recorded build isn't run: $recorded doesn't run on this machine"
@@ -571,7 +619,7 @@ expect '--build that fails' 2 '' 'SOME TEXT'
 rt "$marks"
 with_record
 gate CI=true
-gate_says 'the gate over a recorded build of this program' 0 '6 passed, 0 failed'
+gate_says 'the gate over a recorded build of this program' 0 '7 passed, 0 failed'
 other_source
 gate
 gate_says 'the gate over other sources' 1 'release/renew.sh renews'
@@ -588,8 +636,23 @@ gate_says 'the gate over another program, elsewhere' 0 'release: warning: '
 gate CI=true
 gate_says 'the gate over another program, where CI is set' 1 "$both"
 sed -i 's/^toolchain .*/toolchain another/' "$recorded.txt"
+gate
+gate_says 'the gate over another toolchain, elsewhere' 1 "another toolchain made: another, and here $toolchain"
+gate_says 'the gate over a toolchain that no page names' 1 'docs/PROOFS.md names the toolchain'
 gate CI=true
-gate_says 'the gate over another toolchain' 0 "another toolchain made: another, and here $toolchain"
+gate_says 'the gate over another toolchain, where CI is set' 1 "toolchain: $toolchain here, and another is recorded"
+# shellcheck disable=SC2016 # backquotes of a page
+echo 'It was proved with `another`.' >"$copy/docs/PROOFS.md"
+gate
+gate_says 'the gate over another toolchain that the page names' 0 "another toolchain made: another, and here $toolchain"
+gate CI=true
+gate_says 'the same, where CI is set' 1 "toolchain: $toolchain here, and another is recorded"
+with_record
+rt "[[ \$1 != version ]] || echo 'a complaint' >&2
+$marks"
+gate CI=true
+gate_says 'the gate over a toolchain that complains' 0 '7 passed, 0 failed'
+rt "$marks"
 
 # release/renew.sh
 renew() {
@@ -604,7 +667,7 @@ holds 'renew.sh: status 0' test "$status" = 0
 holds 'renew.sh: the program' cmp -- "$program" "$recorded"
 holds 'renew.sh: the program may be executed' test -x "$recorded"
 gate CI=true
-gate_says 'renew.sh: the gate behind it' 0 '6 passed, 0 failed'
+gate_says 'renew.sh: the gate behind it' 0 '7 passed, 0 failed'
 rm -r -- "$copy/crates/ssign/out"
 ssign "$tools" review </dev/null
 expect 'renew.sh: the recorded program runs' 0 'end 0' "$told"
