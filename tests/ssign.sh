@@ -364,6 +364,8 @@ with_own() {
     with_record
     mkdir -- "$copy/crates/ssign/out"
     cp -- "$(type -P echo)" "$own"
+    # dates are set, since two that are near each other may be one
+    touch -d '2001-01-01 00:01' -- "$own"
 }
 with_own
 ssign "$tools" review </dev/null
@@ -393,6 +395,7 @@ expect 'and where a link leads to a newer source' 0 'end 0' "$told"
 for text in '' 'abc' $'\177ELF and nothing else'; do
     with_own
     printf '%s' "$text" >"$own"
+    touch -d '2001-01-01 00:01' -- "$own"
     ssign "$tools" review </dev/null
     expect "a program of one's own of ${#text} octets" 0 'end 0' "$told"
 done
