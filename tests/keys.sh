@@ -403,15 +403,15 @@ refuses 'answer: octets that are no block' 'line 1: the octets are no block of V
 
 # ---- Certificates
 
-# issue NAME ISSUER KEY FROM TO: a certificate for a key, valid from one time to another, by the key and the
-# certificate ISSUER.pem and ISSUER.crt. An issuer of the same name signs its own. NAME that begins with `ca` may issue
-# others, and its subject is what stands before a dot in it.
+# issue NAME ISSUER KEY FROM TO [HASH]: a certificate for a key, valid from one time to another, by the key and the
+# certificate ISSUER.pem and ISSUER.crt, over SHA-256 or another hash. An issuer of the same name signs its own. NAME that
+# begins with `ca` may issue others, and its subject is what stands before a dot in it.
 issue() {
     local own=(-cert "$2.crt" -keyfile "$2.pem") extensions=leaf
     [[ $1 == "$2" ]] && own=(-selfsign -keyfile "$3")
     [[ $1 == ca* ]] && extensions=authority
     openssl req -new -key "$3" -subj "/CN=${1%%.*}" -out request.csr 2>>openssl.said
-    openssl ca -batch -config authority.conf -extensions "$extensions" "${own[@]}" -startdate "$4" -enddate "$5" \
+    openssl ca -batch -config authority.conf -extensions "$extensions" "${own[@]}" -startdate "$4" -enddate "$5" -md "${6-sha256}" \
         -in request.csr -out "$1.crt" -notext 2>>openssl.said
     holds "openssl issues the certificate $1" test -s "$1.crt"
 }
@@ -419,6 +419,15 @@ issue() {
 # certificate NAME [STAMP]: a payload with a certificate.
 certificate() {
     printf '%s C %s' "${2--}" "$(openssl x509 -in "$1.crt" -outform DER | base64 -w 0)"
+}
+
+# broken PATTERN OCTET: the certificate leaf in base64, with another octet as the last of what matches a pattern.
+broken() {
+    openssl x509 -in leaf.crt -outform DER | python3 -c 'import base64, re, sys
+der = bytearray(sys.stdin.buffer.read())
+found = re.search(sys.argv[1].encode(), der, re.DOTALL)
+der[found.end() - 1] = int(sys.argv[2])
+print(base64.b64encode(der).decode(), end="")' "$@"
 }
 
 check_certificates() {
@@ -461,6 +470,7 @@ END
     issue leaf.expired ca leaf.pem 20200101000000Z 20210101000000Z
     issue leaf.future ca leaf.pem 20890101000000Z 20900101000000Z
     issue leaf.rsa ca rsa.pem "${always[@]}"
+    issue leaf.sha1 ca leaf.pem "${always[@]}" sha1
     issue leaf.long ca long/private-key.pem "${always[@]}"
     issue leaf.bottom leaf leaf.pem "${always[@]}"
     issue leaf.stray ca stray.pem "${always[@]}"
@@ -488,6 +498,10 @@ END
         row none 'a certificate for RSA' "$(certificate leaf.rsa)" leaf.pem 0111 'h s - 1'
         row none 'an octet behind the certificate' "- C $({ openssl x509 -in leaf.crt -outform DER; printf '\0'; } | base64 -w 0)" leaf.pem 0111 'h s - 1'
         row none 'a certificate in PEM' "- C $(base64 -w 0 leaf.crt)" leaf.pem 0111 'h s - 1'
+        row none 'a certificate signed over SHA-1' "$(certificate leaf.sha1)" leaf.pem 0111 'h s - 1'
+        # the version, and the type of a text in a name, at which a library stumbles
+        row none 'a certificate of another version' "- C $(broken '\xa0\x03\x02\x01.' 4)" leaf.pem 0111 'h s - 1'
+        row none 'a certificate with another type of text' "- C $(broken '\x06\x03\x55\x04\x03.' 6)" leaf.pem 0111 'h s - 1'
         row none 'a certificate in U' "$(certificate leaf | sed 's/ C / U /')" leaf.pem 0111 'h s - 1'
         row none 'a certificate in K' "$(certificate leaf | sed 's/ C / K /')" leaf.pem 0111 'h s - 1'
     } | cases payloads >rows
@@ -583,7 +597,13 @@ check_openpgp() {
     cases public dsa-secret.gpg >dsa-public.pem
     "$python" -c '
 octets = open("dsa.gpg", "rb").read()
-open("bare.gpg", "wb").write(octets[:3 + int.from_bytes(octets[1:3], "big")])'
+open("bare.gpg", "wb").write(octets[:3 + int.from_bytes(octets[1:3], "big")])
+import zlib
+deflated = zlib.compressobj(9, zlib.DEFLATED, -15)
+packed = b"\x01" + deflated.compress(octets) + deflated.flush()
+# a compressed packet (RFC 4880, section 5.6), with five octets of length
+open("packed.gpg", "wb").write(b"\xc8\xff" + len(packed).to_bytes(4, "big") + packed)
+open("key-and-packed.gpg", "wb").write(octets + open("packed.gpg", "rb").read())'
     {
         row both 'a key' "$(openpgp dsa.gpg)" dsa-secret.gpg 0121 'h s - 1'
         row both 'a key with a time' "$(openpgp dsa.gpg 2026-01-15T09:16:30Z)" dsa-secret.gpg 0121 'h s - 1'
@@ -596,6 +616,8 @@ open("bare.gpg", "wb").write(octets[:3 + int.from_bytes(octets[1:3], "big")])'
         row none 'two keys' "$(openpgp <(cat dsa.gpg stranger.gpg))" dsa-secret.gpg 0121 'h s - 1'
         row none 'the private key' "$(openpgp dsa-secret.gpg)" dsa-secret.gpg 0121 'h s - 1'
         row none 'armor' "$(openpgp dsa.asc)" dsa-secret.gpg 0121 'h s - 1'
+        row none 'a compressed key' "$(openpgp packed.gpg)" dsa-secret.gpg 0121 'h s - 1'
+        row none 'a key, and something compressed' "$(openpgp key-and-packed.gpg)" dsa-secret.gpg 0121 'h s - 1'
         row none 'a key that breaks off' "$(openpgp <(head -c 300 dsa.gpg))" dsa-secret.gpg 0121 'h s - 1'
         row none 'a key in U' "$(openpgp dsa.gpg | sed 's/ P / U /')" dsa-secret.gpg 0121 'h s - 1'
         row none 'no key' '- P S0VZ' dsa-secret.gpg 0121 'h s - 1'

@@ -252,6 +252,39 @@ holds 'a refusal on a terminal: the sentence of ssign explain' \
     cmp out <(grep -x 'ssign: F2 [0-9]*' out && "$program" explain F2 && echo 'status 2')
 keys verify --key keys/public-key.pem --max-messages 3 signed
 holds 'another limit: the words of ssign' grep -qx 'ssign: F5 [0-9]*' err
+# a message that may be a block and is too long: the octet is that of the whole log, not of its blocks
+{ cat signed && printf '66000 %066000d' 0 | sed 's/ 0000000/ [ssign /'; } >too-long
+keys verify --key keys/public-key.pem too-long
+refuses 'a block that is too long' "ssign: F2 $(($(stat -c %s signed) + 4))"
+keys verify --key keys/public-key.pem signed too-long
+refuses 'a block that is too long, in the second log' "ssign: F2 $((2 * $(stat -c %s signed) + 4))
+ssign-keys: this is the octet $(($(stat -c %s signed) + 4)) of the log too-long"
+# a named pipe is read once, by whoever opened it first
+mkfifo pipe
+keys verify --key keys/public-key.pem --raw signed
+mv out raw
+{
+    # the writer opens the pipe and writes a little at a time
+    python3 -c 'import time
+with open("signed", "rb") as log, open("pipe", "wb", buffering=0) as pipe:
+    time.sleep(0.3)
+    while piece := log.read(500):
+        pipe.write(piece)' &
+    keys verify --key keys/public-key.pem --raw pipe
+    wait
+}
+holds 'a named pipe' cmp out raw
+keys verify --key keys/public-key.pem --session-key 'H s - 1' keys/public-key.pem --raw signed
+holds 'a session that the log has not: it is said' \
+    grep -qFx "ssign-keys: the log has no session 'H s - 1', for which --session-key gives a key" err
+holds 'a session that the log has not: the report' cmp out raw
+keys verify --key $'no\e[31m.pem' signed
+refuses 'a name with a control octet' 'ssign-keys: no\x1b[31m.pem can'\''t be read: No such file or directory'
+# many lines that are unlisted are found without a search for each
+seq -f '<13>1 - h s - - - %.0f' 60000 >many
+keys verify --key keys/public-key.pem --lines many
+holds 'many unlisted lines: in time' test "$status" = 1
+holds 'many unlisted lines: each is shown' test "$(grep -c '^  place ' out)" = 60000
 keys verify --key keys/public-key.pem --max-len=-1 signed
 holds 'no limit: status 2' test "$status" = 2
 holds 'no limit: nothing on standard output' test ! -s out

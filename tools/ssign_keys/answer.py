@@ -118,7 +118,7 @@ def answers(lines: Iterable[bytes], trust: Trust, jobs: int = 1) -> Answers:
 
 def read_jobs(word: str) -> int:
     """What an option --jobs says."""
-    if not (word.isascii() and word.isdigit() and 1 <= int(word[:9]) <= MOST_JOBS):
+    if not (word.isascii() and word.isdigit() and len(word) <= 4 and 1 <= int(word) <= MOST_JOBS):
         raise argparse.ArgumentTypeError(f"'{word}' isn't a number from 1 to {MOST_JOBS}")
     return int(word)
 

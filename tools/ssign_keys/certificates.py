@@ -33,14 +33,14 @@ class Authority(NamedTuple):
 def read_certificate(der: bytes) -> Optional[Certificate]:
     """The certificate that has these octets in DER, or None where they are none."""
     try:
-        found = x509.load_der_x509_certificate(der)
-        return certificate(found)
-    except NO_KEY:
+        return certificate(x509.load_der_x509_certificate(der))
+    except Exception:
+        # the library raises what it likes over octets of a stranger, KeyError too
         return None
 
 
 def certificate(found: x509.Certificate) -> Certificate:
-    """What is used of a certificate. Raises one of NO_KEY where it can't be read."""
+    """What is used of a certificate. Raises where it can't be read."""
     try:
         key = public_key_of(found.public_key())
     except NO_KEY:
@@ -56,7 +56,7 @@ def read_certificates(path: str) -> List[Certificate]:
         raise Fault(f"{path} holds no certificate in PEM")
     try:
         return [certificate(x509.load_pem_x509_certificate(part)) for part in parts]
-    except NO_KEY as fault:
+    except Exception as fault:
         raise Fault(f"a certificate in {path} can't be read: {one_line(fault)}") from fault
 
 
@@ -81,7 +81,9 @@ def is_issued(leaf: Certificate, authority: Authority, moment: Optional[int]) ->
     if leaf.issuer not in authority.subjects:
         return False
     at = int(time.time()) if moment is None else moment
-    said = ask(["openssl", "verify", "-partial_chain", "-attime", str(at), "-trusted", authority.path], leaf.pem, "openssl")
+    # level 1 leaves out signatures by MD5 and SHA-1, for which others with the same hash can be made
+    said = ask(["openssl", "verify", "-partial_chain", "-auth_level", "1", "-attime", str(at), "-trusted", authority.path],
+               leaf.pem, "openssl")
     if said.returncode not in (0, 2, -1):
         raise Fault(f"openssl checks no certificate with {authority.path}: {said.stderr.decode(errors='replace').strip()}")
     return said.returncode == 0

@@ -12,10 +12,12 @@ from __future__ import annotations
 
 import argparse
 import importlib
-import sys
+import warnings
 from typing import NoReturn, Protocol, Sequence, cast
 
 from .faults import Fault
+from .words import shown
+from .workplace import say
 
 PURPOSES = {
     "verify": "say what a signed log proves, with the originator's public key",
@@ -66,12 +68,24 @@ def make_parser(words: Sequence[str]) -> Parser:
 
 def main(words: Sequence[str]) -> int:
     """Runs the command that the words name. Gives the status of the process."""
+    # what a library thinks of a stranger's octets is no concern of whoever reads a verdict
+    warnings.simplefilter("ignore")
     try:
         arguments = make_parser(words).parse_args(words)
         status: int = arguments.run(arguments)
         return status
     except Fault as fault:
-        print(f"ssign-keys: {fault}", file=sys.stderr)
-        return 2
+        complain(str(fault))
     except KeyboardInterrupt:
         return 130
+    except OSError as fault:
+        complain(f"a file can't be read or written: {fault}")
+    except Exception as fault:
+        # a status of 1, which Python gives, would be read as findings
+        complain(f"this is a mistake of ssign-keys, and no verdict: {type(fault).__name__}: {fault}")
+    return 2
+
+
+def complain(sentence: str) -> None:
+    """Says why there is no verdict. Words of the command line may hold what a terminal takes for a command."""
+    say("ssign-keys: " + "".join(it if it.isprintable() else shown(it.encode("utf-8", "surrogateescape")) for it in sentence))

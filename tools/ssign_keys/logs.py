@@ -84,12 +84,16 @@ def open_log(names: Sequence[str], are_lines: bool, workplace: Workplace, progre
         file = open_file(names[0])
         if stat.S_ISREG(os.fstat(file.fileno()).st_mode) and form_of(os.pread(file.fileno(), FRONT, 0)) is None:
             return Log(file, [Part(names[0], 0, 0)], are_lines, False)
-        file.close()
+        # whoever writes to a pipe writes to the one that reads it first, so it isn't opened a second time
+        sources: Iterator[BinaryIO] = iter([file])
+    else:
+        sources = (open_source(name) for name in names)
     spool = workplace.new_file("log")
     starts = []
     for name in names:
         starts.append((name, spool.tell()))
-        spool_log(name, spool, workplace, progress)
+        with next(sources) as source:
+            spool_log(name, source, spool, workplace, progress)
     parts = [Part(names[0], 0, 0)] if len(names) == 1 else measure(spool, starts, are_lines, progress)
     return Log(spool, parts, are_lines, True)
 
@@ -116,25 +120,29 @@ def open_standard_input() -> BinaryIO:
 
 # ---- copies
 
-def spool_log(name: str, spool: BinaryIO, workplace: Workplace, progress: Progress) -> None:
+def open_source(name: str) -> BinaryIO:
+    """Opens a log."""
+    return open_standard_input() if name == "-" else open_file(name)
+
+
+def spool_log(name: str, source: BinaryIO, spool: BinaryIO, workplace: Workplace, progress: Progress) -> None:
     """Puts the plain octets of a log behind those that stand there."""
-    with open_standard_input() if name == "-" else open_file(name) as source:
-        pieces = read_pieces(source, name, progress)
-        front = b""
-        for piece in pieces:
-            front += piece
-            if len(front) >= FRONT:
-                break
-        form = form_of(front)
-        pieces = itertools.chain([front], pieces)
-        if form == "zstd":
-            with workplace.new_file("zstd") as packed:
-                put_all(packed, pieces)
-                packed.seek(0)
-                expand_zstd(name, packed, spool, workplace)
-            os.remove(workplace.path("zstd"))
-        else:
-            put_all(spool, expanded(name, form, pieces) if form else pieces)
+    pieces = read_pieces(source, name, progress)
+    front = b""
+    for piece in pieces:
+        front += piece
+        if len(front) >= FRONT:
+            break
+    form = form_of(front)
+    pieces = itertools.chain([front], pieces)
+    if form == "zstd":
+        with workplace.new_file("zstd") as packed:
+            put_all(packed, pieces)
+            packed.seek(0)
+            expand_zstd(name, packed, spool, workplace)
+        os.remove(workplace.path("zstd"))
+    else:
+        put_all(spool, expanded(name, form, pieces) if form else pieces)
 
 
 def put_all(file: BinaryIO, pieces: Iterable[bytes]) -> None:

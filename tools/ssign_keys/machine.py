@@ -10,7 +10,7 @@ from .report import Group, Teller
 from .strays import Finder
 from .verdict import sentence
 from .vouched import Notes, Vouched
-from .words import shown
+from .words import shown, shown_name
 from .workplace import put
 
 Fields = Dict[str, Union[str, int, None]]
@@ -40,7 +40,7 @@ class Machine(Teller):
 
     def session(self, session: Session, state: str) -> None:
         self._vouched = self._notes.of(session)
-        key = None if self._vouched is None else self._vouched.key
+        key = None if self._vouched is None else shown_name(self._vouched.key)
         fields: Fields = {"line": "session"}
         fields.update(names_of(session))
         fields.update(state=state, key=key)
@@ -69,11 +69,11 @@ class Machine(Teller):
     def stray(self, kind: str, place: int, cause: str) -> None:
         found = self._finder.find(place)
         why: Fields = {"cause": cause} if kind == "spoilt" else {}
-        self._put({"line": kind, "place": place, **why, "file": found.file, "file_place": found.place, "octets": found.octets, "text": found.text})
+        self._put({"line": kind, "place": place, **why, "file": shown_name(found.file), "file_place": found.place, "octets": found.octets, "text": found.text})
 
     def torn(self, offset: int) -> None:
         part = self._log.part_of_offset(offset)
-        self._put({"line": "torn", "offset": offset, "file": part.name, "file_offset": offset - part.offset})
+        self._put({"line": "torn", "offset": offset, "file": shown_name(part.name), "file_offset": offset - part.offset})
 
     def end(self, count: int) -> None:
         self._put({"line": "end", "count": count})

@@ -2,7 +2,7 @@
 from __future__ import annotations
 
 import tempfile
-from typing import List, NamedTuple, Optional
+from typing import List, NamedTuple, Optional, Tuple
 
 from .commands import ask
 from .faults import Fault
@@ -10,6 +10,10 @@ from .keys import NO_KEY, Numbers, PublicKey
 
 # RFC 4880, section 9.1
 DSA = b"17"
+# The packets of a transferable public key (RFC 4880, sections 4.3 and 11.1): signatures, the key and its subkeys, trust,
+# user IDs and user attributes. A compressed packet is none, and may hold what takes a long time to read.
+PUBLIC_KEY = 6
+PACKETS = frozenset((2, PUBLIC_KEY, 12, 13, 14, 17))
 
 
 class Primary(NamedTuple):
@@ -58,10 +62,44 @@ def primary(fields: List[bytes], data: List[bytes]) -> Primary:
     return Primary(fields[0] == b"sec", numbers)
 
 
+def packet_length(blob: bytes, place: int) -> Optional[Tuple[int, int]]:
+    """Where the contents of the packet at a place begin, and how long they are (RFC 4880, section 4.2).
+
+    None where no whole length stands there, or none is stated, as of packets in pieces, which no key has.
+    """
+    first = blob[place]
+    if not first & 0x40:
+        # the old form: 1, 2 or 4 octets of length
+        size = {0: 1, 1: 2, 2: 4}.get(first & 3)
+    else:
+        second = blob[place + 1] if place + 1 < len(blob) else 255
+        if 192 <= second < 224 and place + 2 < len(blob):
+            return place + 3, ((second - 192) << 8) + blob[place + 2] + 192
+        if second < 192:
+            return place + 2, second
+        place, size = place + 1, 4 if second == 255 else None
+    if size is None or place + 1 + size > len(blob):
+        return None
+    return place + 1 + size, int.from_bytes(blob[place + 1:place + 1 + size], "big")
+
+
+def is_public_key(blob: bytes) -> bool:
+    """Whether octets are packets of a transferable public key, from their first to their last."""
+    place = 0
+    while place < len(blob):
+        first = blob[place]
+        tag = first & 0x3F if first & 0x40 else first >> 2 & 0xF
+        length = packet_length(blob, place) if first & 0x80 else None
+        if length is None or tag not in PACKETS or place == 0 and tag != PUBLIC_KEY:
+            return False
+        place = sum(length)
+    return place == len(blob) and place > 0
+
+
 def read_payload_key(blob: bytes) -> Optional[Numbers]:
     """The numbers of the one key in the key blob of a payload of the type P, or None where that isn't one of DSA."""
-    # gpg would take armor too, which no key blob has
-    primaries = read_primaries(blob) if blob[:1] >= b"\x80" else []
+    # gpg would take other things too, as armor, which no key blob has
+    primaries = read_primaries(blob) if is_public_key(blob) else []
     return primaries[0].numbers if len(primaries) == 1 and not primaries[0].is_private else None
 
 

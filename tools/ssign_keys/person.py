@@ -18,7 +18,8 @@ STATES = {
     "incomplete": "certificate blocks of it are missing, so its key isn't known and nothing of it counts",
     "malformed": "its certificate blocks hold no payload of RFC 5848, section 5.2.1, so nothing of it counts",
     "untrusted": "its key is none that you trust, so nothing of it counts",
-    "unaccepted": "its key is trusted, but its certificate blocks aren't all validly signed, so nothing of it counts",
+    "unaccepted": "its payload is trusted, but its certificate blocks aren't all validly signed by a key that you trust for "
+                  "it, so nothing of it counts",
 }
 HEADINGS = {
     "unlisted": "Stored messages that no block announces, or copies too many (unlisted):",

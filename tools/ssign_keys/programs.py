@@ -55,9 +55,13 @@ class Run:
     """A run of ssign that was begun. What it says on standard error is passed on as it comes."""
 
     def __init__(self, program: str, words: Sequence[str], workplace: Workplace, progress: Progress,
-                 log: Union[BinaryIO, int], out: Union[BinaryIO, int]) -> None:
-        """Where the output goes to subprocess.PIPE, it is read with `lines`; where the log comes from there, `feed` it."""
+                 log: Union[BinaryIO, int], out: Union[BinaryIO, int], holds_refusal: bool = False) -> None:
+        """Where the output goes to subprocess.PIPE, it is read with `lines`; where the log comes from there, `feed` it.
+
+        A refusal may be held back, for whoever runs ssign over a part of a log; `pass_refusal` says it.
+        """
         self.name = f"ssign {words[0]}"
+        self._holds_refusal = holds_refusal
         self._progress = progress
         self._said = workplace.new_file("said")
         self._passed = 0
@@ -124,7 +128,15 @@ class Run:
         self._passed += len(said)
         text = said.decode("utf-8", "backslashreplace")
         self._text = (self._text + text)[-1000:]
-        say(text[:-1] if text.endswith("\n") else text)
+        for line in text.splitlines():
+            if self._holds_refusal and REFUSAL.fullmatch(line):
+                self._text = line
+            else:
+                say(line)
+
+    def pass_refusal(self) -> None:
+        """Says what was held back."""
+        say(self._text.rstrip("\n"))
 
 
 HINTS: Dict[int, str] = {

@@ -127,6 +127,11 @@ class Trust:
         return cls(keys, session_keys, authorities, signers)
 
     @property
+    def patterns(self) -> List[SessionKey]:
+        """What --session-key gave."""
+        return list(self._session_keys)
+
+    @property
     def has_one_key(self) -> bool:
         """Whether the reviewer trusts one key by its file, and nothing else."""
         return len(self._keys) == 1 and not (self._session_keys or self._authorities or self._signers)
@@ -175,7 +180,7 @@ class Trust:
         numbers: Optional[Numbers] = None
         if payload.kind == "K":
             numbers = stated_numbers(payload.blob)
-        elif payload.kind == "P":
+        elif payload.kind == "P" and (self._keys or self._session_keys):
             numbers = openpgp.read_payload_key(payload.blob)
         return Stated(payload.kind, numbers, self._keys.get(numbers) if numbers else None)
 

@@ -10,6 +10,7 @@ from typing import BinaryIO, Callable, Iterator, List, Optional, Type, Union
 
 from . import trust as trust_options
 from .answer import answers
+from .blocks import Session
 from .faults import Fault
 from .logs import Log, open_log
 from .machine import Machine
@@ -46,7 +47,7 @@ def add_arguments(parser: argparse.ArgumentParser) -> None:
 
 def positive(text: str) -> int:
     """A number of processes."""
-    if not text.isascii() or not text.isdigit() or not 1 <= int(text[:5]) <= 1024:
+    if not (text.isascii() and text.isdigit() and len(text) <= 4 and 1 <= int(text) <= 1024):
         raise argparse.ArgumentTypeError(f"{text!r} is no number from 1 to 1024")
     return int(text)
 
@@ -64,6 +65,7 @@ def run(arguments: argparse.Namespace) -> int:
             verifier = Verifier(program, log_words(arguments), log, workplace, progress)
             notes = verifier.answer(trust, arguments.jobs)
             status = verifier.review()
+            verifier.tell_unused(trust)
             out = verifier.report
             if not arguments.raw:
                 out = workplace.new_file("out")
@@ -98,8 +100,19 @@ class Verifier:
     def answer(self, trust: Trust, jobs: int) -> Notes:
         """Has ssign ask, and keeps what holds as the answers file."""
         asking = Run(self._program, ["questions", *self._words], self._workplace, self._progress, subprocess.PIPE,
-                     subprocess.PIPE)
+                     subprocess.PIPE, holds_refusal=True)
         asking.feed(self._candidates())
+        try:
+            notes = self._keep(asking, trust, jobs)
+        except Refused as refused:
+            self._refuse(refused)
+            asking.pass_refusal()
+            raise
+        self._log.check_unchanged()
+        return Notes(notes)
+
+    def _keep(self, asking: Run, trust: Trust, jobs: int) -> BinaryIO:
+        """Answers the questions of a run, and keeps the answers, and what they vouch for."""
         notes = self._workplace.new_file("notes")
         with self._workplace.new_file("answers") as file, \
                 answers(asking.lines(lambda: None), trust, jobs) as answered:
@@ -107,8 +120,15 @@ class Verifier:
                 put(file, it.line)
                 self._progress.show("checking signatures", count, 0, "valid blocks")
             finish(file)
-        self._log.check_unchanged()
-        return Notes(notes)
+        return notes
+
+    def _refuse(self, refused: Refused) -> None:
+        """Has the whole log refused that was refused already by the messages that may be blocks.
+
+        What is wrong stands at another octet of the whole, or in front of it something else is wrong.
+        """
+        if (refused.code or "").startswith("F"):
+            self._review([])
 
     def _candidates(self) -> Iterator[bytes]:
         """The messages that may be blocks, since nothing is asked about the others. This takes a tenth of the time.
@@ -122,14 +142,32 @@ class Verifier:
 
     def review(self) -> int:
         """Has ssign review the log under the answers that were kept, and gives its status."""
-        reviewing = Run(self._program, ["review", f"--answers={self.answers_path}", *self._words], self._workplace,
-                        self._progress, self._log.rewind(), self.report)
+        return self._review([f"--answers={self.answers_path}"])
+
+    def _review(self, words: List[str]) -> int:
+        """Has ssign review the log, with these words besides."""
+        reviewing = Run(self._program, ["review", *words, *self._words], self._workplace, self._progress,
+                        self._log.rewind(), self.report)
         try:
             return reviewing.end(self._reading("reviewing"))
         except Refused:
             # a log that was cut meanwhile may be refused for that alone
             self._log.check_unchanged()
             raise
+
+    def tell_unused(self, trust: Trust) -> None:
+        """Says which --session-key names no session of the log, since a name that was mistyped restricts nothing."""
+        unused = trust.patterns
+        if not unused:
+            return
+        self.report.seek(0)
+        for line in self.report:
+            if line.startswith(b"session "):
+                session = Session(*line.split(b" ")[1:5])
+                unused = [it for it in unused if not it.is_for(session)]
+        for it in unused:
+            self._progress.clear()
+            say(f"ssign-keys: the log has no session '{it.pattern}', for which --session-key gives a key")
 
     def tell(self, form: Union[Type[Machine], Type[Person]], out: BinaryIO, notes: Notes, status: int) -> None:
         """Tells the report and the verdict in one of the two forms."""
