@@ -263,17 +263,18 @@ ssign-keys: this is the octet $(($(stat -c %s signed) + 4)) of the log too-long"
 mkfifo pipe
 keys verify --key keys/public-key.pem --raw signed
 mv out raw
-{
-    # the writer opens the pipe and writes a little at a time
-    python3 -c 'import time
-with open("signed", "rb") as log, open("pipe", "wb", buffering=0) as pipe:
-    time.sleep(0.3)
-    while piece := log.read(500):
-        pipe.write(piece)' &
-    keys verify --key keys/public-key.pem --raw pipe
+for _ in 1 2 3 4 5 6 7 8; do
+    # the writer writes and closes at once, when somebody opens the pipe
+    python3 -c 'import os
+log = open("signed", "rb").read()
+pipe = os.open("pipe", os.O_WRONLY)
+os.write(pipe, log)' 2>said &
+    patience=10 keys verify --key keys/public-key.pem --raw pipe
     wait
-}
-holds 'a named pipe' cmp out raw
+    cmp -s out raw || break
+done
+holds 'a named pipe, eight times' cmp out raw
+holds 'a named pipe, eight times: its writer' test ! -s said
 keys verify --key keys/public-key.pem --session-key 'H s - 1' keys/public-key.pem --raw signed
 holds 'a session that the log has not: it is said' \
     grep -qFx "ssign-keys: the log has no session 'H s - 1', for which --session-key gives a key" err
