@@ -636,6 +636,10 @@ open("key-and-packed.gpg", "wb").write(octets + open("packed.gpg", "rb").read())
     mkdir -p empty
     PATH=$scratch/empty keys answer dsa.gpg
     expect 'no gpg' 2 '' "ssign-keys: the command gpg is missing; on Debian and Ubuntu \`apt-get install gpg\` installs it"
+    PATH=$scratch/empty keys answer dsa-public.pem <<<"trust $(openpgp dsa.gpg | base64 -w 0)"
+    expect 'no gpg for a payload' 1 '' "ssign-keys: a payload of the type P isn't trusted: the command gpg is missing; on Debian \
+and Ubuntu \`apt-get install gpg\` installs it
+ssign-keys: 0 of 1 payloads state this key"
     holds 'nothing is left in the folder of temporary files' test -z "$(ls temporary)"
 }
 

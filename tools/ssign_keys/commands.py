@@ -7,6 +7,10 @@ from typing import Sequence
 
 from .faults import Fault
 
+class Missing(Fault):
+    """A command isn't here."""
+
+
 # A question that takes longer has no answer: a log may hold what a command chokes on.
 PATIENCE = 20
 
@@ -14,7 +18,7 @@ PATIENCE = 20
 def ask(words: Sequence[str], question: bytes, package: str) -> subprocess.CompletedProcess[bytes]:
     """Runs a command on these octets. Its status is -1 where it came to no end in time.
 
-    Raises Fault where the command isn't here. `package` is the one that has it on Debian and Ubuntu.
+    Raises Missing where the command isn't here. `package` is the one that has it on Debian and Ubuntu.
     """
     environment = {**os.environ, "LC_ALL": "C"}
     try:
@@ -22,7 +26,7 @@ def ask(words: Sequence[str], question: bytes, package: str) -> subprocess.Compl
     except subprocess.TimeoutExpired:
         return subprocess.CompletedProcess(words, -1, b"", b"")
     except FileNotFoundError as fault:
-        raise Fault(f"the command {words[0]} is missing; on Debian and Ubuntu `apt-get install {package}` installs it") \
+        raise Missing(f"the command {words[0]} is missing; on Debian and Ubuntu `apt-get install {package}` installs it") \
             from fault
     except OSError as fault:
         raise Fault(f"the command {words[0]} can't be run: {fault.strerror}") from fault

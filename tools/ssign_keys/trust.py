@@ -6,10 +6,12 @@ from typing import TYPE_CHECKING, Dict, List, NamedTuple, Optional, Sequence, Tu
 
 from . import openpgp
 from .blocks import Block, Session, read_block
+from .commands import Missing
 from .faults import Fault
 from .files import read_file
 from .keys import Numbers, PublicKey, read_pem_keys
 from .payloads import Payload, read_payload, seconds, stated_numbers
+from .workplace import say
 
 if TYPE_CHECKING:
     from .certificates import Authority, Certificate
@@ -107,6 +109,7 @@ class Trust:
         # what was asked last, since questions about one payload stand together
         self._last_payload: Optional[bytes] = None
         self._last_stated: Optional[Stated] = None
+        self._is_told = False
 
     @classmethod
     def from_arguments(cls, arguments: argparse.Namespace) -> Trust:
@@ -181,8 +184,21 @@ class Trust:
         if payload.kind == "K":
             numbers = stated_numbers(payload.blob)
         elif payload.kind == "P" and (self._keys or self._session_keys):
-            numbers = openpgp.read_payload_key(payload.blob)
+            numbers = self._read_openpgp(payload.blob)
         return Stated(payload.kind, numbers, self._keys.get(numbers) if numbers else None)
+
+    def _read_openpgp(self, blob: bytes) -> Optional[Numbers]:
+        """What a payload with an OpenPGP key states.
+
+        Any sender can put one into a log. So it is said once that there is no gpg to read it, and the rest has its verdict.
+        """
+        try:
+            return openpgp.read_payload_key(blob)
+        except Missing as missing:
+            if not self._is_told:
+                say(f"ssign-keys: a payload of the type P isn't trusted: {missing}")
+            self._is_told = True
+            return None
 
     def _state_certificate(self, payload: Payload) -> Stated:
         """What a payload with a certificate states."""
