@@ -34,7 +34,11 @@ class Refused(Exception):
 def add_program_argument(parser: argparse.ArgumentParser) -> None:
     """Says how another ssign than the usual one is named."""
     parser.add_argument("--ssign", metavar="PROGRAM", help="the program ssign (default: the variable SSIGN, else the "
-                        "file ssign of this repository, else ssign in PATH)")
+                        "ssign that came with ssign-keys, else ssign in PATH)")
+
+
+# where ssign stands, as seen from this package: in the repository, and where both are installed
+BESIDE = (os.path.join("..", "..", "ssign"), os.path.join("..", "..", "..", "bin", "ssign"))
 
 
 def find_program(arguments: argparse.Namespace) -> str:
@@ -42,9 +46,10 @@ def find_program(arguments: argparse.Namespace) -> str:
     named = arguments.ssign or os.environ.get("SSIGN")
     if named:
         return str(named)
-    beside = os.path.join(os.path.dirname(os.path.realpath(__file__)), "..", "..", "ssign")
-    if os.path.isfile(beside):
-        return os.path.normpath(beside)
+    package = os.path.dirname(os.path.realpath(__file__))
+    for beside in (os.path.normpath(os.path.join(package, name)) for name in BESIDE):
+        if os.path.isfile(beside):
+            return beside
     found = shutil.which("ssign")
     if found is None:
         raise Fault("there is no program ssign here: name it with --ssign, or with the variable SSIGN")
