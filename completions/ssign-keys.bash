@@ -1,0 +1,123 @@
+# Made by tools/make-pages from what --help says. Completion of ssign-keys for bash.
+# shellcheck shell=bash
+
+# _ssign_keys_offer KIND [WORDS]: what may stand here.
+_ssign_keys_offer() {
+    local current=${COMP_WORDS[COMP_CWORD]}
+    [[ $current == = ]] && current=
+    case $1 in
+    words) mapfile -t COMPREPLY < <(compgen -W "$2" -- "$current") ;;
+    codes) mapfile -t COMPREPLY < <(compgen -W '' -- "$current") ;;
+    files)
+        compopt -o filenames 2>/dev/null
+        mapfile -t COMPREPLY < <(compgen -f -- "$current")
+        ;;
+    folders)
+        compopt -o filenames 2>/dev/null
+        mapfile -t COMPREPLY < <(compgen -d -- "$current")
+        ;;
+    esac
+}
+
+_ssign_keys() {
+    local current=${COMP_WORDS[COMP_CWORD]} before=${COMP_WORDS[COMP_CWORD - 1]} second='' command=${COMP_WORDS[1]}
+    COMPREPLY=()
+    if [[ $before == *['<>'] ]]; then
+        _ssign_keys_offer files
+        return
+    fi
+    if ((COMP_CWORD == 1)); then
+        _ssign_keys_offer words 'verify sign make seal answer --help'
+        return
+    fi
+    ((COMP_CWORD > 3)) && second=${COMP_WORDS[COMP_CWORD - 2]}
+    # --option=value is three words here
+    [[ $before == = ]] && before=$second second=
+    case "$command $second" in
+    'verify --session-key')
+        _ssign_keys_offer files
+        return
+        ;;
+    'answer --session-key')
+        _ssign_keys_offer files
+        return
+        ;;
+    esac
+    case "$command $before" in
+    'verify --key') _ssign_keys_offer files ;;
+    'verify --session-key') ;;
+    'verify --ca') _ssign_keys_offer files ;;
+    'verify --cert') _ssign_keys_offer files ;;
+    'verify --max-len') _ssign_keys_offer text ;;
+    'verify --max-messages') _ssign_keys_offer text ;;
+    'verify --jobs') _ssign_keys_offer text ;;
+    'verify --answers-out') _ssign_keys_offer files ;;
+    'verify --ssign') _ssign_keys_offer files ;;
+    'sign --key') _ssign_keys_offer files ;;
+    'sign --rsid') _ssign_keys_offer text ;;
+    'sign --payload') _ssign_keys_offer text ;;
+    'sign --stamp') _ssign_keys_offer text ;;
+    'sign --pri') _ssign_keys_offer text ;;
+    'sign --host') _ssign_keys_offer text ;;
+    'sign --app') _ssign_keys_offer text ;;
+    'sign --procid') _ssign_keys_offer text ;;
+    'sign --msgid') _ssign_keys_offer text ;;
+    'sign --ver') _ssign_keys_offer words '0111 0121' ;;
+    'sign --groups') _ssign_keys_offer words 'one pri' ;;
+    'sign --count') _ssign_keys_offer text ;;
+    'sign --frag') _ssign_keys_offer text ;;
+    'sign --copies') _ssign_keys_offer text ;;
+    'sign --max-len') _ssign_keys_offer text ;;
+    'sign --max-messages') _ssign_keys_offer text ;;
+    'sign --ssign') _ssign_keys_offer files ;;
+    'make --ver') _ssign_keys_offer words '0111 0121' ;;
+    'answer --session-key') ;;
+    'answer --ca') _ssign_keys_offer files ;;
+    'answer --cert') _ssign_keys_offer files ;;
+    'answer --jobs') _ssign_keys_offer text ;;
+    *) _ssign_keys_words "$command" "$current" ;;
+    esac
+}
+
+# _ssign_keys_words COMMAND CURRENT: a word that is no value of an option.
+_ssign_keys_words() {
+    case $1 in
+    verify)
+        if [[ $2 == -* ]]; then
+            _ssign_keys_offer words '--help --key --session-key --ca --cert --lines --max-len --max-messages --jobs --raw --json --answers-out --ssign'
+        else
+            _ssign_keys_offer files
+        fi
+        ;;
+    sign)
+        if [[ $2 == -* ]]; then
+            _ssign_keys_offer words '--help --key --rsid --payload --stamp --pri --host --app --procid --msgid --ver --groups --count --frag --copies --lines --max-len --max-messages --ssign'
+        else
+            _ssign_keys_offer files
+        fi
+        ;;
+    make)
+        if [[ $2 == -* ]]; then
+            _ssign_keys_offer words '--help --ver'
+        else
+            _ssign_keys_offer folders
+        fi
+        ;;
+    seal)
+        if [[ $2 == -* ]]; then
+            _ssign_keys_offer words '--help'
+        else
+            _ssign_keys_offer files
+        fi
+        ;;
+    answer)
+        if [[ $2 == -* ]]; then
+            _ssign_keys_offer words '--help --session-key --ca --cert --jobs'
+        else
+            _ssign_keys_offer files
+        fi
+        ;;
+    esac
+}
+
+complete -F _ssign_keys ssign-keys

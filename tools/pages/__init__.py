@@ -1,0 +1,1 @@
+"""Manual pages and completions of the programs, from what they say with --help."""
