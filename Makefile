@@ -1,0 +1,32 @@
+# Installs ssign and ssign-keys, or makes a Debian package of them. GNU make.
+#
+#   make                      sees that there is a program to install, and builds it if not
+#   make install              installs below PREFIX
+#   make uninstall            takes away what `make install` put there
+#   make deb                  makes a Debian package in the folder BUILD
+#   make pages                makes man/ and completions/ again, from what --help says
+#
+# DESTDIR is a scratch root in front of PREFIX. PYTHON is the interpreter for ssign-keys; without it `env` finds one.
+
+PREFIX ?= /usr/local
+DESTDIR ?=
+PYTHON ?=
+BUILD ?= build
+export PREFIX DESTDIR PYTHON BUILD
+
+all:
+	@tools/install.sh program >/dev/null
+
+install:
+	@tools/install.sh install
+
+uninstall:
+	@tools/install.sh uninstall
+
+deb:
+	@tools/deb.sh
+
+pages:
+	@tools/make-pages
+
+.PHONY: all install uninstall deb pages
