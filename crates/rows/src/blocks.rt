@@ -3,6 +3,7 @@ mod causes;
 pub mod elements;
 mod fields;
 mod joining;
+mod marks;
 mod orders;
 mod payloads;
 mod readings;

@@ -17,14 +17,14 @@ use Rattle.ss_block.specs.Signed.{unsigned_element}
 
 -- ---- the element with an SD-ID
 
-record Split (id : List ℕ) (es : List ElementValue) (e : ElementValue) : Type 0 where
-  before : List ElementValue
-  after : List ElementValue
-  is : es ≡ before ++ e ∷ after
-  first : element_with id before ≡ None
-  named : e.id ≡ id
+pub record Split (id : List ℕ) (es : List ElementValue) (e : ElementValue) : Type 0 where
+  pub before : List ElementValue
+  pub after : List ElementValue
+  pub is : es ≡ before ++ e ∷ after
+  pub first : element_with id before ≡ None
+  pub named : e.id ≡ id
 
-with_split : (id : List ℕ) (es : List ElementValue) (e : ElementValue) → element_with id es ≡ Some e → Split id es e
+pub with_split : (id : List ℕ) (es : List ElementValue) (e : ElementValue) → element_with id es ≡ Some e → Split id es e
 with_split id [] e h = absurd cc
 with_split id (x ∷ es) e h = by_test id x es e (bytes_eq x.id id) refl (λ k. with_split id es e k) h
   where

@@ -17,6 +17,7 @@ pub mod Placing
 pub mod Blocks
 pub mod Layouts
 pub mod SignPlaces
+pub mod Marks
 pub mod Parses
 pub mod WrittenValues
 pub mod WrittenMessages

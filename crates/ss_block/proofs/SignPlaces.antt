@@ -31,13 +31,13 @@ regrouped : (H F I P A M : List ℕ) → H ++ ((F ++ ((91 ∷ (I ++ (P ++ 93 ∷
 regrouped H F I P A M = simp append_assoc
 
 -- the octets up to the parameters of an element, and those from its `]` on
-abbrev front_of : MessageValue → List ElementValue → List ℕ → List ParameterValue → List ℕ
+abbrev pub front_of : MessageValue → List ElementValue → List ℕ → List ParameterValue → List ℕ
 front_of v before id ps = header_text v ++ flat_map element_text before ++ 91 ∷ id ++ flat_map parameter_text ps
 
-abbrev back_of : MessageValue → List ElementValue → List ℕ
+abbrev pub back_of : MessageValue → List ElementValue → List ℕ
 back_of v after = 93 ∷ flat_map element_text after ++ msg_text v.msg
 
-around : (v : MessageValue) (before : List ElementValue) (id : List ℕ) (ps : List ParameterValue) (after : List ElementValue) → v.elements ≡ before ++ record { id = id; parameters = ps } ∷ after
+pub around : (v : MessageValue) (before : List ElementValue) (id : List ℕ) (ps : List ParameterValue) (after : List ElementValue) → v.elements ≡ before ++ record { id = id; parameters = ps } ∷ after
     → text v ≡ front_of v before id ps ++ back_of v after
 around v before id ps after is =
     text_parts v

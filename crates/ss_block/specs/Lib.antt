@@ -3,6 +3,7 @@ pub mod Number
 pub mod Block
 pub mod Hashes
 pub mod Reading
+pub mod Mark
 pub mod Signed
 pub mod Session
 pub mod Order

@@ -1,4 +1,5 @@
 //! What holds of every text: each law is a call that does nothing, and its clause is the law.
+ghost use Rattle.ss_block.specs.Mark.{BlocksAreMarked};
 ghost use Rattle.ss_block.specs.ReadingLaws.{ReadingsAreOfValues, UnparsedTextsFail, BlocksAreInRange, BlocksAreSigned};
 ghost use Rattle.ss_block.specs.Stands.{ValuesStand};
 
@@ -32,6 +33,13 @@ pub fn blocks_are_in_range()
 pub fn blocks_are_signed()
     ensures { BlocksAreSigned }
 {}
+
+/// The text of each message that has the element of a block, spoilt or not, holds `[ssign`.
+pub fn blocks_are_marked()
+    ensures { BlocksAreMarked }
+{
+    faults_are_of_no_message();
+}
 
 /// The value of a parameter stands for one text, which is the one that is read.
 pub fn values_stand()
