@@ -3,7 +3,7 @@ ghost use Rattle.std.specs.Prelude.{◌≡◌, IfOk};
 ghost use Rattle.ss_review.specs.Contents.{block_in};
 
 use crate::message::{BlockMessage, Said};
-use ss_block::{Reading, classify_with_session, signed_bytes};
+use ss_block::{FullReading, Reading, read_fully};
 use ss_message::NoMemory;
 use std::alloc::Global;
 
@@ -16,7 +16,11 @@ pub(crate) fn block_in(
 ) -> Result<Option<BlockMessage>, NoMemory>
     ensures { IfOk result (λ o. o ≡ block_in place text.now) }
 {
-    let (reading, session) = classify_with_session(alloc, text)?;
+    let FullReading {
+        reading,
+        session,
+        signed,
+    } = read_fully(alloc, text)?;
     let said = match reading {
         Reading::Signature(block) => Said::Hashes(block),
         Reading::Certificate(block) => Said::Fragment(block),
@@ -25,7 +29,7 @@ pub(crate) fn block_in(
     let Some(session) = session else {
         return Ok(None);
     };
-    let Some(signed) = signed_bytes(alloc, text)? else {
+    let Some(signed) = signed else {
         return Ok(None);
     };
     Ok(Some(BlockMessage {
