@@ -1,11 +1,25 @@
-//! What is read from the text of a block that was kept.
+//! What is read from a text: for its note, and from one that was kept, the block.
 ghost use Rattle.std.specs.Prelude.{◌≡◌, IfOk};
+ghost use Rattle.ss_review.specs.Notes.{noted, note};
 ghost use Rattle.ss_review.specs.Contents.{block_in};
 
 use crate::message::{BlockMessage, Said};
-use ss_block::{FullReading, Reading, read_fully};
+use ss_block::{FullReading, Reading, classify, may_hold_block, read_fully};
 use ss_message::NoMemory;
 use std::alloc::Global;
+
+/// What a text is, as far as its note needs it. A text without `[ssign` holds no block, so it isn't parsed: it is
+/// answered as `Plain`, whether it is a message or not, since the note of either is its two hashes.
+#[tactic(auto, unfolding(crate::specs::Notes::note))]
+pub(crate) fn reading_to_note(alloc: Global, text: &[u8]) -> Result<Reading, NoMemory>
+    ensures { IfOk result (λ r. noted text.now r ≡ note text.now) }
+{
+    if may_hold_block(text) {
+        classify(alloc, text)
+    } else {
+        Ok(Reading::Plain)
+    }
+}
 
 /// The block that a text holds, which stands at this place in its log; none where it holds none.
 #[tactic(auto, unfolding(crate::specs::Contents::block_in))]

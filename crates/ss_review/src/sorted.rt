@@ -6,9 +6,9 @@ ghost use Rattle.ss_review.specs.Keeping.{SortedOut};
 use crate::by_hash::ByHash;
 use crate::message::{BlockMessage, NormalMessage};
 use crate::pushing::push_some;
-use crate::reading::block_in;
+use crate::reading::{block_in, reading_to_note};
 use crate::spoilt::SpoiltPlace;
-use ss_block::{HashPair, Reading, Spoil, classify, pair_of};
+use ss_block::{HashPair, Reading, Spoil, pair_of};
 use ss_frame::Bytes;
 use ss_message::NoMemory;
 use std::alloc::Global;
@@ -48,7 +48,7 @@ impl Sorted {
             → length ns + 1 < 2 ^ 32
             → OnOk result (SortedOut self.new (ns ++ note message.now ∷ [])) }
     {
-        let reading = classify(alloc, message)?;
+        let reading = reading_to_note(alloc, message)?;
         self.add(alloc, message, reading)
     }
 
