@@ -15,6 +15,7 @@ use Rattle.ss_block.specs.Order.{pair_cmp}
 use Rattle.ss_review.specs.Notes.{Note, Normal, Block, Spoilt}
 use Rattle.ss_review.specs.Contents.{normal_at, normals, spoilts}
 use Rattle.ss_review.specs.Assigned.{same_pair, places_with}
+use Rattle.ss_review.specs.Stored.{HoldsStored}
 use Rattle.ss_review.specs.Keeping.{text_at, texts, places_in, KeepsNormal, Keeps}
 use Rattle.ss_review.proofs.Counting.{is_eq-pair_cmp, same_pair-is}
 use Rattle.ss_review.proofs.Ends.{told_push, normals_push, spoilts_push, count_more}
@@ -97,13 +98,13 @@ texts_push ns n = told_push (λ (p : ℕ × Note). text_at p.0 p.1) ns n
 
 module _ (r new : Reviewer) (ns : List Note) (k : Keeps r ns) (more : new.count ≡ r.count + 1) where
   pub keeps_normal : (pair : HashPair)
-      → KeepsNormal new.normal (normals ns ++ record { place = r.count; pair = pair } ∷ [])
+      → HoldsStored new.normal (normals ns ++ record { place = r.count; pair = pair } ∷ [])
       → new.blocks ≡ r.blocks
       → new.spoilt ≡ r.spoilt
       → Keeps new (ns ++ Normal pair ∷ [])
   keeps_normal pair normal blocks spoilt = record {
     count = more ∙ ap (λ n. n + 1) k.count ∙ sym (count_more ns (Normal pair));
-    normal = keeps_note new.normal ns (Normal pair) (subst (λ n. KeepsNormal new.normal (normals ns ++ record { place = n; pair = pair } ∷ [])) k.count normal);
+    normal = subst (HoldsStored new.normal) (ap (λ n. normals ns ++ record { place = n; pair = pair } ∷ []) k.count ∙ sym (normals_push ns (Normal pair))) normal;
     blocks = ap (λ v. map (λ b. (b.place, b.text)) v.items) blocks ∙ k.blocks ∙ sym (append-nil (texts ns)) ∙ sym (texts_push ns (Normal pair));
     spoilt = ap (λ v. v.items) spoilt ∙ k.spoilt ∙ sym (append-nil (spoilts ns)) ∙ sym (spoilts_push ns (Normal pair));
   }
@@ -112,7 +113,7 @@ module _ (r new : Reviewer) (ns : List Note) (k : Keeps r ns) (more : new.count 
     pub keeps_block : (text : List ℕ) → new.blocks.items ≡ r.blocks.items ++ record { place = r.count; text = text } ∷ [] → new.spoilt ≡ r.spoilt → Keeps new (ns ++ Block text ∷ [])
     keeps_block text blocks spoilt = record {
       count = more ∙ ap (λ n. n + 1) k.count ∙ sym (count_more ns (Block text));
-      normal = normal_stays new.normal ns (Block text) refl (subst (λ i. KeepsNormal i (normals ns)) (sym normal) k.normal);
+      normal = subst (λ i. HoldsStored i (normals (ns ++ Block text ∷ []))) (sym normal) (subst (HoldsStored r.normal) (sym (append-nil (normals ns)) ∙ sym (normals_push ns (Block text))) k.normal);
       blocks =
           ap (map (λ (b : BlockText). (b.place, b.text))) blocks
           ∙ map-append (λ (b : BlockText). (b.place, b.text)) r.blocks.items (record { place = r.count; text = text } ∷ [])
@@ -125,7 +126,7 @@ module _ (r new : Reviewer) (ns : List Note) (k : Keeps r ns) (more : new.count 
     pub keeps_spoilt : (cause : Spoil) → new.blocks ≡ r.blocks → new.spoilt.items ≡ r.spoilt.items ++ record { place = r.count; cause = cause } ∷ [] → Keeps new (ns ++ Spoilt cause ∷ [])
     keeps_spoilt cause blocks spoilt = record {
       count = more ∙ ap (λ n. n + 1) k.count ∙ sym (count_more ns (Spoilt cause));
-      normal = normal_stays new.normal ns (Spoilt cause) refl (subst (λ i. KeepsNormal i (normals ns)) (sym normal) k.normal);
+      normal = subst (λ i. HoldsStored i (normals (ns ++ Spoilt cause ∷ []))) (sym normal) (subst (HoldsStored r.normal) (sym (append-nil (normals ns)) ∙ sym (normals_push ns (Spoilt cause))) k.normal);
       blocks = ap (λ v. map (λ b. (b.place, b.text)) v.items) blocks ∙ k.blocks ∙ sym (append-nil (texts ns)) ∙ sym (texts_push ns (Spoilt cause));
       spoilt =
           spoilt

@@ -12,6 +12,10 @@ pub mod Searching
 pub mod Finding
 pub mod BearersWanted
 pub mod Bearings
+pub mod StoredRuns
+pub mod StoredTold
+pub mod NeededHashes
+pub mod AssignedPlaces
 pub mod Sections
 pub mod BySession
 pub mod SectionsTold
@@ -71,3 +75,4 @@ pub mod OwnPayload
 pub mod JoinedByFragments
 pub mod ToldNumbers
 pub mod StoredPairs
+pub mod Searches

@@ -28,6 +28,8 @@ pub mod Covering
 pub mod FoundBlocks
 pub mod Keeping
 pub mod Bearing
+pub mod StoredHashes
+pub mod Stored
 pub mod Delivery
 pub mod DeliveryLaws
 pub mod Delivered

@@ -5,9 +5,10 @@ ghost use Rattle.std.specs.List.Sorted.{IsStrictlySortedBy};
 ghost use Rattle.ss_block.specs.declared.hash.Hash.{Hash};
 ghost use Rattle.ss_review.specs.declared.message.NormalMessage.{NormalMessage};
 ghost use Rattle.ss_review.specs.Assigned.{places_with};
+ghost use Rattle.ss_review.specs.Keeping.{KeepsNormal};
 ghost use Rattle.ss_review.specs.Assigning.{pair_wanted, pairs_wanted, bearer_wanted, bearers_wanted, place_after, assigned_all, count_of, Counts};
 
-use crate::index::Index;
+use crate::by_hash::ByHash;
 use crate::message::NormalMessage;
 use ss_block::Hash;
 use ss_message::NoMemory;
@@ -23,9 +24,9 @@ fn count_of(taken: &BTreeMap<u32, u64>, place: u32) -> u64
 
 /// Of the places of the messages with the hashes of a bearer, the one with this number, from 0. The bearer is the first
 /// of them, so only a message that stands twice is looked up.
-fn place_at<I: Index>(index: &I, bearer: &NormalMessage, number: u64) -> Option<u32>
+fn place_at(index: &ByHash, bearer: &NormalMessage, number: u64) -> Option<u32>
     ensures { (ms : List NormalMessage)
-        → I.has index.now ms
+        → KeepsNormal index.now ms
         → slice_get (places_with ms bearer.now.pair) 0 ≡ Some bearer.now.place
         → result ≡ slice_get (places_with ms bearer.now.pair) number }
 {
@@ -38,13 +39,13 @@ fn place_at<I: Index>(index: &I, bearer: &NormalMessage, number: u64) -> Option<
 
 /// The place of the next key, which wants the hashes of this bearer, or none. `taken` has how often each bearer was
 /// wanted before, which is less often than there are keys, and has it with this key after the call.
-fn next_place<I: Index>(
-    index: &I,
+fn next_place(
+    index: &ByHash,
     taken: &mut BTreeMap<u32, u64>,
     bearer: Option<NormalMessage>,
 ) -> Result<Option<u32>, NoMemory>
     ensures place { (ms : List NormalMessage) (before : List (Option Hash)) (hash : Option Hash)
-        → I.has index.now ms
+        → KeepsNormal index.now ms
         → IsStrictlySortedBy nat_cmp (map (λ m. m.place) ms)
         → Counts taken.old (bearers_wanted ms before)
         → bearer ≡ bearer_wanted ms hash
@@ -64,13 +65,14 @@ fn next_place<I: Index>(
 
 /// The places that the announced keys are assigned, in their order, from the hash that each is announced with, or none
 /// where none counts.
-pub(crate) fn assign<I: Index>(
+pub(crate) fn assign(
     alloc: Global,
-    index: &I,
+    index: &ByHash,
     hashes: &[Option<Hash>],
 ) -> Result<Vec<Option<u32>>, NoMemory>
     ensures { (ms : List NormalMessage)
-        → I.has index.now ms
+        → KeepsNormal index.now ms
+        → IsStrictlySortedBy nat_cmp (map (λ m. m.place) ms)
         → IfOk result (λ places. places.items ≡ assigned_all ms hashes.now) }
 {
     let bearers = index.bearers(alloc, hashes)?;

@@ -1,12 +1,13 @@
 //! The messages of a log without a block, under both their hashes.
-ghost use Rattle.std.specs.Prelude.{◌≡◌, ◌++◌, ◌∷◌, [], List, map, slice_get, MatchResult};
+ghost use Rattle.std.specs.Prelude.{◌≡◌, ◌++◌, ◌∷◌, [], List, map, slice_get, IfOk, MatchResult};
 ghost use Rattle.std.specs.Ordering.{nat_cmp};
 ghost use Rattle.std.specs.List.Sorted.{IsStrictlySortedBy};
-ghost use Rattle.std.specs.BTreeMap.{btree_map_len, IsOrdered};
-ghost use Rattle.ss_block.specs.Order.{pair_cmp};
 ghost use Rattle.ss_review.specs.declared.message.NormalMessage.{NormalMessage};
+ghost use Rattle.ss_review.specs.Assigned.{places_with};
+ghost use Rattle.ss_review.specs.Assigning.{bearers_wanted};
 ghost use Rattle.ss_review.specs.Keeping.{KeepsNormal};
 
+use crate::assign::assign;
 use crate::bearers::bearers;
 use crate::equal_places::EqualPlaces;
 use crate::index::Index;
@@ -49,12 +50,37 @@ impl ByHash {
         Ok(())
     }
 
-    /// How many different pairs of hashes it holds.
-    pub(crate) fn pair_count(&self) -> usize
-        ensures count { result ≡ btree_map_len self.now.pairs }
-        ensures ordered { IsOrdered pair_cmp self.now.pairs }
+    /// The places of the messages, which rise.
+    fn stored_places(&self) -> &[u32]
+        ensures { (ms : List NormalMessage) → KeepsNormal self.now ms → result.now ≡ map (λ m. m.place) ms }
     {
-        self.pairs.len()
+        self.places.as_slice()
+    }
+
+    /// For each of these hashes, the first message that has it.
+    pub(crate) fn bearers(
+        &self,
+        alloc: Global,
+        hashes: &[Option<Hash>],
+    ) -> Result<Vec<Option<NormalMessage>>, NoMemory>
+        ensures { (ms : List NormalMessage)
+            → KeepsNormal self.now ms
+            → IsStrictlySortedBy nat_cmp (map (λ m. m.place) ms)
+            → IfOk result (λ v. v.items ≡ bearers_wanted ms hashes.now) }
+    {
+        bearers(alloc, &self.pairs, hashes)
+    }
+
+    /// Of the places of the messages with these hashes, the one with this number, from 0.
+    pub(crate) fn place(&self, pair: &HashPair, number: usize) -> Option<u32>
+        ensures { (ms : List NormalMessage)
+            → KeepsNormal self.now ms
+            → result ≡ slice_get (places_with ms pair.now) number }
+    {
+        match self.pairs.get(pair) {
+            Some(places) => places.get(number),
+            None => None,
+        }
     }
 }
 
@@ -63,22 +89,11 @@ impl Index for ByHash {
 
     ghost has = { λ i ms. KeepsNormal i ms × IsStrictlySortedBy nat_cmp (map (λ m. m.place) ms) };
 
-    fn places(&self) -> &[u32] {
-        self.places.as_slice()
+    fn places(&self, alloc: Global) -> Result<Vec<u32>, NoMemory> {
+        Ok(Vec::from_slice(alloc, self.stored_places())?)
     }
 
-    fn bearers(
-        &self,
-        alloc: Global,
-        hashes: &[Option<Hash>],
-    ) -> Result<Vec<Option<NormalMessage>>, NoMemory> {
-        bearers(alloc, &self.pairs, hashes)
-    }
-
-    fn place(&self, pair: &HashPair, number: usize) -> Option<u32> {
-        match self.pairs.get(pair) {
-            Some(places) => places.get(number),
-            None => None,
-        }
+    fn assign(&self, alloc: Global, hashes: &[Option<Hash>]) -> Result<Vec<Option<u32>>, NoMemory> {
+        assign(alloc, self, hashes)
     }
 }

@@ -5,7 +5,6 @@ ghost use Rattle.ss_review.specs.Verified.{answers};
 ghost use Rattle.ss_review.specs.Report.{report_of};
 
 use crate::announced::announced;
-use crate::assign::assign;
 use crate::grouping::session_reports;
 use crate::index::Index;
 use crate::message::BlockMessage;
@@ -40,7 +39,8 @@ pub(crate) fn review<J: Judge, I: Index>(
     let verified = verified(alloc, judge, sessions.as_slice(), blocks)?;
     let announced = announced(alloc, blocks, verified.as_slice())?;
     let hashes = announced.hashes.as_slice();
-    let places = assign(alloc, index, hashes)?;
+    let places = index.assign(alloc, hashes)?;
+    let stored = index.places(alloc)?;
     let numbers = announced.numbers.as_slice();
     Ok(Report {
         sessions: session_reports(
@@ -50,7 +50,7 @@ pub(crate) fn review<J: Judge, I: Index>(
             hashes,
             places.as_slice(),
         )?,
-        unlisted: unlisted(alloc, index.places(), places.as_slice())?,
+        unlisted: unlisted(alloc, stored.as_slice(), places.as_slice())?,
         refused: refused(alloc, blocks, verified.as_slice())?,
         spoilt: SpoiltPlaces::from_vec(Vec::from_slice(alloc, spoilt)?),
         count,

@@ -11,20 +11,20 @@ use Rattle.ss_review.proofs.Searching.{map_at}
 use Rattle.ss_review.proofs.assign.assign.Goals as goal
 
 pub loop-bearer-init : goal.loop-bearer-init
-loop-bearer-init g c = λ ms has. (
+loop-bearer-init c = λ ms has up. (
   ap (λ places. places ++ assigned_after ms [] (pairs_wanted ms c.args.hashes.now)) c.in_ok-places.ensures.items,
   λ place. ap (λ entries. unwrap_or (lookup (is_at (nat_cmp place)) entries) 0) c.new-taken.ensures.empty,
 )
 
 pub loop-bearer-preserved : goal.loop-bearer-preserved
-loop-bearer-preserved g c = λ ms has.
+loop-bearer-preserved c = λ ms has up.
     let hs = c.args.hashes.now in
     let i = c.loop-bearer.bearer-index in
-    let so_far = c.loop-bearer.invariant ms has in
-    let bearers = c.as_slice-bearer-items.ensures.value ∙ c.in_ok-bearers.ensures.bearers ms has in
+    let so_far = c.loop-bearer.invariant ms has up in
+    let bearers = c.as_slice-bearer-items.ensures.value ∙ c.in_ok-bearers.ensures ms has up in
     let below : i < length hs = omega (arith, c.loop-bearer-test.true, ap length bearers, length-map hs (bearer_wanted ms)) in
     let wanted = ap (λ bs. get_or bs i None) bearers ∙ map_at (bearer_wanted ms) hs i None None below in
-    let place = c.in_ok-place.ensures.place ms (take i hs) (get_or hs i None) has (c.in_ok-bearers.ensures.rise ms has) so_far.1 wanted in
+    let place = c.in_ok-place.ensures.place ms (take i hs) (get_or hs i None) has up so_far.1 wanted in
     let room : length (bearers_wanted ms (take i hs)) + 1 < 2 ^ 64
     = omega (arith, length-map (take i hs) (bearer_wanted ms), length-take-le i hs (omega (arith, below)), below, c.as_slice-bearer-items.ensures.len, ap length bearers, length-map hs (bearer_wanted ms)) in
     let rest = assigned_after ms (pairs_wanted ms (take (i + 1) hs)) (pairs_wanted ms (drop (i + 1) hs)) in (
@@ -40,10 +40,10 @@ loop-bearer-preserved g c = λ ms has.
 
 pub returns : goal.returns
 unfolding assigned_all
-returns g c = λ ms has.
+returns c = λ ms has up.
     let hs = c.args.hashes.now in
-    let so_far = c.loop-bearer.invariant ms has in
-    let bearers = c.as_slice-bearer-items.ensures.value ∙ c.in_ok-bearers.ensures.bearers ms has in
+    let so_far = c.loop-bearer.invariant ms has up in
+    let bearers = c.as_slice-bearer-items.ensures.value ∙ c.in_ok-bearers.ensures ms has up in
     sym (append-nil c.loop-bearer.places.items)
     ∙ ap (λ gs. c.loop-bearer.places.items ++ assigned_after ms (pairs_wanted ms (take c.loop-bearer.bearer-index hs)) (pairs_wanted ms gs))
     (sym (drop_all c.loop-bearer.bearer-index hs (omega (arith, c.loop-bearer-test.false, ap length bearers, length-map hs (bearer_wanted ms)))))

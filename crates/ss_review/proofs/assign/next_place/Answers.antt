@@ -10,11 +10,11 @@ use Rattle.ss_review.proofs.Counting.{counted}
 use Rattle.ss_review.proofs.assign.next_place.Goals as goal
 
 pub returns-in_default-clause-place : goal.returns-in_default-clause-place
-returns-in_default-clause-place g c = λ ms before hash has up counts is.
+returns-in_default-clause-place c = λ ms before hash has up counts is.
     no_place ms before hash (sym is ∙ c.in_default.is)
 
 pub returns-clause-place : goal.returns-clause-place
-returns-clause-place g c = λ ms before hash has up counts is.
+returns-clause-place c = λ ms before hash has up counts is.
     let bearer = c.in-Some.bearer in
     let wanted = sym is ∙ c.in-Some.is in
     c.place_at.ensures ms has (begins ms up hash bearer wanted)
@@ -22,7 +22,7 @@ returns-clause-place g c = λ ms before hash has up counts is.
     ∙ place_by_bearer ms up before hash bearer wanted
 
 pub returns-clause-counts : goal.returns-clause-counts
-returns-clause-counts g c = λ before counts room q.
+returns-clause-counts c = λ before counts room q.
     let bearer = c.in-Some.bearer in
     let few : count_by (is_at bearer.place) before ≤ _ = count_by-le-length (is_at bearer.place) before in
     let number : c.saturating_add.result ≡ count_of c.args.taken.now bearer.place + 1

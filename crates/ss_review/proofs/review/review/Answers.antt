@@ -22,8 +22,8 @@ returns g c = λ log has blocks spoilt count.
     let hashes = c.as_slice-hashes.ensures.value ∙ announced.hashes says (c.as_slice-2.ensures.value ∙ marks) in
     let places = c.in_ok-places.ensures log.normal has ∙ ap (assigned_all log.normal) hashes ∙ assigned_is log.normal rs in
     let sessions = c.in_ok-session_reports.ensures says here rs refl (ap (map session_with_joined) c.as_slice-3.ensures.value ∙ told) numbers hashes (c.as_slice-4.ensures.value ∙ places) in
-    let unlisted = c.in_ok-unlisted.ensures log.normal rs (c.places.ensures log.normal has) (c.as_slice-5.ensures.value ∙ places) in
-    let refused = c.in_ok-refused.ensures says (c.as_slice-6.ensures.value ∙ marks) in
+    let unlisted = c.in_ok-unlisted.ensures log.normal rs (c.as_slice-5.ensures.value ∙ c.in_ok-stored.ensures log.normal has) (c.as_slice-6.ensures.value ∙ places) in
+    let refused = c.in_ok-refused.ensures says (c.as_slice-7.ensures.value ∙ marks) in
     let kept = c.from_vec.ensures ∙ c.in_ok-from_slice.ensures.items in
     let report : Report = record { sessions = c.in_ok-session_reports.field-0; unlisted = c.in_ok-unlisted.field-0; refused = c.in_ok-refused.field-0; spoilt = c.from_vec.result; count = c.args.count } in
     let told_here : report ≡ report_of says here = λ i. record { sessions = sessions i; unlisted = unlisted i; refused = refused i; spoilt = kept i; count = c.args.count } in
