@@ -367,10 +367,12 @@ holds 'it makes nothing' test ! -e third
 # in a scratch root with a dpkg of its own
 as_root=()
 [[ $(id -u) == 0 ]] || as_root=(fakeroot)
-if ! command -v dpkg "${as_root[@]}" >out; then
-    echo "$name: skipped what needs dpkg and, for other users than root, fakeroot"
-    finish
-fi
+for tool in dpkg "${as_root[@]}"; do
+    if ! command -v "$tool" >out; then
+        echo "$name: skipped what needs $tool, which is missing, to install the package"
+        finish
+    fi
+done
 mkdir -p machine/var/lib/dpkg/{info,updates,triggers}
 touch machine/var/lib/dpkg/{status,available}
 installer() {
