@@ -42,6 +42,8 @@ stage() {
     done
     gzip -9n <"$root/CHANGELOG.md" >"$documents/changelog.gz" && rm -- "$documents/CHANGELOG.md" || exit 2
     write_changelog | gzip -9n >"$documents/changelog.Debian.gz" || exit 2
+    mkdir -p -- "$tree/usr/share/lintian/overrides" &&
+        write_overrides >"$tree/usr/share/lintian/overrides/$package" || exit 2
     if ! copy_licence "$documents/copyright"; then
         say 'the repository has no licence, so the package has no file copyright'
     fi
@@ -53,6 +55,18 @@ copy_licence() {
         [[ -f $file ]] && cat -- "$file" >"$1" && return
     done
     return 1
+}
+
+# write_overrides: what lintian finds, and is meant so. Each has its reason above it.
+write_overrides() {
+    cat <<OVERRIDES
+# The program is installed octet for octet as it was recorded or built, so that
+# anybody can compare its SHA-256. strip would change it.
+$package: unstripped-binary-or-object [usr/bin/ssign]
+# The package is made from the sources by their own tools, and isn't uploaded
+# to Debian. There is no bug that asks for it.
+$package: initial-upload-closes-no-bugs [usr/share/doc/$package/changelog.Debian.gz:1]
+OVERRIDES
 }
 
 write_changelog() {
