@@ -169,8 +169,10 @@ ask_fish() {
     for word in "${@:2}"; do
         line+=" $word"
     done
-    # fish makes folders in the home of its user. A tab stands before what is said of a word, and a slash behind a folder
-    offered=$(HOME=$scratch/home fish --no-config -c "source '$made/$1.fish'; complete -C '$line'" 2>&1 | cut -f 1 | sed -e 's/\\ / /g' -e 's:/$::' | grep -vx -e '-h' -e '-V')
+    # fish makes folders in the home of its user
+    offered=$(HOME=$scratch/home fish --no-config -c "source '$made/$1.fish'; complete -C '$line'" 2>&1)
+    # a tab stands before what is said of a word, and a slash behind a folder
+    offered=$(cut -f 1 <<<"$offered" | sed -e 's/\\ / /g' -e 's:/$::' | grep -vx -e '-h' -e '-V')
 }
 if command -v fish >"$scratch/out"; then
     mkdir -- "$scratch/home"

@@ -361,7 +361,8 @@ holds 'the interpreter is that of Debian' test "$(head -n 1 unpacked/usr/share/s
 holds 'its changelog' grep -qx "suhvatek (${version#ssign }-1) unstable; urgency=medium" <(gzip -dc unpacked/usr/share/doc/suhvatek/changelog.Debian.gz)
 # lintian isn't told to be silent on anything else, and each line has its reason above it
 overrides=unpacked/usr/share/lintian/overrides/suhvatek
-holds 'what lintian is told' test "$(sed -n 's/^suhvatek: \([a-z-]*\) .*/\1/p' "$overrides" | xargs)" = 'unstripped-binary-or-object initial-upload-closes-no-bugs'
+holds 'what lintian is told' test "$(sed -n 's/^suhvatek: \([a-z-]*\) .*/\1/p' "$overrides")" = \
+    $'unstripped-binary-or-object\ninitial-upload-closes-no-bugs'
 holds 'with a reason for each' test "$(awk '!/^#/ && last !~ /^#/ { print "none" } { last = $0 }' "$overrides")" = ''
 holds 'the program is that of make install, with its symbols' test "$(sum_of unpacked/usr/bin/ssign)" = "$program_sum"
 # all that lintian may say
