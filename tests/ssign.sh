@@ -53,10 +53,22 @@ built() {
     touch -d '2001-01-01 00:01' -- "$copy/crates/ssign/out/ssign"
 }
 
-# rt TEXT: makes TEXT the script that stands for rt. It runs in the folder of the crate, and $made is the program that
-# it may bring about.
+# rt TEXT: makes TEXT the script that stands for rt, where the program is asked for. It runs in the folder of the crate,
+# and $made is the program that it may bring about. A library that is asked for alone is noted in $libraries; the one
+# that $refused names, if any, isn't proved.
+libraries=$scratch/libraries
+refused=$scratch/refused
 rt() {
-    printf '#!/usr/bin/env bash\nmade=%q\n%s\n' "$program" "$1" >"$scratch/with_rt/rt"
+    cat >"$scratch/with_rt/rt" <<R
+#!/usr/bin/env bash
+made=$(printf %q "$program")
+if [[ \$1 == lib ]]; then
+    printf '%s\n' "\${PWD##*/}" >>$(printf %q "$libraries")
+    [[ \${PWD##*/} != "\$(cat $(printf %q "$refused") 2>/dev/null)" ]] || { echo 'error: no proof of a library'; exit 1; }
+    exit 0
+fi
+$1
+R
     chmod +x "$scratch/with_rt/rt"
 }
 # shellcheck disable=SC2016 # for that script
@@ -127,6 +139,8 @@ said 'the file is named' "$copy/crates/ssign/out/ssign.log"
 said 'the crate is told' 'ssign: ss_frame'
 holds 'what the prover says is in the file' grep -q '^fn ss_frame::write::write_frame: proved$' "$copy/crates/ssign/out/ssign.log"
 holds 'and not on standard error' test -z "$(grep '^fn ' "$scratch/err")"
+each='ss_frame ss_message ss_payload ss_block ss_origin ss_review ss_report ss_answers ss_signing'
+holds 'each library was asked for by itself before, lowest first' test "$(tr '\n' ' ' <"$libraries")" = "$each "
 ssign "$tools" review --answers "$answers" <"$log"
 expect 'the run after it' 0 "$report" ''
 cat >"$scratch/on_terminal.py" <<'P'
@@ -146,7 +160,23 @@ fresh
 python3 "$scratch/on_terminal.py" env PATH="$with_rt" bash "$copy/ssign" review >"$scratch/err"
 holds 'on a terminal one line is written over' grep -q $'\rssign: ss_frame, 85 of 85 functions .*\rssign: ssign' "$scratch/err"
 
+# A library that was begun before is left to the program's own build
+fresh
+mkdir -p -- "$copy/crates/ss_block/out/incremental"
+rm -- "$libraries"
+ssign "$with_rt" review --answers "$answers" <"$log"
+expect 'a program behind a library that was begun' 0 "$report" 'SOME TEXT'
+holds 'it was not asked for' test "$(tr '\n' ' ' <"$libraries")" = "${each/ ss_block/} "
+
 # A build that ends badly
+fresh
+echo ss_payload >"$refused"
+rm -- "$libraries"
+ssign "$with_rt" review <"$log"
+expect 'a library that is not proved' 2 '' 'SOME TEXT'
+said 'its last line is shown' 'error: no proof of a library'
+holds 'no library above it was asked for' test "$(tr '\n' ' ' <"$libraries")" = 'ss_frame ss_message ss_payload '
+rm -- "$refused"
 rt 'echo "rt: chose --jobs 2 for ss_frame"
 echo "error: no proof" >&2
 exit 1'
