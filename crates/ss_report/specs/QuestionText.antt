@@ -2,8 +2,8 @@
 -- them octets in strict base64. A line that the scheme says yes to is a line of an answer file.
 use Rattle.std.specs.Prelude.{ℕ, List, ◌++◌, codes, flat_map}
 use Rattle.ss_payload.specs.StrictBase64.{base64}
-use Rattle.ss_review.specs.declared.question.Question.{Question}
-use Rattle.ss_review.specs.declared.question.Question.TheVariants as question
+use Rattle.ss_review.specs.declared.questions.question.Question.{Question}
+use Rattle.ss_review.specs.declared.questions.question.Question.TheVariants as question
 
 -- trust PAYLOAD, or yes PAYLOAD OCTETS SIGNATURE
 unfoldable pub question_line : Question → List ℕ

@@ -3,16 +3,16 @@ use Rattle.std.specs.Prelude.{List, ℕ, ◌++◌, codes, flat_map}
 use Rattle.ss_frame.specs.declared.step.Tail.{Tail}
 use Rattle.ss_block.specs.declared.block.Group.{Group}
 use Rattle.ss_block.specs.declared.session.Session.{Session}
-use Rattle.ss_review.specs.declared.entry.Why.{Why}
-use Rattle.ss_review.specs.declared.entry.Why.TheVariants as whys
-use Rattle.ss_review.specs.declared.entry.Entry.{Entry}
-use Rattle.ss_review.specs.declared.entry.Entry.TheVariants as entries
-use Rattle.ss_review.specs.declared.group_report.GroupReport.{GroupReport}
-use Rattle.ss_review.specs.declared.session_report.SessionState.{SessionState}
-use Rattle.ss_review.specs.declared.session_report.SessionState.TheVariants as states
-use Rattle.ss_review.specs.declared.session_report.SessionReport.{SessionReport}
-use Rattle.ss_review.specs.declared.spoilt.SpoiltPlace.{SpoiltPlace}
-use Rattle.ss_review.specs.declared.report.Report.{Report}
+use Rattle.ss_review.specs.declared.report.entry.Why.{Why}
+use Rattle.ss_review.specs.declared.report.entry.Why.TheVariants as whys
+use Rattle.ss_review.specs.declared.report.entry.Entry.{Entry}
+use Rattle.ss_review.specs.declared.report.entry.Entry.TheVariants as entries
+use Rattle.ss_review.specs.declared.report.group_report.GroupReport.{GroupReport}
+use Rattle.ss_review.specs.declared.report.session_report.SessionState.{SessionState}
+use Rattle.ss_review.specs.declared.report.session_report.SessionState.TheVariants as states
+use Rattle.ss_review.specs.declared.report.session_report.SessionReport.{SessionReport}
+use Rattle.ss_review.specs.declared.keep.spoilt.SpoiltPlace.{SpoiltPlace}
+use Rattle.ss_review.specs.declared.report.report.Report.{Report}
 use Rattle.ss_report.specs.Words.{spaced, session_words, group_words, number_line, spoilt_line}
 use Rattle.ss_report.specs.Ending.{end_lines}
 

@@ -6,9 +6,9 @@ use Rattle.std.specs.declared.cmp.Ordering.TheVariants.{Less}
 use Rattle.std.specs.Ordering.{nat_cmp}
 use Rattle.std.specs.List.Sorted.{IsStrictlySortedBy}
 use Rattle.ss_block.specs.declared.hash.Hash.{Hash}
-use Rattle.ss_review.specs.declared.message.NormalMessage.{NormalMessage}
-use Rattle.ss_review.specs.declared.assigning.counters.Counters.{Counters}
-use Rattle.ss_review.specs.declared.assigning.stored_hash.StoredHash.{StoredHash}
+use Rattle.ss_review.specs.declared.keep.message.NormalMessage.{NormalMessage}
+use Rattle.ss_review.specs.declared.assign.counters.Counters.{Counters}
+use Rattle.ss_review.specs.declared.assign.stored_hash.StoredHash.{StoredHash}
 use Rattle.ss_review.specs.Assigned.{places_with}
 use Rattle.ss_review.specs.Assigning.{bearer_wanted, is_at}
 use Rattle.ss_review.specs.StoredHashes.{Lists, IsFoundFor, place_beside, counted_at, Tallies}

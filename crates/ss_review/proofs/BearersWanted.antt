@@ -5,7 +5,7 @@ use Rattle.std.specs.Ordering.{nat_cmp}
 use Rattle.std.specs.List.Sorted.{IsStrictlySortedBy}
 use Rattle.std.proofs.lemmas.Bool.{eqb-true, eq-eqb, false_from_ne_true}
 use Rattle.ss_block.specs.declared.hash.Hash.{Hash}
-use Rattle.ss_review.specs.declared.message.NormalMessage.{NormalMessage}
+use Rattle.ss_review.specs.declared.keep.message.NormalMessage.{NormalMessage}
 use Rattle.ss_review.specs.Assigned.{has_hash, same_pair, is_pair, pair_of_bearer, places_with}
 use Rattle.ss_review.specs.Assigning.{pair_wanted, pairs_wanted, bearer_wanted, bearers_wanted, is_at, place_after}
 use Rattle.ss_review.proofs.Counting.{count_by-cons, same_itself, same_pair-is}

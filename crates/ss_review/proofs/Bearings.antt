@@ -13,8 +13,8 @@ use Rattle.ss_block.specs.declared.hash.Hash.TheVariants as hashes
 use Rattle.ss_block.specs.declared.hash.HashPair.{HashPair}
 use Rattle.ss_block.specs.Order.{hash_cmp}
 use Rattle.ss_block.specs.OrderLaws.{hash_cmp_total, hash_cmp_exact}
-use Rattle.ss_review.specs.declared.by_hash.ByHash.{ByHash}
-use Rattle.ss_review.specs.declared.message.NormalMessage.{NormalMessage}
+use Rattle.ss_review.specs.declared.plain.by_hash.ByHash.{ByHash}
+use Rattle.ss_review.specs.declared.keep.message.NormalMessage.{NormalMessage}
 use Rattle.ss_review.specs.Assigned.{has_hash, same_pair, places_with}
 use Rattle.ss_review.specs.Bearing.{earlier, earliest, first_with, candidate, bearer_among, bearers_among}
 use Rattle.ss_review.specs.Assigning.{bearers_wanted}

@@ -3,9 +3,9 @@ use Rattle.std.proofs.Common.{◌≡◌, ℕ, ◌+◌, ◌*◌, ◌≤◌, List,
 use Rattle.std.specs.Prelude.{sum_by}
 use Rattle.std.specs.List.{enumerate_from, filter_map}
 use Rattle.std.proofs.lemmas.List.Sums.{sum_by-cons}
-use Rattle.ss_review.specs.declared.message.NormalMessage.{NormalMessage}
-use Rattle.ss_review.specs.declared.reviewer.BlockText.{BlockText}
-use Rattle.ss_review.specs.declared.reviewer.Reviewer.{Reviewer}
+use Rattle.ss_review.specs.declared.keep.message.NormalMessage.{NormalMessage}
+use Rattle.ss_review.specs.declared.keep.reviewer.BlockText.{BlockText}
+use Rattle.ss_review.specs.declared.keep.reviewer.Reviewer.{Reviewer}
 use Rattle.ss_review.specs.Notes.{Note, Normal, Block, Spoilt}
 use Rattle.ss_review.specs.Contents.{normal_at, normals}
 use Rattle.ss_review.specs.Assigned.{same_pair, places_with}

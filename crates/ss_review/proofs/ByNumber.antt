@@ -9,7 +9,7 @@ use Rattle.std.proofs.lemmas.List.{append-nil, append_assoc, drop_more, drop_all
 use Rattle.std.proofs.lemmas.Simd.{map-map}
 use Rattle.ss_block.specs.declared.hash.Hash.{Hash}
 use Rattle.ss_block.specs.Order.{hash_cmp}
-use Rattle.ss_review.specs.declared.row.Row as row
+use Rattle.ss_review.specs.declared.announced.announced_hash.AnnouncedHash as row
 use Rattle.ss_review.specs.Ordered.{in_order}
 use Rattle.ss_review.specs.Announced.{Key, Row, key_cmp, row_cmp, same_key, keys}
 use Rattle.ss_review.specs.Numbered.{row_of, only_hash, only_hashes, is_more_of, hash_before}
@@ -117,6 +117,6 @@ told_all ks hs first rs t = (
 )
 
 -- the row behind others, as the slice gives it
-pub next_is : (rows : List row.Row) (n : ℕ) (r : Option (Bor row.Row)) → IsItemAt rows n r → option_map (λ x. row_of x.now) r ≡ slice_get (map row_of (drop n rows)) 0
+pub next_is : (rows : List row.AnnouncedHash) (n : ℕ) (r : Option (Bor row.AnnouncedHash)) → IsItemAt rows n r → option_map (λ x. row_of x.now) r ≡ slice_get (map row_of (drop n rows)) 0
 next_is rows n None at = ap (λ qs. slice_get (map row_of qs) 0) (sym (drop_all n rows at.3))
 next_is rows n (Some x) at = ap (λ q. Some (row_of q)) at.1 ∙ sym (ap (λ qs. slice_get (map row_of qs) 0) (drop_more rows n x.now at.3.0))

@@ -7,14 +7,14 @@ use Rattle.std.proofs.lemmas.Bool.{and_from}
 use Rattle.std.proofs.lemmas.List.Elements.{All-contains}
 use Rattle.ss_block.specs.declared.block.Group.{Group}
 use Rattle.ss_block.specs.declared.session.Session.{Session}
-use Rattle.ss_review.specs.declared.entry.Entry.{Entry}
-use Rattle.ss_review.specs.declared.entry.Entry.TheVariants as entry
-use Rattle.ss_review.specs.declared.group_report.GroupReport.{GroupReport}
-use Rattle.ss_review.specs.declared.message.BlockMessage.{BlockMessage}
-use Rattle.ss_review.specs.declared.message.NormalMessage.{NormalMessage}
-use Rattle.ss_review.specs.declared.report.Report.{Report}
-use Rattle.ss_review.specs.declared.session_report.SessionReport.{SessionReport}
-use Rattle.ss_review.specs.declared.session_report.SessionState.{SessionState}
+use Rattle.ss_review.specs.declared.report.entry.Entry.{Entry}
+use Rattle.ss_review.specs.declared.report.entry.Entry.TheVariants as entry
+use Rattle.ss_review.specs.declared.report.group_report.GroupReport.{GroupReport}
+use Rattle.ss_review.specs.declared.keep.message.BlockMessage.{BlockMessage}
+use Rattle.ss_review.specs.declared.keep.message.NormalMessage.{NormalMessage}
+use Rattle.ss_review.specs.declared.report.report.Report.{Report}
+use Rattle.ss_review.specs.declared.report.session_report.SessionReport.{SessionReport}
+use Rattle.ss_review.specs.declared.report.session_report.SessionState.{SessionState}
 use Rattle.ss_review.specs.Contents.{Contents}
 use Rattle.ss_review.specs.Sessions.{of_session}
 use Rattle.ss_review.specs.Verified.{Answers, joined, state_in, is_valid_in, is_verified}

@@ -14,8 +14,8 @@ use Rattle.std.proofs.lemmas.List.Elements.{filter-append, filter_map-append}
 use Rattle.std.proofs.lemmas.List.Sorted.{sorted_far, ranks_by, list_any-IsPermutation}
 use Rattle.std.proofs.lemmas.Map.Keys.{ge_from_not_lt}
 use Rattle.ss_block.specs.Block as block
-use Rattle.ss_review.specs.declared.span.Span.{Span}
-use Rattle.ss_review.specs.declared.message.BlockMessage.{BlockMessage}
+use Rattle.ss_review.specs.declared.sessions.span.Span.{Span}
+use Rattle.ss_review.specs.declared.keep.message.BlockMessage.{BlockMessage}
 use Rattle.ss_review.specs.Payloads.{certificate_of, certificates, has_index, cover}
 use Rattle.ss_review.specs.Verified.{Answers, is_valid}
 use Rattle.ss_review.specs.Covering.{span_of, spans_of, is_within, covers, IsFirstUncovered, accepted_span}

@@ -5,7 +5,7 @@ use Rattle.std.specs.List.{AllPairs, list_any}
 use Rattle.std.proofs.lemmas.Bool.{false_from_ne_true, lt-ltb}
 use Rattle.ss_block.specs.declared.hash.HashPair.{HashPair}
 use Rattle.ss_block.specs.Hashes.{pair}
-use Rattle.ss_review.specs.declared.message.NormalMessage.{NormalMessage}
+use Rattle.ss_review.specs.declared.keep.message.NormalMessage.{NormalMessage}
 use Rattle.ss_review.specs.Assigned.{same_pair, places_with}
 use Rattle.ss_review.proofs.Counting.{count_by-cons, same_pair-is}
 use Rattle.ss_origin.proofs.Members.{Has, contains_from_has}

@@ -8,10 +8,10 @@ use Rattle.std.specs.BTreeMap.{BTreeMap, get, get_by, Updates, UpdatesBy}
 use Rattle.std.proofs.lemmas.Map.Lookups.{exact_bytes}
 use Rattle.ss_block.specs.Order.{octets_cmp, session_cmp}
 use Rattle.ss_block.specs.OrderLaws.{session_cmp_exact}
-use Rattle.ss_review.specs.declared.session_report.SessionState.{SessionState}
-use Rattle.ss_review.specs.declared.message.BlockMessage.{BlockMessage}
-use Rattle.ss_review.specs.declared.found_blocks.Claim.{Claim}
-use Rattle.ss_review.specs.declared.found_blocks.FoundBlocks.{FoundBlocks}
+use Rattle.ss_review.specs.declared.report.session_report.SessionState.{SessionState}
+use Rattle.ss_review.specs.declared.keep.message.BlockMessage.{BlockMessage}
+use Rattle.ss_review.specs.declared.sessions.found_blocks.Claim.{Claim}
+use Rattle.ss_review.specs.declared.sessions.found_blocks.FoundBlocks.{FoundBlocks}
 use Rattle.ss_review.specs.Sessions.{of_session}
 use Rattle.ss_review.specs.Verified.{Answers, joined, is_valid, is_valid_in, is_verified}
 use Rattle.ss_review.specs.FoundBlocks.{claim_cmp, IsClaimOf, TellsEqualsAlike, KeepsWhatHolds}

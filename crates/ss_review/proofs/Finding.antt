@@ -7,7 +7,7 @@ use Rattle.std.specs.List.Sorted.{IsStrictlySortedBy}
 use Rattle.std.proofs.lemmas.Bool.{false_from_ne_true}
 use Rattle.ss_block.specs.declared.hash.Hash.{Hash}
 use Rattle.ss_block.specs.declared.hash.HashPair.{HashPair}
-use Rattle.ss_review.specs.declared.message.NormalMessage.{NormalMessage}
+use Rattle.ss_review.specs.declared.keep.message.NormalMessage.{NormalMessage}
 use Rattle.ss_review.specs.Assigned.{has_hash, pair_of_bearer}
 use Rattle.ss_review.proofs.Keyed.{from_less}
 use Rattle.ss_origin.proofs.Members.{Has, has-map}

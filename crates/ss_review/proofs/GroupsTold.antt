@@ -14,12 +14,12 @@ use Rattle.ss_block.specs.declared.block.Group.{Group}
 use Rattle.ss_block.specs.declared.session.Session.{Session}
 use Rattle.ss_block.specs.Order.{session_cmp, group_cmp}
 use Rattle.ss_block.specs.OrderLaws.{session_cmp_total, session_cmp_exact, group_cmp_total, group_cmp_exact}
-use Rattle.ss_review.specs.declared.entry.Entry.{Entry}
-use Rattle.ss_review.specs.declared.group_report.GroupReport.{GroupReport}
-use Rattle.ss_review.specs.declared.message.NormalMessage.{NormalMessage}
-use Rattle.ss_review.specs.declared.numbered.Numbered.{Numbered}
+use Rattle.ss_review.specs.declared.report.entry.Entry.{Entry}
+use Rattle.ss_review.specs.declared.report.group_report.GroupReport.{GroupReport}
+use Rattle.ss_review.specs.declared.keep.message.NormalMessage.{NormalMessage}
+use Rattle.ss_review.specs.declared.report.number_entry.NumberEntry.{NumberEntry}
 use Rattle.ss_review.specs.Ordered.{in_order}
-use Rattle.ss_review.specs.declared.joined_session.JoinedSession.{JoinedSession}
+use Rattle.ss_review.specs.declared.sessions.joined_session.JoinedSession.{JoinedSession}
 use Rattle.ss_review.specs.Contents.{Contents}
 use Rattle.ss_review.specs.Sessions.{same_session, sessions, of_session}
 use Rattle.ss_review.specs.Verified.{Answers, joined}
@@ -43,33 +43,33 @@ use Rattle.ss_review.proofs.TotalOrders.{then_first}
 
 -- ---- a list in the order of groups falls into them
 
-abbrev group_of : Numbered → Group
+abbrev group_of : NumberEntry → Group
 group_of n = n.number.group
 
-abbrev front : Group → List Numbered → List Numbered
+abbrev front : Group → List NumberEntry → List NumberEntry
 front g ns = sectioned.front group_of group_cmp_total group_cmp_exact g ns
 
-abbrev back : Group → List Numbered → List Numbered
+abbrev back : Group → List NumberEntry → List NumberEntry
 back g ns = sectioned.back group_of group_cmp_total group_cmp_exact g ns
 
-abbrev of_group : Group → Numbered → Bool
+abbrev of_group : Group → NumberEntry → Bool
 of_group g n = same_group n.number.group g
 
-rise_is : (ns : List Numbered) → GroupsRise ns → sectioned.KeysRise group_of group_cmp_total group_cmp_exact ns
+rise_is : (ns : List NumberEntry) → GroupsRise ns → sectioned.KeysRise group_of group_cmp_total group_cmp_exact ns
 rise_is [] up = tt
 rise_is (n ∷ ns) up = (up.0, rise_is ns up.1)
 
-groups_rise-drop : (i : ℕ) (ns : List Numbered) → GroupsRise ns → GroupsRise (drop i ns)
+groups_rise-drop : (i : ℕ) (ns : List NumberEntry) → GroupsRise ns → GroupsRise (drop i ns)
 groups_rise-drop zero ns up = up
 groups_rise-drop (suc i) [] up = tt
 groups_rise-drop (suc i) (n ∷ ns) up = groups_rise-drop i ns up.1
 
-front_is : (g : Group) (ns : List Numbered) → front g ns ≡ take_while (of_group g) ns
+front_is : (g : Group) (ns : List NumberEntry) → front g ns ≡ take_while (of_group g) ns
 front_is g [] = refl
 front_is g (n ∷ ns) = ap (λ fs. cond (of_group g n) (n ∷ fs) []) (front_is g ns) ∙ sym (take_while-cons (of_group g) n ns)
 
 -- the front and the back as parts of the list
-parts : (g : Group) (ns : List Numbered) (count : ℕ) → count ≡ length (take_while (of_group g) ns) → (front g ns ≡ take count ns) × (back g ns ≡ drop count ns)
+parts : (g : Group) (ns : List NumberEntry) (count : ℕ) → count ≡ length (take_while (of_group g) ns) → (front g ns ≡ take count ns) × (back g ns ≡ drop count ns)
 parts g ns count e =
     let long : length (front g ns) ≡ count = ap length (front_is g ns) ∙ sym e in
     let all : front g ns ++ back g ns ≡ ns = sectioned.split_is group_of group_cmp_total group_cmp_exact g ns in (
@@ -77,13 +77,13 @@ parts g ns count e =
       sym (drop-append_seam (front g ns) (back g ns)) ∙ ap (drop (length (front g ns))) all ∙ ap (λ k. drop k ns) long,
     )
 
-abbrev section_told : Group × List Numbered → GroupReport
+abbrev section_told : Group × List NumberEntry → GroupReport
 section_told s = group_told s.0 s.1
 
-by_sections : (ns : List Numbered) → map section_told (sectioned.sections group_of group_cmp_total group_cmp_exact ns) ≡ groups_told ns
+by_sections : (ns : List NumberEntry) → map section_told (sectioned.sections group_of group_cmp_total group_cmp_exact ns) ≡ groups_told ns
 by_sections ns = map-map section_told (λ g. (g, numbers_of_group g ns)) (in_order group_cmp (map group_of ns))
 
-groups_first : (n : Numbered) (ns : List Numbered) (count : ℕ) → GroupsRise (n ∷ ns) → count ≡ length (take_while (of_group n.number.group) ns)
+groups_first : (n : NumberEntry) (ns : List NumberEntry) (count : ℕ) → GroupsRise (n ∷ ns) → count ≡ length (take_while (of_group n.number.group) ns)
     → groups_told (n ∷ ns) ≡ group_told n.number.group (n ∷ take count ns) ∷ groups_told (drop count ns)
 groups_first n ns count up e =
     let g = n.number.group in
@@ -92,7 +92,7 @@ groups_first n ns count up e =
     ∙ ap (map section_told) (sectioned.sections_step group_of group_cmp_total group_cmp_exact n ns (rise_is (n ∷ ns) up))
     ∙ (λ i. group_told g (n ∷ p.0 i) ∷ by_sections (p.1 i) i)
 
-pub groups_more : (ns : List Numbered) (start count end : ℕ) (n : Numbered) → GroupsRise ns → start < length ns → n ≡ get_or ns start n
+pub groups_more : (ns : List NumberEntry) (start count end : ℕ) (n : NumberEntry) → GroupsRise ns → start < length ns → n ≡ get_or ns start n
     → count ≡ length (take_while (of_group n.number.group) (drop (start + 1) ns)) → end ≡ start + 1 + count
     → groups_told (drop start ns) ≡ group_told n.number.group (take (end - start) (drop start ns)) ∷ groups_told (drop end ns)
 groups_more ns start count end n up below at e ends =
@@ -111,7 +111,7 @@ not_above a b e s =
     then_first (group_cmp a.group b.group) (nat_cmp a.number b.number)
     (sym (ap (λ c. ordering_then c (ordering_then (group_cmp a.group b.group) (nat_cmp a.number b.number))) tie) ∙ e)
 
-groups_rise : (s : Session) (ns : List Numbered) → Rise ns → AllByRecursion (λ n. session_of n ≡ s) ns → GroupsRise ns
+groups_rise : (s : Session) (ns : List NumberEntry) → Rise ns → AllByRecursion (λ n. session_of n ≡ s) ns → GroupsRise ns
 unfolding IsStrictlySortedBy
 groups_rise s [] up a = tt
 groups_rise s (n ∷ ns) up a = (
@@ -121,9 +121,9 @@ groups_rise s (n ∷ ns) up a = (
   groups_rise s ns up.1 a.1,
 )
 
-pub own_groups_rise : (s : Session) (ns : List Numbered) → Rise ns → GroupsRise (numbers_of_session s ns)
+pub own_groups_rise : (s : Session) (ns : List NumberEntry) → Rise ns → GroupsRise (numbers_of_session s ns)
 own_groups_rise s ns up =
-    let own : Numbered → Bool = λ n. same_session (session_of n) s in
+    let own : NumberEntry → Bool = λ n. same_session (session_of n) s in
     groups_rise s (filter own ns) (keys_rise-filter numbered_key key_cmp own ns up)
     (all_below (λ n. session_of n ≡ s) (filter own ns) (λ n h. session_cmp_exact (session_of n) s ((Equal-is (session_cmp (session_of n) s)).0 (from_has-filter own ns n h).1)))
 
@@ -133,24 +133,24 @@ module _ (ms : List NormalMessage) (rs : List Row) where
   abbrev paired : Key → Key × Entry
   paired k = (k, entry_of ms rs k)
 
-  filtered : (p : Key → Bool) (ns : List Numbered) (ks : List Key) → map with_entry ns ≡ with_entries ms rs ks
+  filtered : (p : Key → Bool) (ns : List NumberEntry) (ks : List Key) → map with_entry ns ≡ with_entries ms rs ks
       → map with_entry (filter (λ n. p (numbered_key n)) ns) ≡ with_entries ms rs (filter p ks)
   filtered p ns ks e =
       sym (filter_map_is (λ (k : Key × Entry). p k.0) with_entry ns)
       ∙ ap (filter (λ (k : Key × Entry). p k.0)) e
       ∙ filter_map_is (λ (k : Key × Entry). p k.0) paired ks
 
-  keyed : {X : Type 0} (f : Key → X) (ns : List Numbered) (ks : List Key) → map with_entry ns ≡ with_entries ms rs ks → map (λ n. f (numbered_key n)) ns ≡ map f ks
+  keyed : {X : Type 0} (f : Key → X) (ns : List NumberEntry) (ks : List Key) → map with_entry ns ≡ with_entries ms rs ks → map (λ n. f (numbered_key n)) ns ≡ map f ks
   keyed f ns ks e =
       sym (map-map (λ (k : Key × Entry). f k.0) with_entry ns)
       ∙ ap (map (λ (k : Key × Entry). f k.0)) e
       ∙ map-map (λ (k : Key × Entry). f k.0) paired ks
 
-  pub numbers_stand : (ns : List Numbered) → map with_entry ns ≡ with_entries ms rs (keys rs) → Rise ns
+  pub numbers_stand : (ns : List NumberEntry) → map with_entry ns ≡ with_entries ms rs (keys rs) → Rise ns
   numbers_stand ns e =
       subst (IsStrictlySortedBy key_cmp) (sym (keyed (λ k. k) ns (keys rs) e ∙ map-id (keys rs))) (keys-rise rs)
 
-  pub groups_are : (s : Session) (ns : List Numbered) → map with_entry ns ≡ with_entries ms rs (keys rs) → groups_told (numbers_of_session s ns) ≡ map (group_report ms rs s) (groups rs s)
+  pub groups_are : (s : Session) (ns : List NumberEntry) → map with_entry ns ≡ with_entries ms rs (keys rs) → groups_told (numbers_of_session s ns) ≡ map (group_report ms rs s) (groups rs s)
   unfolding group_keys
   groups_are s ns e =
       let own : map with_entry (numbers_of_session s ns) ≡ with_entries ms rs (keys_in rs s) = filtered (λ k. same_session k.session s) ns (keys rs) e in

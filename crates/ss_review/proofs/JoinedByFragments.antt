@@ -8,9 +8,9 @@ use Rattle.ss_block.specs.Order.{session_cmp}
 use Rattle.ss_block.specs.OrderLaws.{session_cmp_exact}
 use Rattle.ss_block.specs.declared.session.Session.{Session}
 use Rattle.ss_payload.specs.Payload.{payload_text}
-use Rattle.ss_review.specs.declared.message.BlockMessage.{BlockMessage}
-use Rattle.ss_review.specs.declared.session_report.SessionReport.{SessionReport}
-use Rattle.ss_review.specs.declared.session_report.SessionState.TheVariants as states
+use Rattle.ss_review.specs.declared.keep.message.BlockMessage.{BlockMessage}
+use Rattle.ss_review.specs.declared.report.session_report.SessionReport.{SessionReport}
+use Rattle.ss_review.specs.declared.report.session_report.SessionState.TheVariants as states
 use Rattle.ss_review.specs.Notes.{notes}
 use Rattle.ss_review.specs.Contents.{blocks}
 use Rattle.ss_review.specs.Sessions.{same_session, of_session}

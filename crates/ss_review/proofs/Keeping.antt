@@ -7,10 +7,10 @@ use Rattle.std.proofs.lemmas.List.{map-append, append-nil}
 use Rattle.std.proofs.lemmas.List.Elements.{filter-append}
 use Rattle.ss_block.specs.declared.hash.HashPair.{HashPair}
 use Rattle.ss_block.specs.declared.spoil.Spoil.{Spoil}
-use Rattle.ss_review.specs.declared.by_hash.ByHash.{ByHash}
-use Rattle.ss_review.specs.declared.message.NormalMessage.{NormalMessage}
-use Rattle.ss_review.specs.declared.reviewer.BlockText.{BlockText}
-use Rattle.ss_review.specs.declared.reviewer.Reviewer.{Reviewer}
+use Rattle.ss_review.specs.declared.plain.by_hash.ByHash.{ByHash}
+use Rattle.ss_review.specs.declared.keep.message.NormalMessage.{NormalMessage}
+use Rattle.ss_review.specs.declared.keep.reviewer.BlockText.{BlockText}
+use Rattle.ss_review.specs.declared.keep.reviewer.Reviewer.{Reviewer}
 use Rattle.ss_block.specs.Order.{pair_cmp}
 use Rattle.ss_review.specs.Notes.{Note, Normal, Block, Spoilt}
 use Rattle.ss_review.specs.Contents.{normal_at, normals, spoilts}

@@ -11,8 +11,8 @@ use Rattle.ss_block.specs.declared.hash.Hash.{Hash}
 use Rattle.ss_block.specs.declared.hash.Hash.TheVariants as hashes
 use Rattle.ss_block.specs.Order.{hash_cmp}
 use Rattle.ss_block.specs.OrderLaws.{hash_cmp_exact}
-use Rattle.ss_review.specs.declared.message.NormalMessage.{NormalMessage}
-use Rattle.ss_review.specs.declared.assigning.stored_hash.StoredHash.{StoredHash}
+use Rattle.ss_review.specs.declared.keep.message.NormalMessage.{NormalMessage}
+use Rattle.ss_review.specs.declared.assign.stored_hash.StoredHash.{StoredHash}
 use Rattle.ss_review.specs.StoredHashes.{stored_hash, alg_of, is_by, needed_hashes, stored_cmp, Lists}
 use Rattle.ss_review.proofs.Members.{has-append_cases, from_has-map}
 use Rattle.ss_review.proofs.TotalOrders.{both_tie}

@@ -9,7 +9,7 @@ use Rattle.ss_block.specs.declared.reading.Reading.{Reading}
 use Rattle.ss_block.specs.declared.reading.Reading.TheVariants as readings
 use Rattle.ss_block.specs.Reading.{reading}
 use Rattle.ss_block.specs.Hashes.{pair}
-use Rattle.ss_review.specs.declared.message.NormalMessage.{NormalMessage}
+use Rattle.ss_review.specs.declared.keep.message.NormalMessage.{NormalMessage}
 use Rattle.ss_review.specs.Notes.{Note, noted, note, notes}
 use Rattle.ss_review.specs.Contents.{normal_at, normals}
 use Rattle.ss_review.specs.Assigned.{same_pair, places_with}

@@ -7,10 +7,10 @@ use Rattle.ss_block.specs.declared.session.Session.{Session}
 use Rattle.ss_block.specs.Reading.{reading}
 use Rattle.ss_block.specs.Session.{session}
 use Rattle.ss_block.specs.Signed.{signed}
-use Rattle.ss_review.specs.declared.message.NormalMessage.{NormalMessage}
-use Rattle.ss_review.specs.declared.message.BlockMessage.{BlockMessage}
-use Rattle.ss_review.specs.declared.message.Said.{Said}
-use Rattle.ss_review.specs.declared.spoilt.SpoiltPlace.{SpoiltPlace}
+use Rattle.ss_review.specs.declared.keep.message.NormalMessage.{NormalMessage}
+use Rattle.ss_review.specs.declared.keep.message.BlockMessage.{BlockMessage}
+use Rattle.ss_review.specs.declared.keep.message.Said.{Said}
+use Rattle.ss_review.specs.declared.keep.spoilt.SpoiltPlace.{SpoiltPlace}
 use Rattle.ss_review.specs.Notes.{Note, Normal, Block, Spoilt}
 use Rattle.ss_review.specs.Contents.{said_in, block_with, block_in, normal_at, block_at, spoilt_at, normals, blocks, spoilts}
 use Rattle.ss_review.proofs.Announcements.{numbered_from, has-numbered}

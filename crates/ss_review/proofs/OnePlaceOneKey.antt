@@ -10,7 +10,7 @@ use Rattle.std.proofs.lemmas.Map.Lookups.{exact_unsigned}
 use Rattle.std.proofs.lemmas.Bool.{and_from, and_parts}
 use Rattle.ss_block.specs.declared.hash.Hash.{Hash}
 use Rattle.ss_block.specs.declared.hash.HashPair.{HashPair}
-use Rattle.ss_review.specs.declared.message.NormalMessage.{NormalMessage}
+use Rattle.ss_review.specs.declared.keep.message.NormalMessage.{NormalMessage}
 use Rattle.ss_review.specs.Announced.{Key, Row, key_cmp, keys, hashes_for}
 use Rattle.ss_review.specs.Assigned.{same_pair, is_pair, places_with, wanted_with, wanted, rank, place_of, assigned, pair_of_bearer}
 use Rattle.ss_review.proofs.Announcements.{has-keys, from_has-hashes_for}

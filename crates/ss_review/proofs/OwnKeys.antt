@@ -12,7 +12,7 @@ use Rattle.ss_block.specs.Hashes.{pair, pair_hash, hash_of}
 use Rattle.ss_block.specs.Order.{session_cmp}
 use Rattle.ss_block.specs.OrderLaws.{session_cmp_exact}
 use Rattle.ss_origin.specs.Chain.{given_to}
-use Rattle.ss_review.specs.declared.message.NormalMessage.{NormalMessage}
+use Rattle.ss_review.specs.declared.keep.message.NormalMessage.{NormalMessage}
 use Rattle.ss_review.specs.Sessions.{same_session}
 use Rattle.ss_review.specs.Announced.{Key, keys}
 use Rattle.ss_review.specs.Assigned.{has_hash, pair_of_bearer, wanted_with, wanted}

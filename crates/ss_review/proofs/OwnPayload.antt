@@ -23,10 +23,10 @@ use Rattle.ss_origin.specs.Configs.{is_between, is_config}
 use Rattle.ss_origin.specs.Groups.{is_grouping}
 use Rattle.ss_origin.specs.Chain.{Turn, emitted_by}
 use Rattle.ss_origin.specs.ChainLaws.{BeginsFirst}
-use Rattle.ss_review.specs.declared.message.BlockMessage.{BlockMessage}
-use Rattle.ss_review.specs.declared.message.Said.{Said}
-use Rattle.ss_review.specs.declared.message.Said.TheVariants.{Fragment}
-use Rattle.ss_review.specs.declared.session_report.SessionState.TheVariants as states
+use Rattle.ss_review.specs.declared.keep.message.BlockMessage.{BlockMessage}
+use Rattle.ss_review.specs.declared.keep.message.Said.{Said}
+use Rattle.ss_review.specs.declared.keep.message.Said.TheVariants.{Fragment}
+use Rattle.ss_review.specs.declared.report.session_report.SessionState.TheVariants as states
 use Rattle.ss_review.specs.Notes.{notes}
 use Rattle.ss_review.specs.Contents.{said_in, blocks}
 use Rattle.ss_review.specs.Sessions.{same_session, of_session}

@@ -9,7 +9,7 @@ use Rattle.std.proofs.lemmas.Option.{slice_get_cases}
 use Rattle.ss_block.specs.declared.hash.HashPair.{HashPair}
 use Rattle.ss_block.specs.Hashes.{pair}
 use Rattle.ss_block.specs.Order.{session_cmp, group_cmp}
-use Rattle.ss_review.specs.declared.message.NormalMessage.{NormalMessage}
+use Rattle.ss_review.specs.declared.keep.message.NormalMessage.{NormalMessage}
 use Rattle.ss_review.specs.Sessions.{same_session}
 use Rattle.ss_review.specs.Announced.{Key, Row, key_cmp, keys}
 use Rattle.ss_review.specs.Assigned.{same_pair, is_pair, places_with, wanted, rank, place_of, assigned}

@@ -8,10 +8,10 @@ use Rattle.std.proofs.lemmas.List.Elements.{recursion_from_All}
 use Rattle.ss_block.specs.declared.session.Session.{Session}
 use Rattle.ss_block.specs.Order.{group_cmp}
 use Rattle.ss_block.specs.OrderLaws.{session_cmp_total, session_cmp_exact, group_cmp_total, group_cmp_exact}
-use Rattle.ss_review.specs.declared.entry.Entry.{Entry}
-use Rattle.ss_review.specs.declared.group_report.GroupReport.{GroupReport}
-use Rattle.ss_review.specs.declared.session_report.SessionReport.{SessionReport}
-use Rattle.ss_review.specs.declared.report.Report.{Report}
+use Rattle.ss_review.specs.declared.report.entry.Entry.{Entry}
+use Rattle.ss_review.specs.declared.report.group_report.GroupReport.{GroupReport}
+use Rattle.ss_review.specs.declared.report.session_report.SessionReport.{SessionReport}
+use Rattle.ss_review.specs.declared.report.report.Report.{Report}
 use Rattle.ss_review.specs.Contents.{Contents}
 use Rattle.ss_review.specs.Sessions.{of_session}
 use Rattle.ss_review.specs.Verified.{Answers, joined, state_in}

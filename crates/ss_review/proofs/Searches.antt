@@ -15,8 +15,8 @@ use Rattle.std.proofs.lemmas.Map.Lookups.{exact_unsigned}
 use Rattle.ss_block.specs.declared.hash.Hash.{Hash}
 use Rattle.ss_block.specs.Order.{hash_cmp}
 use Rattle.ss_block.specs.OrderLaws.{hash_cmp_total, hash_cmp_exact}
-use Rattle.ss_review.specs.declared.assigning.stored_hash.StoredHash.{StoredHash}
-use Rattle.ss_review.specs.declared.assigning.wanted_hash.WantedHash.{WantedHash}
+use Rattle.ss_review.specs.declared.assign.stored_hash.StoredHash.{StoredHash}
+use Rattle.ss_review.specs.declared.assign.wanted_hash.WantedHash.{WantedHash}
 use Rattle.ss_review.specs.StoredHashes.{stored_cmp, is_earlier, has_this, has_hash_at, IsBearerAt, FoundLast, IsNotBelow, IsFoundFor, Wanted, wanted_cmp}
 use Rattle.ss_review.proofs.Keyed.{has-slice_get}
 use Rattle.ss_review.proofs.Members.{has-append_cases}

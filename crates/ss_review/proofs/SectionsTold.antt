@@ -6,9 +6,9 @@ use Rattle.std.proofs.lemmas.List.{at_drop_all, append_assoc, map-append}
 use Rattle.std.proofs.lemmas.List.Folds.{flat_map-map}
 use Rattle.std.proofs.lemmas.Simd.{map-map}
 use Rattle.ss_block.specs.declared.session.Session.{Session}
-use Rattle.ss_review.specs.declared.session_report.SessionState.{SessionState}
-use Rattle.ss_review.specs.declared.question.Question.{Question}
-use Rattle.ss_review.specs.declared.message.BlockMessage.{BlockMessage}
+use Rattle.ss_review.specs.declared.report.session_report.SessionState.{SessionState}
+use Rattle.ss_review.specs.declared.questions.question.Question.{Question}
+use Rattle.ss_review.specs.declared.keep.message.BlockMessage.{BlockMessage}
 use Rattle.ss_review.specs.Ordered.{in_order}
 use Rattle.ss_review.specs.Sessions.{sessions, of_session}
 use Rattle.ss_review.specs.Sectioned.{sections, referred}

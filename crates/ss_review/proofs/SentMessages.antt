@@ -21,8 +21,8 @@ use Rattle.ss_origin.specs.Setting.{Setting}
 use Rattle.ss_origin.specs.Emission.{certificate_in, certificate_of, signature_in, block_of, blocks_of, IsSealed, sent_first, EmitsFrom}
 use Rattle.ss_origin.specs.Refusals.{first_fault, is_plain, faults_of, fault_of}
 use Rattle.ss_origin.specs.Chain.{Turn, calls_of, AreTurns, start_behind, AreChained, IsChain, emitted_by}
-use Rattle.ss_review.specs.declared.message.Said.{Said}
-use Rattle.ss_review.specs.declared.message.Said.TheVariants.{Hashes, Fragment}
+use Rattle.ss_review.specs.declared.keep.message.Said.{Said}
+use Rattle.ss_review.specs.declared.keep.message.Said.TheVariants.{Hashes, Fragment}
 use Rattle.ss_review.specs.Contents.{said_in}
 use Rattle.ss_review.specs.Verified.{signature_of}
 use Rattle.ss_review.specs.Delivery.{own_session}

@@ -11,7 +11,7 @@ use Rattle.std.proofs.lemmas.List.{get_or-drop, get_or_default, length-drop}
 use Rattle.ss_block.specs.declared.session.Session.{Session}
 use Rattle.ss_block.specs.Order.{session_cmp}
 use Rattle.ss_block.specs.OrderLaws.{session_cmp_total, session_cmp_exact}
-use Rattle.ss_review.specs.declared.numbered.Numbered.{Numbered}
+use Rattle.ss_review.specs.declared.report.number_entry.NumberEntry.{NumberEntry}
 use Rattle.ss_review.specs.Announced.{Key, key_cmp}
 use Rattle.ss_review.specs.Sessions.{same_session}
 use Rattle.ss_review.specs.Numbered.{key_of}
@@ -42,13 +42,13 @@ module _ {X : Type 0} (q : X → Bool) where
 
 -- ---- sessions in their order
 
-abbrev pub session_of : Numbered → Session
+abbrev pub session_of : NumberEntry → Session
 session_of n = n.number.session.now
 
-abbrev pub numbered_key : Numbered → Key
+abbrev pub numbered_key : NumberEntry → Key
 numbered_key n = key_of n.number
 
-rise_at : (ns : List Numbered) → Rise ns → (i j : ℕ) (d : Numbered) → i ≤ j → j < length ns → is_gt (session_cmp (session_of (get_or ns i d)) (session_of (get_or ns j d))) ≡ false
+rise_at : (ns : List NumberEntry) → Rise ns → (i j : ℕ) (d : NumberEntry) → i ≤ j → j < length ns → is_gt (session_cmp (session_of (get_or ns i d)) (session_of (get_or ns j d))) ≡ false
 unfolding IsStrictlySortedBy
 rise_at [] up i j d le below = absurd (omega arith)
 rise_at (n ∷ ns) up zero zero d le below = ap is_gt (tied_itself session_cmp_total (session_of n))
@@ -75,17 +75,17 @@ apart Less e = refl
 apart Equal e = absurd (cc)
 apart Greater e = refl
 
-abbrev pub before : Session → Numbered → Bool
+abbrev pub before : Session → NumberEntry → Bool
 before s n = is_lt (session_cmp (session_of n) s)
 
-abbrev pub within : Session → Numbered → Bool
+abbrev pub within : Session → NumberEntry → Bool
 within s n = same_session (session_of n) s
 
 -- a test parts a list there
-abbrev pub Parts : (Numbered → Bool) → List Numbered → ℕ → Type 0
+abbrev pub Parts : (NumberEntry → Bool) → List NumberEntry → ℕ → Type 0
 Parts p ns i = IsPartitionPoint (λ n. p n ≡ true) (λ n. p n ≡ false) ns i
 
-module _ (s : Session) (ns : List Numbered) (up : Rise ns) where
+module _ (s : Session) (ns : List NumberEntry) (up : Rise ns) where
   pub before_parted : IsPartitionedBy (before s) ns
   before_parted i j d le below e =
       let x = session_of (get_or ns i d) in
@@ -102,7 +102,7 @@ module _ (s : Session) (ns : List Numbered) (up : Rise ns) where
       let most : is_gt (session_cmp x s) ≡ false = subst (λ t. is_gt (session_cmp x t) ≡ false) at (rise_at ns up (start + i) (start + j) d (omega arith) (omega arith)) in
       ap (within s) (get_or-drop start ns i d) ∙ eq_of (session_cmp x s) (point.1 (start + i) d (omega arith) (omega arith)) most
 
-  pub range_is : (rest : List Numbered) (start count : ℕ) → rest ≡ drop start ns
+  pub range_is : (rest : List NumberEntry) (start count : ℕ) → rest ≡ drop start ns
       → Parts (before s) ns start
       → Parts (within s) rest count
       → take count rest ≡ numbers_of_session s ns

@@ -4,7 +4,7 @@ use Rattle.std.specs.Prelude.{Err}
 use Rattle.ss_block.specs.Block as block
 use Rattle.ss_payload.specs.declared.joiner.JoinState.TheVariants as join
 use Rattle.ss_block.specs.Joining.{IsDisputed, HasGap, IsPayload}
-use Rattle.ss_review.specs.declared.session_report.SessionState.TheVariants as states
+use Rattle.ss_review.specs.declared.report.session_report.SessionState.TheVariants as states
 use Rattle.ss_review.specs.Payloads.{payload_or_malformed, stated_payload}
 use Rattle.ss_review.specs.States.{stated_by}
 use Rattle.ss_review.proofs.Stating.{whole_payload, unjoined_payload, stated_by-IsStatedBy}

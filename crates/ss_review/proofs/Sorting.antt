@@ -3,7 +3,7 @@ use Rattle.std.proofs.Common.{◌≡◌, ℕ, ◌+◌, ◌-◌, ◌^◌, ◌<◌
 use Rattle.std.specs.Prelude.{min}
 use Rattle.std.proofs.lemmas.List.{append-nil, length-map}
 use Rattle.ss_review.specs.declared.plain.Reviewer as plain
-use Rattle.ss_review.specs.declared.sorted.Sorted.{Sorted}
+use Rattle.ss_review.specs.declared.plain.sorted.Sorted.{Sorted}
 use Rattle.ss_review.specs.Notes.{Note, note, notes}
 use Rattle.ss_review.specs.Keeping.{KeepsAll, SortedOut}
 use Rattle.ss_review.proofs.Ends.{count_more}

@@ -8,11 +8,11 @@ use Rattle.ss_block.specs.Block as block
 use Rattle.ss_block.specs.Joining.{Stated, HasTotal, HasOctet, IsDisputed, HasGap, IsPayload}
 use Rattle.ss_block.specs.Payload.{PayloadValue}
 use Rattle.ss_block.specs.PayloadReading.{payload_in}
-use Rattle.ss_review.specs.declared.message.BlockMessage.{BlockMessage}
-use Rattle.ss_review.specs.declared.message.Said.{Said}
-use Rattle.ss_review.specs.declared.message.Said.TheVariants.{Hashes, Fragment}
-use Rattle.ss_review.specs.declared.session_report.SessionState.{SessionState}
-use Rattle.ss_review.specs.declared.session_report.SessionState.TheVariants as states
+use Rattle.ss_review.specs.declared.keep.message.BlockMessage.{BlockMessage}
+use Rattle.ss_review.specs.declared.keep.message.Said.{Said}
+use Rattle.ss_review.specs.declared.keep.message.Said.TheVariants.{Hashes, Fragment}
+use Rattle.ss_review.specs.declared.report.session_report.SessionState.{SessionState}
+use Rattle.ss_review.specs.declared.report.session_report.SessionState.TheVariants as states
 use Rattle.ss_review.specs.Payloads.{certificate_of, certificates, octets, is_disputed, has_index, cover, lacks_some, octet_at, joined_text, payload_or_malformed, stated_payload}
 use Rattle.ss_review.specs.Verified.{Answers, signature_of, is_valid, is_accepted, judged, joined, state_in}
 use Rattle.ss_review.specs.States.{stated_by, StatesText, HasValidOctet, IsCovered, IsPayloadBlock, IsInState}

@@ -10,8 +10,8 @@ use Rattle.ss_block.specs.Reading.{reading}
 use Rattle.ss_payload.specs.Payload.{payload_text}
 use Rattle.ss_origin.specs.Setting.{Setting}
 use Rattle.ss_origin.specs.Chain.{Turn, IsChain, emitted_by}
-use Rattle.ss_review.specs.declared.message.BlockMessage.{BlockMessage}
-use Rattle.ss_review.specs.declared.message.Said.{Said}
+use Rattle.ss_review.specs.declared.keep.message.BlockMessage.{BlockMessage}
+use Rattle.ss_review.specs.declared.keep.message.Said.{Said}
 use Rattle.ss_review.specs.Notes.{Note, Block, noted, note, notes}
 use Rattle.ss_review.specs.Contents.{said_in, block_with, block_in, blocks}
 use Rattle.ss_review.specs.Verified.{signature_of, is_valid}

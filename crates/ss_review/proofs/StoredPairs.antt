@@ -8,7 +8,7 @@ use Rattle.ss_block.specs.declared.reading.Reading.{Reading}
 use Rattle.ss_block.specs.declared.reading.Reading.TheVariants as readings
 use Rattle.ss_block.specs.Hashes.{pair}
 use Rattle.ss_block.specs.Reading.{reading}
-use Rattle.ss_review.specs.declared.message.NormalMessage.{NormalMessage}
+use Rattle.ss_review.specs.declared.keep.message.NormalMessage.{NormalMessage}
 use Rattle.ss_review.specs.Notes.{Note, Normal, noted, note, notes}
 use Rattle.ss_review.specs.Assigned.{same_pair, places_with}
 use Rattle.ss_review.specs.Delivery.{is_normal}

@@ -16,8 +16,8 @@ use Rattle.ss_block.specs.declared.hash.Hash.TheVariants as hashes
 use Rattle.ss_block.specs.declared.hash.HashPair.{HashPair}
 use Rattle.ss_block.specs.Order.{hash_cmp}
 use Rattle.ss_block.specs.OrderLaws.{hash_cmp_total, hash_cmp_exact}
-use Rattle.ss_review.specs.declared.message.NormalMessage.{NormalMessage}
-use Rattle.ss_review.specs.declared.assigning.stored_hash.StoredHash.{StoredHash}
+use Rattle.ss_review.specs.declared.keep.message.NormalMessage.{NormalMessage}
+use Rattle.ss_review.specs.declared.assign.stored_hash.StoredHash.{StoredHash}
 use Rattle.ss_review.specs.Assigned.{has_hash, same_pair, places_with}
 use Rattle.ss_review.specs.StoredHashes.{stored_hash, alg_of, stored_cmp, hashes_cmp, same_hashes, place_beside, Lists, IsBearerAt}
 use Rattle.ss_review.proofs.Counting.{same_itself, same_pair-is}

@@ -4,8 +4,8 @@ use Rattle.std.specs.Prelude.{Option, Some, None, nat_lt, Contains}
 use Rattle.std.proofs.lemmas.Bool.{lt-ltb, ltb-true}
 use Rattle.ss_block.specs.declared.hash.Hash.{Hash}
 use Rattle.ss_block.specs.Hashes.{pair, hash_of}
-use Rattle.ss_review.specs.declared.entry.Why.TheVariants as whys
-use Rattle.ss_review.specs.declared.message.BlockMessage.{BlockMessage}
+use Rattle.ss_review.specs.declared.report.entry.Why.TheVariants as whys
+use Rattle.ss_review.specs.declared.keep.message.BlockMessage.{BlockMessage}
 use Rattle.ss_review.specs.Notes.{notes}
 use Rattle.ss_review.specs.Contents.{normals, blocks}
 use Rattle.ss_review.specs.Verified.{Answers}

@@ -2,7 +2,7 @@
 use Rattle.std.proofs.Common.{◌≡◌, List, [], ◌∷◌, map, refl, ◌∙◌}
 use Rattle.std.proofs.lemmas.Simd.{map-map}
 use Rattle.ss_block.specs.declared.hash.Hash.{Hash}
-use Rattle.ss_review.specs.declared.message.NormalMessage.{NormalMessage}
+use Rattle.ss_review.specs.declared.keep.message.NormalMessage.{NormalMessage}
 use Rattle.ss_review.specs.Announced.{Key, Row, keys, hashes_for}
 use Rattle.ss_review.specs.Assigned.{wanted_with, wanted, assigned}
 use Rattle.ss_review.specs.Assigning.{pair_wanted, assigned_all}

@@ -8,7 +8,7 @@ use Rattle.std.proofs.lemmas.List.FromFn.{length-map-range_with_len}
 use Rattle.ss_origin.specs.GroupLaws.{SprisAreSmall}
 use Rattle.ss_origin.specs.Calls.{spri_in}
 use Rattle.ss_origin.specs.Chain.{given_to}
-use Rattle.ss_review.specs.declared.message.NormalMessage.{NormalMessage}
+use Rattle.ss_review.specs.declared.keep.message.NormalMessage.{NormalMessage}
 use Rattle.ss_review.specs.Notes.{notes}
 use Rattle.ss_review.specs.Announced.{Key, keys}
 use Rattle.ss_review.specs.Assigned.{assigned, places_with, rank, is_taken}

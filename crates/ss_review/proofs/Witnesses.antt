@@ -18,11 +18,11 @@ use Rattle.ss_block.specs.declared.reading.Reading.TheVariants as readings
 use Rattle.ss_block.specs.Block as block
 use Rattle.ss_block.specs.Reading.{reading}
 use Rattle.ss_block.specs.ReadingLaws.{BlocksAreInRange}
-use Rattle.ss_review.specs.declared.session_report.SessionState.{SessionState}
-use Rattle.ss_review.specs.declared.message.NormalMessage.{NormalMessage}
-use Rattle.ss_review.specs.declared.message.BlockMessage.{BlockMessage}
-use Rattle.ss_review.specs.declared.message.Said.{Said}
-use Rattle.ss_review.specs.declared.message.Said.TheVariants.{Hashes}
+use Rattle.ss_review.specs.declared.report.session_report.SessionState.{SessionState}
+use Rattle.ss_review.specs.declared.keep.message.NormalMessage.{NormalMessage}
+use Rattle.ss_review.specs.declared.keep.message.BlockMessage.{BlockMessage}
+use Rattle.ss_review.specs.declared.keep.message.Said.{Said}
+use Rattle.ss_review.specs.declared.keep.message.Said.TheVariants.{Hashes}
 use Rattle.ss_block.specs.Hashes.{pair, hash_of}
 use Rattle.ss_review.specs.Notes.{Note, Normal, Block, noted, note, notes}
 use Rattle.ss_review.specs.Contents.{said_in, normals, blocks}

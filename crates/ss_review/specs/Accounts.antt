@@ -1,7 +1,7 @@
 -- Where each place of a log is told of in its report.
 use Rattle.std.specs.Prelude.{◌≡◌, ℕ, true, List, map, Contains}
-use Rattle.ss_review.specs.declared.message.BlockMessage.{BlockMessage}
-use Rattle.ss_review.specs.declared.report.Report.{Report}
+use Rattle.ss_review.specs.declared.keep.message.BlockMessage.{BlockMessage}
+use Rattle.ss_review.specs.declared.report.report.Report.{Report}
 use Rattle.ss_review.specs.Verified.{Answers, is_verified}
 use Rattle.ss_review.specs.Announced.{Key}
 use Rattle.ss_review.specs.Meaning.{IsListed}

@@ -7,7 +7,7 @@ use Rattle.std.specs.Ordering.{is_lt}
 use Rattle.ss_block.specs.declared.hash.Hash.{Hash}
 use Rattle.ss_block.specs.declared.hash.Hash.TheVariants as hashes
 use Rattle.ss_block.specs.declared.hash.HashPair.{HashPair}
-use Rattle.ss_review.specs.declared.message.NormalMessage.{NormalMessage}
+use Rattle.ss_review.specs.declared.keep.message.NormalMessage.{NormalMessage}
 use Rattle.ss_review.specs.Announced.{Key, Row, key_cmp, keys, hashes_for}
 
 abbrev pub same_pair : HashPair → HashPair → Bool

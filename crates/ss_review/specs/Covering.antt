@@ -2,8 +2,8 @@
 use Rattle.std.specs.Prelude.{◌≡◌, ℕ, ◌+◌, ◌<◌, ◌≤◌, ◌&&◌, nat_le, nat_lt, Bool, true, false, List, length, map, Option, None, option_map, if◌then◌else◌}
 use Rattle.std.specs.List.{list_any}
 use Rattle.ss_block.specs.Block as block
-use Rattle.ss_review.specs.declared.span.Span.{Span}
-use Rattle.ss_review.specs.declared.message.BlockMessage.{BlockMessage}
+use Rattle.ss_review.specs.declared.sessions.span.Span.{Span}
+use Rattle.ss_review.specs.declared.keep.message.BlockMessage.{BlockMessage}
 use Rattle.ss_review.specs.Payloads.{certificate_of}
 use Rattle.ss_review.specs.Verified.{Answers, is_valid}
 

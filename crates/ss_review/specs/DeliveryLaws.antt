@@ -15,13 +15,13 @@ use Rattle.ss_payload.specs.Payload.{payload_text}
 use Rattle.ss_origin.specs.Groups.{sg_of}
 use Rattle.ss_origin.specs.Setting.{Setting}
 use Rattle.ss_origin.specs.Chain.{Turn, IsChain, emitted_by, given_to}
-use Rattle.ss_review.specs.declared.report.Report.{Report}
-use Rattle.ss_review.specs.declared.session_report.SessionReport.{SessionReport}
-use Rattle.ss_review.specs.declared.session_report.SessionState.TheVariants as states
-use Rattle.ss_review.specs.declared.entry.Why.TheVariants as whys
-use Rattle.ss_review.specs.declared.message.NormalMessage.{NormalMessage}
+use Rattle.ss_review.specs.declared.report.report.Report.{Report}
+use Rattle.ss_review.specs.declared.report.session_report.SessionReport.{SessionReport}
+use Rattle.ss_review.specs.declared.report.session_report.SessionState.TheVariants as states
+use Rattle.ss_review.specs.declared.report.entry.Why.TheVariants as whys
+use Rattle.ss_review.specs.declared.keep.message.NormalMessage.{NormalMessage}
 use Rattle.ss_review.specs.Notes.{note, notes}
-use Rattle.ss_review.specs.declared.message.Said.{Said}
+use Rattle.ss_review.specs.declared.keep.message.Said.{Said}
 use Rattle.ss_review.specs.Contents.{said_in, normals, blocks}
 use Rattle.ss_review.specs.Sessions.{same_session}
 use Rattle.ss_review.specs.Verified.{Answers, signature_of}

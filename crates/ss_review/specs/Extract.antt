@@ -1,8 +1,8 @@
 -- The messages that a report lists.
 use Rattle.std.specs.Prelude.{ℕ, List, filter_map, flat_map, slice_get, Option, Some, None}
-use Rattle.ss_review.specs.declared.entry.Entry.{Entry}
-use Rattle.ss_review.specs.declared.entry.Entry.TheVariants as entry
-use Rattle.ss_review.specs.declared.report.Report.{Report}
+use Rattle.ss_review.specs.declared.report.entry.Entry.{Entry}
+use Rattle.ss_review.specs.declared.report.entry.Entry.TheVariants as entry
+use Rattle.ss_review.specs.declared.report.report.Report.{Report}
 
 abbrev pub place_listed : Entry → Option ℕ
 place_listed (entry.Listed number place) = Some place

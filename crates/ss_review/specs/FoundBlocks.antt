@@ -4,9 +4,9 @@ use Rattle.std.specs.declared.cmp.Ordering.{Ordering}
 use Rattle.std.specs.Ordering.{ordering_then}
 use Rattle.std.specs.BTreeMap.{get}
 use Rattle.ss_block.specs.Order.{octets_cmp, session_cmp}
-use Rattle.ss_review.specs.declared.message.BlockMessage.{BlockMessage}
-use Rattle.ss_review.specs.declared.found_blocks.Claim.{Claim}
-use Rattle.ss_review.specs.declared.found_blocks.FoundBlocks.{FoundBlocks}
+use Rattle.ss_review.specs.declared.keep.message.BlockMessage.{BlockMessage}
+use Rattle.ss_review.specs.declared.sessions.found_blocks.Claim.{Claim}
+use Rattle.ss_review.specs.declared.sessions.found_blocks.FoundBlocks.{FoundBlocks}
 use Rattle.ss_review.specs.Verified.{signature_of}
 
 -- by the signature, then the octets that are signed, then the session

@@ -7,15 +7,15 @@ use Rattle.ss_block.specs.declared.block.Group.{Group}
 use Rattle.ss_block.specs.declared.hash.Hash.{Hash}
 use Rattle.ss_block.specs.declared.session.Session.{Session}
 use Rattle.ss_block.specs.Order.{group_cmp}
-use Rattle.ss_review.specs.declared.entry.Why.TheVariants as whys
-use Rattle.ss_review.specs.declared.entry.Entry.{Entry}
-use Rattle.ss_review.specs.declared.entry.Entry.TheVariants as entry
-use Rattle.ss_review.specs.declared.group_report.GroupReport.{GroupReport}
-use Rattle.ss_review.specs.declared.session_report.SessionReport.{SessionReport}
-use Rattle.ss_review.specs.declared.session_report.SessionState.{SessionState}
-use Rattle.ss_review.specs.declared.message.NormalMessage.{NormalMessage}
-use Rattle.ss_review.specs.declared.message_number.MessageNumber.{MessageNumber}
-use Rattle.ss_review.specs.declared.numbered.Numbered.{Numbered}
+use Rattle.ss_review.specs.declared.report.entry.Why.TheVariants as whys
+use Rattle.ss_review.specs.declared.report.entry.Entry.{Entry}
+use Rattle.ss_review.specs.declared.report.entry.Entry.TheVariants as entry
+use Rattle.ss_review.specs.declared.report.group_report.GroupReport.{GroupReport}
+use Rattle.ss_review.specs.declared.report.session_report.SessionReport.{SessionReport}
+use Rattle.ss_review.specs.declared.report.session_report.SessionState.{SessionState}
+use Rattle.ss_review.specs.declared.keep.message.NormalMessage.{NormalMessage}
+use Rattle.ss_review.specs.declared.announced.message_number.MessageNumber.{MessageNumber}
+use Rattle.ss_review.specs.declared.report.number_entry.NumberEntry.{NumberEntry}
 use Rattle.ss_review.specs.Ordered.{in_order}
 use Rattle.ss_review.specs.Sessions.{same_session}
 use Rattle.ss_review.specs.Verified.{state_in}
@@ -30,14 +30,14 @@ entry_from n hash (Some place) = entry.Listed n place
 entry_from n (Some h) None = entry.Gap n whys.Lost
 entry_from n None None = entry.Gap n whys.Disputed
 
-abbrev pub numbered_with : MessageNumber × (Option Hash × Option ℕ) → Numbered
+abbrev pub numbered_with : MessageNumber × (Option Hash × Option ℕ) → NumberEntry
 numbered_with n = record { number = n.0; entry = entry_from n.0.number n.1.0 n.1.1 }
 
 -- numbers with their entries, from the hash and the place of each
-abbrev pub numbered : List MessageNumber → List (Option Hash) → List (Option ℕ) → List Numbered
+abbrev pub numbered : List MessageNumber → List (Option Hash) → List (Option ℕ) → List NumberEntry
 numbered ns hs ps = map numbered_with (zip ns (zip hs ps))
 
-abbrev pub with_entry : Numbered → Key × Entry
+abbrev pub with_entry : NumberEntry → Key × Entry
 with_entry n = (key_of n.number, n.entry)
 
 -- keys with what a report says of them
@@ -50,25 +50,25 @@ entries_after last [] = []
 entries_after last (k ∷ ks) = hole_between last k.0.number ++ k.1 ∷ entries_after k.0.number ks
 
 -- numbers stand by session, group and number
-abbrev pub Rise : List Numbered → Type 0
+abbrev pub Rise : List NumberEntry → Type 0
 Rise ns = IsStrictlySortedBy key_cmp (map (λ n. key_of n.number) ns)
 
 -- no number's group is above a later one's
-abbrev pub GroupsRise : List Numbered → Type 0
+abbrev pub GroupsRise : List NumberEntry → Type 0
 GroupsRise [] = Unit {0}
 GroupsRise (n ∷ ns) = AllByRecursion (λ m. is_gt (group_cmp n.number.group m.number.group) ≡ false) ns × GroupsRise ns
 
-abbrev pub numbers_of_session : Session → List Numbered → List Numbered
+abbrev pub numbers_of_session : Session → List NumberEntry → List NumberEntry
 numbers_of_session s ns = filter (λ n. same_session n.number.session.now s) ns
 
-abbrev pub numbers_of_group : Group → List Numbered → List Numbered
+abbrev pub numbers_of_group : Group → List NumberEntry → List NumberEntry
 numbers_of_group g ns = filter (λ n. same_group n.number.group g) ns
 
-abbrev pub group_told : Group → List Numbered → GroupReport
+abbrev pub group_told : Group → List NumberEntry → GroupReport
 group_told g ns = record { group = g; entries = entries_after 0 (map with_entry ns) }
 
 -- the groups of numbers of one session
-abbrev pub groups_told : List Numbered → List GroupReport
+abbrev pub groups_told : List NumberEntry → List GroupReport
 groups_told ns = map (λ g. group_told g (numbers_of_group g ns)) (in_order group_cmp (map (λ n. n.number.group) ns))
 
 abbrev pub session_told : List NormalMessage → List Row → Session × Result (List ℕ) SessionState → SessionReport

@@ -1,12 +1,12 @@
 -- What holds of every log.
 use Rattle.std.specs.Prelude.{◌≡◌, ◌↔◌, ℕ, ◌+◌, ◌<◌, true, List, [], ◌∷◌, ◌++◌, length, Contains, Some}
 use Rattle.ss_block.specs.declared.spoil.Spoil.{Spoil}
-use Rattle.ss_review.specs.declared.entry.Why.{Why}
-use Rattle.ss_review.specs.declared.report.Report.{Report}
+use Rattle.ss_review.specs.declared.report.entry.Why.{Why}
+use Rattle.ss_review.specs.declared.report.report.Report.{Report}
 use Rattle.ss_review.specs.Notes.{Note, Spoilt, note, notes}
 use Rattle.ss_review.specs.Contents.{normals, blocks, contents}
 use Rattle.ss_block.specs.declared.session.Session.{Session}
-use Rattle.ss_review.specs.declared.session_report.SessionState.{SessionState}
+use Rattle.ss_review.specs.declared.report.session_report.SessionState.{SessionState}
 use Rattle.ss_review.specs.Sessions.{of_session}
 use Rattle.ss_review.specs.Verified.{Answers, joined, state_in}
 use Rattle.ss_review.specs.Announced.{Key, rows, keys, is_disputed_key}

@@ -4,15 +4,15 @@ use Rattle.std.specs.List.Sorted.{IsStrictlySortedBy}
 use Rattle.std.specs.Ordering.{nat_cmp}
 use Rattle.ss_block.specs.declared.block.Group.{Group}
 use Rattle.ss_block.specs.declared.session.Session.{Session}
-use Rattle.ss_review.specs.declared.message.NormalMessage.{NormalMessage}
-use Rattle.ss_review.specs.declared.message.BlockMessage.{BlockMessage}
-use Rattle.ss_review.specs.declared.entry.Why.{Why}
-use Rattle.ss_review.specs.declared.entry.Why.TheVariants as whys
-use Rattle.ss_review.specs.declared.entry.Entry.{Entry}
-use Rattle.ss_review.specs.declared.entry.Entry.TheVariants as entry
-use Rattle.ss_review.specs.declared.group_report.GroupReport.{GroupReport}
-use Rattle.ss_review.specs.declared.session_report.SessionReport.{SessionReport}
-use Rattle.ss_review.specs.declared.report.Report.{Report}
+use Rattle.ss_review.specs.declared.keep.message.NormalMessage.{NormalMessage}
+use Rattle.ss_review.specs.declared.keep.message.BlockMessage.{BlockMessage}
+use Rattle.ss_review.specs.declared.report.entry.Why.{Why}
+use Rattle.ss_review.specs.declared.report.entry.Why.TheVariants as whys
+use Rattle.ss_review.specs.declared.report.entry.Entry.{Entry}
+use Rattle.ss_review.specs.declared.report.entry.Entry.TheVariants as entry
+use Rattle.ss_review.specs.declared.report.group_report.GroupReport.{GroupReport}
+use Rattle.ss_review.specs.declared.report.session_report.SessionReport.{SessionReport}
+use Rattle.ss_review.specs.declared.report.report.Report.{Report}
 use Rattle.ss_block.specs.Order.{session_cmp, group_cmp}
 use Rattle.ss_review.specs.Contents.{Contents}
 use Rattle.ss_review.specs.Sessions.{of_session}

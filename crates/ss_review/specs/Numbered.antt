@@ -2,11 +2,11 @@
 use Rattle.std.specs.Prelude.{ℕ, Bool, false, List, [], ◌∷◌, map, Option, Some, None, Result, if◌then◌else◌}
 use Rattle.ss_block.specs.declared.hash.Hash.{Hash}
 use Rattle.ss_block.specs.declared.session.Session.{Session}
-use Rattle.ss_review.specs.declared.session_report.SessionState.{SessionState}
-use Rattle.ss_review.specs.declared.message.BlockMessage.{BlockMessage}
-use Rattle.ss_review.specs.declared.message_number.MessageNumber.{MessageNumber}
-use Rattle.ss_review.specs.declared.row.Row as row
-use Rattle.ss_review.specs.declared.joined_session.JoinedSession.{JoinedSession}
+use Rattle.ss_review.specs.declared.report.session_report.SessionState.{SessionState}
+use Rattle.ss_review.specs.declared.keep.message.BlockMessage.{BlockMessage}
+use Rattle.ss_review.specs.declared.announced.message_number.MessageNumber.{MessageNumber}
+use Rattle.ss_review.specs.declared.announced.announced_hash.AnnouncedHash as row
+use Rattle.ss_review.specs.declared.sessions.joined_session.JoinedSession.{JoinedSession}
 use Rattle.ss_review.specs.Sessions.{sessions, of_session}
 use Rattle.ss_review.specs.Verified.{Answers, joined}
 use Rattle.ss_review.specs.Announced.{Key, Row, same_key, keys, hashes_for}
@@ -14,7 +14,7 @@ use Rattle.ss_review.specs.Announced.{Key, Row, same_key, keys, hashes_for}
 abbrev pub key_of : MessageNumber → Key
 key_of n = record { session = n.session.now; group = n.group; number = n.number }
 
-abbrev pub row_of : row.Row → Row
+abbrev pub row_of : row.AnnouncedHash → Row
 row_of r = record { key = key_of r.number; hash = r.hash }
 
 -- the one hash of a list that has no other

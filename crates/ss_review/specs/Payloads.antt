@@ -5,11 +5,11 @@ use Rattle.std.specs.List.{list_any, list_all, range_with_len}
 use Rattle.ss_block.specs.Block as block
 use Rattle.ss_block.specs.Joining.{placed}
 use Rattle.ss_block.specs.PayloadReading.{payload_in}
-use Rattle.ss_review.specs.declared.session_report.SessionState.{SessionState}
-use Rattle.ss_review.specs.declared.session_report.SessionState.TheVariants as states
-use Rattle.ss_review.specs.declared.message.BlockMessage.{BlockMessage}
-use Rattle.ss_review.specs.declared.message.Said.{Said}
-use Rattle.ss_review.specs.declared.message.Said.TheVariants.{Hashes, Fragment}
+use Rattle.ss_review.specs.declared.report.session_report.SessionState.{SessionState}
+use Rattle.ss_review.specs.declared.report.session_report.SessionState.TheVariants as states
+use Rattle.ss_review.specs.declared.keep.message.BlockMessage.{BlockMessage}
+use Rattle.ss_review.specs.declared.keep.message.Said.{Said}
+use Rattle.ss_review.specs.declared.keep.message.Said.TheVariants.{Hashes, Fragment}
 
 abbrev pub certificate_of : Said → Option block.Certificate
 certificate_of (Fragment c) = Some c

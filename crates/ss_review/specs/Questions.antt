@@ -1,9 +1,9 @@
 -- What a review asks of a scheme, as often as a block stands in its log.
 use Rattle.std.specs.Prelude.{ℕ, List, [], ◌∷◌, map, flat_map, Result, Ok, Err}
-use Rattle.ss_review.specs.declared.session_report.SessionState.{SessionState}
-use Rattle.ss_review.specs.declared.question.Question.{Question}
-use Rattle.ss_review.specs.declared.question.Question.TheVariants as question
-use Rattle.ss_review.specs.declared.message.BlockMessage.{BlockMessage}
+use Rattle.ss_review.specs.declared.report.session_report.SessionState.{SessionState}
+use Rattle.ss_review.specs.declared.questions.question.Question.{Question}
+use Rattle.ss_review.specs.declared.questions.question.Question.TheVariants as question
+use Rattle.ss_review.specs.declared.keep.message.BlockMessage.{BlockMessage}
 use Rattle.ss_review.specs.Sessions.{sessions, of_session}
 use Rattle.ss_review.specs.Payloads.{certificates, stated_payload}
 use Rattle.ss_review.specs.Verified.{signature_of}

@@ -4,8 +4,8 @@ use Rattle.ss_payload.specs.declared.joiner.JoinState.{JoinState}
 use Rattle.ss_payload.specs.declared.joiner.JoinState.TheVariants.{Incomplete, Disputed, Whole}
 use Rattle.ss_block.specs.Block as block
 use Rattle.ss_block.specs.Joining.{Stated, nothing_stated, with_fragment}
-use Rattle.ss_review.specs.declared.session_report.SessionState.{SessionState}
-use Rattle.ss_review.specs.declared.session_report.SessionState.TheVariants as states
+use Rattle.ss_review.specs.declared.report.session_report.SessionState.{SessionState}
+use Rattle.ss_review.specs.declared.report.session_report.SessionState.TheVariants as states
 
 -- what is stated once these fragments are there too
 abbrev pub stated_after : Stated → List block.Certificate → Stated

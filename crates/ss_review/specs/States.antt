@@ -5,10 +5,10 @@ use Rattle.ss_block.specs.Block as block
 use Rattle.ss_block.specs.Joining.{Stated, IsDisputed, HasGap, IsPayload}
 use Rattle.ss_block.specs.Payload.{PayloadValue}
 use Rattle.ss_block.specs.PayloadReading.{payload_in}
-use Rattle.ss_review.specs.declared.session_report.SessionState.{SessionState}
-use Rattle.ss_review.specs.declared.session_report.SessionState.TheVariants as states
-use Rattle.ss_review.specs.declared.message.BlockMessage.{BlockMessage}
-use Rattle.ss_review.specs.declared.message.Said.TheVariants.{Fragment}
+use Rattle.ss_review.specs.declared.report.session_report.SessionState.{SessionState}
+use Rattle.ss_review.specs.declared.report.session_report.SessionState.TheVariants as states
+use Rattle.ss_review.specs.declared.keep.message.BlockMessage.{BlockMessage}
+use Rattle.ss_review.specs.declared.keep.message.Said.TheVariants.{Fragment}
 use Rattle.ss_review.specs.Payloads.{certificates, octets}
 use Rattle.ss_review.specs.Verified.{Answers}
 

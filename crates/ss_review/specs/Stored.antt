@@ -1,9 +1,9 @@
 -- Messages without a block, as a reviewer stores them: each pair of hashes once for messages that follow one another.
 use Rattle.std.specs.Prelude.{◌≡◌, ◌-◌, ◌<◌, ◌≤◌, List, [], length, map, Contains, slice_index_or}
 use Rattle.ss_block.specs.declared.hash.HashPair.{HashPair}
-use Rattle.ss_review.specs.declared.message.NormalMessage.{NormalMessage}
-use Rattle.ss_review.specs.declared.stored.Stored.{Stored}
-use Rattle.ss_review.specs.declared.stored.StoredMessage.{StoredMessage}
+use Rattle.ss_review.specs.declared.keep.message.NormalMessage.{NormalMessage}
+use Rattle.ss_review.specs.declared.keep.stored.Stored.{Stored}
+use Rattle.ss_review.specs.declared.keep.stored.StoredMessage.{StoredMessage}
 
 abbrev pub no_pair : HashPair
 no_pair = record { sha1 = []; sha256 = [] }

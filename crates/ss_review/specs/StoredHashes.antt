@@ -10,10 +10,10 @@ use Rattle.ss_block.specs.declared.hash.Alg.TheVariants as algs
 use Rattle.ss_block.specs.declared.hash.Hash.{Hash}
 use Rattle.ss_block.specs.declared.hash.Hash.TheVariants as hashes
 use Rattle.ss_block.specs.Order.{hash_cmp}
-use Rattle.ss_review.specs.declared.message.NormalMessage.{NormalMessage}
-use Rattle.ss_review.specs.declared.assigning.stored_hash.StoredHash.{StoredHash}
-use Rattle.ss_review.specs.declared.assigning.wanted_hash.WantedHash.{WantedHash}
-use Rattle.ss_review.specs.declared.assigning.counters.Counters.{Counters}
+use Rattle.ss_review.specs.declared.keep.message.NormalMessage.{NormalMessage}
+use Rattle.ss_review.specs.declared.assign.stored_hash.StoredHash.{StoredHash}
+use Rattle.ss_review.specs.declared.assign.wanted_hash.WantedHash.{WantedHash}
+use Rattle.ss_review.specs.declared.assign.counters.Counters.{Counters}
 use Rattle.ss_review.specs.Assigned.{has_hash}
 use Rattle.ss_review.specs.Assigning.{is_at}
 

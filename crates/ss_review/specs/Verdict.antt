@@ -1,11 +1,11 @@
 -- What a report has to be for a log to be clean. Besides, the log's last message has to be whole.
 use Rattle.std.specs.Prelude.{◌&&◌, Bool, true, false, List, [], ◌∷◌}
 use Rattle.std.specs.List.{list_all}
-use Rattle.ss_review.specs.declared.session_report.SessionState.{SessionState}
-use Rattle.ss_review.specs.declared.session_report.SessionState.TheVariants as states
-use Rattle.ss_review.specs.declared.entry.Entry.{Entry}
-use Rattle.ss_review.specs.declared.entry.Entry.TheVariants as entry
-use Rattle.ss_review.specs.declared.report.Report.{Report}
+use Rattle.ss_review.specs.declared.report.session_report.SessionState.{SessionState}
+use Rattle.ss_review.specs.declared.report.session_report.SessionState.TheVariants as states
+use Rattle.ss_review.specs.declared.report.entry.Entry.{Entry}
+use Rattle.ss_review.specs.declared.report.entry.Entry.TheVariants as entry
+use Rattle.ss_review.specs.declared.report.report.Report.{Report}
 
 abbrev pub is_joined : SessionState → Bool
 is_joined states.Joined = true

@@ -1,10 +1,10 @@
 -- Which sessions are joined under a scheme, and which blocks are verified (RFC 5848, section 7).
 use Rattle.std.specs.Prelude.{ℕ, not, Bool, false, List, length, filter, Result, Ok, Err, if◌then◌else◌}
-use Rattle.ss_review.specs.declared.session_report.SessionState.{SessionState}
-use Rattle.ss_review.specs.declared.session_report.SessionState.TheVariants as states
-use Rattle.ss_review.specs.declared.message.BlockMessage.{BlockMessage}
-use Rattle.ss_review.specs.declared.message.Said.{Said}
-use Rattle.ss_review.specs.declared.message.Said.TheVariants.{Hashes, Fragment}
+use Rattle.ss_review.specs.declared.report.session_report.SessionState.{SessionState}
+use Rattle.ss_review.specs.declared.report.session_report.SessionState.TheVariants as states
+use Rattle.ss_review.specs.declared.keep.message.BlockMessage.{BlockMessage}
+use Rattle.ss_review.specs.declared.keep.message.Said.{Said}
+use Rattle.ss_review.specs.declared.keep.message.Said.TheVariants.{Hashes, Fragment}
 use Rattle.ss_review.specs.Sessions.{of_session}
 use Rattle.ss_review.specs.Payloads.{certificates, cover, stated_payload}
 

@@ -1,19 +1,10 @@
-//! What a review says of a log.
-use crate::places::Places;
-use crate::session_report::SessionReports;
-use crate::spoilt::SpoiltPlaces;
-
-/// What a review says of a log. Places are positions of messages in it, from 0.
-#[derive(Debug, Drop)]
-pub struct Report {
-    /// The sessions of its blocks: by the octets of HOSTNAME, APP-NAME and PROCID, then by RSID.
-    pub sessions: SessionReports,
-    /// The messages without a block that are listed nowhere, by rising place.
-    pub unlisted: Places,
-    /// The blocks that aren't verified, by rising place.
-    pub refused: Places,
-    /// The messages whose block element holds no block, by rising place.
-    pub spoilt: SpoiltPlaces,
-    /// How many messages the log has.
-    pub count: u32,
-}
+//! What a report says of sessions, groups, numbers and places.
+pub(crate) mod entries;
+pub(crate) mod entry;
+pub(crate) mod group_report;
+pub(crate) mod grouping;
+pub(crate) mod number_entry;
+pub(crate) mod places;
+pub(crate) mod report;
+pub(crate) mod session_report;
+pub(crate) mod unlisted;

@@ -4,16 +4,16 @@ ghost use Rattle.ss_review.specs.Contents.{Contents};
 ghost use Rattle.ss_review.specs.Verified.{answers};
 ghost use Rattle.ss_review.specs.Report.{report_of};
 
-use crate::announced::announced;
-use crate::grouping::session_reports;
-use crate::index::Index;
-use crate::message::BlockMessage;
-use crate::report::Report;
-use crate::session_states::joined_sessions;
-use crate::spoilt::{SpoiltPlace, SpoiltPlaces};
-use crate::unlisted::unlisted;
-use crate::verified::{refused, verified};
-use crate::verifier::Judge;
+use crate::announced::announced::announced;
+use crate::report::grouping::session_reports;
+use crate::assign::index::Index;
+use crate::keep::message::BlockMessage;
+use crate::report::report::Report;
+use crate::sessions::states::joined_sessions;
+use crate::keep::spoilt::{SpoiltPlace, SpoiltPlaces};
+use crate::report::unlisted::unlisted;
+use crate::sessions::verified::{refused, verified};
+use crate::sessions::verifier::Judge;
 use ss_message::NoMemory;
 use std::alloc::Global;
 

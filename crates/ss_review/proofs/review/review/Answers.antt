@@ -4,7 +4,7 @@ use Rattle.ss_review.specs.Verified.{answers}
 use Rattle.ss_review.specs.Announced.{rows}
 use Rattle.ss_review.specs.Assigning.{assigned_all}
 use Rattle.ss_review.specs.Numbered.{key_of, session_with_joined}
-use Rattle.ss_review.specs.declared.report.Report.{Report}
+use Rattle.ss_review.specs.declared.report.report.Report.{Report}
 use Rattle.ss_review.specs.Report.{report_of}
 use Rattle.ss_review.proofs.Wanting.{assigned_is}
 use Rattle.ss_review.proofs.review.review.Goals as goal

@@ -1,0 +1,61 @@
+use Rattle.std.proofs.Common.{◌+◌, ◌<◌, ◌^◌, ◌∷◌, [], ◌++◌, get_or, length, take, drop, sym, ap, ◌∙◌, subst, arith}
+use Rattle.std.specs.Prelude.{None, count_by, slice_get}
+use Rattle.std.proofs.lemmas.List.{append_assoc, append-nil, drop_all, length-take-le, map_more}
+use Rattle.std.proofs.lemmas.Option.{slice_get-get_or}
+use Rattle.ss_review.specs.Assigning as assigning
+use Rattle.ss_review.specs.Assigning.{pairs_wanted, bearer_wanted, bearers_wanted, assigned_after, assigned_all}
+use Rattle.std.specs.List.Sorted.{IsStrictlySortedBy}
+use Rattle.ss_review.specs.StoredHashes.{stored_cmp, Lists, IsFoundFor}
+use Rattle.ss_review.proofs.Counting.{assigned_at}
+use Rattle.ss_review.proofs.Searching.{has_at}
+use Rattle.ss_origin.proofs.Members.{contains_from_has}
+use Rattle.ss_review.proofs.assign.places.assigned_places.Goals as goal
+
+pub loop-at-init : goal.loop-at-init
+loop-at-init c = λ up.
+    let ms = c.args.messages.now in (
+      ap (λ places. places ++ assigned_after ms [] (pairs_wanted ms c.args.hashes.now)) c.in_ok-places.ensures.items,
+      c.in_ok-counters.ensures.none,
+      c.in_ok-counters.ensures.room up,
+    )
+
+pub loop-at-preserved : goal.loop-at-preserved
+loop-at-preserved c = λ up.
+    let ms = c.args.messages.now in
+    let hs = c.args.hashes.now in
+    let i = c.loop-at.at-index in
+    let so_far = c.loop-at.invariant up in
+    let items = c.as_slice-at-items.result.now in
+    let same = c.as_slice-at-items.ensures.value in
+    let below : i < length hs = omega (arith, c.loop-at-test.true, ap length same, c.in_ok-found.ensures.length) in
+    let hash = get_or hs i None in
+    let here = contains_from_has hs hash (has_at hs i None below) in
+    let rises = subst (IsStrictlySortedBy stored_cmp) (sym c.as_slice.ensures.value) c.in_ok-list.ensures.rises in
+    let at = ap (λ xs. slice_get xs i) (sym same) ∙ slice_get-get_or items i None c.loop-at-test.true in
+    let found = c.in_ok-found.ensures.found rises i hash (get_or items i None) (slice_get-get_or hs i None below) at in
+    let found_here = subst (λ list. IsFoundFor list hash (get_or items i None)) (c.as_slice.ensures.value ∙ sym c.as_slice-in-loop-at.ensures.value) found in
+    let listed = subst (λ list. Lists list ms hs) (sym c.as_slice-in-loop-at.ensures.value) c.in_ok-list.ensures in
+    let place = c.next_place.ensures.place ms hs (take i hs) hash listed here up found_here so_far.1 in
+    let few : length (take i hs) + 1 < 2 ^ 64
+    = omega (arith, length-take-le i hs (omega (arith, below)), below, c.as_slice-at-items.ensures.len, ap length same, c.in_ok-found.ensures.length) in
+    let rest = assigned_after ms (pairs_wanted ms (take (i + 1) hs)) (pairs_wanted ms (drop (i + 1) hs)) in (
+      ap (λ places. places ++ rest) c.in_ok-push.ensures.items
+          ∙ append_assoc c.loop-at.places.items (c.next_place.result ∷ []) rest
+          ∙ ap (λ p. c.loop-at.places.items ++ p ∷ rest) place
+          ∙ ap (λ ps. c.loop-at.places.items ++ ps) (sym (assigned_at ms hs i None below))
+          ∙ so_far.0,
+      λ p. c.next_place.ensures.tallies ms hs (take i hs) hash listed here up found_here so_far.1 so_far.2 few p
+          ∙ ap (count_by (assigning.is_at p)) (sym (map_more (bearer_wanted ms) hs i None below)),
+      λ m h. omega (arith, so_far.2 m h, c.next_place.ensures.length),
+    )
+
+pub returns : goal.returns
+unfolding assigned_all
+returns c = λ up.
+    let ms = c.args.messages.now in
+    let hs = c.args.hashes.now in
+    let so_far = c.loop-at.invariant up in
+    sym (append-nil c.loop-at.places.items)
+    ∙ ap (λ gs. c.loop-at.places.items ++ assigned_after ms (pairs_wanted ms (take c.loop-at.at-index hs)) (pairs_wanted ms gs))
+    (sym (drop_all c.loop-at.at-index hs (omega (arith, c.loop-at-test.false, ap length c.as_slice-at-items.ensures.value, c.in_ok-found.ensures.length))))
+    ∙ so_far.0

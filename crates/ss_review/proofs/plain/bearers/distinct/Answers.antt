@@ -1,0 +1,34 @@
+use Rattle.std.proofs.Common.{◌≡◌, ◌++◌, ◌∷◌, [], get_or, take, refl, sym, ap, ◌∙◌, subst}
+use Rattle.std.specs.Prelude.{filter_map, Some, None, Contains}
+use Rattle.std.specs.declared.cmp.Ordering.{Ordering}
+use Rattle.std.specs.List.{cons_option}
+use Rattle.std.specs.List.Sorted.{IsStrictlySortedBy}
+use Rattle.std.proofs.lemmas.List.{take_more, take_all}
+use Rattle.std.proofs.lemmas.List.Elements.{filter_map-append}
+use Rattle.ss_block.specs.declared.hash.Hash.{Hash}
+use Rattle.ss_block.specs.OrderLaws.{hash_cmp_exact}
+use Rattle.ss_origin.proofs.Members.{Has, has_from_contains, contains_from_has}
+use Rattle.ss_review.proofs.Members.{has-filter_map}
+use Rattle.ss_review.proofs.plain.bearers.distinct.Goals as goal
+
+pub loop-hash-preserved : goal.loop-hash-preserved
+loop-hash-preserved c =
+    let hs = c.args.hashes.now in
+    let i = c.loop-hash.hash-index in
+    c.in_ok-push_some.ensures
+    ∙ ap (λ xs. xs ++ cons_option (get_or hs i None) []) c.loop-hash.invariant
+    ∙ sym (ap (filter_map (λ h. h)) (take_more hs i None c.loop-hash-test.true) ∙ filter_map-append (λ h. h) (take i hs) (get_or hs i None ∷ []))
+
+pub returns-clause-rising : goal.returns-clause-rising
+returns-clause-rising c =
+    subst (λ (R : Hash → Hash → Ordering). IsStrictlySortedBy R c.put_in_order.new.items.items) (λ i a b. c.hashes_rise_by_algorithm.ensures a b i) c.put_in_order.ensures.rises
+
+pub returns-clause-all : goal.returns-clause-all
+returns-clause-all c = λ h here.
+    let all = c.loop-hash.announced.items in
+    let member : Contains all h = contains_from_has all h
+    (subst (λ xs. Has xs h) (sym (c.loop-hash.invariant ∙ ap (filter_map (λ g. g)) (take_all c.loop-hash.hash-index c.args.hashes.now c.loop-hash-test.false)))
+    (has-filter_map (λ g. g) c.args.hashes.now (Some h) h (has_from_contains c.args.hashes.now (Some h) here) refl)) in
+    let w = c.put_in_order.ensures.keeps h member in
+    let same : w.1 ≡ h = sym (hash_cmp_exact h w.1 (sym (c.hashes_rise_by_algorithm.ensures h w.1) ∙ w.4)) in
+    (w.0, w.2, subst (λ x. get_or c.put_in_order.new.items.items w.0 x ≡ x) same w.3)

@@ -1,0 +1,19 @@
+use Rattle.std.proofs.Common.{[], ◌++◌, refl, sym, ap, ◌∙◌}
+use Rattle.std.specs.List.{cons_option}
+use Rattle.ss_review.specs.Notes.{Block}
+use Rattle.ss_review.specs.Contents.{block_in}
+use Rattle.ss_review.proofs.Ends.{blocks_push, spoilts_push}
+use Rattle.ss_review.proofs.Keeping.{normal_stays}
+use Rattle.ss_review.proofs.Sorting.{counted, stays}
+use Rattle.ss_review.proofs.plain.sorted.Sorted.add_block.Goals as goal
+
+pub returns : goal.returns
+returns c = λ ns k fits.
+    let text = c.args.text.now in
+    let block = c.in_ok-block.ensures ∙ ap (λ place. block_in place text) k.count in
+    record {
+      count = counted ns (Block text) _ _ k.count fits c.saturating_add-self.ensures;
+      normal = normal_stays _ ns (Block text) refl k.normal;
+      blocks = c.in_ok-push_some.ensures ∙ (λ i. k.blocks i ++ cons_option (block i) []) ∙ sym (blocks_push ns (Block text));
+      spoilt = stays _ _ _ k.spoilt (spoilts_push ns (Block text));
+    }

@@ -1,0 +1,15 @@
+use Rattle.std.proofs.Common.{sym, ap, ◌∙◌}
+use Rattle.std.specs.Prelude.{flat_map}
+use Rattle.ss_review.specs.Questions.{questions}
+use Rattle.ss_review.specs.Sectioned.{referred}
+use Rattle.ss_review.proofs.SectionsTold.{section_asked, questions_asked}
+use Rattle.ss_review.proofs.questions.asking.questions.Goals as goal
+
+pub returns : goal.returns
+returns c =
+    c.from_vec.ensures
+    ∙ c.in_ok-asked_in_turn.ensures
+    ∙ ap (λ bs. questions (referred bs)) c.as_slice.ensures.value
+    ∙ sym (questions_asked (referred c.in_ok-sorted.sorted.items))
+    ∙ ap (flat_map section_asked) c.in_ok-sorted.ensures.sectioned
+    ∙ questions_asked c.args.blocks.now

@@ -1,7 +1,0 @@
--- References to the blocks so far.
-use Rattle.std.proofs.Common.{◌≡◌, take}
-use Rattle.ss_review.specs.Sectioned.{referred}
-use Rattle.ss_review.proofs.sectioning.references.Given as goal
-
-abbrev pub invariant-loop-block : goal.invariant-loop-block
-invariant-loop-block l = referred l.references.items ≡ take l.block-index l.blocks

@@ -1,0 +1,31 @@
+use Rattle.std.proofs.Common.{◌++◌, drop, get_or, map, sym, ap, ◌∙◌}
+use Rattle.std.proofs.lemmas.List.{append-nil}
+use Rattle.ss_review.specs.Sectioned.{sections, referred}
+use Rattle.ss_review.specs.Verified.{answers}
+use Rattle.ss_review.specs.Numbered.{session_with_joined}
+use Rattle.ss_review.proofs.SectionsTold.{section_joined, sections_joined, one_more, no_sections}
+use Rattle.ss_review.proofs.sessions.states.joined_sections.Goals as goal
+
+pub loop-start-init : goal.loop-start-init
+loop-start-init g c =
+    let says = answers g.J.Judge.trusted g.J.Judge.valid c.args.judge.now in
+    ap (λ xs. map session_with_joined xs ++ map (section_joined says) (sections (referred c.args.blocks.now))) c.new-sessions.ensures.items
+    ∙ sections_joined says (referred c.args.blocks.now)
+
+pub loop-start-preserved : goal.loop-start-preserved
+loop-start-preserved g c =
+    let says = answers g.J.Judge.trusted g.J.Judge.valid c.args.judge.now in
+    let bs = c.args.blocks.now in
+    let here = c.section_end-end.ensures.sectioned c.index-blocks-start.result in
+    let later = sections (referred (drop c.section_end-end.result bs)) in
+    ap (λ xs. map session_with_joined xs ++ map (section_joined says) later) c.in_ok-push.ensures.items
+    ∙ one_more session_with_joined (section_joined says) c.loop-start.sessions.items _ _ _ later here
+    (ap (λ j. ((get_or bs c.loop-start.start c.index-blocks-start.result).now.session, j)) c.in_ok-joined.ensures)
+    ∙ c.loop-start.invariant
+
+pub returns : goal.returns
+returns g c =
+    let says = answers g.J.Judge.trusted g.J.Judge.valid c.args.judge.now in
+    let done = map session_with_joined c.loop-start.sessions.items in
+    sym (ap (λ ss. done ++ map (section_joined says) ss) (no_sections c.args.blocks.now c.loop-start.start c.loop-start-test.false) ∙ append-nil done)
+    ∙ c.loop-start.invariant

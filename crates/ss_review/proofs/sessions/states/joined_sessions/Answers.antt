@@ -1,0 +1,17 @@
+use Rattle.std.proofs.Common.{◌≡◌, map, sym, ap, ◌∙◌, subst}
+use Rattle.std.specs.Prelude.{IfOk}
+use Rattle.ss_review.specs.Sectioned.{referred}
+use Rattle.ss_review.specs.Verified.{answers}
+use Rattle.ss_review.specs.Numbered.{session_with_joined, sessions_joined}
+use Rattle.ss_review.proofs.SectionsTold.{section_joined, sections_joined}
+use Rattle.ss_review.proofs.sessions.states.joined_sessions.Goals as goal
+
+pub returns : goal.returns
+returns g c =
+    let says = answers g.J.Judge.trusted g.J.Judge.valid c.args.judge.now in
+    let same : sessions_joined says (referred c.as_slice.result.now) ≡ sessions_joined says c.args.blocks.now
+    = ap (λ bs. sessions_joined says (referred bs)) c.as_slice.ensures.value
+    ∙ sym (sections_joined says (referred c.in_ok-sorted.sorted.items))
+    ∙ ap (map (section_joined says)) c.in_ok-sorted.ensures.sectioned
+    ∙ sections_joined says c.args.blocks.now in
+    subst (λ all. IfOk c.joined_sections.result (λ v. map session_with_joined v.items ≡ all)) same c.joined_sections.ensures

@@ -1,0 +1,92 @@
+//! Which stored message is listed under each announced number.
+ghost use Rattle.std.specs.Prelude.{◌≡◌, ℕ, ◌+◌, ◌<◌, ◌≤◌, ◌^◌, ◌++◌, ◌∷◌, [], List, Option, Some, Contains, length, map, slice_get, IfOk};
+ghost use Rattle.std.specs.Ordering.{nat_cmp};
+ghost use Rattle.std.specs.List.Sorted.{IsStrictlySortedBy};
+ghost use Rattle.ss_block.specs.declared.hash.Hash.{Hash};
+ghost use Rattle.ss_review.specs.declared.keep.message.NormalMessage.{NormalMessage};
+ghost use Rattle.ss_review.specs.Assigning.{pair_wanted, pairs_wanted, bearer_wanted, bearers_wanted, place_after, assigned_all};
+ghost use Rattle.ss_review.specs.StoredHashes.{Lists, IsFoundFor, same_hashes, place_beside, Tallies};
+
+use crate::assign::bearings::bearings;
+use crate::assign::counters::Counters;
+use crate::assign::stored_hash::{StoredHash, stored_hashes};
+use crate::keep::message::NormalMessage;
+use ss_block::Hash;
+use ss_block::laws::orders::hashes_rise_by_algorithm;
+use ss_message::NoMemory;
+use std::alloc::Global;
+
+/// Whether both have the same two hashes.
+fn same_hashes(stored: &StoredHash, other: &StoredHash) -> bool
+    ensures { result ≡ same_hashes stored.now other.now }
+{
+    hashes_rise_by_algorithm();
+    stored
+        .hash
+        .cmp(&other.hash)
+        .then(stored.other.cmp(&other.other))
+        .is_eq()
+}
+
+/// The place of a message with the hashes of the one that stands there in the list: with this number, from 0.
+fn place_from(list: &[StoredHash], at: usize, first: &StoredHash, number: u64) -> Option<u32>
+    requires { at ≤ length list.now }
+    ensures { result ≡ place_beside first.now (slice_get list.now (at + number)) }
+{
+    let (_, from) = list.split_at(at);
+    match from.get(number as usize) {
+        Some(stored) if same_hashes(stored, first) => Some(stored.place),
+        _ => None,
+    }
+}
+
+/// The place of the next key, whose bearer stands there in the list, or none. It is counted as wanted once more.
+fn next_place(list: &[StoredHash], counters: &mut Counters, at: Option<usize>) -> Option<u32>
+    ensures place { (ms : List NormalMessage) (announced before : List (Option Hash)) (hash : Option Hash)
+        → Lists list.now ms announced
+        → Contains announced hash
+        → IsStrictlySortedBy nat_cmp (map (λ m. m.place) ms)
+        → IsFoundFor list.now hash at
+        → Tallies counters.old (bearers_wanted ms before)
+        → result ≡ place_after ms (pairs_wanted ms before) (pair_wanted ms hash) }
+    ensures tallies { (ms : List NormalMessage) (announced before : List (Option Hash)) (hash : Option Hash)
+        → Lists list.now ms announced
+        → Contains announced hash
+        → IsStrictlySortedBy nat_cmp (map (λ m. m.place) ms)
+        → IsFoundFor list.now hash at
+        → Tallies counters.old (bearers_wanted ms before)
+        → ((m : NormalMessage) → Contains ms m → m.place < length counters.old.counts.items)
+        → length before + 1 < 2 ^ 64
+        → Tallies counters.new (bearers_wanted ms before ++ bearer_wanted ms hash ∷ []) }
+    ensures length { length counters.new.counts.items ≡ length counters.old.counts.items }
+{
+    let Some(at) = at else {
+        return None;
+    };
+    if at >= list.len() {
+        return None;
+    }
+    let first = list[at];
+    let number = counters.count(first.place);
+    place_from(list, at, &first, number)
+}
+
+/// The places that the announced keys are assigned, in their order, from the hash that each is announced with, or none
+/// where none counts. The places of the messages rise.
+pub(crate) fn assigned_places(
+    alloc: Global,
+    messages: &[NormalMessage],
+    hashes: &[Option<Hash>],
+) -> Result<Vec<Option<u32>>, NoMemory>
+    ensures { IsStrictlySortedBy nat_cmp (map (λ m. m.place) messages.now)
+        → IfOk result (λ places. places.items ≡ assigned_all messages.now hashes.now) }
+{
+    let list = stored_hashes(alloc, messages, hashes)?;
+    let found = bearings(alloc, list.as_slice(), hashes)?;
+    let mut counters = Counters::new(alloc, messages)?;
+    let mut places = Vec::with_capacity(alloc, hashes.len())?;
+    for at in found.as_slice() {
+        places.push(next_place(list.as_slice(), &mut counters, *at))?;
+    }
+    Ok(places)
+}

@@ -1,0 +1,6 @@
+//! What is kept of the messages of a log as they are fed.
+pub(crate) mod message;
+pub(crate) mod reading;
+pub(crate) mod reviewer;
+pub(crate) mod spoilt;
+pub(crate) mod stored;

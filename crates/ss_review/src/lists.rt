@@ -1,0 +1,3 @@
+//! Lists that several subjects share.
+pub(crate) mod optional;
+pub(crate) mod ordered;

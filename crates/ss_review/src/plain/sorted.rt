@@ -1,0 +1,112 @@
+//! The messages of a log that is kept whole, by what they are.
+ghost use Rattle.std.specs.Prelude.{◌+◌, ◌^◌, ◌<◌, ◌++◌, ◌∷◌, [], List, length, IfOk, OnOk};
+ghost use Rattle.ss_review.specs.Notes.{Note, Normal, Block, Spoilt, noted, note, notes};
+ghost use Rattle.ss_review.specs.Keeping.{SortedOut};
+
+use crate::plain::by_hash::ByHash;
+use crate::keep::message::{BlockMessage, NormalMessage};
+use crate::lists::optional::push_some;
+use crate::keep::reading::{block_in, reading_to_note};
+use crate::keep::spoilt::SpoiltPlace;
+use ss_block::{HashPair, Reading, Spoil, pair_of};
+use ss_frame::Bytes;
+use ss_message::NoMemory;
+use std::alloc::Global;
+
+/// Messages by what they are, each list by rising place.
+#[derive(Drop)]
+pub(crate) struct Sorted {
+    // How many messages there are; where they are more, as many as it can count.
+    pub(crate) count: u32,
+    pub(crate) normal: ByHash,
+    pub(crate) blocks: Vec<BlockMessage>,
+    pub(crate) spoilt: Vec<SpoiltPlace>,
+}
+
+/// Sorts the messages of a log.
+pub(crate) fn sort_out(alloc: Global, messages: &[Bytes]) -> Result<Sorted, NoMemory>
+    ensures { length messages.now < 2 ^ 32 → IfOk result (λ s. SortedOut s (notes messages.now)) }
+{
+    let mut sorted = Sorted {
+        count: 0,
+        normal: ByHash::new(alloc),
+        blocks: Vec::new(alloc),
+        spoilt: Vec::new(alloc),
+    };
+    for message in messages {
+        sorted.sort_in(alloc, message.as_slice())?;
+    }
+    Ok(sorted)
+}
+
+impl Sorted {
+    /// Adds the next message.
+    #[tactic(auto, unfolding(crate::specs::Notes::note))]
+    fn sort_in(&mut self, alloc: Global, message: &[u8]) -> Result<(), NoMemory>
+        ensures { (ns : List Note)
+            → SortedOut self.old ns
+            → length ns + 1 < 2 ^ 32
+            → OnOk result (SortedOut self.new (ns ++ note message.now ∷ [])) }
+    {
+        let reading = reading_to_note(alloc, message)?;
+        self.add(alloc, message, reading)
+    }
+
+    /// Adds the next message, which was read as this.
+    #[tactic(auto, unfolding(ss_block::specs::Hashes::pair))]
+    fn add(&mut self, alloc: Global, message: &[u8], reading: Reading) -> Result<(), NoMemory>
+        ensures { (ns : List Note)
+            → SortedOut self.old ns
+            → length ns + 1 < 2 ^ 32
+            → OnOk result (SortedOut self.new (ns ++ noted message.now reading ∷ [])) }
+    {
+        match reading {
+            Reading::Plain => self.add_normal(alloc, pair_of(message)),
+            Reading::Unparsed { .. } => self.add_normal(alloc, pair_of(message)),
+            Reading::Signature(_) => self.add_block(alloc, message),
+            Reading::Certificate(_) => self.add_block(alloc, message),
+            Reading::Spoilt(cause) => self.add_spoilt(cause),
+        }
+    }
+
+    /// Adds a message without a block.
+    fn add_normal(&mut self, alloc: Global, pair: HashPair) -> Result<(), NoMemory>
+        ensures { (ns : List Note)
+            → SortedOut self.old ns
+            → length ns + 1 < 2 ^ 32
+            → OnOk result (SortedOut self.new (ns ++ Normal pair ∷ [])) }
+    {
+        let place = self.count;
+        self.normal.add(alloc, NormalMessage { place, pair })?;
+        self.count = self.count.saturating_add(1);
+        Ok(())
+    }
+
+    /// Adds a message with a block.
+    fn add_block(&mut self, alloc: Global, text: &[u8]) -> Result<(), NoMemory>
+        ensures { (ns : List Note)
+            → SortedOut self.old ns
+            → length ns + 1 < 2 ^ 32
+            → OnOk result (SortedOut self.new (ns ++ Block text.now ∷ [])) }
+    {
+        let block = block_in(alloc, self.count, text)?;
+        push_some(&mut self.blocks, block)?;
+        self.count = self.count.saturating_add(1);
+        Ok(())
+    }
+
+    /// Adds a message whose block element holds no block.
+    fn add_spoilt(&mut self, cause: Spoil) -> Result<(), NoMemory>
+        ensures { (ns : List Note)
+            → SortedOut self.old ns
+            → length ns + 1 < 2 ^ 32
+            → OnOk result (SortedOut self.new (ns ++ Spoilt cause ∷ [])) }
+    {
+        self.spoilt.push(SpoiltPlace {
+            place: self.count,
+            cause,
+        })?;
+        self.count = self.count.saturating_add(1);
+        Ok(())
+    }
+}

@@ -1,0 +1,3 @@
+//! What a review asks of a signature scheme.
+pub(crate) mod asking;
+pub(crate) mod question;

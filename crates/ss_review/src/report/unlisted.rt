@@ -1,0 +1,66 @@
+//! Which messages without a block are listed nowhere.
+ghost use Rattle.std.specs.Prelude.{◌≡◌, ◌==◌, ℕ, not, List, map, filter, IfOk};
+ghost use Rattle.std.specs.List.{list_any, filter_map};
+ghost use Rattle.std.specs.List.Sorted.{IsNonDecreasing};
+ghost use Rattle.ss_review.specs.declared.keep.message.NormalMessage.{NormalMessage};
+ghost use Rattle.ss_review.specs.Announced.{Row, keys};
+ghost use Rattle.ss_review.specs.Assigned.{is_place, assigned};
+ghost use Rattle.ss_review.specs.Report.{unlisted};
+
+use crate::report::places::Places;
+use ss_message::NoMemory;
+use std::alloc::Global;
+
+/// The places that are given, in the order of who is given them.
+fn given(alloc: Global, places: &[Option<u32>]) -> Result<Vec<u32>, NoMemory>
+    ensures { IfOk result (λ v. v.items ≡ filter_map (λ o. o) places.now) }
+{
+    Ok(places.iter().filter_map(|place| *place).collect(alloc)?)
+}
+
+/// The places that are given, in their order.
+fn taken(alloc: Global, places: &[Option<u32>]) -> Result<Vec<u32>, NoMemory>
+    ensures rise { IfOk result (λ v. IsNonDecreasing v.items) }
+    ensures taken { IfOk result (λ v. (place : ℕ) → list_any (λ p. p == place) v.items ≡ list_any (is_place place) places.now) }
+{
+    let mut taken = given(alloc, places)?;
+    taken.sort_unstable();
+    Ok(taken)
+}
+
+/// Whether the place is one of these, which rise.
+fn is_among(place: u32, places: &[u32]) -> bool
+    requires { IsNonDecreasing places.now }
+    ensures { result ≡ list_any (λ p. p == place) places.now }
+{
+    places.binary_search(&place).is_ok()
+}
+
+/// Those of the places that aren't among others, which rise.
+fn outside(alloc: Global, places: &[u32], others: &[u32]) -> Result<Vec<u32>, NoMemory>
+    requires { IsNonDecreasing others.now }
+    ensures { IfOk result (λ v. v.items ≡ filter (λ place. not (list_any (λ p. p == place) others.now)) places.now) }
+{
+    Ok(
+        places
+            .iter()
+            .copied()
+            .filter(|place| !is_among(*place, others))
+            .collect(alloc)?,
+    )
+}
+
+/// The places of `all` that no announced key is assigned. `places` has the place that each key is assigned, if any.
+pub(crate) fn unlisted(
+    alloc: Global,
+    all: &[u32],
+    places: &[Option<u32>],
+) -> Result<Places, NoMemory>
+    ensures { (ms : List NormalMessage) (rs : List Row)
+        → all.now ≡ map (λ m. m.place) ms
+        → places.now ≡ map (assigned ms rs) (keys rs)
+        → IfOk result (λ p. p ≡ unlisted ms rs) }
+{
+    let taken = taken(alloc, places)?;
+    Ok(Places::from_vec(outside(alloc, all, &taken)?))
+}

@@ -1,0 +1,11 @@
+//! Sessions, and how far their payloads are joined.
+use crate::report::session_report::SessionState;
+use ss_block::Session;
+use ss_frame::Bytes;
+
+/// A session with its joined payload, or else its state.
+#[derive(Drop)]
+pub(crate) struct JoinedSession<'a> {
+    pub(crate) session: &'a Session,
+    pub(crate) joined: Result<Bytes, SessionState>,
+}
