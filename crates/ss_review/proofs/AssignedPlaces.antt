@@ -7,6 +7,7 @@ use Rattle.std.specs.Ordering.{nat_cmp}
 use Rattle.std.specs.List.Sorted.{IsStrictlySortedBy}
 use Rattle.ss_block.specs.declared.hash.Hash.{Hash}
 use Rattle.ss_review.specs.declared.keep.message.NormalMessage.{NormalMessage}
+use Rattle.ss_review.specs.declared.keep.stored_message.StoredMessage.{StoredMessage}
 use Rattle.ss_review.specs.declared.assign.counters.Counters.{Counters}
 use Rattle.ss_review.specs.declared.assign.stored_hash.StoredHash.{StoredHash}
 use Rattle.ss_review.specs.Assigned.{places_with}
@@ -73,19 +74,19 @@ untallied c before t q = t q ∙ (let none : count_by (is_at q) before + 0 ≡ c
 
 -- ---- a list whose places rise ends with the greatest
 
-pub last_is_greatest : (ms : List NormalMessage) (n : ℕ) (d : NormalMessage) → n + 1 ≡ length ms → PlacesRise ms → (m : NormalMessage) → Has ms m → m.place ≤ (get_or ms n d).place
+pub last_is_greatest : (ms : List StoredMessage) (n : ℕ) (d : StoredMessage) → n + 1 ≡ length ms → IsStrictlySortedBy nat_cmp (map (λ (m : StoredMessage). m.place) ms) → (m : StoredMessage) → Has ms m → m.place ≤ (get_or ms n d).place
 unfolding IsStrictlySortedBy
 last_is_greatest [] n d e up m h = absurd h
-last_is_greatest (x ∷ []) zero d e up m (inl s) = omega (arith, ap (λ (k : NormalMessage). k.place) s)
+last_is_greatest (x ∷ []) zero d e up m (inl s) = omega (arith, ap (λ (k : StoredMessage). k.place) s)
 last_is_greatest (x ∷ []) zero d e up m (inr h) = absurd h
 last_is_greatest (x ∷ []) (suc n) d e up m h = absurd (omega (arith, e))
 last_is_greatest (x ∷ y ∷ zs) zero d e up m h = absurd (omega (arith, e))
 last_is_greatest (x ∷ y ∷ zs) (suc n) d e up m (inl s) =
     omega (
       arith,
-      ap (λ (k : NormalMessage). k.place) s,
+      ap (λ (k : StoredMessage). k.place) s,
       from_less x.place (get_or (y ∷ zs) n d).place
-          (below_all (λ p. nat_cmp x.place p ≡ Less) (map (λ (k : NormalMessage). k.place) (y ∷ zs)) (get_or (y ∷ zs) n d).place up.0
-          (has-map (λ (k : NormalMessage). k.place) (y ∷ zs) (get_or (y ∷ zs) n d) (has_at (y ∷ zs) n d (omega (arith, e))))),
+          (below_all (λ p. nat_cmp x.place p ≡ Less) (map (λ (k : StoredMessage). k.place) (y ∷ zs)) (get_or (y ∷ zs) n d).place up.0
+          (has-map (λ (k : StoredMessage). k.place) (y ∷ zs) (get_or (y ∷ zs) n d) (has_at (y ∷ zs) n d (omega (arith, e))))),
     )
 last_is_greatest (x ∷ y ∷ zs) (suc n) d e up m (inr h) = last_is_greatest (y ∷ zs) n d (omega (arith, e)) up.1 m h

@@ -3,7 +3,7 @@ use Rattle.std.specs.Prelude.{◌≡◌, ◌-◌, ◌<◌, ◌≤◌, List, [], 
 use Rattle.ss_block.specs.declared.hash.HashPair.{HashPair}
 use Rattle.ss_review.specs.declared.keep.message.NormalMessage.{NormalMessage}
 use Rattle.ss_review.specs.declared.keep.stored.Stored.{Stored}
-use Rattle.ss_review.specs.declared.keep.stored.StoredMessage.{StoredMessage}
+use Rattle.ss_review.specs.declared.keep.stored_message.StoredMessage.{StoredMessage}
 
 abbrev pub no_pair : HashPair
 no_pair = record { sha1 = []; sha256 = [] }

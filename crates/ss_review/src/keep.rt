@@ -4,3 +4,4 @@ pub(crate) mod reading;
 pub(crate) mod reviewer;
 pub(crate) mod spoilt;
 pub(crate) mod stored;
+pub(crate) mod stored_message;

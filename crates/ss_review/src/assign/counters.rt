@@ -2,10 +2,10 @@
 ghost use Rattle.std.specs.Prelude.{◌≡◌, ◌<◌, ◌+◌, ◌^◌, ℕ, [], length, map, Contains, IfOk, if◌then◌else◌, ◌==◌};
 ghost use Rattle.std.specs.Ordering.{nat_cmp};
 ghost use Rattle.std.specs.List.Sorted.{IsStrictlySortedBy};
-ghost use Rattle.ss_review.specs.declared.keep.message.NormalMessage.{NormalMessage};
+ghost use Rattle.ss_review.specs.declared.keep.stored_message.StoredMessage.{StoredMessage};
 ghost use Rattle.ss_review.specs.StoredHashes.{counted_at, Tallies};
 
-use crate::keep::message::NormalMessage;
+use crate::keep::stored_message::StoredMessage;
 use ss_message::NoMemory;
 use std::alloc::Global;
 
@@ -16,9 +16,9 @@ pub(crate) struct Counters {
 }
 
 /// How many counts there have to be for these messages, whose places rise.
-fn room_for(messages: &[NormalMessage]) -> usize
+fn room_for(messages: &[StoredMessage]) -> usize
     ensures { IsStrictlySortedBy nat_cmp (map (λ m. m.place) messages.now)
-        → (m : NormalMessage) → Contains messages.now m → m.place < result }
+        → (m : StoredMessage) → Contains messages.now m → m.place < result }
 {
     if messages.is_empty() {
         return 0;
@@ -29,10 +29,10 @@ fn room_for(messages: &[NormalMessage]) -> usize
 
 impl Counters {
     /// Of these messages none was wanted yet. Their places rise.
-    pub(crate) fn new(alloc: Global, messages: &[NormalMessage]) -> Result<Counters, NoMemory>
+    pub(crate) fn new(alloc: Global, messages: &[StoredMessage]) -> Result<Counters, NoMemory>
         ensures none { IfOk result (λ c. Tallies c []) }
         ensures room { IsStrictlySortedBy nat_cmp (map (λ m. m.place) messages.now)
-            → IfOk result (λ c. (m : NormalMessage) → Contains messages.now m → m.place < length c.counts.items) }
+            → IfOk result (λ c. (m : StoredMessage) → Contains messages.now m → m.place < length c.counts.items) }
     {
         let count = room_for(messages);
         let mut counts = Vec::with_capacity(alloc, count)?;

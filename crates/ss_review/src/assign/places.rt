@@ -4,15 +4,16 @@ ghost use Rattle.std.specs.Ordering.{nat_cmp};
 ghost use Rattle.std.specs.List.Sorted.{IsStrictlySortedBy};
 ghost use Rattle.ss_block.specs.declared.hash.Hash.{Hash};
 ghost use Rattle.ss_review.specs.declared.keep.message.NormalMessage.{NormalMessage};
+ghost use Rattle.ss_review.specs.Stored.{Tells};
 ghost use Rattle.ss_review.specs.Assigning.{pair_wanted, pairs_wanted, bearer_wanted, bearers_wanted, place_after, assigned_all};
 ghost use Rattle.ss_review.specs.StoredHashes.{Lists, IsFoundFor, same_hashes, place_beside, Tallies};
 
 use crate::assign::bearings::bearings;
 use crate::assign::counters::Counters;
 use crate::assign::stored_hash::{StoredHash, stored_hashes};
-use crate::keep::message::NormalMessage;
-use ss_block::Hash;
+use crate::keep::stored_message::StoredMessage;
 use ss_block::laws::orders::hashes_rise_by_algorithm;
+use ss_block::{Hash, HashPair};
 use ss_message::NoMemory;
 use std::alloc::Global;
 
@@ -75,13 +76,16 @@ fn next_place(list: &[StoredHash], counters: &mut Counters, at: Option<usize>) -
 /// where none counts. The places of the messages rise.
 pub(crate) fn assigned_places(
     alloc: Global,
-    messages: &[NormalMessage],
+    pairs: &[HashPair],
+    messages: &[StoredMessage],
     hashes: &[Option<Hash>],
 ) -> Result<Vec<Option<u32>>, NoMemory>
-    ensures { IsStrictlySortedBy nat_cmp (map (λ m. m.place) messages.now)
-        → IfOk result (λ places. places.items ≡ assigned_all messages.now hashes.now) }
+    ensures { (ms : List NormalMessage)
+        → Tells pairs.now messages.now ms
+        → IsStrictlySortedBy nat_cmp (map (λ m. m.place) ms)
+        → IfOk result (λ places. places.items ≡ assigned_all ms hashes.now) }
 {
-    let list = stored_hashes(alloc, messages, hashes)?;
+    let list = stored_hashes(alloc, pairs, messages, hashes)?;
     let found = bearings(alloc, list.as_slice(), hashes)?;
     let mut counters = Counters::new(alloc, messages)?;
     let mut places = Vec::with_capacity(alloc, hashes.len())?;

@@ -1,12 +1,16 @@
 //! The hashes of stored messages, in order.
-ghost use Rattle.std.specs.Prelude.{◌≡◌, ◌++◌, map, IfOk, OnOk};
+ghost use Rattle.std.specs.Prelude.{◌≡◌, ◌++◌, ◌<◌, List, length, map, Some, IfOk, OnOk};
 ghost use Rattle.std.specs.List.{list_any};
+ghost use Rattle.ss_review.specs.declared.keep.message.NormalMessage.{NormalMessage};
+ghost use Rattle.ss_review.specs.Stored.{Tells, message_in};
 ghost use Rattle.ss_review.specs.StoredHashes.{stored_hash, is_by, needed_hashes, Lists};
 
 use crate::keep::message::NormalMessage;
+use crate::keep::stored_message::{StoredMessage, message_in};
+use crate::lists::optional::push_some;
 use crate::lists::ordered::put_in_order;
 use ss_block::laws::orders::hashes_rise_by_algorithm;
-use ss_block::{Alg, Hash};
+use ss_block::{Alg, Hash, HashPair};
 use ss_message::NoMemory;
 use std::alloc::Global;
 
@@ -36,6 +40,14 @@ fn stored_hash(message: &NormalMessage, alg: Alg) -> StoredHash
     }
 }
 
+/// The hash, by this algorithm, of the message that is stored so.
+fn hash_in(pairs: &[HashPair], stored: &StoredMessage, alg: Alg) -> Option<StoredHash>
+    ensures { stored.now.pair < length pairs.now → result ≡ Some (stored_hash alg (message_in pairs.now stored.now)) }
+{
+    let message = message_in(pairs, stored)?;
+    Some(stored_hash(&message, alg))
+}
+
 /// Whether the hash is there and by this algorithm.
 fn is_by(hash: &Option<Hash>, alg: Alg) -> bool
     ensures { result ≡ is_by alg hash.now }
@@ -57,14 +69,17 @@ fn has_one_by(hashes: &[Option<Hash>], alg: Alg) -> bool
 /// Adds the hashes of the messages by this algorithm.
 fn add_hashes(
     list: &mut Vec<StoredHash>,
-    messages: &[NormalMessage],
+    pairs: &[HashPair],
+    messages: &[StoredMessage],
     alg: Alg,
 ) -> Result<(), NoMemory>
-    ensures { OnOk result (list.new.items ≡ list.old.items ++ map (stored_hash alg) messages.now) }
+    ensures { (ms : List NormalMessage)
+        → Tells pairs.now messages.now ms
+        → OnOk result (list.new.items ≡ list.old.items ++ map (stored_hash alg) ms) }
 {
     list.reserve(messages.len())?;
     for message in messages {
-        list.push(stored_hash(message, alg))?;
+        push_some(list, hash_in(pairs, message, alg))?;
     }
     Ok(())
 }
@@ -72,14 +87,17 @@ fn add_hashes(
 /// Adds the hashes of the messages by this algorithm, if one of the announced hashes is by it.
 fn add_needed(
     list: &mut Vec<StoredHash>,
-    messages: &[NormalMessage],
+    pairs: &[HashPair],
+    messages: &[StoredMessage],
     announced: &[Option<Hash>],
     alg: Alg,
 ) -> Result<(), NoMemory>
-    ensures { OnOk result (list.new.items ≡ list.old.items ++ needed_hashes alg announced.now messages.now) }
+    ensures { (ms : List NormalMessage)
+        → Tells pairs.now messages.now ms
+        → OnOk result (list.new.items ≡ list.old.items ++ needed_hashes alg announced.now ms) }
 {
     if has_one_by(announced, alg) {
-        add_hashes(list, messages, alg)?;
+        add_hashes(list, pairs, messages, alg)?;
     }
     Ok(())
 }
@@ -87,14 +105,17 @@ fn add_needed(
 /// The hashes of these messages in order, by each algorithm that one of the announced hashes is by.
 pub(crate) fn stored_hashes(
     alloc: Global,
-    messages: &[NormalMessage],
+    pairs: &[HashPair],
+    messages: &[StoredMessage],
     announced: &[Option<Hash>],
 ) -> Result<Vec<StoredHash>, NoMemory>
-    ensures { IfOk result (λ v. Lists v.items messages.now announced.now) }
+    ensures { (ms : List NormalMessage)
+        → Tells pairs.now messages.now ms
+        → IfOk result (λ v. Lists v.items ms announced.now) }
 {
     let mut list = Vec::new(alloc);
-    add_needed(&mut list, messages, announced, Alg::Sha1)?;
-    add_needed(&mut list, messages, announced, Alg::Sha256)?;
+    add_needed(&mut list, pairs, messages, announced, Alg::Sha1)?;
+    add_needed(&mut list, pairs, messages, announced, Alg::Sha256)?;
     hashes_rise_by_algorithm();
     put_in_order(&mut list);
     Ok(list)

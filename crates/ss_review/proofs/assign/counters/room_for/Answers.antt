@@ -1,4 +1,4 @@
-use Rattle.std.proofs.Common.{◌-◌, [], length, arith}
+use Rattle.std.proofs.Common.{◌-◌, length, arith}
 use Rattle.ss_origin.proofs.Members.{has_from_contains}
 use Rattle.ss_review.proofs.AssignedPlaces.{last_is_greatest}
 use Rattle.ss_review.proofs.assign.counters.room_for.Goals as goal
@@ -6,4 +6,4 @@ use Rattle.ss_review.proofs.assign.counters.room_for.Goals as goal
 pub returns : goal.returns
 returns c = λ up m here.
     let ms = c.args.messages.now in
-    omega (arith, last_is_greatest ms (length ms - 1) (record { place = 0; pair = record { sha1 = []; sha256 = [] } }) (omega (arith, here.1)) up m (has_from_contains ms m here))
+    omega (arith, last_is_greatest ms (length ms - 1) (record { place = 0; pair = 0 }) (omega (arith, here.1)) up m (has_from_contains ms m here))

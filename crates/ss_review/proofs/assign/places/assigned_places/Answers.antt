@@ -4,37 +4,37 @@ use Rattle.std.proofs.lemmas.List.{append_assoc, append-nil, drop_all, length-ta
 use Rattle.std.proofs.lemmas.Option.{slice_get-get_or}
 use Rattle.ss_review.specs.Assigning as assigning
 use Rattle.ss_review.specs.Assigning.{pairs_wanted, bearer_wanted, bearers_wanted, assigned_after, assigned_all}
+use Rattle.std.specs.Ordering.{nat_cmp}
 use Rattle.std.specs.List.Sorted.{IsStrictlySortedBy}
 use Rattle.ss_review.specs.StoredHashes.{stored_cmp, Lists, IsFoundFor}
 use Rattle.ss_review.proofs.Counting.{assigned_at}
 use Rattle.ss_review.proofs.Searching.{has_at}
+use Rattle.ss_review.proofs.StoredTold.{places_told, room_told}
 use Rattle.ss_origin.proofs.Members.{contains_from_has}
 use Rattle.ss_review.proofs.assign.places.assigned_places.Goals as goal
 
 pub loop-at-init : goal.loop-at-init
-loop-at-init c = λ up.
-    let ms = c.args.messages.now in (
-      ap (λ places. places ++ assigned_after ms [] (pairs_wanted ms c.args.hashes.now)) c.in_ok-places.ensures.items,
-      c.in_ok-counters.ensures.none,
-      c.in_ok-counters.ensures.room up,
-    )
+loop-at-init c = λ ms t up. (
+  ap (λ places. places ++ assigned_after ms [] (pairs_wanted ms c.args.hashes.now)) c.in_ok-places.ensures.items,
+  c.in_ok-counters.ensures.none,
+  room_told c.args.pairs.now c.args.messages.now ms t _ (c.in_ok-counters.ensures.room (subst (IsStrictlySortedBy nat_cmp) (sym (places_told c.args.pairs.now c.args.messages.now ms t)) up)),
+)
 
 pub loop-at-preserved : goal.loop-at-preserved
-loop-at-preserved c = λ up.
-    let ms = c.args.messages.now in
+loop-at-preserved c = λ ms t up.
     let hs = c.args.hashes.now in
     let i = c.loop-at.at-index in
-    let so_far = c.loop-at.invariant up in
+    let so_far = c.loop-at.invariant ms t up in
     let items = c.as_slice-at-items.result.now in
     let same = c.as_slice-at-items.ensures.value in
     let below : i < length hs = omega (arith, c.loop-at-test.true, ap length same, c.in_ok-found.ensures.length) in
     let hash = get_or hs i None in
     let here = contains_from_has hs hash (has_at hs i None below) in
-    let rises = subst (IsStrictlySortedBy stored_cmp) (sym c.as_slice.ensures.value) c.in_ok-list.ensures.rises in
+    let rises = subst (IsStrictlySortedBy stored_cmp) (sym c.as_slice.ensures.value) (c.in_ok-list.ensures ms t).rises in
     let at = ap (λ xs. slice_get xs i) (sym same) ∙ slice_get-get_or items i None c.loop-at-test.true in
     let found = c.in_ok-found.ensures.found rises i hash (get_or items i None) (slice_get-get_or hs i None below) at in
     let found_here = subst (λ list. IsFoundFor list hash (get_or items i None)) (c.as_slice.ensures.value ∙ sym c.as_slice-in-loop-at.ensures.value) found in
-    let listed = subst (λ list. Lists list ms hs) (sym c.as_slice-in-loop-at.ensures.value) c.in_ok-list.ensures in
+    let listed = subst (λ list. Lists list ms hs) (sym c.as_slice-in-loop-at.ensures.value) (c.in_ok-list.ensures ms t) in
     let place = c.next_place.ensures.place ms hs (take i hs) hash listed here up found_here so_far.1 in
     let few : length (take i hs) + 1 < 2 ^ 64
     = omega (arith, length-take-le i hs (omega (arith, below)), below, c.as_slice-at-items.ensures.len, ap length same, c.in_ok-found.ensures.length) in
@@ -51,10 +51,9 @@ loop-at-preserved c = λ up.
 
 pub returns : goal.returns
 unfolding assigned_all
-returns c = λ up.
-    let ms = c.args.messages.now in
+returns c = λ ms t up.
     let hs = c.args.hashes.now in
-    let so_far = c.loop-at.invariant up in
+    let so_far = c.loop-at.invariant ms t up in
     sym (append-nil c.loop-at.places.items)
     ∙ ap (λ gs. c.loop-at.places.items ++ assigned_after ms (pairs_wanted ms (take c.loop-at.at-index hs)) (pairs_wanted ms gs))
     (sym (drop_all c.loop-at.at-index hs (omega (arith, c.loop-at-test.false, ap length c.as_slice-at-items.ensures.value, c.in_ok-found.ensures.length))))
