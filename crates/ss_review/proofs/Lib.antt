@@ -8,6 +8,7 @@ pub mod Ends
 pub mod Keeping
 pub mod Bounds
 pub mod TextsTold
+pub mod NotedBlocks
 pub mod Searching
 pub mod Finding
 pub mod BearersWanted
@@ -19,6 +20,7 @@ pub mod AssignedPlaces
 pub mod Sections
 pub mod BySession
 pub mod SectionsTold
+pub mod AskedShared
 pub mod EqualBlocks
 pub mod Verifying
 pub mod Announcements

@@ -1,6 +1,8 @@
 -- What a review asks of a scheme, as often as a block stands in its log.
 use Rattle.std.specs.Prelude.{ℕ, List, [], ◌∷◌, map, flat_map, Result, Ok, Err}
 use Rattle.ss_review.specs.declared.report.session_report.SessionState.{SessionState}
+use Rattle.ss_review.specs.declared.questions.asked.AskedBlock.{AskedBlock}
+use Rattle.ss_review.specs.declared.questions.asked.AskedSession.{AskedSession}
 use Rattle.ss_review.specs.declared.questions.question.Question.{Question}
 use Rattle.ss_review.specs.declared.questions.question.Question.TheVariants as question
 use Rattle.ss_review.specs.declared.keep.message.BlockMessage.{BlockMessage}
@@ -20,3 +22,20 @@ asked bs (Ok payload) = question.Trust payload ∷ map (question_about payload) 
 -- is valid under it, in order of place
 unfoldable pub questions : List BlockMessage → List Question
 questions bs = flat_map (λ s. asked (of_session bs s) (stated_payload (certificates (of_session bs s)))) (sessions bs)
+
+-- ---- the same session by session, with each payload once
+
+abbrev pub asked_block : BlockMessage → AskedBlock
+asked_block b = record { octets = b.signed; signature = signature_of b.said }
+
+-- whether the block is valid under the payload of its session
+abbrev pub question_under : List ℕ → AskedBlock → Question
+question_under payload b = question.Yes payload b.octets b.signature
+
+-- whether the payload is trusted, and whether each block is valid under it
+abbrev pub session_questions : AskedSession → List Question
+session_questions s = question.Trust s.payload ∷ map (question_under s.payload) s.blocks
+
+-- the questions about sessions, each of which shares its payload among the questions about its blocks
+unfoldable pub questions_shared : List AskedSession → List Question
+questions_shared ss = flat_map session_questions ss

@@ -1,3 +1,5 @@
 //! What a review asks of a signature scheme.
+pub(crate) mod asked;
 pub(crate) mod asking;
 pub(crate) mod question;
+pub(crate) mod questioner;

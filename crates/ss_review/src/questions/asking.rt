@@ -1,15 +1,16 @@
 //! What a review asks of a signature scheme (RFC 5848, section 7).
 ghost use Rattle.std.specs.Prelude.{◌≡◌, ◌++◌, map, IfOk, OnOk};
 ghost use Rattle.ss_review.specs.Payloads.{certificates, stated_payload};
-ghost use Rattle.ss_review.specs.Questions.{asked, question_about, questions};
+ghost use Rattle.ss_review.specs.Questions.{asked, asked_block, question_under, session_questions, questions, questions_shared};
 ghost use Rattle.ss_review.specs.Sectioned.{referred, SessionsRise};
 
 use crate::sessions::accepting::signature_of;
 use crate::sessions::joining::stated_payload;
 use crate::keep::message::BlockMessage;
+use crate::questions::asked::{AskedBlock, AskedSession, AskedSessions};
 use crate::questions::question::{Question, Questions};
 use crate::sessions::sectioning::{by_session, section_end};
-use ss_frame::Bytes;
+use ss_frame::{Bytes, List};
 use ss_message::NoMemory;
 use std::alloc::Global;
 
@@ -20,71 +21,119 @@ fn copy_of(alloc: Global, octets: &Bytes) -> Result<Bytes, NoMemory>
     Ok(Bytes::from_vec(Vec::from_slice(alloc, octets.as_slice())?))
 }
 
-/// Whether the block is valid under the payload.
-fn question_about(
-    alloc: Global,
-    payload: &Bytes,
-    block: &BlockMessage,
-) -> Result<Question, NoMemory>
-    ensures { IfOk result (λ q. q ≡ question_about payload.now block.now) }
+/// What is asked about a block.
+fn asked_block(alloc: Global, block: &BlockMessage) -> Result<AskedBlock, NoMemory>
+    ensures { IfOk result (λ b. b ≡ asked_block block.now) }
 {
-    Ok(Question::Yes(
-        copy_of(alloc, payload)?,
-        copy_of(alloc, &block.signed)?,
-        copy_of(alloc, signature_of(&block.said))?,
-    ))
+    Ok(AskedBlock {
+        octets: copy_of(alloc, &block.signed)?,
+        signature: copy_of(alloc, signature_of(&block.said))?,
+    })
 }
 
-/// Adds whether the payload is trusted, and whether each of these blocks is valid under it.
-fn ask_about(
-    alloc: Global,
-    questions: &mut Vec<Question>,
-    payload: &Bytes,
-    blocks: &[&BlockMessage],
-) -> Result<(), NoMemory>
-    ensures { OnOk result (questions.new.items ≡ questions.old.items ++ asked (referred blocks.now) (Ok payload.now)) }
+/// What is asked about each of the blocks.
+fn asked_blocks(alloc: Global, blocks: &[&BlockMessage]) -> Result<Vec<AskedBlock>, NoMemory>
+    ensures { IfOk result (λ v. v.items ≡ map asked_block (referred blocks.now)) }
 {
-    questions.push(Question::Trust(copy_of(alloc, payload)?))?;
+    let mut asked = Vec::with_capacity(alloc, blocks.len())?;
     for block in blocks {
-        questions.push(question_about(alloc, payload, block)?)?;
+        asked.push(asked_block(alloc, block)?)?;
     }
-    Ok(())
+    Ok(asked)
 }
 
-/// Adds what is asked about a session, whose blocks these are.
-fn ask(
+/// Adds a session, whose blocks these are, if they state a payload.
+#[tactic(auto, unfolding(crate::specs::Questions::questions_shared))]
+fn add_session(
     alloc: Global,
-    questions: &mut Vec<Question>,
+    sessions: &mut Vec<AskedSession>,
     blocks: &[&BlockMessage],
 ) -> Result<(), NoMemory>
-    ensures { OnOk result (questions.new.items ≡ questions.old.items
+    ensures { OnOk result (questions_shared sessions.new.items ≡ questions_shared sessions.old.items
         ++ asked (referred blocks.now) (stated_payload (certificates (referred blocks.now)))) }
 {
     match stated_payload(alloc, blocks)? {
-        Ok(payload) => ask_about(alloc, questions, &payload, blocks),
+        Ok(payload) => {
+            let blocks = List::from_vec(asked_blocks(alloc, blocks)?);
+            sessions.push(AskedSession { payload, blocks })?;
+            Ok(())
+        }
         Err(_) => Ok(()),
     }
 }
 
 /// What is asked about blocks in the order of their sessions.
-fn asked_in_turn(alloc: Global, blocks: &[&BlockMessage]) -> Result<Vec<Question>, NoMemory>
+fn asked_in_turn(alloc: Global, blocks: &[&BlockMessage]) -> Result<Vec<AskedSession>, NoMemory>
     requires { SessionsRise (referred blocks.now) }
-    ensures { IfOk result (λ v. v.items ≡ questions (referred blocks.now)) }
+    ensures { IfOk result (λ v. questions_shared v.items ≡ questions (referred blocks.now)) }
 {
-    let mut questions = Vec::new(alloc);
+    let mut sessions = Vec::new(alloc);
     let mut start = 0;
     while start < blocks.len() {
         let end = section_end(blocks, start);
-        ask(alloc, &mut questions, &blocks[start..end])?;
+        add_session(alloc, &mut sessions, &blocks[start..end])?;
         start = end;
+    }
+    Ok(sessions)
+}
+
+/// What a review of these blocks asks of a scheme, in the order of their sessions.
+pub(crate) fn asked_sessions(
+    alloc: Global,
+    blocks: &[BlockMessage],
+) -> Result<AskedSessions, NoMemory>
+    ensures { IfOk result (λ ss. questions_shared ss ≡ questions blocks.now) }
+{
+    let sorted = by_session(alloc, blocks)?;
+    Ok(AskedSessions::from_vec(asked_in_turn(alloc, sorted.as_slice())?))
+}
+
+/// Whether the block is valid under the payload.
+fn question_under(
+    alloc: Global,
+    payload: &Bytes,
+    block: &AskedBlock,
+) -> Result<Question, NoMemory>
+    ensures { IfOk result (λ q. q ≡ question_under payload.now block.now) }
+{
+    Ok(Question::Yes(
+        copy_of(alloc, payload)?,
+        copy_of(alloc, &block.octets)?,
+        copy_of(alloc, &block.signature)?,
+    ))
+}
+
+/// Adds the questions about a session.
+fn put_questions(
+    alloc: Global,
+    questions: &mut Vec<Question>,
+    session: &AskedSession,
+) -> Result<(), NoMemory>
+    ensures { OnOk result (questions.new.items ≡ questions.old.items ++ session_questions session.now) }
+{
+    questions.push(Question::Trust(copy_of(alloc, &session.payload)?))?;
+    for block in session.blocks.as_slice() {
+        questions.push(question_under(alloc, &session.payload, block)?)?;
+    }
+    Ok(())
+}
+
+/// The questions about these sessions, each with a payload of its own.
+#[tactic(auto, unfolding(crate::specs::Questions::questions_shared))]
+fn questions_of(alloc: Global, sessions: &[AskedSession]) -> Result<Vec<Question>, NoMemory>
+    ensures { IfOk result (λ v. v.items ≡ questions_shared sessions.now) }
+{
+    let mut questions = Vec::new(alloc);
+    for session in sessions {
+        put_questions(alloc, &mut questions, session)?;
     }
     Ok(questions)
 }
 
-/// What a review of these blocks asks of a scheme, in the order of their sessions.
+/// What a review of these blocks asks of a scheme, a question each, in the order of their sessions.
 pub(crate) fn questions(alloc: Global, blocks: &[BlockMessage]) -> Result<Questions, NoMemory>
     ensures { IfOk result (λ qs. qs ≡ questions blocks.now) }
 {
-    let sorted = by_session(alloc, blocks)?;
-    Ok(Questions::from_vec(asked_in_turn(alloc, sorted.as_slice())?))
+    let sessions = asked_sessions(alloc, blocks)?;
+    Ok(Questions::from_vec(questions_of(alloc, sessions.as_slice())?))
 }

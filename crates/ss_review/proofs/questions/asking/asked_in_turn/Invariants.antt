@@ -1,13 +1,13 @@
 -- The questions so far, and those about the blocks that are left, are all.
 use Rattle.std.proofs.Common.{◌≡◌, ◌++◌, ◌-◌, length, drop}
 use Rattle.std.specs.Prelude.{flat_map}
-use Rattle.ss_review.specs.Questions.{questions}
+use Rattle.ss_review.specs.Questions.{questions, questions_shared}
 use Rattle.ss_review.specs.Sectioned.{sections, referred}
 use Rattle.ss_review.proofs.SectionsTold.{section_asked}
 use Rattle.ss_review.proofs.questions.asking.asked_in_turn.Given as goal
 
 abbrev pub invariant-loop-start : goal.invariant-loop-start
-invariant-loop-start l = l.questions.items ++ flat_map section_asked (sections (referred (drop l.start l.blocks))) ≡ questions (referred l.blocks)
+invariant-loop-start l = questions_shared l.sessions.items ++ flat_map section_asked (sections (referred (drop l.start l.blocks))) ≡ questions (referred l.blocks)
 
 abbrev pub decreases-loop-start : goal.decreases-loop-start
 decreases-loop-start l = length l.blocks - l.start

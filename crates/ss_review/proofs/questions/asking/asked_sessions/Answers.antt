@@ -1,13 +1,13 @@
 use Rattle.std.proofs.Common.{sym, ap, ◌∙◌}
 use Rattle.std.specs.Prelude.{flat_map}
-use Rattle.ss_review.specs.Questions.{questions}
+use Rattle.ss_review.specs.Questions.{questions, questions_shared}
 use Rattle.ss_review.specs.Sectioned.{referred}
 use Rattle.ss_review.proofs.SectionsTold.{section_asked, questions_asked}
-use Rattle.ss_review.proofs.questions.asking.questions.Goals as goal
+use Rattle.ss_review.proofs.questions.asking.asked_sessions.Goals as goal
 
 pub returns : goal.returns
 returns c =
-    c.from_vec.ensures
+    ap questions_shared c.from_vec.ensures
     ∙ c.in_ok-asked_in_turn.ensures
     ∙ ap (λ bs. questions (referred bs)) c.as_slice.ensures.value
     ∙ sym (questions_asked (referred c.in_ok-sorted.sorted.items))

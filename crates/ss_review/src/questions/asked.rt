@@ -1,0 +1,23 @@
+//! What a review asks of a signature scheme, session by session.
+use ss_frame::{Bytes, List};
+
+/// A block whose signature is asked about.
+#[derive(Debug, Drop)]
+pub struct AskedBlock {
+    /// The octets that are signed.
+    pub octets: Bytes,
+    /// The signature that the block holds.
+    pub signature: Bytes,
+}
+
+/// What is asked about a session: whether its payload is trusted, and whether each of its blocks is valid under it.
+#[derive(Debug, Drop)]
+pub struct AskedSession {
+    /// The payload that the certificate blocks of the session state.
+    pub payload: Bytes,
+    /// The blocks of the session, by rising place.
+    pub blocks: List<AskedBlock>,
+}
+
+/// What is asked about the sessions of a log, in their order. Contracts see the list alone.
+pub type AskedSessions = List<AskedSession>;
