@@ -43,7 +43,7 @@ module _ {X : Type 0} (key : X → Session) where
 -- ---- the session is among them
 
 module _ (says : Answers) (bs : List BlockMessage) (b : BlockMessage) (xs : List JoinedSession) (told : map session_with_joined xs ≡ sessions_joined says bs) where
-  found_with : (x : JoinedSession) → Has xs x → x.session.now ≡ b.session → is_valid_in says x.joined b ≡ is_verified says bs b
+  found_with : (x : JoinedSession) → Has xs x → x.session ≡ b.session → is_valid_in says x.joined b ≡ is_verified says bs b
   unfolding is_verified
   found_with x h same =
       let w : (s : Session) × Has (sessions bs) s × ((s, joined says (of_session bs s)) ≡ session_with_joined x)
@@ -51,10 +51,10 @@ module _ (says : Answers) (bs : List BlockMessage) (b : BlockMessage) (xs : List
       let at : w.0 ≡ b.session = (λ i. (w.2 i).0) ∙ same in
       ap (λ j. is_valid_in says j b) (sym (λ i. (w.2 i).1) ∙ ap (λ s. joined says (of_session bs s)) at)
 
-  pub found : (k : ℕ) (d : JoinedSession) → k < length xs → session_cmp (get_or xs k d).session.now b.session ≡ Equal → is_valid_in says (get_or xs k d).joined b ≡ is_verified says bs b
+  pub found : (k : ℕ) (d : JoinedSession) → k < length xs → session_cmp (get_or xs k d).session b.session ≡ Equal → is_valid_in says (get_or xs k d).joined b ≡ is_verified says bs b
   found k d below tie =
       let x = get_or xs k d in
-      found_with x (has_from_contains xs x (k, below, get_or_default xs k x d below)) (session_cmp_exact x.session.now b.session tie)
+      found_with x (has_from_contains xs x (k, below, get_or_default xs k x d below)) (session_cmp_exact x.session b.session tie)
 
 -- ---- it isn't
 
@@ -63,7 +63,7 @@ unfolding joined stated_payload is_disputed
 unstated says = refl
 
 module _ (says : Answers) (bs : List BlockMessage) (b : BlockMessage) (xs : List JoinedSession) (told : map session_with_joined xs ≡ sessions_joined says bs) where
-  keys_are : map (λ (x : JoinedSession). x.session.now) xs ≡ sessions bs
+  keys_are : map (λ (x : JoinedSession). x.session) xs ≡ sessions bs
   keys_are =
       sym (map-map (λ (p : Session × Result (List ℕ) SessionState). p.0) session_with_joined xs)
       ∙ ap (map (λ (p : Session × Result (List ℕ) SessionState). p.0)) told
@@ -71,12 +71,12 @@ module _ (says : Answers) (bs : List BlockMessage) (b : BlockMessage) (xs : List
       ∙ map-id (sessions bs)
 
   abbrev order : JoinedSession → Ordering
-  order x = session_cmp x.session.now b.session
+  order x = session_cmp x.session b.session
 
   other : (i : ℕ) → IsPartitionPoint (λ x. order x ≡ Less) (λ x. order x ≡ Greater) xs i → (c : BlockMessage) → Has bs c → same_session c.session b.session ≡ false
   other i apart c h =
-      let w : (x : JoinedSession) × Has xs x × (x.session.now ≡ c.session)
-      = from_has-map (λ x. x.session.now) xs c.session (subst (λ ks. Has ks c.session) (sym keys_are) (has-in_order session_cmp_total session_cmp_exact c.session (map (λ (m : BlockMessage). m.session) bs) (has-map (λ (m : BlockMessage). m.session) bs c h))) in
+      let w : (x : JoinedSession) × Has xs x × (x.session ≡ c.session)
+      = from_has-map (λ x. x.session) xs c.session (subst (λ ks. Has ks c.session) (sym keys_are) (has-in_order session_cmp_total session_cmp_exact c.session (map (λ (m : BlockMessage). m.session) bs) (has-map (λ (m : BlockMessage). m.session) bs c h))) in
       let at : Contains xs w.0 = contains_from_has xs w.0 w.1 in
       let same : order (get_or xs at.0 w.0) ≡ session_cmp c.session b.session = ap order at.2 ∙ ap (λ s. session_cmp s b.session) w.2 in
       ap is_eq (sym same)
@@ -88,10 +88,10 @@ module _ (says : Answers) (bs : List BlockMessage) (b : BlockMessage) (xs : List
   pub not_found : (i : ℕ) → (IsNonDecreasingBy (λ x. ordering_index (order x)) xs → IsPartitionPoint (λ x. order x ≡ Less) (λ x. order x ≡ Greater) xs i) → false ≡ is_verified says bs b
   unfolding is_verified
   not_found i parted =
-      let up : IsStrictlySortedBy session_cmp (map (λ (x : JoinedSession). x.session.now) xs)
+      let up : IsStrictlySortedBy session_cmp (map (λ (x : JoinedSession). x.session) xs)
       = subst (IsStrictlySortedBy session_cmp) (sym keys_are) (rises-in_order session_cmp_total session_cmp_exact (map (λ (m : BlockMessage). m.session) bs)) in
       let none : of_session bs b.session ≡ []
-      = keeps_none (λ c. same_session c.session b.session) bs (all_below (λ c. same_session c.session b.session ≡ false) bs (other i (parted (searchable (λ (x : JoinedSession). x.session.now) xs b.session up)))) in
+      = keeps_none (λ c. same_session c.session b.session) bs (all_below (λ c. same_session c.session b.session ≡ false) bs (other i (parted (searchable (λ (x : JoinedSession). x.session) xs b.session up)))) in
       sym (ap (λ ys. is_valid_in says (joined says ys) b) none ∙ ap (λ j. is_valid_in says j b) (unstated says))
 
 -- ---- one block more

@@ -38,7 +38,7 @@ hash_before r None = Some r.hash
 hash_before r (Some next) = if same_key next.key r.key then None else Some r.hash
 
 abbrev pub session_with_joined : JoinedSession → Session × Result (List ℕ) SessionState
-session_with_joined s = (s.session.now, s.joined)
+session_with_joined s = (s.session, s.joined)
 
 -- each session, in order, with its joined payload or its state
 abbrev pub sessions_joined : Answers → List BlockMessage → List (Session × Result (List ℕ) SessionState)

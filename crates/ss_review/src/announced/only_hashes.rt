@@ -4,8 +4,8 @@ ghost use Rattle.std.specs.List.Sorted.{IsStrictlySortedBy};
 ghost use Rattle.ss_review.specs.Announced.{row_cmp, same_key, keys};
 ghost use Rattle.ss_review.specs.Numbered.{key_of, row_of, only_hashes, is_more_of, hash_before};
 
-use crate::announced::message_number::MessageNumber;
 use crate::announced::announced_hash::AnnouncedHash;
+use crate::announced::message_number::MessageNumber;
 use ss_block::Hash;
 use ss_message::NoMemory;
 use std::alloc::Global;
@@ -46,7 +46,10 @@ fn only_hash(row: &AnnouncedHash<'_>, next: Option<&AnnouncedHash<'_>>) -> Optio
 }
 
 /// The numbers of these rows, which are in order, and the only hash of each.
-pub(crate) fn by_number<'a>(alloc: Global, rows: &[AnnouncedHash<'a>]) -> Result<Announced<'a>, NoMemory>
+pub(crate) fn by_number<'a>(
+    alloc: Global,
+    rows: &[AnnouncedHash<'a>],
+) -> Result<Announced<'a>, NoMemory>
     requires { IsStrictlySortedBy row_cmp (map row_of rows.now) }
     ensures numbers { IfOk result (λ a. map key_of a.numbers.items ≡ keys (map row_of rows.now)) }
     ensures hashes { IfOk result (λ a. a.hashes.items ≡ only_hashes (map row_of rows.now)) }

@@ -8,8 +8,8 @@ ghost use Rattle.ss_review.specs.Assigned.{places_with};
 ghost use Rattle.ss_review.specs.Keeping.{KeepsNormal};
 ghost use Rattle.ss_review.specs.Assigning.{pair_wanted, pairs_wanted, bearer_wanted, bearers_wanted, place_after, assigned_all, count_of, Counts};
 
-use crate::plain::by_hash::ByHash;
 use crate::keep::message::NormalMessage;
+use crate::plain::by_hash::ByHash;
 use ss_block::Hash;
 use ss_message::NoMemory;
 use std::alloc::Global;

@@ -9,10 +9,10 @@ ghost use Rattle.ss_block.specs.Order.{hash_cmp, pair_cmp};
 ghost use Rattle.ss_review.specs.declared.keep.message.NormalMessage.{NormalMessage};
 ghost use Rattle.ss_review.specs.Bearing.{earlier, bearer_among, bearers_among};
 
-use crate::plain::equal_places::EqualPlaces;
 use crate::keep::message::NormalMessage;
-use crate::lists::ordered::put_in_order;
 use crate::lists::optional::push_some;
+use crate::lists::ordered::put_in_order;
+use crate::plain::equal_places::EqualPlaces;
 use ss_block::laws::orders::hashes_rise_by_algorithm;
 use ss_block::{Hash, HashPair};
 use ss_message::NoMemory;

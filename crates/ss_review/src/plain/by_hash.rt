@@ -7,11 +7,11 @@ ghost use Rattle.ss_review.specs.Assigned.{places_with};
 ghost use Rattle.ss_review.specs.Assigning.{bearers_wanted};
 ghost use Rattle.ss_review.specs.Keeping.{KeepsNormal};
 
+use crate::assign::index::Index;
+use crate::keep::message::NormalMessage;
 use crate::plain::assign::assign;
 use crate::plain::bearers::bearers;
 use crate::plain::equal_places::EqualPlaces;
-use crate::assign::index::Index;
-use crate::keep::message::NormalMessage;
 use crate::plain::places_by_hashes::add_place;
 use ss_block::{Hash, HashPair};
 use ss_message::NoMemory;

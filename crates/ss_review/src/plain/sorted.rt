@@ -3,11 +3,11 @@ ghost use Rattle.std.specs.Prelude.{◌+◌, ◌^◌, ◌<◌, ◌++◌, ◌∷�
 ghost use Rattle.ss_review.specs.Notes.{Note, Normal, Block, Spoilt, noted, note, notes};
 ghost use Rattle.ss_review.specs.Keeping.{SortedOut};
 
-use crate::plain::by_hash::ByHash;
 use crate::keep::message::{BlockMessage, NormalMessage};
-use crate::lists::optional::push_some;
 use crate::keep::reading::{block_in, reading_to_note};
 use crate::keep::spoilt::SpoiltPlace;
+use crate::lists::optional::push_some;
+use crate::plain::by_hash::ByHash;
 use ss_block::{HashPair, Reading, Spoil, pair_of};
 use ss_frame::Bytes;
 use ss_message::NoMemory;

@@ -4,11 +4,11 @@ ghost use Rattle.ss_review.specs.Payloads.{certificates, stated_payload};
 ghost use Rattle.ss_review.specs.Questions.{asked, asked_block, question_under, session_questions, questions, questions_shared};
 ghost use Rattle.ss_review.specs.Sectioned.{referred, SessionsRise};
 
-use crate::sessions::accepting::signature_of;
-use crate::sessions::joining::stated_payload;
 use crate::keep::message::BlockMessage;
 use crate::questions::asked::{AskedBlock, AskedSession, AskedSessions};
 use crate::questions::question::{Question, Questions};
+use crate::sessions::accepting::signature_of;
+use crate::sessions::joining::stated_payload;
 use crate::sessions::sectioning::{by_session, section_end};
 use ss_frame::{Bytes, List};
 use ss_message::NoMemory;

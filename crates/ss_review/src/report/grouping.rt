@@ -14,12 +14,12 @@ ghost use Rattle.ss_review.specs.Report.{session_report};
 ghost use Rattle.ss_review.specs.Numbered.{key_of, only_hashes, session_with_joined, sessions_joined};
 ghost use Rattle.ss_review.specs.Grouped.{with_entry, with_entries, Rise, GroupsRise, numbers_of_session, group_told, groups_told, session_told};
 
+use crate::announced::message_number::MessageNumber;
 use crate::report::entries::entries;
 use crate::report::group_report::{GroupReport, GroupReports};
-use crate::sessions::joined_session::JoinedSession;
-use crate::announced::message_number::MessageNumber;
 use crate::report::number_entry::{NumberEntry, with_entries};
 use crate::report::session_report::{SessionReport, SessionReports, SessionState};
+use crate::sessions::joined_session::JoinedSession;
 use ss_block::{Group, Hash, Session};
 use ss_frame::Bytes;
 use ss_message::NoMemory;
@@ -89,7 +89,10 @@ fn is_of(number: &NumberEntry<'_>, session: &Session) -> bool
 }
 
 /// The numbers of a session, among all in their order.
-fn numbers_of_session<'a, 'b>(numbers: &'a [NumberEntry<'b>], session: &Session) -> &'a [NumberEntry<'b>]
+fn numbers_of_session<'a, 'b>(
+    numbers: &'a [NumberEntry<'b>],
+    session: &Session,
+) -> &'a [NumberEntry<'b>]
     ensures { Rise numbers.now → result.now ≡ numbers_of_session session.now numbers.now }
 {
     let start = numbers.partition_point(|number| is_before(number, session));
@@ -112,14 +115,14 @@ fn state_in(joined: &Result<Bytes, SessionState>) -> SessionState
 /// What a report says of a session, from all announced numbers in their order.
 fn session_report(
     alloc: Global,
-    session: &JoinedSession<'_>,
+    session: &JoinedSession,
     numbers: &[NumberEntry<'_>],
 ) -> Result<SessionReport, NoMemory>
     ensures { (ms : List NormalMessage) (rs : List Row)
         → map with_entry numbers.now ≡ with_entries ms rs (keys rs)
         → IfOk result (λ r. r ≡ session_told ms rs (session_with_joined session.now)) }
 {
-    let own = numbers_of_session(numbers, session.session);
+    let own = numbers_of_session(numbers, &session.session);
     Ok(SessionReport {
         session: session.session.try_clone(alloc)?,
         state: state_in(&session.joined),
@@ -132,7 +135,7 @@ fn session_report(
 /// each is assigned, if any.
 pub(crate) fn session_reports(
     alloc: Global,
-    joined: &[JoinedSession<'_>],
+    joined: &[JoinedSession],
     numbers: &[MessageNumber<'_>],
     hashes: &[Option<Hash>],
     places: &[Option<u32>],

@@ -6,8 +6,8 @@ ghost use Rattle.ss_review.specs.Assigned.{assigned};
 ghost use Rattle.ss_review.specs.Numbered.{key_of, only_hashes};
 ghost use Rattle.ss_review.specs.Grouped.{entry_from, numbered, with_entry, with_entries};
 
-use crate::report::entry::{Entry, Why};
 use crate::announced::message_number::MessageNumber;
+use crate::report::entry::{Entry, Why};
 use ss_block::Hash;
 use ss_message::NoMemory;
 use std::alloc::Global;

@@ -1,7 +1,7 @@
 //! What a review says of a log.
+use crate::keep::spoilt::SpoiltPlaces;
 use crate::report::places::Places;
 use crate::report::session_report::SessionReports;
-use crate::keep::spoilt::SpoiltPlaces;
 
 /// What a review says of a log. Places are positions of messages in it, from 0.
 #[derive(Debug, Drop)]

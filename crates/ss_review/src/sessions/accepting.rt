@@ -6,10 +6,10 @@ ghost use Rattle.ss_review.specs.Verified.{answers, signature_of, is_valid, is_a
 ghost use Rattle.ss_review.specs.Covering.{spans_of, accepted_span};
 ghost use Rattle.ss_review.specs.FoundBlocks.{TellsEqualsAlike, KeepsWhatHolds};
 
-use crate::sessions::found_blocks::FoundBlocks;
-use crate::sessions::joining::stated_payload;
 use crate::keep::message::{BlockMessage, Said};
 use crate::report::session_report::SessionState;
+use crate::sessions::found_blocks::FoundBlocks;
+use crate::sessions::joining::stated_payload;
 use crate::sessions::span::{Span, cover, span_of};
 use crate::sessions::verifier::Judge;
 use ss_frame::Bytes;

@@ -5,7 +5,7 @@ use ss_frame::Bytes;
 
 /// A session with its joined payload, or else its state.
 #[derive(Drop)]
-pub(crate) struct JoinedSession<'a> {
-    pub(crate) session: &'a Session,
+pub(crate) struct JoinedSession {
+    pub(crate) session: Session,
     pub(crate) joined: Result<Bytes, SessionState>,
 }

@@ -4,20 +4,20 @@ ghost use Rattle.ss_review.specs.Sectioned.{referred, SessionsRise};
 ghost use Rattle.ss_review.specs.Verified.{answers};
 ghost use Rattle.ss_review.specs.Numbered.{session_with_joined, sessions_joined};
 
+use crate::keep::message::BlockMessage;
 use crate::sessions::accepting::joined;
 use crate::sessions::joined_session::JoinedSession;
-use crate::keep::message::BlockMessage;
 use crate::sessions::sectioning::{by_session, section_end};
 use crate::sessions::verifier::Judge;
 use ss_message::NoMemory;
 use std::alloc::Global;
 
 /// The sessions of blocks in the order of their sessions, each with its joined payload, or else its state.
-fn joined_sections<'a, J: Judge>(
+fn joined_sections<J: Judge>(
     alloc: Global,
     judge: &J,
-    blocks: &[&'a BlockMessage],
-) -> Result<Vec<JoinedSession<'a>>, NoMemory>
+    blocks: &[&BlockMessage],
+) -> Result<Vec<JoinedSession>, NoMemory>
     requires sound { J.sound judge.now }
     requires rise { SessionsRise (referred blocks.now) }
     ensures { IfOk result (λ v. map session_with_joined v.items
@@ -28,7 +28,7 @@ fn joined_sections<'a, J: Judge>(
     while start < blocks.len() {
         let end = section_end(blocks, start);
         sessions.push(JoinedSession {
-            session: &blocks[start].session,
+            session: blocks[start].session.try_clone(alloc)?,
             joined: joined(alloc, judge, &blocks[start..end])?,
         })?;
         start = end;
@@ -37,11 +37,11 @@ fn joined_sections<'a, J: Judge>(
 }
 
 /// The sessions of these blocks in their order, each with its joined payload, or else its state.
-pub(crate) fn joined_sessions<'a, J: Judge>(
+pub(crate) fn joined_sessions<J: Judge>(
     alloc: Global,
     judge: &J,
-    blocks: &'a [BlockMessage],
-) -> Result<Vec<JoinedSession<'a>>, NoMemory>
+    blocks: &[BlockMessage],
+) -> Result<Vec<JoinedSession>, NoMemory>
     requires { J.sound judge.now }
     ensures { IfOk result (λ v. map session_with_joined v.items
         ≡ sessions_joined (answers J.trusted J.valid judge.now) blocks.now) }

@@ -6,12 +6,12 @@ ghost use Rattle.ss_review.specs.Numbered.{session_with_joined, sessions_joined}
 ghost use Rattle.ss_review.specs.Report.{refused};
 ghost use Rattle.ss_review.specs.FoundBlocks.{TellsEqualsAlike, KeepsWhatHolds};
 
-use crate::sessions::accepting::valid_once;
-use crate::sessions::found_blocks::FoundBlocks;
-use crate::sessions::joined_session::JoinedSession;
 use crate::keep::message::BlockMessage;
 use crate::report::places::Places;
 use crate::report::session_report::SessionState;
+use crate::sessions::accepting::valid_once;
+use crate::sessions::found_blocks::FoundBlocks;
+use crate::sessions::joined_session::JoinedSession;
 use crate::sessions::verifier::Judge;
 use ss_frame::Bytes;
 use ss_message::NoMemory;
@@ -46,7 +46,7 @@ fn is_valid_in<'a, J: Judge>(
 /// blocks so far.
 fn is_verified<'a, J: Judge>(
     judge: &J,
-    sessions: &[JoinedSession<'_>],
+    sessions: &[JoinedSession],
     found: &mut FoundBlocks<'a>,
     block: &'a BlockMessage,
 ) -> Result<bool, NoMemory>
@@ -70,7 +70,7 @@ fn is_verified<'a, J: Judge>(
 pub(crate) fn verified<J: Judge>(
     alloc: Global,
     judge: &J,
-    sessions: &[JoinedSession<'_>],
+    sessions: &[JoinedSession],
     blocks: &[BlockMessage],
 ) -> Result<Vec<bool>, NoMemory>
     requires { J.sound judge.now }

@@ -5,7 +5,7 @@ use Rattle.ss_review.proofs.report.grouping.session_report.Goals as goal
 
 pub returns : goal.returns
 returns c = λ ms rs e.
-    let s = c.args.session.now.session.now in
+    let s = c.args.session.now.session in
     let ns = c.args.numbers.now in
     let stand = numbers_stand ms rs ns e in
     let own : c.numbers_of_session-own.result.now ≡ numbers_of_session s ns = c.numbers_of_session-own.ensures stand in

@@ -1,4 +1,4 @@
-use Rattle.std.proofs.Common.{◌++◌, drop, get_or, map, sym, ap, ◌∙◌}
+use Rattle.std.proofs.Common.{◌++◌, drop, map, sym, ap, ◌∙◌}
 use Rattle.std.proofs.lemmas.List.{append-nil}
 use Rattle.ss_review.specs.Sectioned.{sections, referred}
 use Rattle.ss_review.specs.Verified.{answers}
@@ -20,7 +20,7 @@ loop-start-preserved g c =
     let later = sections (referred (drop c.section_end-end.result bs)) in
     ap (λ xs. map session_with_joined xs ++ map (section_joined says) later) c.in_ok-push.ensures.items
     ∙ one_more session_with_joined (section_joined says) c.loop-start.sessions.items _ _ _ later here
-    (ap (λ j. ((get_or bs c.loop-start.start c.index-blocks-start.result).now.session, j)) c.in_ok-joined.ensures)
+    (λ i. (c.in_ok-try_clone.ensures i, c.in_ok-joined.ensures i))
     ∙ c.loop-start.invariant
 
 pub returns : goal.returns
