@@ -2,3 +2,4 @@ pub mod LogSoFar
 pub mod TextSoFar
 pub mod FedSoFar
 pub mod Taken
+pub mod Writings

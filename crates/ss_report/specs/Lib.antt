@@ -6,5 +6,6 @@ pub mod ReportText
 pub mod QuestionText
 pub mod Verdict
 pub mod Fed
+pub mod Writing
 pub mod Run
 pub mod Jobs
