@@ -3,3 +3,4 @@ pub mod TextSoFar
 pub mod FedSoFar
 pub mod Taken
 pub mod Writings
+pub mod Answered

@@ -1,11 +1,12 @@
 //! What a run makes of a log before it writes.
-ghost use Rattle.std.specs.Prelude.{◌≡◌, false, MatchResult};
+ghost use Rattle.std.specs.Prelude.{◌≡◌, ℕ, List, false, MatchResult};
 ghost use Rattle.ss_frame.specs.Limits.{Allowance};
-ghost use Rattle.ss_frame.specs.Watched.{Source, has_failed, sink_of};
+ghost use Rattle.ss_frame.specs.Watched.{Source, Sink, has_failed, sink_of};
+ghost use Rattle.ss_report.specs.Writing.{Writes};
 ghost use Rattle.ss_report.specs.Run.{Job, Makes, Runs, FailsToWrite};
 
 use crate::fault::RunFault;
-use crate::output::write_whole;
+use crate::output::{end_text, write_whole};
 use crate::verdict::Verdict;
 use ss_frame::Watched;
 use std::io::Write;
@@ -31,4 +32,20 @@ impl Outcome {
         write_whole(writer, self.output.as_slice())?;
         Ok(self.verdict)
     }
+}
+
+/// Flushes the writer behind the output of a run, and answers the verdict. `RunFault::Write` exactly where a call of the
+/// writer has failed, in this call or before; what was written then is a prefix of the output.
+pub(crate) fn end_run<W: Write>(
+    writer: &mut Watched<W>,
+    verdict: Verdict,
+) -> Result<Verdict, RunFault>
+    ensures { (job : Job) (limits : Allowance) (before after : Source) (was : Sink) (output : List ℕ)
+        → Makes job limits before after output verdict → Writes was (sink_of W.contents writer.old) output
+        → MatchResult result
+        (λ told. Runs job limits before after was (sink_of W.contents writer.new) told)
+        (λ fault. (fault ≡ RunFault.Write) × FailsToWrite job limits before after was (sink_of W.contents writer.new)) }
+{
+    end_text(writer)?;
+    Ok(verdict)
 }

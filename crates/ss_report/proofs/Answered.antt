@@ -1,0 +1,29 @@
+-- What a run answers once its output was written.
+use Rattle.std.proofs.Common.{◌≡◌, ◌≢◌, List, Result, Ok, Err, sym, subst}
+use Rattle.std.specs.Prelude.{MatchResult, IfOk, IfErr}
+use Rattle.ss_frame.specs.Limits.{Allowance}
+use Rattle.ss_frame.specs.Watched.{Source, Sink}
+use Rattle.ss_report.specs.declared.fault.RunFault.{RunFault}
+use Rattle.ss_report.specs.declared.fault.RunFault.TheVariants as run
+use Rattle.ss_report.specs.declared.verdict.Verdict.{Verdict}
+use Rattle.ss_report.specs.Run.{Job, Runs, FailsToWrite, Stops}
+
+-- the run succeeded, or its output couldn't be written
+abbrev pub RunsOrFails : Job → Allowance → (before after : Source) → (was is : Sink) → Result Verdict RunFault → Type 0
+RunsOrFails job limits before after was is r =
+    MatchResult r (λ verdict. Runs job limits before after was is verdict) (λ fault. (fault ≡ run.Write) × FailsToWrite job limits before after was is)
+
+pub runs_if_ok : (job : Job) (limits : Allowance) (before after : Source) (was is : Sink) (r : Result Verdict RunFault)
+    → RunsOrFails job limits before after was is r → IfOk r (Runs job limits before after was is)
+runs_if_ok job limits before after was is (Ok verdict) told = told
+runs_if_ok job limits before after was is (Err fault) told = tt
+
+pub stops_if_err : (job : Job) (limits : Allowance) (before after : Source) (was is : Sink) (r : Result Verdict RunFault)
+    → RunsOrFails job limits before after was is r → IfErr r (Stops job limits before after was is)
+stops_if_err job limits before after was is (Ok verdict) told = tt
+stops_if_err job limits before after was is (Err fault) told = subst (λ f. Stops job limits before after was is f) (sym told.0) told.1
+
+pub fails_by_write : (job : Job) (limits : Allowance) (before after : Source) (was is : Sink) (r : Result Verdict RunFault) (P : Type 0)
+    → RunsOrFails job limits before after was is r → IfErr r (λ fault. fault ≢ run.Write → P)
+fails_by_write job limits before after was is (Ok verdict) P told = tt
+fails_by_write job limits before after was is (Err fault) P told = λ other. absurd (other told.0)
