@@ -21,6 +21,7 @@ pub mod Sections
 pub mod BySession
 pub mod SectionsTold
 pub mod AskedShared
+pub mod NeededBlocks
 pub mod EqualBlocks
 pub mod Verifying
 pub mod Announcements

@@ -1,7 +1,8 @@
 -- The block that a message is noted with is the one that its text holds.
-use Rattle.std.proofs.Common.{◌≡◌, ℕ, ◌+◌, false, List, [], ◌∷◌, ◌++◌, length, refl, sym, ap, ◌∙◌}
-use Rattle.std.specs.Prelude.{Option, Some, None}
+use Rattle.std.proofs.Common.{◌≡◌, ℕ, ◌+◌, false, List, [], ◌∷◌, ◌++◌, length, map, refl, sym, ap, ◌∙◌}
+use Rattle.std.specs.Prelude.{Option, None}
 use Rattle.std.specs.List.{cons_option}
+use Rattle.std.proofs.lemmas.List.{map-append}
 use Rattle.ss_block.specs.declared.reading.Reading.{Reading}
 use Rattle.ss_block.specs.declared.reading.Reading.TheVariants.{Plain, Unparsed, Signature, Certificate, Spoilt}
 use Rattle.ss_block.specs.Mark.{has_block_element}
@@ -12,6 +13,7 @@ use Rattle.ss_review.specs.declared.keep.message.BlockMessage.{BlockMessage}
 use Rattle.ss_review.specs.declared.questions.questioner.Questioner.{Questioner}
 use Rattle.ss_review.specs.Notes.{Note, noted, note}
 use Rattle.ss_review.specs.Contents.{said_in, block_with, block_in, block_at, blocks}
+use Rattle.ss_review.specs.Questions.{needed}
 use Rattle.ss_review.specs.Keeping.{KeepsBlocks}
 use Rattle.ss_review.proofs.Ends.{blocks_push, count_more}
 
@@ -40,15 +42,18 @@ unfolding note
 none_held place text e = none_noted place text (reading text) e
 
 -- a questioner of one more message
-pub keeps_held : (q new : Questioner) (ns : List Note) (n : Note) (k : KeepsBlocks q ns) (held : Option BlockMessage) → held ≡ block_at q.count n
+pub keeps_held : (q new : Questioner) (ns : List Note) (n : Note) (k : KeepsBlocks q ns) (held : Option BlockMessage)
+    → map needed (cons_option held []) ≡ map needed (cons_option (block_at q.count n) [])
     → new.count ≡ q.count + 1
     → new.blocks.items ≡ q.blocks.items ++ cons_option held []
     → KeepsBlocks new (ns ++ n ∷ [])
 keeps_held q new ns n k held is more blocks_are = record {
   count = more ∙ ap (λ m. m + 1) k.count ∙ sym (count_more ns n);
   blocks =
-      blocks_are
-      ∙ ap (λ bs. bs ++ cons_option held []) k.blocks
-      ∙ ap (λ o. blocks ns ++ cons_option o []) (is ∙ ap (λ place. block_at place n) k.count)
-      ∙ sym (blocks_push ns n);
+      ap (map needed) blocks_are
+      ∙ map-append needed q.blocks.items (cons_option held [])
+      ∙ ap (λ ds. ds ++ map needed (cons_option held [])) k.blocks
+      ∙ ap (λ ds. map needed (blocks ns) ++ ds) (is ∙ ap (λ place. map needed (cons_option (block_at place n) [])) k.count)
+      ∙ sym (map-append needed (blocks ns) (cons_option (block_at (length ns) n) []))
+      ∙ ap (map needed) (sym (blocks_push ns n));
 }

@@ -1,5 +1,7 @@
 -- What a review asks of a scheme, as often as a block stands in its log.
-use Rattle.std.specs.Prelude.{ℕ, List, [], ◌∷◌, map, flat_map, Result, Ok, Err}
+use Rattle.std.specs.Prelude.{ℕ, List, [], ◌∷◌, map, flat_map, Option, Result, Ok, Err}
+use Rattle.ss_block.specs.Block as block
+use Rattle.ss_block.specs.declared.session.Session.{Session}
 use Rattle.ss_review.specs.declared.report.session_report.SessionState.{SessionState}
 use Rattle.ss_review.specs.declared.questions.asked.AskedBlock.{AskedBlock}
 use Rattle.ss_review.specs.declared.questions.asked.AskedSession.{AskedSession}
@@ -7,7 +9,7 @@ use Rattle.ss_review.specs.declared.questions.question.Question.{Question}
 use Rattle.ss_review.specs.declared.questions.question.Question.TheVariants as question
 use Rattle.ss_review.specs.declared.keep.message.BlockMessage.{BlockMessage}
 use Rattle.ss_review.specs.Sessions.{sessions, of_session}
-use Rattle.ss_review.specs.Payloads.{certificates, stated_payload}
+use Rattle.ss_review.specs.Payloads.{certificate_of, certificates, stated_payload}
 use Rattle.ss_review.specs.Verified.{signature_of}
 
 -- whether the block is valid under the payload
@@ -27,6 +29,15 @@ questions bs = flat_map (λ s. asked (of_session bs s) (stated_payload (certific
 
 abbrev pub asked_block : BlockMessage → AskedBlock
 asked_block b = record { octets = b.signed; signature = signature_of b.said }
+
+-- all that the questions need of a block
+pub record Needed : Type 0 where
+  pub session : Session
+  pub certificate : Option block.Certificate
+  pub asked : AskedBlock
+
+abbrev pub needed : BlockMessage → Needed
+needed b = record { session = b.session; certificate = certificate_of b.said; asked = asked_block b }
 
 -- whether the block is valid under the payload of its session
 abbrev pub question_under : List ℕ → AskedBlock → Question

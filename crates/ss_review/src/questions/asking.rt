@@ -15,7 +15,7 @@ use ss_message::NoMemory;
 use std::alloc::Global;
 
 /// The same octets, in memory of their own.
-fn copy_of(alloc: Global, octets: &Bytes) -> Result<Bytes, NoMemory>
+pub(crate) fn copy_of(alloc: Global, octets: &Bytes) -> Result<Bytes, NoMemory>
     ensures { IfOk result (λ b. b ≡ octets.now) }
 {
     Ok(Bytes::from_vec(Vec::from_slice(alloc, octets.as_slice())?))
@@ -89,11 +89,7 @@ pub(crate) fn asked_sessions(
 }
 
 /// Whether the block is valid under the payload.
-fn question_under(
-    alloc: Global,
-    payload: &Bytes,
-    block: &AskedBlock,
-) -> Result<Question, NoMemory>
+fn question_under(alloc: Global, payload: &Bytes, block: &AskedBlock) -> Result<Question, NoMemory>
     ensures { IfOk result (λ q. q ≡ question_under payload.now block.now) }
 {
     Ok(Question::Yes(

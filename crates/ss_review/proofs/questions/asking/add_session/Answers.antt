@@ -1,6 +1,5 @@
-use Rattle.std.proofs.Common.{◌++◌, ◌∷◌, [], refl, sym, ap, ◌∙◌}
-use Rattle.std.specs.Prelude.{map, Ok}
-use Rattle.ss_review.specs.Questions.{asked, asked_block, question_under, session_questions, questions_shared}
+use Rattle.std.proofs.Common.{◌++◌, sym, ap, ◌∙◌}
+use Rattle.ss_review.specs.Questions.{asked, session_questions, questions_shared}
 use Rattle.ss_review.specs.Sectioned.{referred}
 use Rattle.ss_review.proofs.AskedShared.{shared_push, session_shared}
 use Rattle.ss_review.proofs.questions.asking.add_session.Goals as goal

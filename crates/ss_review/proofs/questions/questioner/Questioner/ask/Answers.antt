@@ -1,0 +1,14 @@
+use Rattle.std.proofs.Common.{ap, ◌∙◌}
+use Rattle.ss_review.specs.Contents.{blocks}
+use Rattle.ss_review.specs.Questions.{questions}
+use Rattle.ss_review.proofs.NeededBlocks.{same_questions}
+use Rattle.ss_review.proofs.questions.questioner.Questioner.ask.Goals as goal
+
+pub returns : goal.returns
+returns c = record {
+  asked = λ ns k.
+      c.in_ok-asked_sessions.ensures
+      ∙ ap questions c.as_slice.ensures.value
+      ∙ same_questions c.args.self.blocks.items (blocks ns) k.blocks;
+  fault = tt;
+}

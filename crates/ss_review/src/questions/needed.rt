@@ -1,0 +1,64 @@
+//! What of a block the questions about it need.
+ghost use Rattle.std.specs.Prelude.{◌≡◌, IfOk};
+ghost use Rattle.ss_review.specs.Payloads.{certificate_of};
+ghost use Rattle.ss_review.specs.Questions.{needed};
+ghost use Rattle.ss_review.specs.Verified.{signature_of};
+
+use crate::keep::message::{BlockMessage, Said};
+use crate::questions::asking::copy_of;
+use ss_block::{Hashes, SigBlock};
+use ss_message::NoMemory;
+use std::alloc::Global;
+
+/// The block without its hashes but the first. A signature block has one at least, and no signature scheme is asked
+/// about a hash.
+fn with_one_hash(alloc: Global, block: SigBlock) -> Result<SigBlock, NoMemory>
+    ensures { IfOk result (λ b. b.signature ≡ block.signature) }
+{
+    block.in_range();
+    let hashes = Hashes::from_vec(Vec::from_slice(alloc, &block.hashes().as_slice()[..1])?);
+    let signature = copy_of(alloc, block.signature())?;
+    let shortened = SigBlock::new(
+        block.alg(),
+        block.rsid(),
+        block.group(),
+        block.gbc(),
+        block.first(),
+        hashes,
+        signature,
+    );
+    match shortened {
+        Some(shortened) => Ok(shortened),
+        None => Ok(block),
+    }
+}
+
+/// What the block says, without what no signature scheme is asked about.
+fn needed_of(alloc: Global, said: Said) -> Result<Said, NoMemory>
+    ensures signature { IfOk result (λ s. signature_of s ≡ signature_of said) }
+    ensures certificate { IfOk result (λ s. certificate_of s ≡ certificate_of said) }
+{
+    match said {
+        Said::Hashes(block) => Ok(Said::Hashes(with_one_hash(alloc, block)?)),
+        Said::Fragment(block) => Ok(Said::Fragment(block)),
+    }
+}
+
+/// The block, without what no signature scheme is asked about.
+pub(crate) fn needed_block(alloc: Global, block: BlockMessage) -> Result<BlockMessage, NoMemory>
+    ensures { IfOk result (λ b. needed b ≡ needed block) }
+{
+    let BlockMessage {
+        place,
+        session,
+        said,
+        signed,
+    } = block;
+    let said = needed_of(alloc, said)?;
+    Ok(BlockMessage {
+        place,
+        session,
+        said,
+        signed,
+    })
+}
