@@ -16,6 +16,7 @@ pub mod Bearings
 pub mod StoredRuns
 pub mod StoredTold
 pub mod NeededHashes
+pub mod ListedHashes
 pub mod AssignedPlaces
 pub mod Sections
 pub mod BySession

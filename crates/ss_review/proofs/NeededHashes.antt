@@ -1,7 +1,7 @@
 -- The hashes of stored messages that are needed, in order, are those that a search needs.
-use Rattle.std.proofs.Common.{◌≡◌, inl, inr, Bool, true, false, cond, ◌||◌, List, [], ◌∷◌, ◌++◌, map, refl, sym, ap, ◌∙◌, subst, Equal}
+use Rattle.std.proofs.Common.{◌≡◌, inl, inr, Bool, true, false, cond, ◌||◌, List, [], ◌∷◌, ◌++◌, map, refl, sym, ap, ◌∙◌, subst}
 use Rattle.std.specs.Prelude.{Option, Some, Contains}
-use Rattle.std.specs.List.{list_any, Any}
+use Rattle.std.specs.List.{list_any}
 use Rattle.std.specs.Ordering.{nat_cmp, ordering_then}
 use Rattle.std.specs.List.Sorted.{IsStrictlySortedBy}
 use Rattle.std.proofs.lemmas.Map.Lookups.{CmpEqualImpliesEq, exact_unsigned}
@@ -61,7 +61,7 @@ from_needed alg ms os e h = from_needed_at alg ms e (list_any (is_by alg) os) h
 module _ (ms : List NormalMessage) (os : List (Option Hash)) (all list : List StoredHash)
     (all_are : all ≡ needed_hashes algs.Sha1 os ms ++ needed_hashes algs.Sha256 os ms)
     (rises : IsStrictlySortedBy stored_cmp list)
-    (keeps : (e : StoredHash) → Contains all e → Any (λ f. stored_cmp e f ≡ Equal) list)
+    (keeps : (e : StoredHash) → Contains all e → Contains list e)
     (adds_none : (e : StoredHash) → Contains list e → Contains all e) where
   in_all : (h : Hash) (m : NormalMessage) → Contains os (Some h) → Has ms m → Has all (stored_hash (alg_of h) m)
   in_all (hashes.Sha1 octets) m here i =
@@ -70,12 +70,6 @@ module _ (ms : List NormalMessage) (os : List (Option Hash)) (all list : List St
   in_all (hashes.Sha256 octets) m here i =
       subst (λ es. Has es (stored_hash algs.Sha256 m)) (sym all_are)
       (has-append_right (needed_hashes algs.Sha1 os ms) (needed_hashes algs.Sha256 os ms) (stored_hash algs.Sha256 m) (needed ms os (hashes.Sha256 octets) m here i))
-
-  stays : (e : StoredHash) → Has all e → Contains list e
-  stays e h =
-      let w = keeps e (contains_from_has all e h) in
-      let same : w.1 ≡ e = sym (stored_cmp_exact e w.1 w.4) in
-      subst (Contains list) same (w.0, w.2, w.3)
 
   sound : (e : StoredHash) → Contains list e → (alg : Alg) × (m : NormalMessage) × Contains ms m × (e ≡ stored_hash alg m)
   sound e here = elim (has-append_cases (needed_hashes algs.Sha1 os ms) (needed_hashes algs.Sha256 os ms) e (subst (λ es. Has es e) all_are (has_from_contains all e (adds_none e here)))) [
@@ -87,5 +81,5 @@ module _ (ms : List NormalMessage) (os : List (Option Hash)) (all list : List St
   lists = record {
     rises = rises;
     sound = sound;
-    complete = λ h m here i t. stays (stored_hash (alg_of h) m) (in_all h m here (has_from_contains ms m i));
+    complete = λ h m here i t. keeps (stored_hash (alg_of h) m) (contains_from_has all (stored_hash (alg_of h) m) (in_all h m here (has_from_contains ms m i)));
   }

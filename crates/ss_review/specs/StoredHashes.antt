@@ -1,5 +1,5 @@
 -- The hashes of stored messages in order, so that the bearers of announced hashes are found in one pass.
-use Rattle.std.specs.Prelude.{◌≡◌, ◌≢◌, ◌⊎◌, ℕ, ◌≤◌, Bool, true, false, List, [], map, take, Contains, slice_get, get_or, count_by, nat_lt, Option, Some, None, if◌then◌else◌}
+use Rattle.std.specs.Prelude.{◌≡◌, ◌≢◌, ◌⊎◌, ℕ, ◌≤◌, Bool, true, false, List, [], map, take, Contains, slice_get, slice_index_or, replicate, get_or, count_by, nat_lt, Option, Some, None, if◌then◌else◌}
 use Rattle.std.specs.List.{list_any}
 use Rattle.std.specs.List.Sorted.{IsStrictlySortedBy}
 use Rattle.std.specs.declared.cmp.Ordering.{Ordering}
@@ -8,10 +8,13 @@ use Rattle.std.specs.Ordering.{nat_cmp, ordering_then, is_eq}
 use Rattle.ss_block.specs.declared.hash.Alg.{Alg}
 use Rattle.ss_block.specs.declared.hash.Alg.TheVariants as algs
 use Rattle.ss_block.specs.declared.hash.Hash.{Hash}
+use Rattle.ss_block.specs.declared.hash.HashPair.{HashPair}
 use Rattle.ss_block.specs.declared.hash.Hash.TheVariants as hashes
 use Rattle.ss_block.specs.Order.{hash_cmp}
 use Rattle.ss_review.specs.declared.keep.message.NormalMessage.{NormalMessage}
+use Rattle.ss_review.specs.declared.assign.hash_entry.HashEntry.{HashEntry}
 use Rattle.ss_review.specs.declared.assign.stored_hash.StoredHash.{StoredHash}
+use Rattle.ss_review.specs.declared.keep.stored_message.StoredMessage.{StoredMessage}
 use Rattle.ss_review.specs.declared.assign.wanted_hash.WantedHash.{WantedHash}
 use Rattle.ss_review.specs.declared.assign.counters.Counters.{Counters}
 use Rattle.ss_review.specs.Assigned.{has_hash}
@@ -23,6 +26,21 @@ use Rattle.ss_review.specs.Assigning.{is_at}
 abbrev pub stored_hash : Alg → NormalMessage → StoredHash
 stored_hash algs.Sha1 m = record { hash = hashes.Sha1 m.pair.sha1; other = hashes.Sha256 m.pair.sha256; place = m.place }
 stored_hash algs.Sha256 m = record { hash = hashes.Sha256 m.pair.sha256; other = hashes.Sha1 m.pair.sha1; place = m.place }
+
+-- as the pair of a message that isn't there
+abbrev pub no_hashes : HashPair
+no_hashes = record { sha1 = replicate 20 0; sha256 = replicate 32 0 }
+
+-- the hash that an entry stands for, among these pairs of hashes
+abbrev pub hash_of : List HashPair → HashEntry → StoredHash
+hash_of pairs e = stored_hash e.alg (record { place = e.place; pair = slice_index_or pairs e.pair no_hashes })
+
+abbrev pub listed : List HashPair → List HashEntry → List StoredHash
+listed pairs entries = map (hash_of pairs) entries
+
+-- the entry of a message that is stored so, by an algorithm
+abbrev pub entry_of : Alg → StoredMessage → HashEntry
+entry_of a s = record { pair = s.pair; place = s.place; alg = a }
 
 abbrev pub alg_of : Hash → Alg
 alg_of (hashes.Sha1 octets) = algs.Sha1
@@ -39,6 +57,10 @@ is_by algs.Sha256 (Some (hashes.Sha256 octets)) = true
 -- the hashes of these messages by an algorithm, if one of those that are announced is by it
 abbrev pub needed_hashes : Alg → List (Option Hash) → List NormalMessage → List StoredHash
 needed_hashes alg announced ms = if list_any (is_by alg) announced then map (stored_hash alg) ms else []
+
+-- their entries, if one of those that are announced is by the algorithm
+abbrev pub needed_entries : Alg → List (Option Hash) → List StoredMessage → List HashEntry
+needed_entries alg announced stored = if list_any (is_by alg) announced then map (entry_of alg) stored else []
 
 -- by the hashes, then the other ones, then the places
 abbrev pub stored_cmp : StoredHash → StoredHash → Ordering

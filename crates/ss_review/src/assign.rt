@@ -1,8 +1,11 @@
 //! Which stored message is listed under each announced number.
 pub(crate) mod bearings;
 pub(crate) mod counters;
+pub(crate) mod hash_entry;
+pub(crate) mod hash_list;
 pub(crate) mod index;
 pub(crate) mod places;
 pub(crate) mod search;
 pub(crate) mod stored_hash;
+pub(crate) mod stored_hashes;
 pub(crate) mod wanted_hash;

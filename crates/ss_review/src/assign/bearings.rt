@@ -2,10 +2,10 @@
 ghost use Rattle.std.specs.Prelude.{◌≡◌, ℕ, Option, Some, None, length, slice_get, IfOk};
 ghost use Rattle.std.specs.List.Sorted.{IsStrictlySortedBy};
 ghost use Rattle.ss_block.specs.declared.hash.Hash.{Hash};
-ghost use Rattle.ss_review.specs.StoredHashes.{stored_cmp, IsFoundFor};
+ghost use Rattle.ss_review.specs.StoredHashes.{listed, stored_cmp, IsFoundFor};
 
+use crate::assign::hash_list::HashList;
 use crate::assign::search::Search;
-use crate::assign::stored_hash::StoredHash;
 use crate::assign::wanted_hash::wanted_hashes;
 use ss_block::Hash;
 use ss_message::NoMemory;
@@ -24,15 +24,15 @@ fn nothing(alloc: Global, count: usize) -> Result<Vec<Option<usize>>, NoMemory>
 /// For each hash that is there, where its bearer stands in the list.
 pub(crate) fn bearings(
     alloc: Global,
-    list: &[StoredHash],
+    list: &HashList,
     hashes: &[Option<Hash>],
 ) -> Result<Vec<Option<usize>>, NoMemory>
     ensures length { IfOk result (λ v. length v.items ≡ length hashes.now) }
-    ensures found { IsStrictlySortedBy stored_cmp list.now
+    ensures found { IsStrictlySortedBy stored_cmp (listed list.now.pairs.now list.now.entries.now)
         → IfOk result (λ v. (i : ℕ) (o : Option Hash) (at : Option ℕ)
         → slice_get hashes.now i ≡ Some o
         → slice_get v.items i ≡ Some at
-        → IsFoundFor list.now o at) }
+        → IsFoundFor (listed list.now.pairs.now list.now.entries.now) o at) }
 {
     let wanted = wanted_hashes(alloc, hashes)?;
     let mut found = nothing(alloc, hashes.len())?;

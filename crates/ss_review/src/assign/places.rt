@@ -6,11 +6,14 @@ ghost use Rattle.ss_block.specs.declared.hash.Hash.{Hash};
 ghost use Rattle.ss_review.specs.declared.keep.message.NormalMessage.{NormalMessage};
 ghost use Rattle.ss_review.specs.Stored.{Tells};
 ghost use Rattle.ss_review.specs.Assigning.{pair_wanted, pairs_wanted, bearer_wanted, bearers_wanted, place_after, assigned_all};
-ghost use Rattle.ss_review.specs.StoredHashes.{Lists, IsFoundFor, same_hashes, place_beside, Tallies};
+ghost use Rattle.ss_review.specs.StoredHashes.{listed, Lists, IsFoundFor, same_hashes, place_beside, Tallies};
 
 use crate::assign::bearings::bearings;
 use crate::assign::counters::Counters;
-use crate::assign::stored_hash::{StoredHash, stored_hashes};
+use crate::assign::hash_entry::hash_of;
+use crate::assign::hash_list::HashList;
+use crate::assign::stored_hash::StoredHash;
+use crate::assign::stored_hashes::stored_hashes;
 use crate::keep::stored_message::StoredMessage;
 use ss_block::laws::orders::hashes_rise_by_algorithm;
 use ss_block::{Hash, HashPair};
@@ -30,31 +33,30 @@ fn same_hashes(stored: &StoredHash, other: &StoredHash) -> bool
 }
 
 /// The place of a message with the hashes of the one that stands there in the list: with this number, from 0.
-fn place_from(list: &[StoredHash], at: usize, first: &StoredHash, number: u64) -> Option<u32>
-    requires { at ≤ length list.now }
-    ensures { result ≡ place_beside first.now (slice_get list.now (at + number)) }
+fn place_from(list: &HashList, at: usize, first: &StoredHash, number: u64) -> Option<u32>
+    requires { at ≤ length list.now.entries.now }
+    ensures { result ≡ place_beside first.now (slice_get (listed list.now.pairs.now list.now.entries.now) (at + number)) }
 {
-    let (_, from) = list.split_at(at);
-    match from.get(number as usize) {
-        Some(stored) if same_hashes(stored, first) => Some(stored.place),
+    match list.behind(at).get(number as usize) {
+        Some(stored) if same_hashes(&stored, first) => Some(stored.place),
         _ => None,
     }
 }
 
 /// The place of the next key, whose bearer stands there in the list, or none. It is counted as wanted once more.
-fn next_place(list: &[StoredHash], counters: &mut Counters, at: Option<usize>) -> Option<u32>
+fn next_place(list: &HashList, counters: &mut Counters, at: Option<usize>) -> Option<u32>
     ensures place { (ms : List NormalMessage) (announced before : List (Option Hash)) (hash : Option Hash)
-        → Lists list.now ms announced
+        → Lists (listed list.now.pairs.now list.now.entries.now) ms announced
         → Contains announced hash
         → IsStrictlySortedBy nat_cmp (map (λ m. m.place) ms)
-        → IsFoundFor list.now hash at
+        → IsFoundFor (listed list.now.pairs.now list.now.entries.now) hash at
         → Tallies counters.old (bearers_wanted ms before)
         → result ≡ place_after ms (pairs_wanted ms before) (pair_wanted ms hash) }
     ensures tallies { (ms : List NormalMessage) (announced before : List (Option Hash)) (hash : Option Hash)
-        → Lists list.now ms announced
+        → Lists (listed list.now.pairs.now list.now.entries.now) ms announced
         → Contains announced hash
         → IsStrictlySortedBy nat_cmp (map (λ m. m.place) ms)
-        → IsFoundFor list.now hash at
+        → IsFoundFor (listed list.now.pairs.now list.now.entries.now) hash at
         → Tallies counters.old (bearers_wanted ms before)
         → ((m : NormalMessage) → Contains ms m → m.place < length counters.old.counts.items)
         → length before + 1 < 2 ^ 64
@@ -64,10 +66,10 @@ fn next_place(list: &[StoredHash], counters: &mut Counters, at: Option<usize>) -
     let Some(at) = at else {
         return None;
     };
-    if at >= list.len() {
+    if at >= list.entries.len() {
         return None;
     }
-    let first = list[at];
+    let first = hash_of(list.pairs, &list.entries[at]);
     let number = counters.count(first.place);
     place_from(list, at, &first, number)
 }
@@ -85,12 +87,16 @@ pub(crate) fn assigned_places(
         → IsStrictlySortedBy nat_cmp (map (λ m. m.place) ms)
         → IfOk result (λ places. places.items ≡ assigned_all ms hashes.now) }
 {
-    let list = stored_hashes(alloc, pairs, messages, hashes)?;
-    let found = bearings(alloc, list.as_slice(), hashes)?;
+    let entries = stored_hashes(alloc, pairs, messages, hashes)?;
+    let list = HashList {
+        pairs,
+        entries: entries.as_slice(),
+    };
+    let found = bearings(alloc, &list, hashes)?;
     let mut counters = Counters::new(alloc, messages)?;
     let mut places = Vec::with_capacity(alloc, hashes.len())?;
     for at in found.as_slice() {
-        places.push(next_place(list.as_slice(), &mut counters, *at))?;
+        places.push(next_place(&list, &mut counters, *at))?;
     }
     Ok(places)
 }

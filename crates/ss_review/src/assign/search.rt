@@ -6,47 +6,52 @@ ghost use Rattle.std.specs.Ordering.{is_lt};
 ghost use Rattle.std.specs.declared.cmp.Ordering.TheVariants.{Less};
 ghost use Rattle.ss_block.specs.Order.{hash_cmp};
 ghost use Rattle.ss_review.specs.declared.assign.stored_hash.StoredHash.{StoredHash};
-ghost use Rattle.ss_review.specs.StoredHashes.{stored_cmp, is_earlier, has_hash_at, IsBearerAt, FoundLast, IsNotBelow};
+ghost use Rattle.ss_review.specs.StoredHashes.{hash_of, listed, stored_cmp, is_earlier, has_hash_at, IsBearerAt, FoundLast, IsNotBelow};
 
-use crate::assign::stored_hash::StoredHash;
+use crate::assign::hash_entry::hash_of;
+use crate::assign::hash_list::HashList;
 use ss_block::Hash;
 use ss_block::laws::orders::hashes_rise_by_algorithm;
 
 /// A search of a list that rises, for hashes that rise too. So the list is walked once, however many are asked for.
 #[derive(Drop)]
 pub(crate) struct Search<'a> {
-    list: &'a [StoredHash],
+    list: HashList<'a>,
     // All before it is below the hash that was asked for last.
     start: usize,
     last: Option<Hash>,
     found: Option<usize>,
-    ghost within: { start ≤ length list.now },
+    ghost within: { start ≤ length list.entries.now },
 }
 
 /// How many of the list, from its first on, are below the hash.
-fn count_below(list: &[StoredHash], hash: &Hash) -> usize
-    ensures count { result ≡ length (take_while (λ e. is_lt (hash_cmp e.hash hash.now)) list.now) }
-    ensures bound { result ≤ length list.now }
+fn count_below(list: &HashList, hash: &Hash) -> usize
+    ensures count { result ≡ length (take_while (λ e. is_lt (hash_cmp (hash_of list.now.pairs.now e).hash hash.now)) list.now.entries.now) }
+    ensures bound { result ≤ length list.now.entries.now }
 {
     hashes_rise_by_algorithm();
-    list.iter()
-        .take_while(|stored| stored.hash.cmp(hash).is_lt())
+    list.entries
+        .iter()
+        .take_while(|entry| hash_of(list.pairs, entry).hash.cmp(hash).is_lt())
         .count()
 }
 
 /// Whether what stands at one index is stored before what stands at another, if that is given.
-fn is_earlier(list: &[StoredHash], index: usize, other: Option<usize>) -> bool
-    ensures { result ≡ is_earlier (slice_get list.now index) (option_and_then (slice_get list.now) other) }
+fn is_earlier(list: &HashList, index: usize, other: Option<usize>) -> bool
+    ensures { result ≡ is_earlier (slice_get (listed list.now.pairs.now list.now.entries.now) index) (option_and_then (slice_get (listed list.now.pairs.now list.now.entries.now)) other) }
 {
-    match (list.get(index), other.and_then(|other| list.get(other))) {
+    let Some(other) = other else {
+        return true;
+    };
+    match (list.get(index), list.get(other)) {
         (Some(stored), Some(other)) => stored.place < other.place,
         _ => true,
     }
 }
 
 /// Whether what stands at the index has the hash.
-fn has_hash_at(list: &[StoredHash], index: usize, hash: &Hash) -> bool
-    ensures { result ≡ has_hash_at list.now index hash.now }
+fn has_hash_at(list: &HashList, index: usize, hash: &Hash) -> bool
+    ensures { result ≡ has_hash_at (listed list.now.pairs.now list.now.entries.now) index hash.now }
 {
     hashes_rise_by_algorithm();
     match list.get(index) {
@@ -56,11 +61,11 @@ fn has_hash_at(list: &[StoredHash], index: usize, hash: &Hash) -> bool
 }
 
 /// Of those with the hash, which stand from `start` on, the one that is stored first.
-fn first_stored(list: &[StoredHash], start: usize, hash: &Hash) -> Option<usize>
-    ensures { IsStrictlySortedBy stored_cmp list.now
-        → ((e : StoredHash) → Contains (take start list.now) e → hash_cmp e.hash hash.now ≡ Less)
-        → ((e : StoredHash) → slice_get list.now start ≡ Some e → hash_cmp e.hash hash.now ≢ Less)
-        → IsBearerAt list.now hash.now result }
+fn first_stored(list: &HashList, start: usize, hash: &Hash) -> Option<usize>
+    ensures { IsStrictlySortedBy stored_cmp (listed list.now.pairs.now list.now.entries.now)
+        → ((e : StoredHash) → Contains (take start (listed list.now.pairs.now list.now.entries.now)) e → hash_cmp e.hash hash.now ≡ Less)
+        → ((e : StoredHash) → slice_get (listed list.now.pairs.now list.now.entries.now) start ≡ Some e → hash_cmp e.hash hash.now ≢ Less)
+        → IsBearerAt (listed list.now.pairs.now list.now.entries.now) hash.now result }
 {
     let mut first = None;
     let mut index = start;
@@ -75,13 +80,13 @@ fn first_stored(list: &[StoredHash], start: usize, hash: &Hash) -> Option<usize>
 
 impl<'a> Search<'a> {
     /// A search of a list, of which nothing was asked yet.
-    pub(crate) fn new(list: &'a [StoredHash]) -> Search<'a>
-        ensures list { result.list.now ≡ list.now }
+    pub(crate) fn new(list: &HashList<'a>) -> Search<'a>
+        ensures list { result.list ≡ list.now }
         ensures none { result.last ≡ None }
-        ensures start { FoundLast result.list.now result.start result.found result.last }
+        ensures start { FoundLast (listed result.list.pairs.now result.list.entries.now) result.start result.found result.last }
     {
         Search {
-            list,
+            list: *list,
             start: 0,
             last: None,
             found: None,
@@ -102,23 +107,22 @@ impl<'a> Search<'a> {
 
     /// Where the first message that has the hash stands in the list. No hash below one that was asked for is found.
     pub(crate) fn find(&mut self, hash: &Hash) -> Option<usize>
-        ensures found { IsStrictlySortedBy stored_cmp self.old.list.now
-            → FoundLast self.old.list.now self.old.start self.old.found self.old.last
+        ensures found { IsStrictlySortedBy stored_cmp (listed self.old.list.pairs.now self.old.list.entries.now)
+            → FoundLast (listed self.old.list.pairs.now self.old.list.entries.now) self.old.start self.old.found self.old.last
             → IsNotBelow hash.now self.old.last
-            → IsBearerAt self.old.list.now hash.now result }
-        ensures next { IsStrictlySortedBy stored_cmp self.old.list.now
-            → FoundLast self.old.list.now self.old.start self.old.found self.old.last
+            → IsBearerAt (listed self.old.list.pairs.now self.old.list.entries.now) hash.now result }
+        ensures next { IsStrictlySortedBy stored_cmp (listed self.old.list.pairs.now self.old.list.entries.now)
+            → FoundLast (listed self.old.list.pairs.now self.old.list.entries.now) self.old.start self.old.found self.old.last
             → IsNotBelow hash.now self.old.last
-            → FoundLast self.new.list.now self.new.start self.new.found (Some hash.now) }
+            → FoundLast (listed self.new.list.pairs.now self.new.list.entries.now) self.new.start self.new.found (Some hash.now) }
         ensures last { self.new.last ≡ Some hash.now }
-        ensures list { self.new.list.now ≡ self.old.list.now }
+        ensures list { self.new.list ≡ self.old.list }
     {
         if self.was_asked(hash) {
             return self.found;
         }
-        let (_, rest) = self.list.split_at(self.start);
-        self.start += count_below(rest, hash);
-        self.found = first_stored(self.list, self.start, hash);
+        self.start += count_below(&self.list.behind(self.start), hash);
+        self.found = first_stored(&self.list, self.start, hash);
         self.last = Some(*hash);
         self.found
     }

@@ -6,7 +6,7 @@ use Rattle.ss_review.specs.Assigning as assigning
 use Rattle.ss_review.specs.Assigning.{pairs_wanted, bearer_wanted, bearers_wanted, assigned_after, assigned_all}
 use Rattle.std.specs.Ordering.{nat_cmp}
 use Rattle.std.specs.List.Sorted.{IsStrictlySortedBy}
-use Rattle.ss_review.specs.StoredHashes.{stored_cmp, Lists, IsFoundFor}
+use Rattle.ss_review.specs.StoredHashes.{listed, Lists}
 use Rattle.ss_review.proofs.Counting.{assigned_at}
 use Rattle.ss_review.proofs.Searching.{has_at}
 use Rattle.ss_review.proofs.StoredTold.{places_told, room_told}
@@ -30,12 +30,10 @@ loop-at-preserved c = λ ms t up.
     let below : i < length hs = omega (arith, c.loop-at-test.true, ap length same, c.in_ok-found.ensures.length) in
     let hash = get_or hs i None in
     let here = contains_from_has hs hash (has_at hs i None below) in
-    let rises = subst (IsStrictlySortedBy stored_cmp) (sym c.as_slice.ensures.value) (c.in_ok-list.ensures ms t).rises in
+    let in_order = subst (λ es. Lists (listed c.args.pairs.now es) ms hs) (sym c.as_slice.ensures.value) (c.in_ok-entries.ensures ms t) in
     let at = ap (λ xs. slice_get xs i) (sym same) ∙ slice_get-get_or items i None c.loop-at-test.true in
-    let found = c.in_ok-found.ensures.found rises i hash (get_or items i None) (slice_get-get_or hs i None below) at in
-    let found_here = subst (λ list. IsFoundFor list hash (get_or items i None)) (c.as_slice.ensures.value ∙ sym c.as_slice-in-loop-at.ensures.value) found in
-    let listed = subst (λ list. Lists list ms hs) (sym c.as_slice-in-loop-at.ensures.value) (c.in_ok-list.ensures ms t) in
-    let place = c.next_place.ensures.place ms hs (take i hs) hash listed here up found_here so_far.1 in
+    let found = c.in_ok-found.ensures.found in_order.rises i hash (get_or items i None) (slice_get-get_or hs i None below) at in
+    let place = c.next_place.ensures.place ms hs (take i hs) hash in_order here up found so_far.1 in
     let few : length (take i hs) + 1 < 2 ^ 64
     = omega (arith, length-take-le i hs (omega (arith, below)), below, c.as_slice-at-items.ensures.len, ap length same, c.in_ok-found.ensures.length) in
     let rest = assigned_after ms (pairs_wanted ms (take (i + 1) hs)) (pairs_wanted ms (drop (i + 1) hs)) in (
@@ -44,7 +42,7 @@ loop-at-preserved c = λ ms t up.
           ∙ ap (λ p. c.loop-at.places.items ++ p ∷ rest) place
           ∙ ap (λ ps. c.loop-at.places.items ++ ps) (sym (assigned_at ms hs i None below))
           ∙ so_far.0,
-      λ p. c.next_place.ensures.tallies ms hs (take i hs) hash listed here up found_here so_far.1 so_far.2 few p
+      λ p. c.next_place.ensures.tallies ms hs (take i hs) hash in_order here up found so_far.1 so_far.2 few p
           ∙ ap (count_by (assigning.is_at p)) (sym (map_more (bearer_wanted ms) hs i None below)),
       λ m h. omega (arith, so_far.2 m h, c.next_place.ensures.length),
     )

@@ -2,39 +2,39 @@ use Rattle.std.proofs.Common.{◌+◌, ◌++◌, ◌∷◌, [], sym, ap, ◌∙�
 use Rattle.std.specs.Prelude.{count_by, slice_get}
 use Rattle.std.proofs.lemmas.List.{length-map}
 use Rattle.std.proofs.lemmas.List.Sums.{count_by-le-length}
-use Rattle.std.proofs.lemmas.Option.{get_or_from_slice_get}
 use Rattle.ss_review.specs.Assigned.{places_with}
 use Rattle.ss_review.specs.Assigning.{is_at, bearers_wanted, bearer_wanted}
-use Rattle.ss_review.specs.StoredHashes.{IsFoundFor, place_beside, counted_at}
+use Rattle.ss_review.specs.StoredHashes.{listed, IsFoundFor, place_beside, counted_at}
 use Rattle.ss_review.proofs.AssignedPlaces.{nothing_found, something_found, tallied, untallied}
+use Rattle.ss_review.proofs.ListedHashes.{stands_at}
 use Rattle.ss_review.proofs.BearersWanted.{place_by_bearer, no_place}
 use Rattle.ss_review.proofs.assign.places.next_place.Goals as goal
 
 pub returns-in_default-clause-place : goal.returns-in_default-clause-place
 returns-in_default-clause-place c = λ ms announced before hash l here up f t.
-    no_place ms before hash (nothing_found c.args.list.now ms announced l up hash here (subst (IsFoundFor c.args.list.now hash) c.in_default.is f))
+    no_place ms before hash (nothing_found (listed c.args.list.now.pairs.now c.args.list.now.entries.now) ms announced l up hash here (subst (IsFoundFor (listed c.args.list.now.pairs.now c.args.list.now.entries.now) hash) c.in_default.is f))
 
 pub returns-in_default-clause-tallies : goal.returns-in_default-clause-tallies
 returns-in_default-clause-tallies c = λ ms announced before hash l here up f t room few q.
     untallied c.args.counters.now (bearers_wanted ms before) t q
-    ∙ ap (λ w. count_by (is_at q) (bearers_wanted ms before ++ w ∷ [])) (sym (nothing_found c.args.list.now ms announced l up hash here (subst (IsFoundFor c.args.list.now hash) c.in_default.is f)))
+    ∙ ap (λ w. count_by (is_at q) (bearers_wanted ms before ++ w ∷ [])) (sym (nothing_found (listed c.args.list.now.pairs.now c.args.list.now.entries.now) ms announced l up hash here (subst (IsFoundFor (listed c.args.list.now.pairs.now c.args.list.now.entries.now) hash) c.in_default.is f)))
 
 -- what the call found, from what stands there in the list
 pub returns-clause-place : goal.returns-clause-place
 returns-clause-place c = λ ms announced before hash l here up f t.
-    let w = something_found c.args.list.now ms announced l up hash c.in-Some.at here (subst (IsFoundFor c.args.list.now hash) c.in-Some.is f) in
-    let first = get_or_from_slice_get c.args.list.now c.in-Some.at w.stored _ w.at in
+    let w = something_found (listed c.args.list.now.pairs.now c.args.list.now.entries.now) ms announced l up hash c.in-Some.at here (subst (IsFoundFor (listed c.args.list.now.pairs.now c.args.list.now.entries.now) hash) c.in-Some.is f) in
+    let first = c.hash_of-first.ensures ∙ stands_at c.args.list.now.pairs.now c.args.list.now.entries.now c.in-Some.at _ w.stored w.at in
     let number = c.count-number.ensures.before ∙ ap (counted_at c.args.counters.now) (ap (λ s. s.place) first ∙ w.place) ∙ t w.message.place in
     c.place_from.ensures
-    ∙ ap (λ s. place_beside s (slice_get c.args.list.now (c.in-Some.at + c.count-number.result))) first
+    ∙ ap (λ s. place_beside s (slice_get (listed c.args.list.now.pairs.now c.args.list.now.entries.now) (c.in-Some.at + c.count-number.result))) first
     ∙ w.places c.count-number.result
     ∙ ap (slice_get (places_with ms w.message.pair)) number
     ∙ place_by_bearer ms up before hash w.message w.wanted
 
 pub returns-clause-tallies : goal.returns-clause-tallies
 returns-clause-tallies c = λ ms announced before hash l here up f t room few q.
-    let w = something_found c.args.list.now ms announced l up hash c.in-Some.at here (subst (IsFoundFor c.args.list.now hash) c.in-Some.is f) in
-    let first = get_or_from_slice_get c.args.list.now c.in-Some.at w.stored _ w.at in
+    let w = something_found (listed c.args.list.now.pairs.now c.args.list.now.entries.now) ms announced l up hash c.in-Some.at here (subst (IsFoundFor (listed c.args.list.now.pairs.now c.args.list.now.entries.now) hash) c.in-Some.is f) in
+    let first = c.hash_of-first.ensures ∙ stands_at c.args.list.now.pairs.now c.args.list.now.entries.now c.in-Some.at _ w.stored w.at in
     let place = ap (λ s. s.place) first ∙ w.place in
     let number = c.count-number.ensures.before ∙ ap (counted_at c.args.counters.now) place ∙ t w.message.place in
     let bound = count_by-le-length (is_at w.message.place) (bearers_wanted ms before) in

@@ -1,14 +1,30 @@
+use Rattle.std.proofs.Common.{◌∙◌, arith}
+use Rattle.std.specs.Ordering.{is_lt}
+use Rattle.ss_block.specs.Order.{hash_cmp}
+use Rattle.ss_review.specs.StoredHashes.{hash_of, listed}
+use Rattle.ss_review.proofs.ListedHashes.{count_as}
 use Rattle.ss_review.proofs.Searches.{goes_on}
 use Rattle.ss_review.proofs.assign.search.Search.find.Goals as goal
+
+pub overflow_add-self : goal.overflow_add-self
+overflow_add-self c = omega (arith, c.count_below.ensures.bound, c.behind.ensures.len, c.behind.ensures.fits)
 
 pub returns-clause-found : goal.returns-clause-found
 returns-clause-found c = λ up found above.
     let old = c.args.self.now in
-    let from = goes_on c.args.hash.now old.list.now c.split_at.result.1.now old.start c.count_below.result old.found old.last c.split_at.ensures.back c.count_below.ensures.count found above in
+    let h = c.args.hash.now in
+    let list = listed old.list.pairs.now old.list.entries.now in
+    let rest = c.behind.result in
+    let counted = c.count_below.ensures.count ∙ count_as (hash_of rest.pairs.now) (λ e. is_lt (hash_cmp e.hash h)) rest.entries.now in
+    let from = goes_on h list (listed rest.pairs.now rest.entries.now) old.start c.count_below.result old.found old.last c.behind.ensures.listed counted found above in
     c.first_stored-self.ensures up from.0 from.1
 
 pub returns-clause-next : goal.returns-clause-next
 returns-clause-next c = λ up found above.
     let old = c.args.self.now in
-    let from = goes_on c.args.hash.now old.list.now c.split_at.result.1.now old.start c.count_below.result old.found old.last c.split_at.ensures.back c.count_below.ensures.count found above in
+    let h = c.args.hash.now in
+    let list = listed old.list.pairs.now old.list.entries.now in
+    let rest = c.behind.result in
+    let counted = c.count_below.ensures.count ∙ count_as (hash_of rest.pairs.now) (λ e. is_lt (hash_cmp e.hash h)) rest.entries.now in
+    let from = goes_on h list (listed rest.pairs.now rest.entries.now) old.start c.count_below.result old.found old.last c.behind.ensures.listed counted found above in
     (from.0, c.first_stored-self.ensures up from.0 from.1)

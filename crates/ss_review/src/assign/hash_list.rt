@@ -1,0 +1,38 @@
+//! The hashes of stored messages, as they are read.
+ghost use Rattle.std.specs.Prelude.{◌≡◌, ◌+◌, ◌^◌, ◌<◌, ◌≤◌, length, drop, slice_get};
+ghost use Rattle.ss_review.specs.StoredHashes.{listed};
+
+use crate::assign::hash_entry::{HashEntry, hash_of};
+use crate::assign::stored_hash::StoredHash;
+use ss_block::HashPair;
+
+/// Hashes of stored messages: entries, and the pairs of hashes that they name.
+#[derive(Clone, Copy)]
+pub(crate) struct HashList<'a> {
+    pub(crate) pairs: &'a [HashPair],
+    pub(crate) entries: &'a [HashEntry],
+}
+
+impl<'a> HashList<'a> {
+    /// The hash that stands there, if one does.
+    pub(crate) fn get(&self, index: usize) -> Option<StoredHash>
+        ensures { result ≡ slice_get (listed self.now.pairs.now self.now.entries.now) index }
+    {
+        let entry = self.entries.get(index)?;
+        Some(hash_of(self.pairs, entry))
+    }
+
+    /// The hashes from there on.
+    pub(crate) fn behind(&self, start: usize) -> HashList<'a>
+        requires { start ≤ length self.now.entries.now }
+        ensures listed { listed result.pairs.now result.entries.now ≡ drop start (listed self.now.pairs.now self.now.entries.now) }
+        ensures fits { length self.now.entries.now < 2 ^ 64 }
+        ensures len { length result.entries.now + start ≡ length self.now.entries.now }
+    {
+        let (_, entries) = self.entries.split_at(start);
+        HashList {
+            pairs: self.pairs,
+            entries,
+        }
+    }
+}
