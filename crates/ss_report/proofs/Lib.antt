@@ -4,3 +4,4 @@ pub mod FedSoFar
 pub mod Taken
 pub mod Writings
 pub mod Answered
+pub mod EncodedSoFar

@@ -3,6 +3,7 @@
 #![tactic(auto)]
 
 mod cleanness;
+mod encoded;
 mod ending;
 mod extract;
 mod fault;

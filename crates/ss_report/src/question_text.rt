@@ -1,52 +1,64 @@
 //! The text of the questions to a signature scheme.
-ghost use Rattle.std.specs.Prelude.{◌≡◌, ◌++◌, codes, IfOk, OnOk};
-ghost use Rattle.ss_payload.specs.StrictBase64.{base64};
+ghost use Rattle.std.specs.Prelude.{◌≡◌};
+ghost use Rattle.ss_frame.specs.Watched.{sink_of};
+ghost use Rattle.ss_report.specs.Writing.{Writes};
 ghost use Rattle.ss_report.specs.QuestionText.{question_line, question_lines};
 
-use ss_frame::Bytes;
-use ss_message::NoMemory;
-use ss_payload::strict_base64::put_base64;
+use crate::encoded::write_base64;
+use crate::output::write_text;
+use ss_frame::Watched;
 use ss_review::Question;
-use std::alloc::{AllocError, Global};
+use std::io::Write;
 
-/// The text of the questions, a line for each in their order, ended by LF.
-///
-/// Errs only where memory runs out. It is taken for the text.
+/// Writes the text of the questions, a line for each in their order, ended by LF. Nothing is allocated.
 #[tactic(auto, unfolding(crate::specs::QuestionText::question_lines))]
-pub(crate) fn questions_text(alloc: Global, questions: &[Question]) -> Result<Vec<u8>, NoMemory>
-    ensures { IfOk result (λ text. text.items ≡ question_lines questions.now) }
+pub(crate) fn write_questions<W: Write>(writer: &mut Watched<W>, questions: &[Question])
+    ensures { Writes (sink_of W.contents writer.old) (sink_of W.contents writer.new) (question_lines questions.now) }
 {
-    let mut text = Vec::new(alloc);
     for question in questions {
-        put_question(alloc, &mut text, question)?;
+        write_question(writer, question);
     }
-    Ok(text)
 }
 
-/// trust PAYLOAD, or yes PAYLOAD OCTETS SIGNATURE
-#[tactic(auto, unfolding(crate::specs::QuestionText::question_line))]
-fn put_question(alloc: Global, text: &mut Vec<u8>, question: &Question) -> Result<(), AllocError>
-    ensures { OnOk result (text.new.items ≡ text.old.items ++ question_line question.now) }
+fn write_question<W: Write>(writer: &mut Watched<W>, question: &Question)
+    ensures { Writes (sink_of W.contents writer.old) (sink_of W.contents writer.new) (question_line question.now) }
 {
     match question {
-        Question::Trust(payload) => {
-            text.extend_from_slice(b"trust")?;
-            put_octets(alloc, text, payload)?;
-        }
-        Question::Yes(payload, octets, signature) => {
-            text.extend_from_slice(b"yes")?;
-            put_octets(alloc, text, payload)?;
-            put_octets(alloc, text, octets)?;
-            put_octets(alloc, text, signature)?;
-        }
+        Question::Trust(payload) => write_trust(writer, payload.as_slice()),
+        Question::Yes(payload, octets, signature) => write_yes(
+            writer,
+            payload.as_slice(),
+            octets.as_slice(),
+            signature.as_slice(),
+        ),
     }
-    text.extend_from_slice(b"\n")
 }
 
-/// Octets in strict base64, and the SP before them.
-fn put_octets(alloc: Global, text: &mut Vec<u8>, octets: &Bytes) -> Result<(), AllocError>
-    ensures { OnOk result (text.new.items ≡ text.old.items ++ codes " " ++ base64 octets.now) }
+/// Writes trust PAYLOAD.
+#[tactic(auto, unfolding(crate::specs::QuestionText::question_line))]
+pub(crate) fn write_trust<W: Write>(writer: &mut Watched<W>, payload: &[u8])
+    ensures { Writes (sink_of W.contents writer.old) (sink_of W.contents writer.new) (question_line (Question.Trust payload.now)) }
 {
-    text.extend_from_slice(b" ")?;
-    put_base64(alloc, text, octets.as_slice())
+    write_text(writer, b"trust ");
+    write_base64(writer, payload);
+    write_text(writer, b"\n");
+}
+
+/// Writes yes PAYLOAD OCTETS SIGNATURE.
+#[tactic(auto, unfolding(crate::specs::QuestionText::question_line))]
+pub(crate) fn write_yes<W: Write>(
+    writer: &mut Watched<W>,
+    payload: &[u8],
+    octets: &[u8],
+    signature: &[u8],
+)
+    ensures { Writes (sink_of W.contents writer.old) (sink_of W.contents writer.new) (question_line (Question.Yes payload.now octets.now signature.now)) }
+{
+    write_text(writer, b"yes ");
+    write_base64(writer, payload);
+    write_text(writer, b" ");
+    write_base64(writer, octets);
+    write_text(writer, b" ");
+    write_base64(writer, signature);
+    write_text(writer, b"\n");
 }
