@@ -5,3 +5,4 @@ pub mod Taken
 pub mod Writings
 pub mod Answered
 pub mod EncodedSoFar
+pub mod QuestionLines

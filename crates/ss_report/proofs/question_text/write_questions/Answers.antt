@@ -1,8 +1,13 @@
-use Rattle.std.proofs.Common.{ap}
-use Rattle.ss_report.specs.QuestionText.{question_line}
-use Rattle.ss_report.proofs.Writings.{writes_more}
+use Rattle.std.proofs.Common.{ap, ◌∙◌, flat_map}
+use Rattle.std.proofs.lemmas.List.{take_all}
+use Rattle.ss_report.proofs.QuestionLines.{asked_lines, lines_shared}
+use Rattle.ss_report.proofs.Writings.{writes_more, writes_same}
 use Rattle.ss_report.proofs.question_text.write_questions.Goals as goal
 
-pub loop-question-preserved : goal.loop-question-preserved
-loop-question-preserved g c =
-    writes_more question_line c.args.questions.now c.loop-question.question-index _ _ _ _ _ c.loop-question-test.true c.loop-question.invariant c.write_question.ensures (ap question_line c.question-item.is)
+pub loop-session-preserved : goal.loop-session-preserved
+loop-session-preserved g c =
+    writes_more asked_lines c.args.sessions.now c.loop-session.session-index _ _ _ _ _ c.loop-session-test.true c.loop-session.invariant c.write_session_questions.ensures (ap asked_lines c.session-item.is)
+
+pub returns : goal.returns
+returns g c =
+    writes_same _ _ _ _ c.loop-session.invariant (ap (flat_map asked_lines) (take_all c.loop-session.session-index c.args.sessions.now c.loop-session-test.false) ∙ lines_shared c.args.sessions.now)
