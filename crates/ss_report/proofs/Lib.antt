@@ -6,3 +6,4 @@ pub mod Writings
 pub mod Answered
 pub mod EncodedSoFar
 pub mod QuestionLines
+pub mod ListedText

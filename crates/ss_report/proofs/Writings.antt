@@ -60,11 +60,17 @@ writes_then a b c x y first second = then a b c x y b.failed c.failed refl refl 
 pub writes_same : (a b : Sink) (x y : List ℕ) → Writes a b x → x ≡ y → Writes a b y
 writes_same a b x y w e = subst (λ t. Writes a b t) e w
 
+-- where two lists are told one behind the other, the text of the items so far goes on with that of the next one
+pub writes_next : {X : Type 0} (f : List X → List ℕ) → ((xs ys : List X) → f (xs ++ ys) ≡ f xs ++ f ys) → (xs : List X) (i : ℕ) (d : X) (a b c : Sink) (told : List ℕ)
+    → i < length xs → Writes a b (f (take i xs)) → Writes b c told → told ≡ f (get_or xs i d ∷ []) → Writes a c (f (take (i + 1) xs))
+writes_next f splits xs i d a b c told within so_far next is =
+    let x = get_or xs i d in
+    let more : f (take i xs) ++ told ≡ f (take (i + 1) xs) =
+    ap (λ t. f (take i xs) ++ t) is ∙ sym (ap f (take_more xs i d within) ∙ splits (take i xs) (x ∷ [])) in
+    writes_same a c _ _ (writes_then a b c _ _ so_far next) more
+
 -- the texts of the items so far, and then that of the next one
 pub writes_more : {X : Type 0} (f : X → List ℕ) (xs : List X) (i : ℕ) (d : X) (a b c : Sink) (told : List ℕ) → i < length xs
     → Writes a b (flat_map f (take i xs)) → Writes b c told → told ≡ f (get_or xs i d) → Writes a c (flat_map f (take (i + 1) xs))
 writes_more f xs i d a b c told within so_far next is =
-    let x = get_or xs i d in
-    let more : flat_map f (take i xs) ++ told ≡ flat_map f (take (i + 1) xs) =
-    ap (λ t. flat_map f (take i xs) ++ t) (is ∙ sym (append-nil (f x))) ∙ sym (ap (flat_map f) (take_more xs i d within) ∙ flat_map-append f (take i xs) (x ∷ [])) in
-    writes_same a c _ _ (writes_then a b c _ _ so_far next) more
+    writes_next (flat_map f) (flat_map-append f) xs i d a b c told within so_far next (is ∙ sym (append-nil (f (get_or xs i d))))
