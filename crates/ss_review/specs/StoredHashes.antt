@@ -13,6 +13,7 @@ use Rattle.ss_block.specs.declared.hash.Hash.TheVariants as hashes
 use Rattle.ss_block.specs.Order.{hash_cmp}
 use Rattle.ss_review.specs.declared.keep.message.NormalMessage.{NormalMessage}
 use Rattle.ss_review.specs.declared.assign.hash_entry.HashEntry.{HashEntry}
+use Rattle.ss_review.specs.declared.assign.hash_list.HashList.{HashList}
 use Rattle.ss_review.specs.declared.assign.stored_hash.StoredHash.{StoredHash}
 use Rattle.ss_review.specs.declared.keep.stored_message.StoredMessage.{StoredMessage}
 use Rattle.ss_review.specs.declared.assign.wanted_hash.WantedHash.{WantedHash}
@@ -37,6 +38,9 @@ hash_of pairs e = stored_hash e.alg (record { place = e.place; pair = slice_inde
 
 abbrev pub listed : List HashPair → List HashEntry → List StoredHash
 listed pairs entries = map (hash_of pairs) entries
+
+abbrev pub hashes_in : HashList → List StoredHash
+hashes_in list = listed list.pairs.now list.entries.now
 
 -- the entry of a message that is stored so, by an algorithm
 abbrev pub entry_of : Alg → StoredMessage → HashEntry

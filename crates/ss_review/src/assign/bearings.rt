@@ -2,7 +2,7 @@
 ghost use Rattle.std.specs.Prelude.{◌≡◌, ℕ, Option, Some, None, length, slice_get, IfOk};
 ghost use Rattle.std.specs.List.Sorted.{IsStrictlySortedBy};
 ghost use Rattle.ss_block.specs.declared.hash.Hash.{Hash};
-ghost use Rattle.ss_review.specs.StoredHashes.{listed, stored_cmp, IsFoundFor};
+ghost use Rattle.ss_review.specs.StoredHashes.{hashes_in, stored_cmp, IsFoundFor};
 
 use crate::assign::hash_list::HashList;
 use crate::assign::search::Search;
@@ -28,11 +28,11 @@ pub(crate) fn bearings(
     hashes: &[Option<Hash>],
 ) -> Result<Vec<Option<usize>>, NoMemory>
     ensures length { IfOk result (λ v. length v.items ≡ length hashes.now) }
-    ensures found { IsStrictlySortedBy stored_cmp (listed list.now.pairs.now list.now.entries.now)
+    ensures found { IsStrictlySortedBy stored_cmp (hashes_in list.now)
         → IfOk result (λ v. (i : ℕ) (o : Option Hash) (at : Option ℕ)
         → slice_get hashes.now i ≡ Some o
         → slice_get v.items i ≡ Some at
-        → IsFoundFor (listed list.now.pairs.now list.now.entries.now) o at) }
+        → IsFoundFor (hashes_in list.now) o at) }
 {
     let wanted = wanted_hashes(alloc, hashes)?;
     let mut found = nothing(alloc, hashes.len())?;

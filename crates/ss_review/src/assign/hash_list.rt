@@ -1,6 +1,6 @@
 //! The hashes of stored messages, as they are read.
 ghost use Rattle.std.specs.Prelude.{◌≡◌, ◌+◌, ◌^◌, ◌<◌, ◌≤◌, length, drop, slice_get};
-ghost use Rattle.ss_review.specs.StoredHashes.{listed};
+ghost use Rattle.ss_review.specs.StoredHashes.{hashes_in};
 
 use crate::assign::hash_entry::{HashEntry, hash_of};
 use crate::assign::stored_hash::StoredHash;
@@ -16,7 +16,7 @@ pub(crate) struct HashList<'a> {
 impl<'a> HashList<'a> {
     /// The hash that stands there, if one does.
     pub(crate) fn get(&self, index: usize) -> Option<StoredHash>
-        ensures { result ≡ slice_get (listed self.now.pairs.now self.now.entries.now) index }
+        ensures { result ≡ slice_get (hashes_in self.now) index }
     {
         let entry = self.entries.get(index)?;
         Some(hash_of(self.pairs, entry))
@@ -25,7 +25,7 @@ impl<'a> HashList<'a> {
     /// The hashes from there on.
     pub(crate) fn behind(&self, start: usize) -> HashList<'a>
         requires { start ≤ length self.now.entries.now }
-        ensures listed { listed result.pairs.now result.entries.now ≡ drop start (listed self.now.pairs.now self.now.entries.now) }
+        ensures hashes { hashes_in result ≡ drop start (hashes_in self.now) }
         ensures fits { length self.now.entries.now < 2 ^ 64 }
         ensures len { length result.entries.now + start ≡ length self.now.entries.now }
     {

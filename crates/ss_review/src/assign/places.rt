@@ -6,7 +6,7 @@ ghost use Rattle.ss_block.specs.declared.hash.Hash.{Hash};
 ghost use Rattle.ss_review.specs.declared.keep.message.NormalMessage.{NormalMessage};
 ghost use Rattle.ss_review.specs.Stored.{Tells};
 ghost use Rattle.ss_review.specs.Assigning.{pair_wanted, pairs_wanted, bearer_wanted, bearers_wanted, place_after, assigned_all};
-ghost use Rattle.ss_review.specs.StoredHashes.{listed, Lists, IsFoundFor, same_hashes, place_beside, Tallies};
+ghost use Rattle.ss_review.specs.StoredHashes.{hashes_in, Lists, IsFoundFor, same_hashes, place_beside, Tallies};
 
 use crate::assign::bearings::bearings;
 use crate::assign::counters::Counters;
@@ -35,7 +35,7 @@ fn same_hashes(stored: &StoredHash, other: &StoredHash) -> bool
 /// The place of a message with the hashes of the one that stands there in the list: with this number, from 0.
 fn place_from(list: &HashList, at: usize, first: &StoredHash, number: u64) -> Option<u32>
     requires { at ≤ length list.now.entries.now }
-    ensures { result ≡ place_beside first.now (slice_get (listed list.now.pairs.now list.now.entries.now) (at + number)) }
+    ensures { result ≡ place_beside first.now (slice_get (hashes_in list.now) (at + number)) }
 {
     match list.behind(at).get(number as usize) {
         Some(stored) if same_hashes(&stored, first) => Some(stored.place),
@@ -46,17 +46,17 @@ fn place_from(list: &HashList, at: usize, first: &StoredHash, number: u64) -> Op
 /// The place of the next key, whose bearer stands there in the list, or none. It is counted as wanted once more.
 fn next_place(list: &HashList, counters: &mut Counters, at: Option<usize>) -> Option<u32>
     ensures place { (ms : List NormalMessage) (announced before : List (Option Hash)) (hash : Option Hash)
-        → Lists (listed list.now.pairs.now list.now.entries.now) ms announced
+        → Lists (hashes_in list.now) ms announced
         → Contains announced hash
         → IsStrictlySortedBy nat_cmp (map (λ m. m.place) ms)
-        → IsFoundFor (listed list.now.pairs.now list.now.entries.now) hash at
+        → IsFoundFor (hashes_in list.now) hash at
         → Tallies counters.old (bearers_wanted ms before)
         → result ≡ place_after ms (pairs_wanted ms before) (pair_wanted ms hash) }
     ensures tallies { (ms : List NormalMessage) (announced before : List (Option Hash)) (hash : Option Hash)
-        → Lists (listed list.now.pairs.now list.now.entries.now) ms announced
+        → Lists (hashes_in list.now) ms announced
         → Contains announced hash
         → IsStrictlySortedBy nat_cmp (map (λ m. m.place) ms)
-        → IsFoundFor (listed list.now.pairs.now list.now.entries.now) hash at
+        → IsFoundFor (hashes_in list.now) hash at
         → Tallies counters.old (bearers_wanted ms before)
         → ((m : NormalMessage) → Contains ms m → m.place < length counters.old.counts.items)
         → length before + 1 < 2 ^ 64

@@ -6,7 +6,7 @@ ghost use Rattle.std.specs.Ordering.{is_lt};
 ghost use Rattle.std.specs.declared.cmp.Ordering.TheVariants.{Less};
 ghost use Rattle.ss_block.specs.Order.{hash_cmp};
 ghost use Rattle.ss_review.specs.declared.assign.stored_hash.StoredHash.{StoredHash};
-ghost use Rattle.ss_review.specs.StoredHashes.{hash_of, listed, stored_cmp, is_earlier, has_hash_at, IsBearerAt, FoundLast, IsNotBelow};
+ghost use Rattle.ss_review.specs.StoredHashes.{hash_of, hashes_in, stored_cmp, is_earlier, has_hash_at, IsBearerAt, FoundLast, IsNotBelow};
 
 use crate::assign::hash_entry::hash_of;
 use crate::assign::hash_list::HashList;
@@ -38,7 +38,7 @@ fn count_below(list: &HashList, hash: &Hash) -> usize
 
 /// Whether what stands at one index is stored before what stands at another, if that is given.
 fn is_earlier(list: &HashList, index: usize, other: Option<usize>) -> bool
-    ensures { result ≡ is_earlier (slice_get (listed list.now.pairs.now list.now.entries.now) index) (option_and_then (slice_get (listed list.now.pairs.now list.now.entries.now)) other) }
+    ensures { result ≡ is_earlier (slice_get (hashes_in list.now) index) (option_and_then (slice_get (hashes_in list.now)) other) }
 {
     let Some(other) = other else {
         return true;
@@ -51,7 +51,7 @@ fn is_earlier(list: &HashList, index: usize, other: Option<usize>) -> bool
 
 /// Whether what stands at the index has the hash.
 fn has_hash_at(list: &HashList, index: usize, hash: &Hash) -> bool
-    ensures { result ≡ has_hash_at (listed list.now.pairs.now list.now.entries.now) index hash.now }
+    ensures { result ≡ has_hash_at (hashes_in list.now) index hash.now }
 {
     hashes_rise_by_algorithm();
     match list.get(index) {
@@ -62,10 +62,10 @@ fn has_hash_at(list: &HashList, index: usize, hash: &Hash) -> bool
 
 /// Of those with the hash, which stand from `start` on, the one that is stored first.
 fn first_stored(list: &HashList, start: usize, hash: &Hash) -> Option<usize>
-    ensures { IsStrictlySortedBy stored_cmp (listed list.now.pairs.now list.now.entries.now)
-        → ((e : StoredHash) → Contains (take start (listed list.now.pairs.now list.now.entries.now)) e → hash_cmp e.hash hash.now ≡ Less)
-        → ((e : StoredHash) → slice_get (listed list.now.pairs.now list.now.entries.now) start ≡ Some e → hash_cmp e.hash hash.now ≢ Less)
-        → IsBearerAt (listed list.now.pairs.now list.now.entries.now) hash.now result }
+    ensures { IsStrictlySortedBy stored_cmp (hashes_in list.now)
+        → ((e : StoredHash) → Contains (take start (hashes_in list.now)) e → hash_cmp e.hash hash.now ≡ Less)
+        → ((e : StoredHash) → slice_get (hashes_in list.now) start ≡ Some e → hash_cmp e.hash hash.now ≢ Less)
+        → IsBearerAt (hashes_in list.now) hash.now result }
 {
     let mut first = None;
     let mut index = start;
@@ -83,7 +83,7 @@ impl<'a> Search<'a> {
     pub(crate) fn new(list: &HashList<'a>) -> Search<'a>
         ensures list { result.list ≡ list.now }
         ensures none { result.last ≡ None }
-        ensures start { FoundLast (listed result.list.pairs.now result.list.entries.now) result.start result.found result.last }
+        ensures start { FoundLast (hashes_in result.list) result.start result.found result.last }
     {
         Search {
             list: *list,
@@ -107,14 +107,14 @@ impl<'a> Search<'a> {
 
     /// Where the first message that has the hash stands in the list. No hash below one that was asked for is found.
     pub(crate) fn find(&mut self, hash: &Hash) -> Option<usize>
-        ensures found { IsStrictlySortedBy stored_cmp (listed self.old.list.pairs.now self.old.list.entries.now)
-            → FoundLast (listed self.old.list.pairs.now self.old.list.entries.now) self.old.start self.old.found self.old.last
+        ensures found { IsStrictlySortedBy stored_cmp (hashes_in self.old.list)
+            → FoundLast (hashes_in self.old.list) self.old.start self.old.found self.old.last
             → IsNotBelow hash.now self.old.last
-            → IsBearerAt (listed self.old.list.pairs.now self.old.list.entries.now) hash.now result }
-        ensures next { IsStrictlySortedBy stored_cmp (listed self.old.list.pairs.now self.old.list.entries.now)
-            → FoundLast (listed self.old.list.pairs.now self.old.list.entries.now) self.old.start self.old.found self.old.last
+            → IsBearerAt (hashes_in self.old.list) hash.now result }
+        ensures next { IsStrictlySortedBy stored_cmp (hashes_in self.old.list)
+            → FoundLast (hashes_in self.old.list) self.old.start self.old.found self.old.last
             → IsNotBelow hash.now self.old.last
-            → FoundLast (listed self.new.list.pairs.now self.new.list.entries.now) self.new.start self.new.found (Some hash.now) }
+            → FoundLast (hashes_in self.new.list) self.new.start self.new.found (Some hash.now) }
         ensures last { self.new.last ≡ Some hash.now }
         ensures list { self.new.list ≡ self.old.list }
     {

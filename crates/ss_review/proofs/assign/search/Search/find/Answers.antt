@@ -16,7 +16,7 @@ returns-clause-found c = λ up found above.
     let list = listed old.list.pairs.now old.list.entries.now in
     let rest = c.behind.result in
     let counted = c.count_below.ensures.count ∙ count_as (hash_of rest.pairs.now) (λ e. is_lt (hash_cmp e.hash h)) rest.entries.now in
-    let from = goes_on h list (listed rest.pairs.now rest.entries.now) old.start c.count_below.result old.found old.last c.behind.ensures.listed counted found above in
+    let from = goes_on h list (listed rest.pairs.now rest.entries.now) old.start c.count_below.result old.found old.last c.behind.ensures.hashes counted found above in
     c.first_stored-self.ensures up from.0 from.1
 
 pub returns-clause-next : goal.returns-clause-next
@@ -26,5 +26,5 @@ returns-clause-next c = λ up found above.
     let list = listed old.list.pairs.now old.list.entries.now in
     let rest = c.behind.result in
     let counted = c.count_below.ensures.count ∙ count_as (hash_of rest.pairs.now) (λ e. is_lt (hash_cmp e.hash h)) rest.entries.now in
-    let from = goes_on h list (listed rest.pairs.now rest.entries.now) old.start c.count_below.result old.found old.last c.behind.ensures.listed counted found above in
+    let from = goes_on h list (listed rest.pairs.now rest.entries.now) old.start c.count_below.result old.found old.last c.behind.ensures.hashes counted found above in
     (from.0, c.first_stored-self.ensures up from.0 from.1)
