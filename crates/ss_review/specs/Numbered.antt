@@ -6,16 +6,25 @@ use Rattle.ss_review.specs.declared.report.session_report.SessionState.{SessionS
 use Rattle.ss_review.specs.declared.keep.message.BlockMessage.{BlockMessage}
 use Rattle.ss_review.specs.declared.announced.message_number.MessageNumber.{MessageNumber}
 use Rattle.ss_review.specs.declared.announced.announced_hash.AnnouncedHash as row
+use Rattle.ss_review.specs.declared.announced.announced_block.AnnouncedBlock.{AnnouncedBlock}
+use Rattle.ss_review.specs.declared.keep.message.Said.TheVariants.{Hashes}
 use Rattle.ss_review.specs.declared.sessions.joined_session.JoinedSession.{JoinedSession}
 use Rattle.ss_review.specs.Sessions.{sessions, of_session}
 use Rattle.ss_review.specs.Verified.{Answers, joined}
-use Rattle.ss_review.specs.Announced.{Key, Row, same_key, keys, hashes_for}
+use Rattle.ss_review.specs.Announced.{Key, Row, same_key, rows_said, keys, hashes_for}
 
 abbrev pub key_of : MessageNumber → Key
 key_of n = record { session = n.session.now; group = n.group; number = n.number }
 
 abbrev pub row_of : row.AnnouncedHash → Row
 row_of r = record { key = key_of r.number; hash = r.hash }
+
+-- the key of a block's first hash
+abbrev pub first_key : AnnouncedBlock → Key
+first_key b = record { session = b.session.now; group = b.block.now.group; number = b.block.now.first }
+
+abbrev pub rows_by : AnnouncedBlock → List Row
+rows_by b = rows_said b.session.now (Hashes b.block.now)
 
 -- the one hash of a list that has no other
 abbrev pub only_hash : List Hash → Option Hash

@@ -1,16 +1,17 @@
 //! Which hashes the verified signature blocks announce, and for which message numbers.
-ghost use Rattle.std.specs.Prelude.{◌≡◌, ◌++◌, true, List, map, filter, flat_map, IfOk, OnOk, IfSome, IsSome};
+ghost use Rattle.std.specs.Prelude.{◌≡◌, ◌<◌, ◌^◌, ◌++◌, map, flat_map, length, sum_by, IfOk, OnOk};
 ghost use Rattle.std.specs.List.Sorted.{IsStrictlySortedBy};
-ghost use Rattle.ss_review.specs.declared.keep.message.BlockMessage.{BlockMessage};
 ghost use Rattle.ss_review.specs.declared.keep.message.Said.TheVariants.{Hashes};
 ghost use Rattle.ss_review.specs.Verified.{Answers, is_verified};
 ghost use Rattle.ss_review.specs.Announced.{row_cmp, rows_said, rows, keys};
-ghost use Rattle.ss_review.specs.Numbered.{key_of, row_of, only_hashes, session_with_joined, sessions_joined};
+ghost use Rattle.ss_review.specs.Numbered.{key_of, row_of, rows_by, only_hashes, session_with_joined, sessions_joined};
 
+use crate::announced::announced_block::{AnnouncedBlock, first_number};
 use crate::announced::announced_hash::AnnouncedHash;
 use crate::announced::message_number::MessageNumber;
 use crate::announced::only_hashes::{Announced, by_number};
-use crate::keep::message::{BlockMessage, Said};
+use crate::announced::signature_blocks::signature_blocks;
+use crate::keep::message::BlockMessage;
 use crate::lists::ordered::put_in_order;
 use crate::sessions::joined_session::JoinedSession;
 use ss_block::{Session, SigBlock};
@@ -43,63 +44,34 @@ fn add_hashes<'s>(
     Ok(())
 }
 
-/// The session of a block, among those of its log, which stand in their order.
-fn session_of<'s>(sessions: &'s [JoinedSession], message: &BlockMessage) -> Option<&'s Session>
-    ensures same { IfSome result (λ s. s.now ≡ message.now.session) }
-    ensures found { (says : Answers) (bs : List BlockMessage)
-        → map session_with_joined sessions.now ≡ sessions_joined says bs
-        → is_verified says bs message.now ≡ true
-        → IsSome result }
+/// How many hashes the blocks have.
+fn hash_count(blocks: &[AnnouncedBlock<'_, '_>]) -> usize
+    ensures { let count = sum_by (λ b. length b.block.now.hashes) blocks.now in count < 2 ^ 64 → result ≡ count }
 {
-    match sessions.binary_search_by(|known| known.session.cmp(&message.session)) {
-        Ok(index) => Some(&sessions[index].session),
-        Err(_) => None,
+    let mut count: usize = 0;
+    for announced in blocks {
+        let own = announced.block.hashes().as_slice().len();
+        count = count.saturating_add(own);
     }
+    count
 }
 
-/// Adds the rows of a verified block. `sessions` are those of its log, in their order.
-fn add_rows<'s>(
-    rows: &mut Vec<AnnouncedHash<'s>>,
-    sessions: &'s [JoinedSession],
-    message: &BlockMessage,
-) -> Result<(), NoMemory>
-    ensures { (says : Answers) (bs : List BlockMessage)
-        → map session_with_joined sessions.now ≡ sessions_joined says bs
-        → is_verified says bs message.now ≡ true
-        → OnOk result (map row_of rows.new.items ≡ map row_of rows.old.items ++ rows_said message.now.session message.now.said) }
-{
-    match &message.said {
-        Said::Hashes(block) => match session_of(sessions, message) {
-            Some(session) => add_hashes(rows, session, block),
-            None => Ok(()),
-        },
-        Said::Fragment(_) => Ok(()),
-    }
-}
-
-/// The rows of the blocks that are marked as verified, in their order. `sessions` are theirs, in their order.
-fn marked_rows<'s>(
+/// The rows of the blocks, in their order.
+fn rows_of<'s>(
     alloc: Global,
-    sessions: &'s [JoinedSession],
-    blocks: &[BlockMessage],
-    verified: &[bool],
+    blocks: &[AnnouncedBlock<'s, '_>],
 ) -> Result<Vec<AnnouncedHash<'s>>, NoMemory>
-    ensures { (says : Answers)
-        → map session_with_joined sessions.now ≡ sessions_joined says blocks.now
-        → verified.now ≡ map (is_verified says blocks.now) blocks.now
-        → IfOk result (λ v. map row_of v.items
-        ≡ flat_map (λ b. rows_said b.session b.said) (filter (is_verified says blocks.now) blocks.now)) }
+    ensures { IfOk result (λ v. map row_of v.items ≡ flat_map rows_by blocks.now) }
 {
-    let mut rows = Vec::new(alloc);
-    for (message, is_verified) in blocks.iter().zip(verified) {
-        if *is_verified {
-            add_rows(&mut rows, sessions, message)?;
-        }
+    let mut rows = Vec::with_capacity(alloc, hash_count(blocks))?;
+    for announced in blocks {
+        add_hashes(&mut rows, announced.session, announced.block)?;
     }
     Ok(rows)
 }
 
-/// All that is announced, each row once, in order. The blocks are let go with the call.
+/// All that is announced, each row once, in order. The blocks are put in order first, so their rows mostly stand in
+/// theirs, and are let go with the call.
 fn rows<'s>(
     alloc: Global,
     sessions: &'s [JoinedSession],
@@ -112,7 +84,9 @@ fn rows<'s>(
         → verified.now ≡ map (is_verified says blocks.items) blocks.items
         → IfOk result (λ v. map row_of v.items ≡ rows says blocks.items) }
 {
-    let mut rows = marked_rows(alloc, sessions, blocks.as_slice(), verified)?;
+    let mut announced = signature_blocks(alloc, sessions, blocks.as_slice(), verified)?;
+    announced.sort_unstable_by_key(|block| first_number(block));
+    let mut rows = rows_of(alloc, announced.as_slice())?;
     put_in_order(&mut rows);
     Ok(rows)
 }

@@ -54,8 +54,8 @@ pub(crate) fn by_number<'a>(
     ensures numbers { IfOk result (λ a. map key_of a.numbers.items ≡ keys (map row_of rows.now)) }
     ensures hashes { IfOk result (λ a. a.hashes.items ≡ only_hashes (map row_of rows.now)) }
 {
-    let mut numbers = Vec::new(alloc);
-    let mut hashes = Vec::new(alloc);
+    let mut numbers = Vec::with_capacity(alloc, rows.len())?;
+    let mut hashes = Vec::with_capacity(alloc, rows.len())?;
     let mut first = None;
     for (i, row) in rows.iter().enumerate() {
         if !is_more_of(first, row) {

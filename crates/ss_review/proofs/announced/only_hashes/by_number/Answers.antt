@@ -11,8 +11,8 @@ use Rattle.ss_review.proofs.announced.only_hashes.by_number.Goals.{then-not-is_m
 pub loop-i-init : goal.loop-i-init
 loop-i-init c = record {
   rise = rows_rise (map row_of c.args.rows.now) c.requires;
-  keys = ap (λ ns. map key_of ns ++ keys (map row_of c.args.rows.now)) c.new-numbers.ensures.items;
-  hashes = ap (λ hs. hs ++ only_hashes (map row_of c.args.rows.now)) c.new-hashes.ensures.items;
+  keys = ap (λ ns. map key_of ns ++ keys (map row_of c.args.rows.now)) c.in_ok-numbers.ensures.items;
+  hashes = ap (λ hs. hs ++ only_hashes (map row_of c.args.rows.now)) c.in_ok-hashes.ensures.items;
 }
 
 pub loop-i-preserved : goal.loop-i-preserved

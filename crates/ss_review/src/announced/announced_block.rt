@@ -1,0 +1,24 @@
+//! The signature blocks that announce hashes.
+ghost use Rattle.std.specs.Prelude.{◌≡◌};
+ghost use Rattle.ss_review.specs.Numbered.{key_of, first_key};
+
+use crate::announced::message_number::MessageNumber;
+use ss_block::{Session, SigBlock};
+
+/// A verified signature block, and its session.
+#[derive(Clone, Copy)]
+pub(crate) struct AnnouncedBlock<'s, 'b> {
+    pub(crate) session: &'s Session,
+    pub(crate) block: &'b SigBlock,
+}
+
+/// The number of the first message that the block announces.
+pub(crate) fn first_number<'s>(block: &AnnouncedBlock<'s, '_>) -> MessageNumber<'s>
+    ensures { key_of result ≡ first_key block.now }
+{
+    MessageNumber {
+        session: block.session,
+        group: block.block.group(),
+        number: block.block.first(),
+    }
+}

@@ -1,0 +1,72 @@
+//! The verified signature blocks of a log.
+ghost use Rattle.std.specs.Prelude.{◌≡◌, ◌++◌, true, List, map, filter, flat_map, IfOk, OnOk, IfSome, IsSome};
+ghost use Rattle.ss_review.specs.declared.keep.message.BlockMessage.{BlockMessage};
+ghost use Rattle.ss_review.specs.Verified.{Answers, is_verified};
+ghost use Rattle.ss_review.specs.Announced.{rows_said};
+ghost use Rattle.ss_review.specs.Numbered.{rows_by, session_with_joined, sessions_joined};
+
+use crate::announced::announced_block::AnnouncedBlock;
+use crate::keep::message::{BlockMessage, Said};
+use crate::sessions::joined_session::JoinedSession;
+use ss_block::Session;
+use ss_message::NoMemory;
+use std::alloc::Global;
+
+/// The session of a block, among those of its log, which stand in their order.
+fn session_of<'s>(sessions: &'s [JoinedSession], message: &BlockMessage) -> Option<&'s Session>
+    ensures same { IfSome result (λ s. s.now ≡ message.now.session) }
+    ensures found { (says : Answers) (bs : List BlockMessage)
+        → map session_with_joined sessions.now ≡ sessions_joined says bs
+        → is_verified says bs message.now ≡ true
+        → IsSome result }
+{
+    match sessions.binary_search_by(|known| known.session.cmp(&message.session)) {
+        Ok(index) => Some(&sessions[index].session),
+        Err(_) => None,
+    }
+}
+
+/// Adds a verified block, if it is a signature block. `sessions` are those of its log, in their order.
+fn add_block<'s, 'b>(
+    announced: &mut Vec<AnnouncedBlock<'s, 'b>>,
+    sessions: &'s [JoinedSession],
+    message: &'b BlockMessage,
+) -> Result<(), NoMemory>
+    ensures { (says : Answers) (bs : List BlockMessage)
+        → map session_with_joined sessions.now ≡ sessions_joined says bs
+        → is_verified says bs message.now ≡ true
+        → OnOk result (flat_map rows_by announced.new.items ≡ flat_map rows_by announced.old.items ++ rows_said message.now.session message.now.said) }
+{
+    match &message.said {
+        Said::Hashes(block) => match session_of(sessions, message) {
+            Some(session) => {
+                announced.push(AnnouncedBlock { session, block })?;
+                Ok(())
+            }
+            None => Ok(()),
+        },
+        Said::Fragment(_) => Ok(()),
+    }
+}
+
+/// The signature blocks that are marked as verified, in their order. `sessions` are those of the blocks, in their order.
+pub(crate) fn signature_blocks<'s, 'b>(
+    alloc: Global,
+    sessions: &'s [JoinedSession],
+    blocks: &'b [BlockMessage],
+    verified: &[bool],
+) -> Result<Vec<AnnouncedBlock<'s, 'b>>, NoMemory>
+    ensures { (says : Answers)
+        → map session_with_joined sessions.now ≡ sessions_joined says blocks.now
+        → verified.now ≡ map (is_verified says blocks.now) blocks.now
+        → IfOk result (λ v. flat_map rows_by v.items
+        ≡ flat_map (λ b. rows_said b.session b.said) (filter (is_verified says blocks.now) blocks.now)) }
+{
+    let mut announced = Vec::new(alloc);
+    for (message, is_verified) in blocks.iter().zip(verified) {
+        if *is_verified {
+            add_block(&mut announced, sessions, message)?;
+        }
+    }
+    Ok(announced)
+}
