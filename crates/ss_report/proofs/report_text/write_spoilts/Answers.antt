@@ -1,5 +1,5 @@
 use Rattle.std.proofs.Common.{◌≡◌, ℕ, ap}
-use Rattle.ss_review.specs.declared.spoilt.SpoiltPlace.{SpoiltPlace}
+use Rattle.ss_review.specs.declared.keep.spoilt.SpoiltPlace.{SpoiltPlace}
 use Rattle.ss_report.specs.Words.{spoilt_line}
 use Rattle.ss_report.proofs.Writings.{writes_more}
 use Rattle.ss_report.proofs.report_text.write_spoilts.Goals as goal
