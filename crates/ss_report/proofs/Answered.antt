@@ -1,5 +1,5 @@
 -- What a run answers once its output was written.
-use Rattle.std.proofs.Common.{◌≡◌, ◌≢◌, List, Result, Ok, Err, sym, subst}
+use Rattle.std.proofs.Common.{◌≡◌, ◌≢◌, Result, Ok, Err, sym, subst}
 use Rattle.std.specs.Prelude.{MatchResult, IfOk, IfErr}
 use Rattle.ss_frame.specs.Limits.{Allowance}
 use Rattle.ss_frame.specs.Watched.{Source, Sink}

@@ -7,7 +7,9 @@ ghost use Rattle.ss_report.specs.ReportText.{state_word, why_word, session_line,
 
 use crate::ending::write_end;
 use crate::output::write_text;
-use crate::words::{write_group, write_number_line, write_session, write_spaced, write_spoilt, write_word};
+use crate::words::{
+    write_group, write_number_line, write_session, write_spaced, write_spoilt, write_word,
+};
 use ss_block::{Group, Session};
 use ss_frame::{Bytes, Tail, Watched};
 use ss_message::NoMemory;
@@ -83,11 +85,7 @@ fn word_of_state(state: SessionState) -> &'static [u8]
     }
 }
 
-fn write_groups<W: Write>(
-    writer: &mut Watched<W>,
-    session: &Session,
-    groups: &[GroupReport],
-)
+fn write_groups<W: Write>(writer: &mut Watched<W>, session: &Session, groups: &[GroupReport])
     ensures { Writes (sink_of W.contents writer.old) (sink_of W.contents writer.new) (flat_map (group_lines session.now) groups.now) }
 {
     for group in groups {
@@ -96,11 +94,7 @@ fn write_groups<W: Write>(
 }
 
 #[tactic(auto, unfolding(crate::specs::ReportText::group_lines))]
-fn write_entries<W: Write>(
-    writer: &mut Watched<W>,
-    session: &Session,
-    report: &GroupReport,
-)
+fn write_entries<W: Write>(writer: &mut Watched<W>, session: &Session, report: &GroupReport)
     ensures { Writes (sink_of W.contents writer.old) (sink_of W.contents writer.new) (group_lines session.now report.now) }
 {
     for entry in report.entries.as_slice() {
@@ -110,12 +104,7 @@ fn write_entries<W: Write>(
 
 /// ok, gap or hole, HOST APP PROCID RSID SG SPRI, and what is said of the number.
 #[tactic(auto, unfolding(crate::specs::ReportText::entry_line))]
-fn write_entry<W: Write>(
-    writer: &mut Watched<W>,
-    session: &Session,
-    group: Group,
-    entry: Entry,
-)
+fn write_entry<W: Write>(writer: &mut Watched<W>, session: &Session, group: Group, entry: Entry)
     ensures { Writes (sink_of W.contents writer.old) (sink_of W.contents writer.new) (entry_line session.now group entry) }
 {
     write_text(writer, kind_of_entry(entry));
