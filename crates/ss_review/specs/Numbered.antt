@@ -21,10 +21,10 @@ row_of r = record { key = key_of r.number; hash = r.hash }
 
 -- the key of a block's first hash
 abbrev pub first_key : AnnouncedBlock → Key
-first_key b = record { session = b.session.now; group = b.block.now.group; number = b.block.now.first }
+first_key b = record { session = b.session.now; group = b.block.group; number = b.block.first }
 
 abbrev pub rows_by : AnnouncedBlock → List Row
-rows_by b = rows_said b.session.now (Hashes b.block.now)
+rows_by b = rows_said b.session.now (Hashes b.block)
 
 -- the one hash of a list that has no other
 abbrev pub only_hash : List Hash → Option Hash

@@ -45,8 +45,8 @@ fn add_hashes<'s>(
 }
 
 /// How many hashes the blocks have.
-fn hash_count(blocks: &[AnnouncedBlock<'_, '_>]) -> usize
-    ensures { let count = sum_by (λ b. length b.block.now.hashes) blocks.now in count < 2 ^ 64 → result ≡ count }
+fn hash_count(blocks: &[AnnouncedBlock<'_>]) -> usize
+    ensures { let count = sum_by (λ b. length b.block.hashes) blocks.now in count < 2 ^ 64 → result ≡ count }
 {
     let mut count: usize = 0;
     for announced in blocks {
@@ -56,22 +56,22 @@ fn hash_count(blocks: &[AnnouncedBlock<'_, '_>]) -> usize
     count
 }
 
-/// The rows of the blocks, in their order.
+/// The rows of the blocks, in their order. Each block is let go once its rows are there.
 fn rows_of<'s>(
     alloc: Global,
-    blocks: &[AnnouncedBlock<'s, '_>],
+    blocks: Vec<AnnouncedBlock<'s>>,
 ) -> Result<Vec<AnnouncedHash<'s>>, NoMemory>
-    ensures { IfOk result (λ v. map row_of v.items ≡ flat_map rows_by blocks.now) }
+    ensures { IfOk result (λ v. map row_of v.items ≡ flat_map rows_by blocks.entry.items) }
 {
-    let mut rows = Vec::with_capacity(alloc, hash_count(blocks))?;
+    let mut rows = Vec::with_capacity(alloc, hash_count(blocks.as_slice()))?;
     for announced in blocks {
-        add_hashes(&mut rows, announced.session, announced.block)?;
+        add_hashes(&mut rows, announced.session, &announced.block)?;
     }
     Ok(rows)
 }
 
 /// All that is announced, each row once, in order. The blocks are put in order first, so their rows mostly stand in
-/// theirs, and are let go with the call.
+/// theirs. Of each message, what isn't needed any more is let go on the way.
 fn rows<'s>(
     alloc: Global,
     sessions: &'s [JoinedSession],
@@ -84,9 +84,9 @@ fn rows<'s>(
         → verified.now ≡ map (is_verified says blocks.items) blocks.items
         → IfOk result (λ v. map row_of v.items ≡ rows says blocks.items) }
 {
-    let mut announced = signature_blocks(alloc, sessions, blocks.as_slice(), verified)?;
+    let mut announced = signature_blocks(alloc, sessions, blocks, verified)?;
     announced.sort_unstable_by_key(|block| first_number(block));
-    let mut rows = rows_of(alloc, announced.as_slice())?;
+    let mut rows = rows_of(alloc, announced)?;
     put_in_order(&mut rows);
     Ok(rows)
 }

@@ -6,14 +6,14 @@ use crate::announced::message_number::MessageNumber;
 use ss_block::{Session, SigBlock};
 
 /// A verified signature block, and its session.
-#[derive(Clone, Copy)]
-pub(crate) struct AnnouncedBlock<'s, 'b> {
+#[derive(Drop)]
+pub(crate) struct AnnouncedBlock<'s> {
     pub(crate) session: &'s Session,
-    pub(crate) block: &'b SigBlock,
+    pub(crate) block: SigBlock,
 }
 
 /// The number of the first message that the block announces.
-pub(crate) fn first_number<'s>(block: &AnnouncedBlock<'s, '_>) -> MessageNumber<'s>
+pub(crate) fn first_number<'s>(block: &AnnouncedBlock<'s>) -> MessageNumber<'s>
     ensures { key_of result ≡ first_key block.now }
 {
     MessageNumber {

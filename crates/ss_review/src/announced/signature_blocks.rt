@@ -27,44 +27,48 @@ fn session_of<'s>(sessions: &'s [JoinedSession], message: &BlockMessage) -> Opti
 }
 
 /// Adds a verified block, if it is a signature block. `sessions` are those of its log, in their order.
-fn add_block<'s, 'b>(
-    announced: &mut Vec<AnnouncedBlock<'s, 'b>>,
+fn add_block<'s>(
+    announced: &mut Vec<AnnouncedBlock<'s>>,
     sessions: &'s [JoinedSession],
-    message: &'b BlockMessage,
+    message: BlockMessage,
 ) -> Result<(), NoMemory>
     ensures { (says : Answers) (bs : List BlockMessage)
         → map session_with_joined sessions.now ≡ sessions_joined says bs
-        → is_verified says bs message.now ≡ true
-        → OnOk result (flat_map rows_by announced.new.items ≡ flat_map rows_by announced.old.items ++ rows_said message.now.session message.now.said) }
+        → is_verified says bs message ≡ true
+        → OnOk result (flat_map rows_by announced.new.items ≡ flat_map rows_by announced.old.items ++ rows_said message.session message.said) }
 {
-    match &message.said {
-        Said::Hashes(block) => match session_of(sessions, message) {
-            Some(session) => {
-                announced.push(AnnouncedBlock { session, block })?;
-                Ok(())
-            }
-            None => Ok(()),
-        },
-        Said::Fragment(_) => Ok(()),
+    let Some(session) = session_of(sessions, &message) else {
+        return Ok(());
+    };
+    let BlockMessage { said, .. } = message;
+    match said {
+        Said::Hashes(block) => {
+            announced.push(AnnouncedBlock { session, block })?;
+            Ok(())
+        }
+        Said::Fragment(_fragment) => Ok(()),
     }
 }
 
 /// The signature blocks that are marked as verified, in their order. `sessions` are those of the blocks, in their order.
-pub(crate) fn signature_blocks<'s, 'b>(
+/// What else the messages of the blocks hold is let go.
+pub(crate) fn signature_blocks<'s>(
     alloc: Global,
     sessions: &'s [JoinedSession],
-    blocks: &'b [BlockMessage],
+    blocks: Vec<BlockMessage>,
     verified: &[bool],
-) -> Result<Vec<AnnouncedBlock<'s, 'b>>, NoMemory>
+) -> Result<Vec<AnnouncedBlock<'s>>, NoMemory>
     ensures { (says : Answers)
-        → map session_with_joined sessions.now ≡ sessions_joined says blocks.now
-        → verified.now ≡ map (is_verified says blocks.now) blocks.now
+        → map session_with_joined sessions.now ≡ sessions_joined says blocks.items
+        → verified.now ≡ map (is_verified says blocks.items) blocks.items
         → IfOk result (λ v. flat_map rows_by v.items
-        ≡ flat_map (λ b. rows_said b.session b.said) (filter (is_verified says blocks.now) blocks.now)) }
+        ≡ flat_map (λ b. rows_said b.session b.said) (filter (is_verified says blocks.items) blocks.items)) }
 {
     let mut announced = Vec::new(alloc);
-    for (message, is_verified) in blocks.iter().zip(verified) {
-        if *is_verified {
+    let mut marks = verified.iter();
+    for message in blocks {
+        let is_verified = marks.next().copied().unwrap_or(false);
+        if is_verified {
             add_block(&mut announced, sessions, message)?;
         }
     }

@@ -1,10 +1,7 @@
-use Rattle.std.proofs.Common.{map, filter, ap, sym, ◌∙◌, rules}
-use Rattle.std.specs.List.{flat_map}
-use Rattle.ss_review.specs.declared.keep.message.BlockMessage.{BlockMessage}
+use Rattle.std.proofs.Common.{ap, ◌∙◌, rules}
 use Rattle.ss_review.specs.Ordered.{in_order}
-use Rattle.ss_review.specs.Verified.{is_verified}
-use Rattle.ss_review.specs.Announced.{row_cmp, rows_said, rows}
-use Rattle.ss_review.specs.Numbered.{row_of, rows_by, sessions_joined}
+use Rattle.ss_review.specs.Announced.{row_cmp, rows}
+use Rattle.ss_review.specs.Numbered.{row_of, rows_by}
 use Rattle.ss_review.proofs.Rising.{keys_rise, in_order_by}
 use Rattle.ss_review.proofs.RowsTold.{rows_stay}
 use Rattle.ss_review.proofs.TotalOrders.{row_cmp_total, row_cmp_exact}
@@ -18,6 +15,5 @@ unfolding rows
 returns-clause-rows c = λ says told e.
     in_order_by row_cmp_total row_cmp_exact row_of _ (λ a b. search rules) c.in_ok-rows.rows.items c.put_in_order.new.items.items c.put_in_order.ensures.rises c.put_in_order.ensures.keeps c.put_in_order.ensures.adds_none
     ∙ ap (in_order row_cmp) c.in_ok-rows.ensures
-    ∙ ap (λ xs. in_order row_cmp (flat_map rows_by xs)) c.as_slice-2.ensures.value
     ∙ rows_stay rows_by c.in_ok-announced.announced.items c.sort_unstable_by_key.new.self.items c.sort_unstable_by_key.ensures.permutation
-    ∙ ap (in_order row_cmp) (c.in_ok-announced.ensures says (told ∙ ap (sessions_joined says) (sym c.as_slice.ensures.value)) (e ∙ λ i. map (is_verified says (sym c.as_slice.ensures.value i)) (sym c.as_slice.ensures.value i)) ∙ ap (λ bs. flat_map (λ (b : BlockMessage). rows_said b.session b.said) (filter (is_verified says bs) bs)) c.as_slice.ensures.value)
+    ∙ ap (in_order row_cmp) (c.in_ok-announced.ensures says told e)
