@@ -57,12 +57,7 @@ fn write_trust<W: Write>(writer: &mut Watched<W>, payload: &[u8])
 
 /// Writes yes PAYLOAD OCTETS SIGNATURE.
 #[tactic(auto, unfolding(crate::specs::QuestionText::question_line))]
-fn write_yes<W: Write>(
-    writer: &mut Watched<W>,
-    payload: &[u8],
-    octets: &[u8],
-    signature: &[u8],
-)
+fn write_yes<W: Write>(writer: &mut Watched<W>, payload: &[u8], octets: &[u8], signature: &[u8])
     ensures { Writes (sink_of W.contents writer.old) (sink_of W.contents writer.new) (question_line (Yes payload.now octets.now signature.now)) }
 {
     write_text(writer, b"yes ");
