@@ -1,5 +1,5 @@
 -- The hashes of stored messages in order, so that the bearers of announced hashes are found in one pass.
-use Rattle.std.specs.Prelude.{◌≡◌, ◌≢◌, ◌⊎◌, ℕ, ◌≤◌, Bool, true, false, List, [], map, take, Contains, slice_get, slice_index_or, replicate, get_or, count_by, nat_lt, Option, Some, None, if◌then◌else◌}
+use Rattle.std.specs.Prelude.{◌≡◌, ◌≢◌, ◌⊎◌, ℕ, ◌≤◌, Bool, true, false, List, [], ◌∷◌, map, take, Contains, slice_get, slice_index, slice_index_or, replicate, get_or, count_by, nat_lt, Option, Some, None, if◌then◌else◌}
 use Rattle.std.specs.List.{list_any}
 use Rattle.std.specs.List.Sorted.{IsStrictlySortedBy}
 use Rattle.std.specs.declared.cmp.Ordering.{Ordering}
@@ -10,7 +10,7 @@ use Rattle.ss_block.specs.declared.hash.Alg.TheVariants as algs
 use Rattle.ss_block.specs.declared.hash.Hash.{Hash}
 use Rattle.ss_block.specs.declared.hash.HashPair.{HashPair}
 use Rattle.ss_block.specs.declared.hash.Hash.TheVariants as hashes
-use Rattle.ss_block.specs.Order.{hash_cmp}
+use Rattle.ss_block.specs.Order.{octets_cmp, hash_cmp}
 use Rattle.ss_review.specs.declared.keep.message.NormalMessage.{NormalMessage}
 use Rattle.ss_review.specs.declared.assign.hash_entry.HashEntry.{HashEntry}
 use Rattle.ss_review.specs.declared.assign.hash_list.HashList.{HashList}
@@ -42,9 +42,29 @@ listed pairs entries = map (hash_of pairs) entries
 abbrev pub hashes_in : HashList → List StoredHash
 hashes_in list = listed list.pairs.now list.entries.now
 
+-- the first octets
+abbrev pub first_octets : List ℕ → List ℕ
+first_octets octets = slice_index octets 0 ∷ slice_index octets 1 ∷ slice_index octets 2 ∷ []
+
+abbrev pub start_of : Alg → HashPair → List ℕ
+start_of algs.Sha1 p = first_octets p.sha1
+start_of algs.Sha256 p = first_octets p.sha256
+
 -- the entry of a message that is stored so, by an algorithm
-abbrev pub entry_of : Alg → StoredMessage → HashEntry
-entry_of a s = record { pair = s.pair; place = s.place; alg = a }
+abbrev pub entry_of : List HashPair → Alg → StoredMessage → HashEntry
+entry_of pairs a s = record { pair = s.pair; place = s.place; start = start_of a (slice_index_or pairs s.pair no_hashes); alg = a }
+
+-- the entry begins as the hash that it stands for
+abbrev pub BeginsAsItsHash : List HashPair → HashEntry → Type 0
+BeginsAsItsHash pairs e = e.start ≡ start_of e.alg (slice_index_or pairs e.pair no_hashes)
+
+abbrev pub alg_place : Alg → ℕ
+alg_place algs.Sha1 = 0
+alg_place algs.Sha256 = 1
+
+-- by the algorithms, then the first octets
+abbrev pub start_cmp : HashEntry → HashEntry → Ordering
+start_cmp a b = ordering_then (nat_cmp (alg_place a.alg) (alg_place b.alg)) (octets_cmp a.start b.start)
 
 abbrev pub alg_of : Hash → Alg
 alg_of (hashes.Sha1 octets) = algs.Sha1
@@ -63,12 +83,16 @@ abbrev pub needed_hashes : Alg → List (Option Hash) → List NormalMessage →
 needed_hashes alg announced ms = if list_any (is_by alg) announced then map (stored_hash alg) ms else []
 
 -- their entries, if one of those that are announced is by the algorithm
-abbrev pub needed_entries : Alg → List (Option Hash) → List StoredMessage → List HashEntry
-needed_entries alg announced stored = if list_any (is_by alg) announced then map (entry_of alg) stored else []
+abbrev pub needed_entries : List HashPair → Alg → List (Option Hash) → List StoredMessage → List HashEntry
+needed_entries pairs alg announced stored = if list_any (is_by alg) announced then map (entry_of pairs alg) stored else []
 
 -- by the hashes, then the other ones, then the places
 abbrev pub stored_cmp : StoredHash → StoredHash → Ordering
 stored_cmp a b = ordering_then (hash_cmp a.hash b.hash) (ordering_then (hash_cmp a.other b.other) (nat_cmp a.place b.place))
+
+-- where what an entry begins with doesn't tell, by what they stand for
+abbrev pub entry_cmp : List HashPair → HashEntry → HashEntry → Ordering
+entry_cmp pairs a b = ordering_then (start_cmp a b) (stored_cmp (hash_of pairs a) (hash_of pairs b))
 
 -- the hashes of these messages, in order, as far as they are needed to find what is announced
 pub record Lists (list : List StoredHash) (ms : List NormalMessage) (announced : List (Option Hash)) : Type 0 where

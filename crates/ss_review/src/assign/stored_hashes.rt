@@ -2,10 +2,11 @@
 ghost use Rattle.std.specs.Prelude.{◌≡◌, ◌++◌, List, map, Contains, IfOk, OnOk};
 ghost use Rattle.std.specs.List.{list_any};
 ghost use Rattle.std.specs.List.Sorted.{IsStrictlySortedBy};
+ghost use Rattle.ss_review.specs.declared.assign.hash_entry.HashEntry.{HashEntry};
 ghost use Rattle.ss_review.specs.declared.assign.stored_hash.StoredHash.{StoredHash};
 ghost use Rattle.ss_review.specs.declared.keep.message.NormalMessage.{NormalMessage};
 ghost use Rattle.ss_review.specs.Stored.{Tells};
-ghost use Rattle.ss_review.specs.StoredHashes.{is_by, entry_of, needed_entries, stored_cmp, listed, Lists};
+ghost use Rattle.ss_review.specs.StoredHashes.{BeginsAsItsHash, is_by, entry_of, needed_entries, stored_cmp, listed, Lists};
 
 use crate::assign::hash_entry::{HashEntry, entry_cmp, entry_of};
 use crate::keep::stored_message::StoredMessage;
@@ -34,14 +35,15 @@ fn has_one_by(hashes: &[Option<Hash>], alg: Alg) -> bool
 /// Adds the entries of the messages by this algorithm.
 fn add_entries(
     list: &mut Vec<HashEntry>,
+    pairs: &[HashPair],
     messages: &[StoredMessage],
     alg: Alg,
 ) -> Result<(), NoMemory>
-    ensures { OnOk result (list.new.items ≡ list.old.items ++ map (entry_of alg) messages.now) }
+    ensures { OnOk result (list.new.items ≡ list.old.items ++ map (entry_of pairs.now alg) messages.now) }
 {
     list.reserve(messages.len())?;
     for message in messages {
-        list.push(entry_of(message, alg))?;
+        list.push(entry_of(pairs, message, alg))?;
     }
     Ok(())
 }
@@ -49,21 +51,23 @@ fn add_entries(
 /// Adds the entries of the messages by this algorithm, if one of the announced hashes is by it.
 fn add_needed(
     list: &mut Vec<HashEntry>,
+    pairs: &[HashPair],
     messages: &[StoredMessage],
     announced: &[Option<Hash>],
     alg: Alg,
 ) -> Result<(), NoMemory>
-    ensures { OnOk result (list.new.items ≡ list.old.items ++ needed_entries alg announced.now messages.now) }
+    ensures { OnOk result (list.new.items ≡ list.old.items ++ needed_entries pairs.now alg announced.now messages.now) }
 {
     if has_one_by(announced, alg) {
-        add_entries(list, messages, alg)?;
+        add_entries(list, pairs, messages, alg)?;
     }
     Ok(())
 }
 
 /// Brings the entries in the order of what they stand for, and keeps of equal ones the first alone.
 fn put_in_order(list: &mut Vec<HashEntry>, pairs: &[HashPair])
-    ensures rises { IsStrictlySortedBy stored_cmp (listed pairs.now list.new.items) }
+    ensures rises { ((e : HashEntry) → Contains list.old.items e → BeginsAsItsHash pairs.now e)
+        → IsStrictlySortedBy stored_cmp (listed pairs.now list.new.items) }
     ensures keeps { (e : StoredHash)
         → Contains (listed pairs.now list.old.items) e
         → Contains (listed pairs.now list.new.items) e }
@@ -87,8 +91,8 @@ pub(crate) fn stored_hashes(
         → IfOk result (λ v. Lists (listed pairs.now v.items) ms announced.now) }
 {
     let mut list = Vec::new(alloc);
-    add_needed(&mut list, messages, announced, Alg::Sha1)?;
-    add_needed(&mut list, messages, announced, Alg::Sha256)?;
+    add_needed(&mut list, pairs, messages, announced, Alg::Sha1)?;
+    add_needed(&mut list, pairs, messages, announced, Alg::Sha256)?;
     put_in_order(&mut list, pairs);
     Ok(list)
 }

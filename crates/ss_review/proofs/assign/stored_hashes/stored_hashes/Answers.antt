@@ -1,7 +1,7 @@
 use Rattle.std.proofs.Common.{◌++◌, ap, ◌∙◌}
 use Rattle.ss_block.specs.declared.hash.Alg.TheVariants.{Sha1, Sha256}
 use Rattle.ss_review.specs.StoredHashes.{listed, needed_entries}
-use Rattle.ss_review.proofs.ListedHashes.{both_stand}
+use Rattle.ss_review.proofs.ListedHashes.{both_stand, both_begin}
 use Rattle.ss_review.proofs.NeededHashes.{lists}
 use Rattle.ss_review.proofs.assign.stored_hashes.stored_hashes.Goals as goal
 
@@ -11,9 +11,9 @@ returns c = λ ms t.
     let ss = c.args.messages.now in
     let os = c.args.announced.now in
     let all = c.add_needed-2.new.list.items in
+    let are = c.in_ok-add_needed-2.ensures ∙ ap (λ es. es ++ needed_entries pairs Sha256 os ss) (c.in_ok-add_needed.ensures ∙ ap (λ es. es ++ needed_entries pairs Sha1 os ss) c.new-list.ensures.items) in
     lists ms os (listed pairs all) (listed pairs c.put_in_order.new.list.items)
-    (both_stand pairs ss ms t os all
-    (c.in_ok-add_needed-2.ensures ∙ ap (λ es. es ++ needed_entries Sha256 os ss) (c.in_ok-add_needed.ensures ∙ ap (λ es. es ++ needed_entries Sha1 os ss) c.new-list.ensures.items)))
-    c.put_in_order.ensures.rises
+    (both_stand pairs ss ms t os all are)
+    (c.put_in_order.ensures.rises (both_begin pairs ss os all are))
     c.put_in_order.ensures.keeps
     c.put_in_order.ensures.adds_none
