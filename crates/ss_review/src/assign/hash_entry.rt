@@ -9,8 +9,8 @@ use ss_block::laws::orders::hashes_rise_by_algorithm;
 use ss_block::{Alg, Hash, HashPair};
 use std::cmp::Ordering;
 
-/// A hash of a stored message by this algorithm: where its two hashes stand among those that are kept, and its place. The
-/// first octets of the hash tell most entries apart, so that few are looked up to put them in order.
+/// A hash of a stored message by this algorithm: where its two hashes stand among those that are kept, and its place.
+/// The first octets of the hash tell most entries apart, so that few hashes are looked up to put them in order.
 #[derive(Clone, Copy)]
 pub(crate) struct HashEntry {
     pub(crate) pair: usize,

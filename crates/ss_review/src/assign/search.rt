@@ -26,7 +26,8 @@ pub(crate) struct Search<'a> {
 
 /// How many of the list, from its first on, are below the hash.
 fn count_below(list: &HashList, hash: &Hash) -> usize
-    ensures count { result ≡ length (take_while (λ e. is_lt (hash_cmp (hash_of list.now.pairs.now e).hash hash.now)) list.now.entries.now) }
+    ensures count { result
+        ≡ length (take_while (λ e. is_lt (hash_cmp (hash_of list.now.pairs.now e).hash hash.now)) list.now.entries.now) }
     ensures bound { result ≤ length list.now.entries.now }
 {
     hashes_rise_by_algorithm();
@@ -38,7 +39,8 @@ fn count_below(list: &HashList, hash: &Hash) -> usize
 
 /// Whether what stands at one index is stored before what stands at another, if that is given.
 fn is_earlier(list: &HashList, index: usize, other: Option<usize>) -> bool
-    ensures { result ≡ is_earlier (slice_get (hashes_in list.now) index) (option_and_then (slice_get (hashes_in list.now)) other) }
+    ensures { result
+        ≡ is_earlier (slice_get (hashes_in list.now) index) (option_and_then (slice_get (hashes_in list.now)) other) }
 {
     let Some(other) = other else {
         return true;
