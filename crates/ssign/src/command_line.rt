@@ -1,5 +1,5 @@
 //! The command line.
-ghost use Rattle.std.specs.Prelude.{◌≡◌, ◌<◌, ◌^◌, ℕ, Bool, false, Some, codes, decimal, IfOk, IfSome, MatchOption, option_and_then, option_map};
+ghost use Rattle.std.specs.Prelude.{◌≡◌, ◌<◌, ◌^◌, ◌∷◌, [], ℕ, Bool, false, Some, codes, decimal, IfOk, IfSome, MatchOption, option_and_then, option_map};
 ghost use Rattle.std.specs.Option.{SomeIff};
 ghost use Rattle.clap.specs.Words.{App, app_of, first_value, found_of, matched_of, new_app, raw_values, rule_of};
 ghost use Rattle.ss_frame.specs.Limits.{InRange};
@@ -7,7 +7,8 @@ ghost use Rattle.ssign.specs.CommandLine.{answers_rule, code_rule, lines_rule, m
 ghost use Rattle.ssign.specs.CommandLine.{bare_app, explain_app, extract_app, inspect_app, plan_app, questions_app, review_app, sign_app, ssign_app};
 ghost use Rattle.ssign.specs.Explanation.{asked_of};
 ghost use Rattle.ssign.specs.SigningOptions.{AreVersions, Kept};
-ghost use Rattle.ssign.specs.CommandLine.{FlagIs, HasNumber, IsLocalApp, IsNoCommand, limits_with, name_of, text_of, with_limits};
+ghost use Rattle.ssign.specs.CommandLine.{FlagIs, HasNumber, IsLocalApp, IsNoCommand, limits_with, name_of, text_of};
+ghost use Rattle.ssign.specs.CommandLine.{with_commands, with_limits};
 
 use crate::asked::asked_of;
 use crate::signing::Signing;
@@ -54,35 +55,90 @@ pub enum Order {
     Explain,
 }
 
+/// What the commands ask for, in their order.
+const ORDERS: [Order; 7] = [
+    Order::Log(Task::Review),
+    Order::Log(Task::Questions),
+    Order::Log(Task::Extract),
+    Order::Log(Task::Inspect),
+    Order::Sent(Signing::Plan),
+    Order::Sent(Signing::Sign),
+    Order::Explain,
+];
+
 /// The program's commands and their options.
 pub fn command<'a>(alloc: Global) -> Result<Command<'a>, AllocError>
     ensures { IfOk result (λ c. (versions : Kept) × AreVersions versions × (app_of c ≡ ssign_app versions)) }
 {
     let versions = versions();
-    bare(alloc)
-        .subcommand(review(alloc)?)?
-        .subcommand(questions(alloc)?)?
-        .subcommand(extract(alloc)?)?
-        .subcommand(inspect(alloc)?)?
-        .subcommand(plan(alloc, versions)?)?
-        .subcommand(sign(alloc, versions)?)?
-        .subcommand(explain(alloc)?)
+    let command = with_review_and_questions(alloc, bare(alloc))?;
+    let command = with_extract_and_inspect(alloc, command)?;
+    let command = with_plan_and_sign(alloc, command, versions)?;
+    command.subcommand(explain(alloc)?)
+}
+
+/// The program with the commands `review` and `questions`.
+fn with_review_and_questions<'a>(
+    alloc: Global,
+    command: Command<'a>,
+) -> Result<Command<'a>, AllocError>
+    ensures { (app : App) → IsLocalApp command.entry app
+        → IfOk result (λ c. IsLocalApp c (with_commands app (review_app ∷ questions_app ∷ []))) }
+{
+    let command = command.subcommand(review(alloc)?)?;
+    command.subcommand(questions(alloc)?)
+}
+
+/// The program with the commands `extract` and `inspect`.
+fn with_extract_and_inspect<'a>(
+    alloc: Global,
+    command: Command<'a>,
+) -> Result<Command<'a>, AllocError>
+    ensures { (app : App) → IsLocalApp command.entry app
+        → IfOk result (λ c. IsLocalApp c (with_commands app (extract_app ∷ inspect_app ∷ []))) }
+{
+    let command = command.subcommand(extract(alloc)?)?;
+    command.subcommand(inspect(alloc)?)
+}
+
+/// The program with the commands `plan` and `sign`. Of the versions of blocks they take those that are given.
+fn with_plan_and_sign<'a>(
+    alloc: Global,
+    command: Command<'a>,
+    versions: &'a [&'a str],
+) -> Result<Command<'a>, AllocError>
+    ensures { (app : App) → IsLocalApp command.entry app → IfOk result (λ c.
+        IsLocalApp c (with_commands app (plan_app versions.entry ∷ sign_app versions.entry ∷ []))) }
+{
+    let command = command.subcommand(plan(alloc, versions)?)?;
+    command.subcommand(sign(alloc, versions)?)
 }
 
 /// The same commands, of which each option of a number takes a negative one as its value, and then says its range.
 pub fn negative_command<'a>(alloc: Global) -> Result<Command<'a>, AllocError> {
-    let versions = versions();
-    bare(alloc)
-        .subcommand(with_negatives(review(alloc)?)?)?
-        .subcommand(with_negatives(questions(alloc)?)?)?
-        .subcommand(with_negatives(extract(alloc)?)?)?
-        .subcommand(with_negatives(inspect(alloc)?)?)?
-        .subcommand(with_negatives(plan(alloc, versions)?)?)?
-        .subcommand(with_negatives(sign(alloc, versions)?)?)?
-        .subcommand(explain(alloc)?)
+    let mut command = bare(alloc);
+    for order in ORDERS {
+        command = command.subcommand(negative(alloc, order)?)?;
+    }
+    Ok(command)
 }
 
-fn with_negatives<'a>(mut command: Command<'a>) -> Result<Command<'a>, AllocError> {
+/// The command that asks for this.
+fn command_of<'a>(alloc: Global, order: Order) -> Result<Command<'a>, AllocError> {
+    match order {
+        Order::Log(Task::Review) => review(alloc),
+        Order::Log(Task::Questions) => questions(alloc),
+        Order::Log(Task::Extract) => extract(alloc),
+        Order::Log(Task::Inspect) => inspect(alloc),
+        Order::Sent(Signing::Plan) => plan(alloc, versions()),
+        Order::Sent(Signing::Sign) => sign(alloc, versions()),
+        Order::Explain => explain(alloc),
+    }
+}
+
+/// The command that asks for this, of which each option of a number takes a negative one.
+fn negative<'a>(alloc: Global, order: Order) -> Result<Command<'a>, AllocError> {
+    let mut command = command_of(alloc, order)?;
     for name in NUMBERS {
         command = command.mut_arg(name, |arg| Ok(arg.allow_negative_numbers(true)))?;
     }
