@@ -57,12 +57,13 @@ pub fn count_pieces(text: &[u8]) -> usize
     count
 }
 
-/// The hashes that HB's pieces spell; `None` where a piece spells no hash of this algorithm.
+/// The hashes that HB's pieces spell; `None` where a piece spells no hash of this algorithm. Room is taken once, for as
+/// many as there are pieces: a list that grows has up to twice the room, and a reader keeps many of them.
 pub fn hashes_of(alloc: Global, alg: Alg, text: &[u8]) -> Result<Option<Hashes>, NoMemory>
     ensures { IfOk result (λ o. o ≡ (if list_all (λ piece. is_some (hash_in alg piece)) (pieces text.now)
         then Some (hashes_in alg (pieces text.now)) else None)) }
 {
-    let mut hashes = Vec::new(alloc);
+    let mut hashes = Vec::with_capacity(alloc, count_pieces(text))?;
     let mut rest = text;
     while let Some((piece, after)) = split_first(rest, b' ') {
         let Some(hash) = hash_in(alg, piece) else {
