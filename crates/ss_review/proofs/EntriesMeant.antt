@@ -32,7 +32,7 @@ larger a b =
       | inr f ↦ (let more : b ≤ a = ltb-false a b f in inl (omega (arith, more)))
     ]
 
-greatest_of : (a : ℕ) (xs : List ℕ) → (fold max a xs ≡ a) ⊎ Has xs (fold max a xs)
+pub greatest_of : (a : ℕ) (xs : List ℕ) → (fold max a xs ≡ a) ⊎ Has xs (fold max a xs)
 greatest_of a [] = inl refl
 greatest_of a (x ∷ xs) =
     elim (greatest_of (max a x) xs) [

@@ -66,11 +66,11 @@ rises-append key (x ∷ xs) ys up vp l = (
 
 -- ---- the greatest number below another
 
-fold_max-from : (a : ℕ) (xs : List ℕ) → a ≤ fold max a xs
+pub fold_max-from : (a : ℕ) (xs : List ℕ) → a ≤ fold max a xs
 fold_max-from a [] = omega arith
 fold_max-from a (x ∷ xs) = omega (arith, fold_max-from (max a x) xs, le-max_left a x)
 
-fold_max-member : (a : ℕ) (xs : List ℕ) (x : ℕ) → Has xs x → x ≤ fold max a xs
+pub fold_max-member : (a : ℕ) (xs : List ℕ) (x : ℕ) → Has xs x → x ≤ fold max a xs
 fold_max-member a [] x h = absurd h
 fold_max-member a (y ∷ ys) x (inl e) = omega (arith, e, fold_max-from (max a y) ys, le-max_right a y)
 fold_max-member a (y ∷ ys) x (inr h) = fold_max-member (max a y) ys x h

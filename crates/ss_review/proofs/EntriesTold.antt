@@ -59,7 +59,7 @@ numbered_are ms rs ns hs ps e f g =
 
 -- ---- the entries of a group
 
-flat_map_agree : {X Y : Type 0} (f g : X → List Y) (xs : List X) → ((x : X) → Has xs x → f x ≡ g x) → flat_map f xs ≡ flat_map g xs
+pub flat_map_agree : {X Y : Type 0} (f g : X → List Y) (xs : List X) → ((x : X) → Has xs x → f x ≡ g x) → flat_map f xs ≡ flat_map g xs
 flat_map_agree f g [] e = refl
 flat_map_agree f g (x ∷ xs) e =
     let head : f x ≡ g x = e x (inl refl) in

@@ -80,3 +80,7 @@ pub mod JoinedByFragments
 pub mod ToldNumbers
 pub mod StoredPairs
 pub mod Searches
+pub mod MissingRuns
+pub mod CountedTold
+pub mod CountedMeant
+pub mod NextNumbers

@@ -37,7 +37,7 @@ module _ {X : Type 0} (key : X → Session) where
       ap is_lt (session_cmp_total.antisymm (key y) (key x) ∙ ap ordering_reverse up.0.0)
   sorted_at (x ∷ y ∷ ys) up (suc k) d below = sorted_at (y ∷ ys) up.1 k d (omega (arith, below))
 
-  searchable : (xs : List X) (s : Session) → IsStrictlySortedBy session_cmp (map key xs) → IsNonDecreasingBy (λ y. ordering_index (session_cmp (key y) s)) xs
+  pub searchable : (xs : List X) (s : Session) → IsStrictlySortedBy session_cmp (map key xs) → IsNonDecreasingBy (λ y. ordering_index (session_cmp (key y) s)) xs
   searchable xs s up = searchable_from_sorted session_cmp_total key xs s (λ k d from below. rw add-one (sorted_at xs up k d (omega (arith, below))))
 
 -- ---- the session is among them

@@ -18,6 +18,9 @@ pub mod Listing
 pub mod Meaning
 pub mod Witness
 pub mod Accounts
+pub mod Counted
+pub mod CountedLaws
+pub mod CountedSoFar
 pub mod Laws
 pub mod Rows
 pub mod Assigning

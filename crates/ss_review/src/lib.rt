@@ -4,6 +4,7 @@
 
 mod announced;
 mod assign;
+mod counted;
 mod fault;
 mod keep;
 pub mod laws;
@@ -14,6 +15,9 @@ mod report;
 mod review;
 mod sessions;
 
+pub use counted::counted_report::CountedReport;
+pub use counted::counted_session::{CountedSession, CountedSessions, Gbcs};
+pub use counted::missing::{MissingRun, MissingRuns, missing_runs, next_gbc};
 pub use fault::ReviewFault;
 pub use keep::reviewer::Reviewer;
 pub use keep::spoilt::{SpoiltPlace, SpoiltPlaces};

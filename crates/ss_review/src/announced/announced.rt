@@ -17,6 +17,7 @@ use crate::sessions::joined_session::JoinedSession;
 use ss_block::{Session, SigBlock};
 use ss_message::NoMemory;
 use std::alloc::Global;
+use std::mem::drop;
 
 /// Adds the hashes of a signature block, the first under its first number, each other under the next.
 fn add_hashes<'s>(
@@ -71,20 +72,22 @@ fn rows_of<'s>(
 }
 
 /// All that is announced, each row once, in order. The blocks are put in order first, so their rows mostly stand in
-/// theirs. Of each message, what isn't needed any more is let go on the way.
+/// theirs. Of each message, what isn't needed any more is let go on the way. The marks are let go before the blocks: an
+/// allocator that gives memory back from its end alone keeps what was taken before them as long as them.
 fn rows<'s>(
     alloc: Global,
     sessions: &'s [JoinedSession],
     blocks: Vec<BlockMessage>,
-    verified: &[bool],
+    verified: Vec<bool>,
 ) -> Result<Vec<AnnouncedHash<'s>>, NoMemory>
     ensures rise { IfOk result (λ v. IsStrictlySortedBy row_cmp (map row_of v.items)) }
     ensures rows { (says : Answers)
         → map session_with_joined sessions.now ≡ sessions_joined says blocks.items
-        → verified.now ≡ map (is_verified says blocks.items) blocks.items
+        → verified.items ≡ map (is_verified says blocks.items) blocks.items
         → IfOk result (λ v. map row_of v.items ≡ rows says blocks.items) }
 {
-    let mut announced = signature_blocks(alloc, sessions, blocks, verified)?;
+    let mut announced = signature_blocks(alloc, sessions, blocks, verified.as_slice())?;
+    drop(verified);
     announced.sort_unstable_by_key(|block| first_number(block));
     let mut rows = rows_of(alloc, announced)?;
     put_in_order(&mut rows);
@@ -97,15 +100,15 @@ pub(crate) fn announced<'s>(
     alloc: Global,
     sessions: &'s [JoinedSession],
     blocks: Vec<BlockMessage>,
-    verified: &[bool],
+    verified: Vec<bool>,
 ) -> Result<Announced<'s>, NoMemory>
     ensures numbers { (says : Answers)
         → map session_with_joined sessions.now ≡ sessions_joined says blocks.items
-        → verified.now ≡ map (is_verified says blocks.items) blocks.items
+        → verified.items ≡ map (is_verified says blocks.items) blocks.items
         → IfOk result (λ a. map key_of a.numbers.items ≡ keys (rows says blocks.items)) }
     ensures hashes { (says : Answers)
         → map session_with_joined sessions.now ≡ sessions_joined says blocks.items
-        → verified.now ≡ map (is_verified says blocks.items) blocks.items
+        → verified.items ≡ map (is_verified says blocks.items) blocks.items
         → IfOk result (λ a. a.hashes.items ≡ only_hashes (rows says blocks.items)) }
 {
     let rows = rows(alloc, sessions, blocks, verified)?;

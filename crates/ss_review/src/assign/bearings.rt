@@ -39,8 +39,9 @@ pub(crate) fn bearings(
     let mut search = Search::new(list);
     for one in wanted.as_slice() {
         let at = search.find(&one.hash);
-        if one.key < found.len() {
-            found[one.key] = at;
+        let key = one.key as usize;
+        if key < found.len() {
+            found[key] = at;
         }
     }
     Ok(found)

@@ -13,7 +13,7 @@ use std::cmp::Ordering;
 /// The first octets of the hash tell most entries apart, so that few hashes are looked up to put them in order.
 #[derive(Clone, Copy)]
 pub(crate) struct HashEntry {
-    pub(crate) pair: usize,
+    pub(crate) pair: u32,
     pub(crate) place: u32,
     pub(crate) start: [u8; 3],
     pub(crate) alg: Alg,
@@ -50,7 +50,7 @@ pub(crate) fn entry_of(pairs: &[HashPair], message: &StoredMessage, alg: Alg) ->
     HashEntry {
         pair: message.pair,
         place: message.place,
-        start: start_of(&pair_at(pairs, message.pair), alg),
+        start: start_of(&pair_at(pairs, message.pair as usize), alg),
         alg,
     }
 }
@@ -59,7 +59,7 @@ pub(crate) fn entry_of(pairs: &[HashPair], message: &StoredMessage, alg: Alg) ->
 pub(crate) fn hash_of(pairs: &[HashPair], entry: &HashEntry) -> StoredHash
     ensures { result ≡ hash_of pairs.now entry.now }
 {
-    let pair = pair_at(pairs, entry.pair);
+    let pair = pair_at(pairs, entry.pair as usize);
     let sha1 = Hash::Sha1(pair.sha1);
     let sha256 = Hash::Sha256(pair.sha256);
     let (hash, other) = match entry.alg {

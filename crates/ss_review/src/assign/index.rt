@@ -25,3 +25,16 @@ pub(crate) trait Index {
             → has self.now ms
             → IfOk result (λ places. places.items ≡ assigned_all ms hashes.now) };
 }
+
+/// An index that is lent answers as itself.
+impl<'i, I: Index> Index for &'i I {
+    ghost has = { λ index messages. I.has index.now messages };
+
+    fn places(&self, alloc: Global) -> Result<Vec<u32>, NoMemory> {
+        (**self).places(alloc)
+    }
+
+    fn assign(&self, alloc: Global, hashes: &[Option<Hash>]) -> Result<Vec<Option<u32>>, NoMemory> {
+        (**self).assign(alloc, hashes)
+    }
+}

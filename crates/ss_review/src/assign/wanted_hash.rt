@@ -8,11 +8,12 @@ use ss_block::laws::orders::hashes_rise_by_algorithm;
 use ss_message::NoMemory;
 use std::alloc::Global;
 
-/// A hash that a key is announced with, and the number of the key, from 0. They are in the order of their hashes.
+/// A hash that a key is announced with, and the number of the key, from 0. They are in the order of their hashes. There
+/// is one for each announced number, so the number has 32 bits: a log of 10,000,000 messages announces fewer.
 #[derive(Clone, Copy, PartialEq, Eq, PartialOrd, Ord)]
 pub(crate) struct WantedHash {
     pub(crate) hash: Hash,
-    pub(crate) key: usize,
+    pub(crate) key: u32,
 }
 
 /// The hashes that are there, in order.
@@ -22,10 +23,16 @@ pub(crate) fn wanted_hashes(
 ) -> Result<Vec<WantedHash>, NoMemory>
     ensures { IfOk result (λ v. Wanted v.items hashes.now) }
 {
+    if hashes.len() > u32::MAX as usize {
+        return Err(NoMemory);
+    }
     let mut wanted = Vec::with_capacity(alloc, hashes.len())?;
     for (key, hash) in hashes.iter().enumerate() {
         if let Some(hash) = hash {
-            wanted.push(WantedHash { hash: *hash, key })?;
+            wanted.push(WantedHash {
+                hash: *hash,
+                key: key as u32,
+            })?;
         }
     }
     hashes_rise_by_algorithm();

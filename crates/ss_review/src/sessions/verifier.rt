@@ -26,6 +26,23 @@ pub trait Judge {
         ensures { result ≡ valid self.now payload.now octets.now signature.now };
 }
 
+/// A judge that is lent answers as itself, so that whoever takes a judge for good takes one that is lent too.
+impl<'j, J: Judge> Judge for &'j J {
+    ghost sound = { λ judge. J.sound judge.now };
+
+    ghost trusted = { λ judge payload. J.trusted judge.now payload };
+
+    ghost valid = { λ judge payload octets signature. J.valid judge.now payload octets signature };
+
+    fn trusts(&self, payload: &[u8]) -> bool {
+        (**self).trusts(payload)
+    }
+
+    fn accepts(&self, payload: &[u8], octets: &[u8], signature: &[u8]) -> bool {
+        (**self).accepts(payload, octets, signature)
+    }
+}
+
 /// Answers for a scheme by two closures: `trust` says whether a payload is trusted, and `check` whether, under a
 /// payload, octets have a signature. A review asks that they may be called on any octets, and answer exactly what the
 /// scheme says.

@@ -16,4 +16,4 @@ returns-clause-rows c = λ says told e.
     in_order_by row_cmp_total row_cmp_exact row_of _ (λ a b. search rules) c.in_ok-rows.rows.items c.put_in_order.new.items.items c.put_in_order.ensures.rises c.put_in_order.ensures.keeps c.put_in_order.ensures.adds_none
     ∙ ap (in_order row_cmp) c.in_ok-rows.ensures
     ∙ rows_stay rows_by c.in_ok-announced.announced.items c.sort_unstable_by_key.new.self.items c.sort_unstable_by_key.ensures.permutation
-    ∙ ap (in_order row_cmp) (c.in_ok-announced.ensures says told e)
+    ∙ ap (in_order row_cmp) (c.in_ok-announced.ensures says told (c.as_slice.ensures.value ∙ e))

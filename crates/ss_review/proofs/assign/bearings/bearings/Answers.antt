@@ -8,7 +8,7 @@ use Rattle.ss_review.specs.declared.assign.hash_list.HashList.{HashList}
 use Rattle.ss_review.specs.declared.assign.wanted_hash.WantedHash.{WantedHash}
 use Rattle.ss_review.specs.StoredHashes.{listed, stored_cmp, FoundLast, IsBearerAt, Wanted}
 use Rattle.ss_review.proofs.Searches.{BearingsSoFar, NoneIsBelow, none_is_below, next_not_below, rest_not_below, bearings_start, bearings_set, bearings_past, bearings_end}
-use Rattle.ss_review.proofs.assign.bearings.bearings.Goals.{then-one-len, else-one-len}
+use Rattle.ss_review.proofs.assign.bearings.bearings.Goals.{then-key-len, else-key-len}
 use Rattle.ss_review.proofs.assign.bearings.bearings.Goals as goal
 
 pub loop-one-init : goal.loop-one-init
@@ -43,19 +43,19 @@ loop-one-preserved c =
     let at_start = λ (up : IsStrictlySortedBy stored_cmp list). subst (λ (l : HashList). FoundLast (listed l.pairs.now l.entries.now) before.start before.found before.last) (sym old_list) (inv.3 up).0 in
     let bears = λ (up : IsStrictlySortedBy stored_cmp list). subst (λ (l : HashList). IsBearerAt (listed l.pairs.now l.entries.now) one.hash c.find-at.result) old_list (c.find-at.ensures.found (subst (λ (l : HashList). IsStrictlySortedBy stored_cmp (listed l.pairs.now l.entries.now)) (sym old_list) up) (at_start up) above) in
     let set = λ (up : IsStrictlySortedBy stored_cmp list). subst (λ m. BearingsSoFar list hs ws m (slice_set so_far one.key c.find-at.result)) more (bearings_set hs ws is n one at list so_far c.find-at.result (bears up) (inv.3 up).1) in (
-      elim c.if-one-len.branch [
-        | then-one-len w ↦ ap (λ v. length v.items) w.found-is ∙ length-set so_far one.key c.find-at.result ∙ inv.0
-        | else-one-len w ↦ ap (λ v. length v.items) w.found-is ∙ inv.0
+      elim c.if-key-len.branch [
+        | then-key-len w ↦ ap (λ v. length v.items) w.found-is ∙ length-set so_far one.key c.find-at.result ∙ inv.0
+        | else-key-len w ↦ ap (λ v. length v.items) w.found-is ∙ inv.0
       ],
       new_list,
       subst (NoneIsBelow ws (n + 1)) (sym c.find-at.ensures.last) (subst (λ m. NoneIsBelow ws m (Some one.hash)) more (rest_not_below hs ws is n one at)),
       λ up. (
         subst (λ (l : HashList). FoundLast (listed l.pairs.now l.entries.now) after.start after.found after.last) new_list
             (subst (FoundLast (listed after.list.pairs.now after.list.entries.now) after.start after.found) (sym c.find-at.ensures.last) (c.find-at.ensures.next (subst (λ (l : HashList). IsStrictlySortedBy stored_cmp (listed l.pairs.now l.entries.now)) (sym old_list) up) (at_start up) above)),
-        elim c.if-one-len.branch [
-          | then-one-len w ↦ subst (BearingsSoFar list hs ws (n + 1)) (sym (ap (λ v. v.items) w.found-is)) (set up)
-          | else-one-len w ↦ subst (BearingsSoFar list hs ws (n + 1)) (sym (ap (λ v. v.items) w.found-is))
-              (subst (λ m. BearingsSoFar list hs ws m so_far) more (bearings_past hs ws is n one at list so_far c.find-at.result (omega (arith, c.len.ensures, w.if-one-len.false)) (bears up) (inv.3 up).1))
+        elim c.if-key-len.branch [
+          | then-key-len w ↦ subst (BearingsSoFar list hs ws (n + 1)) (sym (ap (λ v. v.items) w.found-is)) (set up)
+          | else-key-len w ↦ subst (BearingsSoFar list hs ws (n + 1)) (sym (ap (λ v. v.items) w.found-is))
+              (subst (λ m. BearingsSoFar list hs ws m so_far) more (bearings_past hs ws is n one at list so_far c.find-at.result (omega (arith, c.len.ensures, w.if-key-len.false)) (bears up) (inv.3 up).1))
         ],
       ),
     )

@@ -1,0 +1,26 @@
+use Rattle.std.proofs.Common.{◌≡◌, map, sym, ap, ◌∙◌}
+use Rattle.ss_review.specs.Verified.{answers, is_verified}
+use Rattle.ss_review.specs.Numbered.{session_with_joined, sessions_joined}
+use Rattle.ss_review.specs.Counted.{counted_sessions}
+use Rattle.ss_review.proofs.counted.reviewing.review_counted.Goals as goal
+
+pub returns : goal.returns
+returns g c =
+    let says = answers g.J.Judge.trusted g.J.Judge.valid c.args.judge in
+    let bs = c.args.blocks.items in
+    let told = c.in_ok-sessions.ensures ∙ ap (sessions_joined says) c.as_slice.ensures.value in
+    let marks : c.in_ok-verified.verified.items ≡ map (is_verified says bs) bs
+    = c.in_ok-verified.ensures (ap (map session_with_joined) c.as_slice-2.ensures.value ∙ told ∙ ap (sessions_joined says) (sym c.as_slice-3.ensures.value))
+    ∙ (λ i. map (is_verified says (c.as_slice-3.ensures.value i)) (c.as_slice-3.ensures.value i)) in
+    let same = c.as_slice-5.ensures.value in
+    record {
+      report = λ log has blocks spoilt count.
+          c.in_ok-report.ensures says log has blocks spoilt count
+          (ap (map session_with_joined) c.as_slice-7.ensures.value ∙ told ∙ ap (sessions_joined says) blocks)
+          (marks ∙ (λ i. map (is_verified says (blocks i)) (blocks i)));
+      counted =
+          c.in_ok-counted.ensures says
+          (ap (map session_with_joined) c.as_slice-4.ensures.value ∙ told ∙ ap (sessions_joined says) (sym same))
+          (c.as_slice-6.ensures.value ∙ marks ∙ (λ i. map (is_verified says (sym same i)) (sym same i)))
+          ∙ ap (counted_sessions says) same;
+    }

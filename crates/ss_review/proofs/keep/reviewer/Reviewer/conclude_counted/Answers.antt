@@ -1,0 +1,27 @@
+use Rattle.std.proofs.Common.{◌≡◌, List, sym, ap, ◌∙◌, subst}
+use Rattle.ss_review.specs.Contents.{blocks, contents}
+use Rattle.ss_review.specs.Counted.{counted_sessions}
+use Rattle.ss_review.specs.Keeping.{Keeps}
+use Rattle.ss_review.specs.Laws.{ListsWhatIsAnnounced}
+use Rattle.ss_review.specs.Notes.{Note, notes}
+use Rattle.ss_review.specs.Report.{report_of}
+use Rattle.ss_review.specs.Verified.{answers}
+use Rattle.ss_review.proofs.TextsTold.{blocks_kept}
+use Rattle.ss_review.proofs.PlacesRise.{normals_rise}
+use Rattle.ss_review.proofs.keep.reviewer.Reviewer.conclude_counted.Goals as goal
+
+pub returns : goal.returns
+returns g c =
+    let self = c.args.self in
+    let says = answers g.J.Judge.trusted g.J.Judge.valid c.args.judge in
+    let told = c.in_ok-review_counted.ensures in
+    let kept : (ns : List Note) → Keeps self ns → c.in_ok-blocks.blocks.items ≡ blocks ns
+    = λ ns k. c.in_ok-blocks.ensures ∙ blocks_kept self.blocks.items ns k.blocks in
+    let report : (ns : List Note) → Keeps self ns → c.in_ok-review_counted.field-0.report ≡ report_of says (contents ns)
+    = λ ns k. told.report (contents ns) (k.normal, normals_rise ns) (kept ns k) (c.as_slice-spoilt.ensures.value ∙ k.spoilt) k.count in
+    record {
+      report = report;
+      counted = λ ns k. told.counted ∙ ap (counted_sessions says) (kept ns k);
+      listed = λ log k. subst (ListsWhatIsAnnounced says log) (sym (report (notes log) k)) (c.reports_list_what_is_announced.ensures says log);
+      fault = tt;
+    }

@@ -1,0 +1,5 @@
+use Rattle.ss_review.proofs.CountedMeant.{counted_are_verified}
+use Rattle.ss_review.proofs.laws.counted.counted_are_verified.Goals as goal
+
+pub returns : goal.returns
+returns c = counted_are_verified

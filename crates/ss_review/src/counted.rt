@@ -1,0 +1,6 @@
+//! Which signature blocks of each session a log has, and which are missing, by their GBC (RFC 5848, section 4.2.5).
+pub(crate) mod counted_report;
+pub(crate) mod counted_session;
+pub(crate) mod counting;
+pub(crate) mod missing;
+pub(crate) mod reviewing;

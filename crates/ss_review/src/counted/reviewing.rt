@@ -1,0 +1,60 @@
+//! The review of a log, with the GBC of its verified signature blocks.
+ghost use Rattle.std.specs.Prelude.{◌≡◌, IfOk};
+ghost use Rattle.ss_review.specs.Contents.{Contents};
+ghost use Rattle.ss_review.specs.Verified.{answers};
+ghost use Rattle.ss_review.specs.Report.{report_of};
+ghost use Rattle.ss_review.specs.Counted.{counted_sessions};
+
+use crate::assign::index::Index;
+use crate::counted::counted_report::CountedReport;
+use crate::counted::counting::counted_sessions;
+use crate::keep::message::BlockMessage;
+use crate::keep::spoilt::SpoiltPlace;
+use crate::report::reporting::reported;
+use crate::sessions::states::joined_sessions;
+use crate::sessions::verified::verified;
+use crate::sessions::verifier::Judge;
+use ss_message::NoMemory;
+use std::alloc::Global;
+use std::mem::drop;
+
+/// What a review says of a log, and the GBC of the verified signature blocks of each of its sessions. The GBC are taken
+/// before the blocks are let go, and the judge goes once it is known which blocks are verified.
+pub(crate) fn review_counted<J: Judge + Drop, I: Index + Drop>(
+    alloc: Global,
+    judge: J,
+    index: I,
+    blocks: Vec<BlockMessage>,
+    spoilt: &[SpoiltPlace],
+    count: u32,
+) -> Result<CountedReport, NoMemory>
+    requires { J.sound judge }
+    ensures report { (log : Contents)
+        → I.has index log.normal
+        → blocks.items ≡ log.blocks
+        → spoilt.now ≡ log.spoilt
+        → count ≡ log.count
+        → IfOk result (λ r. r.report ≡ report_of (answers J.trusted J.valid judge) log) }
+    ensures counted { IfOk result (λ r. r.counted
+        ≡ counted_sessions (answers J.trusted J.valid judge) blocks.items) }
+{
+    let sessions = joined_sessions(alloc, &judge, blocks.as_slice())?;
+    let verified = verified(alloc, &judge, sessions.as_slice(), blocks.as_slice())?;
+    drop(judge);
+    let counted = counted_sessions(
+        alloc,
+        sessions.as_slice(),
+        blocks.as_slice(),
+        verified.as_slice(),
+    )?;
+    let report = reported(
+        alloc,
+        index,
+        sessions.as_slice(),
+        blocks,
+        verified,
+        spoilt,
+        count,
+    )?;
+    Ok(CountedReport { report, counted })
+}

@@ -1,0 +1,42 @@
+//! The review of a log by a reviewer that isn't needed any more, with the signature blocks that the log has.
+ghost use Rattle.std.specs.Prelude.{◌≡◌, ℕ, List, IfOk, IfErr};
+ghost use Rattle.ss_review.specs.declared.fault.ReviewFault.TheVariants.{Memory};
+ghost use Rattle.ss_review.specs.Notes.{Note, notes};
+ghost use Rattle.ss_review.specs.Contents.{blocks, contents};
+ghost use Rattle.ss_review.specs.Verified.{answers};
+ghost use Rattle.ss_review.specs.Report.{report_of};
+ghost use Rattle.ss_review.specs.Counted.{counted_sessions};
+ghost use Rattle.ss_review.specs.Laws.{ListsWhatIsAnnounced};
+ghost use Rattle.ss_review.specs.Keeping.{Keeps};
+
+use crate::counted::counted_report::CountedReport;
+use crate::counted::reviewing::review_counted;
+use crate::fault::ReviewFault;
+use crate::keep::reviewer::Reviewer;
+use crate::keep::reviewer::concluding::blocks_of;
+use crate::laws::reports::reports_list_what_is_announced;
+use crate::sessions::verifier::Judge;
+
+impl Reviewer {
+    /// What `conclude_with` says, and the GBC of the verified signature blocks of each session, which tells what blocks are
+    /// missing (RFC 5848, section 4.2.5): `Memory` where memory runs out.
+    pub fn conclude_counted<J: Judge + Drop>(self, judge: J) -> Result<CountedReport, ReviewFault>
+        requires { J.sound judge }
+        ensures report { (ns : List Note)
+            → Keeps self ns
+            → IfOk result (λ r. r.report ≡ report_of (answers J.trusted J.valid judge) (contents ns)) }
+        ensures counted { (ns : List Note)
+            → Keeps self ns
+            → IfOk result (λ r. r.counted ≡ counted_sessions (answers J.trusted J.valid judge) (blocks ns)) }
+        ensures listed { (log : List (List ℕ))
+            → Keeps self (notes log)
+            → IfOk result (λ r. ListsWhatIsAnnounced (answers J.trusted J.valid judge) log r.report) }
+        ensures fault { IfErr result (λ f. f ≡ Memory) }
+    {
+        let blocks = blocks_of(self.alloc, self.blocks)?;
+        let normal = self.normal;
+        reports_list_what_is_announced();
+        let spoilt = self.spoilt.as_slice();
+        Ok(review_counted(self.alloc, judge, normal, blocks, spoilt, self.count)?)
+    }
+}

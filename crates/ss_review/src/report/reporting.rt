@@ -1,0 +1,55 @@
+//! The report of a log whose blocks were judged.
+ghost use Rattle.std.specs.Prelude.{◌≡◌, map, IfOk};
+ghost use Rattle.ss_review.specs.Contents.{Contents};
+ghost use Rattle.ss_review.specs.Verified.{Answers, is_verified};
+ghost use Rattle.ss_review.specs.Numbered.{session_with_joined, sessions_joined};
+ghost use Rattle.ss_review.specs.Report.{report_of};
+
+use crate::announced::announced::announced;
+use crate::assign::index::Index;
+use crate::keep::message::BlockMessage;
+use crate::keep::spoilt::{SpoiltPlace, SpoiltPlaces};
+use crate::report::grouping::session_reports;
+use crate::report::report::Report;
+use crate::report::unlisted::unlisted;
+use crate::sessions::joined_session::JoinedSession;
+use crate::sessions::verified::refused;
+use ss_message::NoMemory;
+use std::alloc::Global;
+use std::mem::drop;
+
+/// What a review says of a log whose blocks were judged: `sessions` are theirs, and `verified` says which of them are
+/// verified. The blocks are let go before the index is asked, and the index before the report is made.
+pub(crate) fn reported<I: Index + Drop>(
+    alloc: Global,
+    index: I,
+    sessions: &[JoinedSession],
+    blocks: Vec<BlockMessage>,
+    verified: Vec<bool>,
+    spoilt: &[SpoiltPlace],
+    count: u32,
+) -> Result<Report, NoMemory>
+    ensures { (says : Answers) (log : Contents)
+        → I.has index log.normal
+        → blocks.items ≡ log.blocks
+        → spoilt.now ≡ log.spoilt
+        → count ≡ log.count
+        → map session_with_joined sessions.now ≡ sessions_joined says log.blocks
+        → verified.items ≡ map (is_verified says log.blocks) log.blocks
+        → IfOk result (λ r. r ≡ report_of says log) }
+{
+    let refused = refused(alloc, blocks.as_slice(), verified.as_slice())?;
+    let announced = announced(alloc, sessions, blocks, verified)?;
+    let hashes = announced.hashes.as_slice();
+    let places = index.assign(alloc, hashes)?;
+    let stored = index.places(alloc)?;
+    drop(index);
+    let numbers = announced.numbers.as_slice();
+    Ok(Report {
+        sessions: session_reports(alloc, sessions, numbers, hashes, places.as_slice())?,
+        unlisted: unlisted(alloc, stored.as_slice(), places.as_slice())?,
+        refused,
+        spoilt: SpoiltPlaces::from_vec(Vec::from_slice(alloc, spoilt)?),
+        count,
+    })
+}
