@@ -1,9 +1,10 @@
 pub mod LogSoFar
 pub mod TextSoFar
 pub mod FedSoFar
-pub mod Taken
 pub mod Writings
+pub mod LinesWritten
 pub mod Answered
 pub mod EncodedSoFar
 pub mod QuestionLines
+pub mod EscapedText
 pub mod ListedText

@@ -1,5 +1,5 @@
 -- Texts that are written one behind the other.
-use Rattle.std.proofs.Common.{◌≡◌, ℕ, ◌+◌, ◌<◌, Bool, true, false, List, [], ◌∷◌, ◌++◌, length, get_or, take, flat_map, refl, sym, ap, ◌∙◌, subst, append-nil}
+use Rattle.std.proofs.Common.{◌≡◌, ℕ, ◌+◌, ◌<◌, Bool, true, false, List, [], ◌∷◌, ◌++◌, length, get_or, take, flat_map, refl, sym, ap, ◌∙◌, subst, append-nil, append_assoc, codes}
 use Rattle.std.specs.Prelude.{MatchBool}
 use Rattle.std.proofs.KnownBytes.{Appends-nil}
 use Rattle.std.proofs.lemmas.Grind.{flat_map-append}
@@ -74,3 +74,7 @@ pub writes_more : {X : Type 0} (f : X → List ℕ) (xs : List X) (i : ℕ) (d :
     → Writes a b (flat_map f (take i xs)) → Writes b c told → told ≡ f (get_or xs i d) → Writes a c (flat_map f (take (i + 1) xs))
 writes_more f xs i d a b c told within so_far next is =
     writes_next (flat_map f) (flat_map-append f) xs i d a b c told within so_far next (is ∙ sym (append-nil (f (get_or xs i d))))
+
+-- a word and the SP before it, between what stands in front and behind
+pub word_then : (front word is behind : List ℕ) → word ≡ is → front ++ (codes " " ++ word) ++ behind ≡ front ++ codes " " ++ is ++ behind
+word_then front word is behind e = rw e (simp append_assoc)

@@ -12,9 +12,11 @@ use Rattle.ss_review.specs.Extract.{extract}
 use Rattle.ss_review.specs.Laws.{ListsWhatIsAnnounced}
 use Rattle.ss_report.specs.Inspection.{inspection}
 use Rattle.ss_report.specs.ReportText.{report_lines}
+use Rattle.ss_report.specs.Forms.{report_as}
 use Rattle.ss_report.specs.QuestionText.{question_lines}
 use Rattle.ss_report.specs.Verdict.{end_verdict, report_verdict}
 use Rattle.ss_report.specs.Run.{Job, Runs}
+use Rattle.ss_report.specs.declared.forms.report_form.ReportForm.{ReportForm}
 use Rattle.ss_report.specs.declared.verdict.Verdict.{Verdict}
 
 -- a line a message
@@ -29,6 +31,14 @@ inspecting = record {
 abbrev pub reviewing : Answers → Job
 reviewing says = record {
   output = λ messages tail. report_lines (report says messages) tail;
+  verdict = λ messages tail. report_verdict (report says messages) tail;
+  reviews = true;
+}
+
+-- the report in a form, with the verdict of the whole report
+abbrev pub reviewing_as : ReportForm → Answers → Job
+reviewing_as form says = record {
+  output = λ messages tail. report_as form (report says messages) tail;
   verdict = λ messages tail. report_verdict (report says messages) tail;
   reviews = true;
 }
@@ -52,4 +62,9 @@ extracting says = record {
 -- a review that succeeds, and its report lists what is announced
 pub record Reviews (says : Answers) (limits : Allowance) (before after : Source) (was is : Sink) (verdict : Verdict) : Type 0 where
   pub run : Runs (reviewing says) limits before after was is verdict
+  pub listed : ListsWhatIsAnnounced says run.messages (report says run.messages)
+
+-- the same of a review in a form
+pub record ReviewsAs (form : ReportForm) (says : Answers) (limits : Allowance) (before after : Source) (was is : Sink) (verdict : Verdict) : Type 0 where
+  pub run : Runs (reviewing_as form says) limits before after was is verdict
   pub listed : ListsWhatIsAnnounced says run.messages (report says run.messages)

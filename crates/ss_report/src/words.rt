@@ -144,7 +144,7 @@ pub(crate) fn write_spoilt<W: Write>(writer: &mut Watched<W>, place: u64, cause:
 }
 
 /// The number of the cause, 1 to 9.
-fn number_of_cause(cause: Spoil) -> u64
+pub(crate) fn number_of_cause(cause: Spoil) -> u64
     ensures { result ≡ cause_number cause }
 {
     match cause {

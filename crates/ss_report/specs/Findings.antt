@@ -1,0 +1,19 @@
+-- The findings of a report: its plain text without the `ok` lines.
+use Rattle.std.specs.Prelude.{ℕ, Bool, true, false, List, [], if◌then◌else◌}
+use Rattle.ss_report.specs.Lines.{ReportLine, SessionLine, OkLine, GapLine, HoleLine, UnlistedLine, RefusedLine, SpoiltLine, TornLine, EndLine}
+use Rattle.ss_report.specs.ReportText.{line_text}
+
+abbrev pub is_ok : ReportLine → Bool
+is_ok (OkLine s g number place) = true
+is_ok (SessionLine s state) = false
+is_ok (GapLine s g number why) = false
+is_ok (HoleLine s g first last) = false
+is_ok (UnlistedLine place) = false
+is_ok (RefusedLine place) = false
+is_ok (SpoiltLine place cause) = false
+is_ok (TornLine offset) = false
+is_ok (EndLine count) = false
+
+-- each other line as it is
+abbrev pub finding_text : ReportLine → List ℕ
+finding_text line = if is_ok line then [] else line_text line

@@ -1,0 +1,31 @@
+//! The findings of a report.
+ghost use Rattle.std.specs.Prelude.{◌≡◌};
+ghost use Rattle.ss_report.specs.Lines.{seen};
+ghost use Rattle.ss_report.specs.Findings.{is_ok, finding_text};
+
+use crate::forms::text::write_line;
+use crate::lines::form::Form;
+use crate::lines::line::Line;
+use ss_frame::Watched;
+use std::io::Write;
+
+/// The plain text without its `ok` lines.
+#[derive(Clone, Copy)]
+pub(crate) struct Findings;
+
+impl Form for Findings {
+    ghost text = { λ _. finding_text };
+
+    fn write<W: Write>(&self, writer: &mut Watched<W>, line: Line<'_>) {
+        if !is_ok(line) {
+            write_line(writer, line);
+        }
+    }
+}
+
+/// Whether the line says that a message is listed.
+fn is_ok(line: Line<'_>) -> bool
+    ensures { result ≡ is_ok (seen line.entry) }
+{
+    matches!(line, Line::Ok { .. })
+}

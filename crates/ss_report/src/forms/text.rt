@@ -1,0 +1,153 @@
+//! The plain text of a report.
+ghost use Rattle.std.specs.Prelude.{◌≡◌};
+ghost use Rattle.ss_frame.specs.Watched.{sink_of};
+ghost use Rattle.ss_report.specs.Writing.{Writes};
+ghost use Rattle.ss_report.specs.Lines.{seen};
+ghost use Rattle.ss_report.specs.ReportText.{state_word, why_word, session_text, ok_text, gap_text, hole_text, line_text};
+
+use crate::lines::form::Form;
+use crate::lines::line::Line;
+use crate::output::write_text;
+use crate::words::{
+    write_group, write_number_line, write_session, write_spaced, write_spoilt, write_word,
+};
+use ss_block::{Group, Session};
+use ss_frame::Watched;
+use ss_review::{SessionState, Why};
+use std::io::Write;
+
+/// The plain text: each line ended by LF, with one SP between two fields.
+#[derive(Clone, Copy)]
+pub(crate) struct Text;
+
+impl Form for Text {
+    ghost text = { λ _. line_text };
+
+    fn write<W: Write>(&self, writer: &mut Watched<W>, line: Line<'_>) {
+        write_line(writer, line);
+    }
+}
+
+/// Writes the text of a line.
+pub(crate) fn write_line<W: Write>(writer: &mut Watched<W>, line: Line<'_>)
+    ensures { Writes (sink_of W.contents writer.old) (sink_of W.contents writer.new) (line_text (seen line.entry)) }
+{
+    match line {
+        Line::Session { session, state } => write_session_line(writer, session, state),
+        Line::Ok {
+            session,
+            group,
+            number,
+            place,
+        } => write_ok(writer, session, group, number, u64::from(place)),
+        Line::Gap {
+            session,
+            group,
+            number,
+            why,
+        } => write_gap(writer, session, group, number, why),
+        Line::Hole {
+            session,
+            group,
+            first,
+            last,
+        } => write_hole(writer, session, group, first, last),
+        Line::Unlisted { place } => write_number_line(writer, b"unlisted", u64::from(place)),
+        Line::Refused { place } => write_number_line(writer, b"refused", u64::from(place)),
+        Line::Spoilt { place, cause } => write_spoilt(writer, u64::from(place), cause),
+        Line::Torn { offset } => write_number_line(writer, b"torn", offset),
+        Line::End { count } => write_number_line(writer, b"end", u64::from(count)),
+    }
+}
+
+/// session HOST APP PROCID RSID STATE
+#[tactic(auto, unfolding(crate::specs::ReportText::session_text))]
+fn write_session_line<W: Write>(writer: &mut Watched<W>, session: &Session, state: SessionState)
+    ensures { Writes (sink_of W.contents writer.old) (sink_of W.contents writer.new) (session_text session.now state) }
+{
+    write_text(writer, b"session");
+    write_session(writer, session);
+    write_word(writer, word_of_state(state));
+    write_text(writer, b"\n");
+}
+
+/// The word of a state.
+pub(crate) fn word_of_state(state: SessionState) -> &'static [u8]
+    ensures { result.now ≡ state_word state }
+{
+    match state {
+        SessionState::Joined => b"joined",
+        SessionState::Disputed => b"disputed",
+        SessionState::Incomplete => b"incomplete",
+        SessionState::Malformed => b"malformed",
+        SessionState::Untrusted => b"untrusted",
+        SessionState::Unaccepted => b"unaccepted",
+    }
+}
+
+/// ok HOST APP PROCID RSID SG SPRI NUMBER PLACE
+#[tactic(auto, unfolding(crate::specs::ReportText::ok_text))]
+fn write_ok<W: Write>(
+    writer: &mut Watched<W>,
+    session: &Session,
+    group: Group,
+    number: u64,
+    place: u64,
+)
+    ensures { Writes (sink_of W.contents writer.old) (sink_of W.contents writer.new) (ok_text session.now group number place) }
+{
+    write_text(writer, b"ok");
+    write_session(writer, session);
+    write_group(writer, group);
+    write_spaced(writer, number);
+    write_spaced(writer, place);
+    write_text(writer, b"\n");
+}
+
+/// gap HOST APP PROCID RSID SG SPRI NUMBER WHY
+#[tactic(auto, unfolding(crate::specs::ReportText::gap_text))]
+fn write_gap<W: Write>(
+    writer: &mut Watched<W>,
+    session: &Session,
+    group: Group,
+    number: u64,
+    why: Why,
+)
+    ensures { Writes (sink_of W.contents writer.old) (sink_of W.contents writer.new) (gap_text session.now group number why) }
+{
+    write_text(writer, b"gap");
+    write_session(writer, session);
+    write_group(writer, group);
+    write_spaced(writer, number);
+    write_word(writer, word_of_why(why));
+    write_text(writer, b"\n");
+}
+
+/// The word of the cause of a gap.
+pub(crate) fn word_of_why(why: Why) -> &'static [u8]
+    ensures { result.now ≡ why_word why }
+{
+    match why {
+        Why::Lost => b"lost",
+        Why::Disputed => b"disputed",
+    }
+}
+
+/// hole HOST APP PROCID RSID SG SPRI FIRST LAST
+#[tactic(auto, unfolding(crate::specs::ReportText::hole_text))]
+fn write_hole<W: Write>(
+    writer: &mut Watched<W>,
+    session: &Session,
+    group: Group,
+    first: u64,
+    last: u64,
+)
+    ensures { Writes (sink_of W.contents writer.old) (sink_of W.contents writer.new) (hole_text session.now group first last) }
+{
+    write_text(writer, b"hole");
+    write_session(writer, session);
+    write_group(writer, group);
+    write_spaced(writer, first);
+    write_spaced(writer, last);
+    write_text(writer, b"\n");
+}

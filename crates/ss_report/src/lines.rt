@@ -1,0 +1,4 @@
+//! The lines of a report: what one is, what takes them, and the one walk that hands them on.
+pub(crate) mod form;
+pub(crate) mod line;
+pub(crate) mod walk;

@@ -1,0 +1,55 @@
+//! A line of a report.
+use ss_block::{Group, Session, Spoil};
+use ss_review::{SessionState, Why};
+
+/// A thing that a report says. Places count the messages of the log from 0; numbers are 1 to 9,999,999,999.
+#[derive(Clone, Copy)]
+pub(crate) enum Line<'r> {
+    /// A session and its state.
+    Session {
+        session: &'r Session,
+        state: SessionState,
+    },
+    /// The number is announced, and the message at the place is its message.
+    Ok {
+        session: &'r Session,
+        group: Group,
+        number: u64,
+        place: u32,
+    },
+    /// The number is announced, and no message is listed for it.
+    Gap {
+        session: &'r Session,
+        group: Group,
+        number: u64,
+        why: Why,
+    },
+    /// None of the numbers from `first` to `last` is announced, though a greater one is.
+    Hole {
+        session: &'r Session,
+        group: Group,
+        first: u64,
+        last: u64,
+    },
+    /// A message without a block that is listed nowhere.
+    Unlisted {
+        place: u32,
+    },
+    /// A block that isn't verified.
+    Refused {
+        place: u32,
+    },
+    /// A message whose block element holds no block, and the first cause.
+    Spoilt {
+        place: u32,
+        cause: Spoil,
+    },
+    /// The log breaks off in a frame or line, which begins at this octet.
+    Torn {
+        offset: u64,
+    },
+    /// How many messages the log has.
+    End {
+        count: u32,
+    },
+}
