@@ -8,7 +8,7 @@
 #                                    with the ratios to it
 set -eu
 here=$(cd "$(dirname "$0")/.." && pwd)
-program=$here/crates/timing/out/timing
+program=$here/crates/tool_timing/out/tool_timing
 work=$(mktemp -d)
 trap 'rm -rf "$work"' EXIT
 

@@ -9,7 +9,7 @@
 #   bench/joining.sh          times it; it needs /usr/bin/time, which tells the memory
 set -eu
 here=$(cd "$(dirname "$0")/.." && pwd)
-program=$here/crates/timing/out/timing
+program=$here/crates/tool_timing/out/tool_timing
 
 if [ ! -x "$program" ]; then
     echo "bench/joining.sh: there is no program $program; ./check leaves it behind" >&2

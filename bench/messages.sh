@@ -6,7 +6,7 @@
 #   bench/messages.sh [LOG]    LOG: a log of one message a line, which is timed too
 set -eu
 here=$(cd "$(dirname "$0")/.." && pwd)
-program=$here/crates/timing/out/timing
+program=$here/crates/tool_timing/out/tool_timing
 work=$(mktemp -d)
 trap 'rm -rf "$work"' EXIT
 

@@ -3,8 +3,8 @@
 # messages of an originator, and 20,000 deliveries by a seed.
 set -u
 root=$(CDPATH='' cd -- "$(dirname -- "${BASH_SOURCE[0]}")/.." && pwd) || exit 1
-originated=${ORIGINATED:-$root/crates/originated/out/originated}
-reviewed=${REVIEWED:-$root/crates/reviewed/out/reviewed}
+originated=${ORIGINATED:-$root/crates/tool_originated/out/tool_originated}
+reviewed=${REVIEWED:-$root/crates/tool_reviewed/out/tool_reviewed}
 for program in "$originated" "$reviewed"; do
     if [[ ! -x $program ]]; then
         echo "deliveries: there is no program $program; ./check leaves it behind"

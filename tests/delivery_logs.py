@@ -1,7 +1,7 @@
 """Originators that follow one another, by a seed, and logs that deliver from them.
 
-`scripts(seed)` gives the lines for the program `originated` of a session and of another one, and `deliver(seed, chain, other)`
-a log of what both sent.
+`scripts(seed)` gives the lines for the program `tool_originated` of a session and of another one, and
+`deliver(seed, chain, other)` a log of what both sent.
 """
 import random
 

@@ -4,8 +4,8 @@
     kinds.py make SEED COUNT   writes a log of COUNT frames: messages in the grammar, and ones with a few octets changed
     kinds.py tell              reads a log of frames, and writes what `ssign inspect` should
 
-Regular expressions and Python's own base64 and UTF-8 do the work here, a scan over spans there; where the two differ,
-one of them is wrong.
+Messages and their elements are read by rfc5424.py. Regular expressions and Python's own base64 and UTF-8 do the work
+here, a scan over spans in the program; where the two differ, one of them is wrong.
 """
 import base64
 import binascii
@@ -13,105 +13,15 @@ import random
 import re
 import sys
 
-NAME = rb'[\x21\x23-\x3c\x3e-\x5c\x5e-\x7e]'
-VALUE = re.compile(rb'(?:[^"\\\]]|\\.)*', re.S)
-FIELDS = ((255, 4), (48, 5), (128, 6), (32, 7))
+from rfc5424 import NoMessage, read, unescaped
+
 SIGNATURE = [b"VER", b"RSID", b"SG", b"SPRI", b"GBC", b"FMN", b"CNT", b"HB", b"SIGN"]
 CERTIFICATE = [b"VER", b"RSID", b"SG", b"SPRI", b"TPBL", b"INDEX", b"FLEN", b"FRAG", b"SIGN"]
 TEN = 9_999_999_999
 
 
 class Fault(Exception):
-    pass
-
-
-def is_utf8(octets):
-    try:
-        octets.decode("utf-8")
-        return True
-    except UnicodeDecodeError:
-        return False
-
-
-def is_stamp(text):
-    found = re.fullmatch(
-        rb"([0-9]{4})-([0-9]{2})-([0-9]{2})T([0-9]{2}):([0-9]{2}):([0-9]{2})(\.[0-9]{1,6})?(Z|[+-]([0-9]{2}):([0-9]{2}))", text)
-    if not found:
-        return False
-    year, month, day, hour, minute, second = (int(it) for it in found.groups()[:6])
-    leap = year % 4 == 0 and (year % 100 != 0 or year % 400 == 0)
-    days = [31, 29 if leap else 28, 31, 30, 31, 30, 31, 31, 30, 31, 30, 31]
-    if not (1 <= month <= 12 and 1 <= day <= days[month - 1] and hour < 24 and minute < 60 and second < 60):
-        return False
-    return found[9] is None or (int(found[9]) < 24 and int(found[10]) < 60)
-
-
-def parse(text):
-    """The header's fields and the elements of a message, or Fault(part, position)."""
-    found = re.match(rb"<(0|[1-9][0-9]{0,2})>", text)
-    if not found or int(found[1]) > 191:
-        raise Fault(1, 0)
-    at = found.end()
-    if text[at:at + 2] != b"1 ":
-        raise Fault(2, at)
-    at += 2
-    fields = []
-    for limit, part in ((None, 3), *FIELDS):
-        space = text.find(b" ", at)
-        field = text[at:] if space < 0 else text[at:space]
-        right = field == b"-" or is_stamp(field) if part == 3 else re.fullmatch(rb"[\x21-\x7e]{1,%d}" % limit, field)
-        if space < 0 or not right:
-            raise Fault(part, at)
-        fields.append(field)
-        at = space + 1
-    elements, at = structured(text, at)
-    if at < len(text):
-        if text[at:at + 1] != b" ":
-            raise Fault(8, at)
-        if text[at + 1:at + 4] == b"\xef\xbb\xbf" and not is_utf8(text[at + 4:]):
-            raise Fault(12, at + 1)
-    return fields[1:4], elements
-
-
-def name(text, at):
-    run = re.compile(NAME + b"*").match(text, at)
-    if not 1 <= len(run[0]) <= 32:
-        raise Fault(9, at)
-    return run[0], run.end()
-
-
-def structured(text, at):
-    if text[at:at + 1] == b"-":
-        return {}, at + 1
-    if text[at:at + 1] != b"[":
-        raise Fault(8, at)
-    elements = {}
-    while text[at:at + 1] == b"[":
-        start = at + 1
-        sd_id, at = name(text, start)
-        if sd_id in elements:
-            raise Fault(11, start)
-        parameters = []
-        while text[at:at + 1] == b" ":
-            key, at = name(text, at + 1)
-            for octet in b'="':
-                if text[at:at + 1] != bytes([octet]):
-                    raise Fault(8, at)
-                at += 1
-            value = VALUE.match(text, at)
-            end = value.end()
-            if text[end:end + 1] != b'"':
-                # an escape that the end of the message cuts off leaves no octet behind it
-                raise Fault(8, len(text) if text[end:] in (b"", b"\\") else end)
-            if not is_utf8(value[0]):
-                raise Fault(10, at)
-            parameters.append((key, re.sub(rb'\\(["\\\]])', rb"\1", value[0])))
-            at = end + 1
-        if text[at:at + 1] != b"]":
-            raise Fault(8, at)
-        elements[sd_id] = parameters
-        at += 1
-    return elements, at
+    """The block is spoilt; the text is its cause."""
 
 
 def strict(text):
@@ -130,9 +40,9 @@ def number(text, least, most):
 
 
 def block(kind, names, parameters):
-    if [key for key, _ in parameters] != names:
+    if [it.name for it in parameters] != names:
         raise Fault("S2")
-    values = [value for _, value in parameters]
+    values = [it.value for it in parameters]
     size = {b"0111": 20, b"0121": 32}.get(values[0])
     if size is None:
         raise Fault("S3")
@@ -156,8 +66,8 @@ def block(kind, names, parameters):
 
 def tell(message, place):
     try:
-        header, elements = parse(message)
-    except Fault as fault:
+        _, fields, elements = read(message)
+    except NoMessage as fault:
         return b"unparsed %d M%d %d" % (place, *fault.args)
     kinds = [(kind, names, elements[sd_id]) for kind, names, sd_id in
              (("signature", SIGNATURE, b"ssign"), ("certificate", CERTIFICATE, b"ssign-cert")) if sd_id in elements]
@@ -169,7 +79,7 @@ def tell(message, place):
         rsid, numbers = block(*kinds[0])
     except Fault as fault:
         return b"spoilt %d %s" % (place, fault.args[0].encode())
-    words = [kinds[0][0].encode(), b"%d" % place, *header, b"%d" % rsid, *(b"%d" % it for it in numbers)]
+    words = [kinds[0][0].encode(), b"%d" % place, *fields[:3], b"%d" % rsid, *(b"%d" % it for it in numbers)]
     return b" ".join(words)
 
 
@@ -201,7 +111,7 @@ def element(chance):
         names, sd_id = SIGNATURE, b"ssign"
     elif pick < 0.8:
         fragment = chance.choice(FRAGMENTS)
-        size = len(re.sub(rb'\\(["\\\]])', rb"\1", fragment))
+        size = len(unescaped(fragment))
         values = [usual(chance, b"0111", [b"0121", b"0112", b"0211"]), *(usual(chance, b"1", NUMBERS) for _ in range(3)), usual(chance, b"27", NUMBERS),
                   usual(chance, b"1", NUMBERS + [b"27", b"28"]), usual(chance, b"%d" % size, NUMBERS), fragment, usual(chance, b"AAAA", SIGNS)]
         names, sd_id = CERTIFICATE, b"ssign-cert"

@@ -5,8 +5,8 @@
 need_program
 
 for seed in 1 2 3 4; do
-    python3 "$root/tests/kinds.py" make "$seed" 15000 >"$scratch/log"
-    python3 "$root/tests/kinds.py" tell <"$scratch/log" >"$scratch/wanted"
+    python3 -B "$root/tests/kinds.py" make "$seed" 15000 >"$scratch/log"
+    python3 -B "$root/tests/kinds.py" tell <"$scratch/log" >"$scratch/wanted"
     run inspect <"$scratch/log"
     holds "seed $seed: the log is read to its end" test "$status" = 0
     holds "seed $seed: each line is that of the second reading" cmp -- "$scratch/out" "$scratch/wanted"

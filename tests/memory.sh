@@ -1,7 +1,7 @@
 #!/usr/bin/env bash
-# Each allocation of a test is refused in turn. Of the scripts of crates/origins the call that wanted it is made again,
-# and has to send, refuse or count what its row says; of the runs of crates/signings the run is made again, once nothing
-# was written, and has to write what it writes with memory.
+# Each allocation of a test is refused in turn. Of the scripts of crates/test_origins the call that wanted it is made
+# again, and has to send, refuse or count what its row says; of the runs of crates/test_signings the run is made again,
+# once nothing was written, and has to write what it writes with memory.
 # shellcheck source=tests/lib.sh
 . "$(dirname -- "$0")/lib.sh"
 
@@ -37,7 +37,9 @@ if command -v cc >/dev/null; then
 else
     echo "$name: no cc here, so no allocation is refused"
 fi
-plays "${ORIGINS_TESTS:-$root/crates/origins/out/origins_tests}" scripts::goes_on_after_want_of_memory scripts::scripts
-plays "${SIGNINGS_TESTS:-$root/crates/signings/out/signings_tests}" stops::wants_memory_or_gives_the_output rows::makes
+plays "${ORIGINS_TESTS:-$root/crates/test_origins/out/test_origins_tests}" \
+    scripts::goes_on_after_want_of_memory scripts::scripts
+plays "${SIGNINGS_TESTS:-$root/crates/test_signings/out/test_signings_tests}" \
+    stops::wants_memory_or_gives_the_output rows::makes
 
 finish

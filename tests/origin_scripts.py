@@ -1,6 +1,6 @@
 """Scripts of calls to an originator by a seed, made so that the ends of each range and each refusal meet often.
 
-`make(seed)` gives the lines of a script, in the form of the program `originated`.
+`make(seed)` gives the lines of a script, in the form of the program `tool_originated`.
 """
 import random
 

@@ -1,7 +1,7 @@
 #!/usr/bin/env python3
 """Compares the originator with that of `origin_model.py`, over 20,000 scripts of calls by a seed.
 
-    originators.py PROGRAM     the program is `originated`
+    originators.py PROGRAM     the program is `tool_originated`
 
 The last line is `originators: N passed, M failed`.
 """

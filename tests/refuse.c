@@ -1,10 +1,12 @@
 // A library that is loaded in front of a program: it refuses the allocation whose number, from 1, the variable REFUSED
-// has, and writes behind the program's end how many there were. tests/memory.sh compiles it.
+// has, and writes behind the program's end how many there were. A program that then goes on for a minute is ended.
+// tests/memory.sh and tests/refusals.sh compile it.
 #define _GNU_SOURCE
 #include <dlfcn.h>
 #include <errno.h>
 #include <stdio.h>
 #include <stdlib.h>
+#include <unistd.h>
 
 static unsigned long allocations;
 
@@ -29,6 +31,10 @@ void *realloc(void *block, size_t size) {
     if (!next)
         next = dlsym(RTLD_NEXT, "realloc");
     return is_refused() ? NULL : next(block, size);
+}
+
+__attribute__((constructor)) static void begin(void) {
+    alarm(60);
 }
 
 __attribute__((destructor)) static void tell(void) {

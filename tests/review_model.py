@@ -1,13 +1,15 @@
 """The review of a stored log, a second time: the rules of docs/ in plain Python, with nothing of the program in it.
 
 `review(log, trusted, valid)` gives the lines of a report and `questions(log)` those of the questions of a `Log`, in the
-plain format of the program `reviewed`, where octets are hexadecimal. Everything here goes over the whole log again and again,
-since what is wanted of it is that each rule can be read.
+plain format of the program `tool_reviewed`, where octets are hexadecimal. Everything here goes over the whole log again
+and again, since what is wanted of it is that each rule can be read.
 """
 import base64
 import binascii
 import hashlib
 import re
+
+from rfc5424 import NoMessage, is_stamp, read
 
 NAMES = {
     b"ssign": [b"VER", b"RSID", b"SG", b"SPRI", b"GBC", b"FMN", b"CNT", b"HB", b"SIGN"],
@@ -18,144 +20,6 @@ RANGES = {
     b"CNT": (1, 99), b"TPBL": (1, 99999999), b"INDEX": (1, 99999999), b"FLEN": (1, 9999),
 }
 HASHES = {b"0111": ("sha1", 20), b"0121": ("sha256", 32)}
-
-
-# ---- messages (RFC 5424, section 6)
-
-class NoMessage(Exception):
-    """The text is no message of RFC 5424."""
-
-
-class Reader:
-    """A text and how far it was read."""
-
-    def __init__(self, text):
-        self.text = text
-        self.at = 0
-
-    def sees(self, text):
-        return self.text.startswith(text, self.at)
-
-    def ended(self):
-        return self.at == len(self.text)
-
-    def take(self, text):
-        if not self.sees(text):
-            raise NoMessage
-        self.at += len(text)
-
-    def while_in(self, octets, least, most):
-        start, rest = self.at, self.text[self.at:]
-        self.at += len(rest) - len(rest.lstrip(octets))
-        if not least <= self.at - start <= most:
-            raise NoMessage
-        return self.text[start:self.at]
-
-
-PRINTED = bytes(range(33, 127))
-NAME = bytes(octet for octet in PRINTED if octet not in b'=]"')
-UNMARKED = bytes(octet for octet in range(256) if octet not in b'"\\]')
-DIGITS = b"0123456789"
-
-
-def utf8(octets):
-    try:
-        octets.decode("utf-8")
-    except UnicodeDecodeError:
-        return False
-    return True
-
-
-def stamp(text):
-    """Whether it is a TIMESTAMP (section 6.2.3), `-` left out."""
-    if len(text) < 20 or not text.isascii():
-        return False
-    shape = text[:19].translate(bytes.maketrans(DIGITS, b"0" * 10))
-    if shape != b"0000-00-00T00:00:00":
-        return False
-    year, month, day = int(text[:4]), int(text[5:7]), int(text[8:10])
-    hour, minute, second = int(text[11:13]), int(text[14:16]), int(text[17:19])
-    rest = text[19:]
-    if rest[:1] == b".":
-        digits = len(rest[1:]) - len(rest[1:].lstrip(DIGITS))
-        if not 1 <= digits <= 6:
-            return False
-        rest = rest[1 + digits:]
-    if rest != b"Z":
-        if rest.translate(bytes.maketrans(DIGITS + b"-", b"0" * 10 + b"+")) != b"+00:00":
-            return False
-        if int(rest[1:3]) > 23 or int(rest[4:6]) > 59:
-            return False
-    leap = year % 400 == 0 or (year % 4 == 0 and year % 100 != 0)
-    if not 1 <= month <= 12:
-        return False
-    days = {2: 29 if leap else 28, 4: 30, 6: 30, 9: 30, 11: 30}.get(month, 31)
-    return 1 <= day <= days and hour <= 23 and minute <= 59 and second <= 59
-
-
-def message(text):
-    """HOSTNAME, APP-NAME, PROCID and the elements, each an SD-ID and its parameters: name, value without its escapes,
-    where the SP before the parameter stands and where the parameter ends."""
-    reader = Reader(text)
-    reader.take(b"<")
-    pri = reader.while_in(DIGITS, 1, 3)
-    if int(pri) > 191 or pri != b"%d" % int(pri):
-        raise NoMessage
-    reader.take(b">1 ")
-    time = reader.while_in(PRINTED, 1, len(text))
-    if time != b"-" and not stamp(time):
-        raise NoMessage
-    reader.take(b" ")
-    fields = []
-    for most in (255, 48, 128, 32):
-        fields.append(reader.while_in(PRINTED, 1, most))
-        reader.take(b" ")
-    elements = []
-    if reader.sees(b"-"):
-        reader.take(b"-")
-    else:
-        while True:
-            elements.append(element(reader))
-            if not reader.sees(b"["):
-                break
-    if len({sd_id for sd_id, _ in elements}) != len(elements):
-        raise NoMessage
-    if not reader.ended():
-        reader.take(b" ")
-        rest = text[reader.at:]
-        if rest.startswith(b"\xef\xbb\xbf") and not utf8(rest):
-            raise NoMessage
-    return fields[:3], elements
-
-
-def element(reader):
-    reader.take(b"[")
-    sd_id = reader.while_in(NAME, 1, 32)
-    parameters = []
-    while reader.sees(b" "):
-        start = reader.at
-        reader.take(b" ")
-        name = reader.while_in(NAME, 1, 32)
-        reader.take(b'="')
-        raw, value = reader.at, bytearray()
-        while True:
-            value += reader.while_in(UNMARKED, 0, len(reader.text))
-            if reader.sees(b'"'):
-                break
-            if not reader.sees(b"\\"):
-                raise NoMessage
-            reader.take(b"\\")
-            if reader.sees(b'"') or reader.sees(b"\\") or reader.sees(b"]"):
-                value.append(reader.text[reader.at])
-                reader.at += 1
-            else:
-                value += b"\\"
-        if not utf8(reader.text[raw:reader.at]):
-            raise NoMessage
-        reader.take(b'"')
-        parameters.append((name, bytes(value), start, reader.at))
-    reader.take(b"]")
-    return sd_id, parameters
 
 
 # ---- blocks (RFC 5848, sections 4 and 5)
@@ -173,13 +37,13 @@ class Block:
     """A block message that isn't spoilt."""
 
     def __init__(self, place, text, fields, sd_id, parameters):
-        value = {name: octets for name, octets, _, _ in parameters}
+        value = {it.name: it.value for it in parameters}
         number = {name: int(value[name]) for name in RANGES if name in value}
-        _, _, start, end = parameters[8]
+        sign = parameters[8]
         self.place = place
         self.session = (*fields, number[b"RSID"])
         self.group = (number[b"SG"], number[b"SPRI"])
-        self.signed = text[:start] + text[end:]
+        self.signed = text[:sign.start] + text[sign.end:]
         self.sign = base64_of(value[b"SIGN"])
         self.is_certificate = sd_id == b"ssign-cert"
         if self.is_certificate:
@@ -196,10 +60,10 @@ def causes(kinds):
         yield 1
         return
     (sd_id, parameters), = kinds
-    if [name for name, _, _, _ in parameters] != NAMES[sd_id]:
+    if [it.name for it in parameters] != NAMES[sd_id]:
         yield 2
         return
-    value = {name: octets for name, octets, _, _ in parameters}
+    value = {it.name: it.value for it in parameters}
     if value[b"VER"] not in HASHES:
         yield 3
         return
@@ -227,21 +91,21 @@ def causes(kinds):
 def reading(place, text):
     """None for a message without a block element, the number of the cause for a spoilt one, else its block."""
     try:
-        fields, elements = message(text)
+        _, fields, elements = read(text)
     except NoMessage:
         return None
-    kinds = [(sd_id, parameters) for sd_id, parameters in elements if sd_id in NAMES]
+    kinds = [(sd_id, parameters) for sd_id, parameters in elements.items() if sd_id in NAMES]
     if not kinds:
         return None
     for cause in causes(kinds):
         return cause
-    return Block(place, text, fields, *kinds[0])
+    return Block(place, text, fields[:3], *kinds[0])
 
 
 def is_payload(text):
     """A payload block: TIMESTAMP or `-`, SP, a letter, and for each letter but N an SP and a key blob."""
     time, space, rest = text.partition(b" ")
-    if not space or not (time == b"-" or stamp(time)):
+    if not space or not (time == b"-" or is_stamp(time)):
         return False
     if rest in (b"N", b"N "):
         return True

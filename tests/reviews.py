@@ -2,7 +2,7 @@
 """Compares the reviewer with the review of `review_model.py`.
 
     reviews.py model               the model alone, over the logs that were worked out by hand
-    reviews.py compare PROGRAM     and the program `reviewed`, over these and over 10,000 logs by a seed
+    reviews.py compare PROGRAM     and the program `tool_reviewed`, over these and over 10,000 logs by a seed
 
 The last line is `reviews: N passed, M failed`.
 """

@@ -1,0 +1,101 @@
+//! A buffered reader behind which one read fails.
+use ss_frame::{Buffered, FrameFault, FrameReader, Limits, Step, Watched};
+use std::io;
+use std::io::{ErrorKind, Read};
+use std::process::Abort;
+use std::test::Fail;
+use test_devices::Pieces;
+
+/// Passes each read on to the pieces.
+#[derive(Drop)]
+struct Lent<'p, 't> {
+    pieces: &'p mut Pieces<'t>,
+}
+
+impl<'p, 't> Read for Lent<'p, 't> {
+    fn read(&mut self, buf: &mut [u8]) -> io::Result<usize> {
+        self.pieces.read(buf)
+    }
+}
+
+/// A stream of two units whose message is `abc`, and where each of them ends.
+#[derive(Drop)]
+struct Row {
+    limits: Limits,
+    stream: &'static [u8],
+    ends: [u64; 2],
+}
+
+/// Reads the units of `row` through a buffer, where a read behind it takes at most `most` octets and the read of
+/// the number `read`, from 1, fails. All octets that came before are used, the fault is told once, and nothing is
+/// read after it. A read that the stream doesn't need is passed over.
+fn fails_at(
+    rt: &(impl Abort + AllocGlobal),
+    row: &Row,
+    most: u64,
+    read: u64,
+    kind: ErrorKind,
+) -> Result<(), Fail> {
+    let size = row.stream.len() as u64;
+    if read > 1 && size <= read.saturating_sub(2).saturating_mul(most) {
+        return Ok(());
+    }
+    let came = size.min(read.saturating_sub(1).saturating_mul(most));
+    let mut pieces = Pieces::failing(row.stream, most as usize, read, kind);
+    let lent = Lent {
+        pieces: &mut pieces,
+    };
+    let mut reader = Watched::new(Buffered::new(rt.alloc(), lent)?);
+    let mut frames = FrameReader::new(rt.alloc(), row.limits);
+    for end in row.ends {
+        if end <= came {
+            assert!(rt; !reader.failed() && !frames.failed());
+            let answer = frames.next_frame(&mut reader);
+            assert!(rt;
+                matches!(&answer, Ok(Step::Message(message)) if message.as_slice() == b"abc".as_slice()),
+                "{answer:?}, read {read}"
+            );
+        }
+    }
+    for want in [FrameFault::Read, FrameFault::Failed, FrameFault::Failed] {
+        assert!(rt; !reader.failed() || frames.failed(), "before {want:?}");
+        assert_eq!(rt; reader.failed(), matches!(want, FrameFault::Failed));
+        let answer = frames.next_frame(&mut reader);
+        assert!(rt;
+            matches!(&answer, Err(fault) if *fault == want),
+            "{answer:?}, not {want:?}, read {read}"
+        );
+        assert!(rt; reader.failed() && frames.failed());
+    }
+    assert_eq!(rt; frames.offset(), came, "read {read}");
+    drop(reader);
+    assert_eq!(rt; pieces.reads, read);
+    assert_eq!(rt; pieces.taken, came, "read {read}");
+    Ok(())
+}
+
+#[test]
+fn a_read_that_fails_behind_a_buffer_is_told_once(rt: HostRuntime) -> Result<(), Fail> {
+    let limits = Limits::standard();
+    let rows = [
+        Row {
+            limits,
+            stream: b"3 abc3 abc",
+            ends: [5, 10],
+        },
+        Row {
+            limits: limits.lines(),
+            stream: b"abc\nabc\n",
+            ends: [4, 8],
+        },
+    ];
+    for row in &rows {
+        for most in [1, 2, 3, 5, 100_000] {
+            for read in 1..12 {
+                fails_at(&rt, row, most, read, ErrorKind::Interrupted)?;
+                fails_at(&rt, row, most, read, ErrorKind::Other)?;
+            }
+        }
+    }
+    Ok(())
+}

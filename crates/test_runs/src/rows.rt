@@ -1,0 +1,366 @@
+//! Small logs, whole, and what each run writes of them.
+use crate::book::{Job, Who};
+use crate::run::{limits_of, run};
+use crate::texts::{Text, log_of};
+use ss_frame::{Buffered, Form};
+use ss_report::Verdict;
+use std::alloc::AllocError;
+use std::process::Abort;
+use std::test::Fail;
+use test_devices::{Paper, Pieces};
+
+/// The report on a log of two messages and their blocks, 67 octets.
+pub const REPORT: &[u8] =
+    b"session h s - 1 joined\nok h s - 1 0 0 1 0\nok h s - 1 0 0 2 1\nend 4\n";
+
+/// What is asked about it, 509 octets.
+pub const QUESTIONS: &[u8] =
+    b"trust MjAwOS0wNS0wM1QxNDowMDozOVogSyBTMFZa\nyes MjAwOS0wNS0wM1QxNDowMDozOVogSyBTMFZa PDExMD4xIC0gaCBzIC0gLSBbc3NpZ24tY2VydCBWRVI9IjAxMTEiIFJTSUQ9IjEiIFNHPSIwIiBTUFJJPSIwIiBUUEJMPSIyNyIgSU5ERVg9IjEiIEZMRU49IjI3IiBGUkFHPSIyMDA5LTA1LTAzVDE0OjAwOjM5WiBLIFMwVloiXQ== AAAA\nyes MjAwOS0wNS0wM1QxNDowMDozOVogSyBTMFZa PDExMD4xIC0gaCBzIC0gLSBbc3NpZ24gVkVSPSIwMTExIiBSU0lEPSIxIiBTRz0iMCIgU1BSST0iMCIgR0JDPSIwIiBGTU49IjEiIENOVD0iMiIgSEI9InFaaytOa2NHZ1dxNlBpVnhlRkRDYkp6UTJKMD0gaEpnK1JCdzcwbTY2cmtxaCtWRXA1ZVZHY1BFPSJd AAAA\n";
+
+/// What is extracted of it, 64 octets.
+pub const EXTRACT: &[u8] = b"3 abc56 abcdbcdecdefdefgefghfghighijhijkijkljklmklmnlmnomnopnopq";
+
+/// A run over a log, who answers for its signatures, what is written, and the verdict.
+#[derive(Clone, Copy)]
+struct Row {
+    name: &'static str,
+    job: Job,
+    log: &'static [Text],
+    who: Who,
+    text: &'static [u8],
+    verdict: Verdict,
+}
+
+const ROWS: [Row; 32] = [
+    Row {
+        name: "an empty log",
+        job: Job::Review,
+        log: &[],
+        who: Who::All,
+        text: b"end 0\n",
+        verdict: Verdict::Clean,
+    },
+    Row {
+        name: "messages before their blocks",
+        job: Job::Review,
+        log: &[Text::Short, Text::Long, Text::Certificate, Text::Both],
+        who: Who::All,
+        text: REPORT,
+        verdict: Verdict::Clean,
+    },
+    Row {
+        name: "messages behind their blocks",
+        job: Job::Review,
+        log: &[Text::Both, Text::Certificate, Text::Short, Text::Long],
+        who: Who::All,
+        text: b"session h s - 1 joined\nok h s - 1 0 0 1 2\nok h s - 1 0 0 2 3\nend 4\n",
+        verdict: Verdict::Clean,
+    },
+    Row {
+        name: "a missing message",
+        job: Job::Review,
+        log: &[Text::Short, Text::Certificate, Text::Both],
+        who: Who::All,
+        text: b"session h s - 1 joined\nok h s - 1 0 0 1 0\ngap h s - 1 0 0 2 lost\nend 3\n",
+        verdict: Verdict::Findings,
+    },
+    Row {
+        name: "a block twice",
+        job: Job::Review,
+        log: &[
+            Text::Short,
+            Text::Long,
+            Text::Certificate,
+            Text::Both,
+            Text::Both,
+        ],
+        who: Who::All,
+        text: b"session h s - 1 joined\nok h s - 1 0 0 1 0\nok h s - 1 0 0 2 1\nend 5\n",
+        verdict: Verdict::Clean,
+    },
+    Row {
+        name: "one message for two numbers",
+        job: Job::Review,
+        log: &[Text::Short, Text::Certificate, Text::ShortTwice],
+        who: Who::All,
+        text: b"session h s - 1 joined\nok h s - 1 0 0 1 0\ngap h s - 1 0 0 2 lost\nend 3\n",
+        verdict: Verdict::Findings,
+    },
+    Row {
+        name: "three messages for one number",
+        job: Job::Review,
+        log: &[
+            Text::Short,
+            Text::Short,
+            Text::Short,
+            Text::Certificate,
+            Text::ShortAlone,
+        ],
+        who: Who::All,
+        text: b"session h s - 1 joined\nok h s - 1 0 0 1 0\nunlisted 1\nunlisted 2\nend 5\n",
+        verdict: Verdict::Findings,
+    },
+    Row {
+        name: "two messages for one number",
+        job: Job::Review,
+        log: &[
+            Text::Short,
+            Text::Long,
+            Text::Certificate,
+            Text::ShortAlone,
+            Text::LongAlone,
+        ],
+        who: Who::All,
+        text: b"session h s - 1 joined\ngap h s - 1 0 0 1 disputed\nunlisted 0\nunlisted 1\nend 5\n",
+        verdict: Verdict::Findings,
+    },
+    Row {
+        name: "a payload in two fragments",
+        job: Job::Review,
+        log: &[Text::Short, Text::Back, Text::Front, Text::ShortAlone],
+        who: Who::All,
+        text: b"session h s - 1 joined\nok h s - 1 0 0 1 0\nend 4\n",
+        verdict: Verdict::Clean,
+    },
+    Row {
+        name: "a fragment is missing",
+        job: Job::Review,
+        log: &[Text::Short, Text::Back, Text::ShortAlone],
+        who: Who::All,
+        text: b"session h s - 1 incomplete\nunlisted 0\nrefused 1\nrefused 2\nend 3\n",
+        verdict: Verdict::Findings,
+    },
+    Row {
+        name: "two payloads",
+        job: Job::Review,
+        log: &[
+            Text::Short,
+            Text::Certificate,
+            Text::OtherPayload,
+            Text::ShortAlone,
+        ],
+        who: Who::All,
+        text: b"session h s - 1 disputed\nunlisted 0\nrefused 1\nrefused 2\nrefused 3\nend 4\n",
+        verdict: Verdict::Findings,
+    },
+    Row {
+        name: "the last number",
+        job: Job::Review,
+        log: &[Text::Short, Text::Certificate, Text::ShortAtLastNumber],
+        who: Who::All,
+        text: b"session h s - 1 joined\nhole h s - 1 0 0 1 9999999998\nok h s - 1 0 0 9999999999 0\nend 3\n",
+        verdict: Verdict::Findings,
+    },
+    Row {
+        name: "a number behind the last",
+        job: Job::Review,
+        log: &[Text::Certificate, Text::PastLastNumber],
+        who: Who::All,
+        text: b"session h s - 1 joined\nspoilt 1 S9\nend 2\n",
+        verdict: Verdict::Findings,
+    },
+    Row {
+        name: "other elements and a MSG are signed too",
+        job: Job::Review,
+        log: &[Text::Short, Text::Certificate, Text::ShortBesideOthers],
+        who: Who::Only(Text::Certificate, Text::ShortBesideOthers),
+        text: b"session h s - 1 joined\nok h s - 1 0 0 1 0\nend 3\n",
+        verdict: Verdict::Clean,
+    },
+    Row {
+        name: "two sessions announce one message",
+        job: Job::Review,
+        log: &[
+            Text::Short,
+            Text::Certificate,
+            Text::SecondSession,
+            Text::ShortBySha256,
+            Text::ShortOfSecondSession,
+        ],
+        who: Who::All,
+        text: b"session h s - 1 joined\nok h s - 1 0 0 1 0\nsession h s - 2 joined\ngap h s - 2 0 0 1 lost\nend 5\n",
+        verdict: Verdict::Findings,
+    },
+    Row {
+        name: "no payload",
+        job: Job::Review,
+        log: &[Text::NoPayload],
+        who: Who::All,
+        text: b"session h s - 1 malformed\nrefused 0\nend 1\n",
+        verdict: Verdict::Findings,
+    },
+    Row {
+        name: "the payload is not trusted",
+        job: Job::Review,
+        log: &[Text::Short, Text::Long, Text::Certificate, Text::Both],
+        who: Who::NoPayload(Text::Certificate, Text::Both),
+        text: b"session h s - 1 untrusted\nunlisted 0\nunlisted 1\nrefused 2\nrefused 3\nend 4\n",
+        verdict: Verdict::Findings,
+    },
+    Row {
+        name: "no signature is valid",
+        job: Job::Review,
+        log: &[Text::Short, Text::Long, Text::Certificate, Text::Both],
+        who: Who::NoSignature,
+        text: b"session h s - 1 unaccepted\nunlisted 0\nunlisted 1\nrefused 2\nrefused 3\nend 4\n",
+        verdict: Verdict::Findings,
+    },
+    Row {
+        name: "the certificate block alone is valid",
+        job: Job::Review,
+        log: &[Text::Short, Text::Long, Text::Certificate, Text::Both],
+        who: Who::Only(Text::Certificate, Text::Certificate),
+        text: b"session h s - 1 joined\nunlisted 0\nunlisted 1\nrefused 3\nend 4\n",
+        verdict: Verdict::Findings,
+    },
+    Row {
+        name: "a signature block alone",
+        job: Job::Review,
+        log: &[Text::Both],
+        who: Who::All,
+        text: b"session h s - 1 incomplete\nrefused 0\nend 1\n",
+        verdict: Verdict::Findings,
+    },
+    Row {
+        name: "the last octet alone",
+        job: Job::Review,
+        log: &[Text::LastOctet],
+        who: Who::All,
+        text: b"session h s - 1 incomplete\nrefused 0\nend 1\n",
+        verdict: Verdict::Findings,
+    },
+    Row {
+        name: "two lengths",
+        job: Job::Review,
+        log: &[Text::Short, Text::Certificate, Text::LongerPayload],
+        who: Who::All,
+        text: b"session h s - 1 disputed\nunlisted 0\nrefused 1\nrefused 2\nend 3\n",
+        verdict: Verdict::Findings,
+    },
+    Row {
+        name: "the front of the payload is not valid",
+        job: Job::Review,
+        log: &[Text::Short, Text::Front, Text::Back, Text::ShortAlone],
+        who: Who::Only(Text::Back, Text::ShortAlone),
+        text: b"session h s - 1 unaccepted\nunlisted 0\nrefused 1\nrefused 2\nrefused 3\nend 4\n",
+        verdict: Verdict::Findings,
+    },
+    Row {
+        name: "the front is not valid beside the whole",
+        job: Job::Review,
+        log: &[
+            Text::Short,
+            Text::Certificate,
+            Text::Front,
+            Text::ShortAlone,
+        ],
+        who: Who::Only(Text::Certificate, Text::ShortAlone),
+        text: b"session h s - 1 joined\nok h s - 1 0 0 1 0\nrefused 2\nend 4\n",
+        verdict: Verdict::Findings,
+    },
+    Row {
+        name: "two hosts announce one message",
+        job: Job::Review,
+        log: &[
+            Text::Short,
+            Text::Certificate,
+            Text::ShortAlone,
+            Text::HostI,
+            Text::ShortOfHostI,
+        ],
+        who: Who::All,
+        text: b"session h s - 1 joined\nok h s - 1 0 0 1 0\nsession i s - 1 joined\ngap i s - 1 0 0 1 lost\nend 5\n",
+        verdict: Verdict::Findings,
+    },
+    Row {
+        name: "two payloads of two hosts",
+        job: Job::Review,
+        log: &[
+            Text::Short,
+            Text::Certificate,
+            Text::OtherPayloadOfHostI,
+            Text::ShortAlone,
+        ],
+        who: Who::All,
+        text: b"session h s - 1 joined\nok h s - 1 0 0 1 0\nsession i s - 1 joined\nend 4\n",
+        verdict: Verdict::Clean,
+    },
+    Row {
+        name: "hosts before numbers of sessions",
+        job: Job::Review,
+        log: &[Text::HostI, Text::SecondSession, Text::HostH1],
+        who: Who::All,
+        text: b"session h s - 2 joined\nsession h1 s - 1 joined\nsession i s - 1 joined\nend 3\n",
+        verdict: Verdict::Clean,
+    },
+    Row {
+        name: "the questions of two blocks",
+        job: Job::Questions,
+        log: &[Text::Short, Text::Long, Text::Certificate, Text::Both],
+        who: Who::All,
+        text: QUESTIONS,
+        verdict: Verdict::Clean,
+    },
+    Row {
+        name: "no question of a session without a payload",
+        job: Job::Questions,
+        log: &[Text::Short, Text::Back, Text::ShortAlone],
+        who: Who::All,
+        text: b"",
+        verdict: Verdict::Clean,
+    },
+    Row {
+        name: "an extract in the order of numbers",
+        job: Job::Extract,
+        log: &[Text::Both, Text::Certificate, Text::Short, Text::Long],
+        who: Who::All,
+        text: EXTRACT,
+        verdict: Verdict::Clean,
+    },
+    Row {
+        name: "an extract of one message that stands three times",
+        job: Job::Extract,
+        log: &[
+            Text::Short,
+            Text::Short,
+            Text::Short,
+            Text::Certificate,
+            Text::ShortAlone,
+        ],
+        who: Who::All,
+        text: b"3 abc",
+        verdict: Verdict::Findings,
+    },
+    Row {
+        name: "an extract where nothing is trusted",
+        job: Job::Extract,
+        log: &[Text::Short, Text::Long, Text::Certificate, Text::Both],
+        who: Who::NoPayload(Text::Certificate, Text::Both),
+        text: b"",
+        verdict: Verdict::Findings,
+    },
+];
+
+/// The run of a row is the same over frames and over lines, octet by octet and through a buffer.
+fn sees(rt: &(impl Abort + AllocGlobal), row: &Row, form: Form) -> Result<(), AllocError> {
+    let log = log_of(rt.alloc(), row.log, form, b"")?;
+    let limits = limits_of(form);
+    let slow = Pieces::new(&log, 1);
+    let done = run(rt.alloc(), row.job, slow, Paper::new(1), row.who, limits)?;
+    assert_eq!(rt; done.said, Ok(row.verdict), "{}", row.name);
+    assert_eq!(rt; done.paper.text(), row.text, "{}", row.name);
+    let fast = Buffered::new(rt.alloc(), log.as_slice())?;
+    let done = run(rt.alloc(), row.job, fast, Paper::new(1024), row.who, limits)?;
+    assert_eq!(rt; done.said, Ok(row.verdict), "{}", row.name);
+    assert_eq!(rt; done.paper.text(), row.text, "{}", row.name);
+    Ok(())
+}
+
+#[test]
+fn rows(rt: HostRuntime) -> Result<(), Fail> {
+    for row in &ROWS {
+        sees(&rt, row, Form::Frames)?;
+        sees(&rt, row, Form::Lines)?;
+    }
+    Ok(())
+}

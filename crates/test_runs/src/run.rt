@@ -1,0 +1,47 @@
+//! A run over octets, and what it wrote.
+use crate::book::{Job, Who, book_of, run_by, signed_texts};
+use ss_frame::{Form, Limits, Watched};
+use ss_report::{RunFault, Verdict};
+use std::alloc::{AllocError, Global};
+use std::io::Read;
+use test_devices::Paper;
+
+/// How a run ended.
+#[derive(Clone, Copy)]
+pub struct Done {
+    pub said: Result<Verdict, RunFault>,
+    pub read_failed: bool,
+    pub write_failed: bool,
+    /// What was written.
+    pub paper: Paper,
+}
+
+/// The greatest limits in that form.
+pub(crate) fn limits_of(form: Form) -> Limits {
+    match form {
+        Form::Frames => Limits::standard(),
+        Form::Lines => Limits::standard().lines(),
+    }
+}
+
+/// Runs over what `source` gives, where these are the answers about signatures.
+pub(crate) fn run<R: Read + Drop>(
+    alloc: Global,
+    job: Job,
+    source: R,
+    paper: Paper,
+    who: Who,
+    limits: Limits,
+) -> Result<Done, AllocError> {
+    let (first, second) = signed_texts(alloc, who)?;
+    let book = book_of(who, (first.as_slice(), second.as_slice()));
+    let mut reader = Watched::new(source);
+    let mut writer = Watched::new(paper);
+    let said = run_by(alloc, job, &mut reader, &mut writer, &book, limits);
+    Ok(Done {
+        said,
+        read_failed: reader.failed(),
+        write_failed: writer.failed(),
+        paper: writer.into_inner(),
+    })
+}

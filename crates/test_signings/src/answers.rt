@@ -1,0 +1,178 @@
+//! Answers files: the lines of them, made by hand from the format, and that a call succeeds.
+ghost use Rattle.std.specs.Prelude.{◌≡◌};
+ghost use Rattle.ss_answers.specs.Answers.{trusted, valid};
+
+use ss_answers::{AnswerFault, Answers, read_answers};
+use ss_frame::Watched;
+use ss_origin::SealFault;
+use ss_review::{Judge, Verifier};
+use std::io::ErrorKind;
+use std::process::Abort;
+use std::test::Fail;
+use test_devices::Pieces;
+
+const LINES: &[u8] =
+    b"trust S0VZ\nyes S0VZ QQ== AAAA\nseal QQ== AAAA\nseal QQ== BBBB\ntrust S0VZ\n";
+
+fn read(rt: &impl AllocGlobal, text: &[u8], max: u32) -> Result<Answers, AnswerFault> {
+    let mut reader = Watched::new(text);
+    read_answers(rt.alloc(), &mut reader, max)
+}
+
+/// Asks a judge.
+fn ask<J: Judge>(judge: &J, payload: &[u8], bytes: &[u8], signature: &[u8]) -> (bool, bool)
+    requires { J.sound judge.now }
+    ensures trusts { result.0 ≡ J.trusted judge.now payload.now }
+    ensures accepts { result.1 ≡ J.valid judge.now payload.now bytes.now signature.now }
+{
+    (
+        judge.trusts(payload),
+        judge.accepts(payload, bytes, signature),
+    )
+}
+
+/// Answers are a judge of their own.
+fn ask_answers(answers: &Answers, payload: &[u8], bytes: &[u8], signature: &[u8]) -> (bool, bool)
+    ensures trusts { result.0 ≡ trusted answers.now payload.now }
+    ensures accepts { result.1 ≡ valid answers.now payload.now bytes.now signature.now }
+{
+    ask(answers, payload, bytes, signature)
+}
+
+/// Closures over answers make a verifier of their scheme.
+fn ask_closures(answers: &Answers, payload: &[u8], bytes: &[u8], signature: &[u8]) -> (bool, bool)
+    ensures trusts { result.0 ≡ trusted answers.now payload.now }
+    ensures accepts { result.1 ≡ valid answers.now payload.now bytes.now signature.now }
+{
+    let verifier = Verifier::new(
+        answers,
+        |p: &[u8]| answers.trusts(p),
+        |p: &[u8], b: &[u8], s: &[u8]| answers.accepts(p, b, s),
+    );
+    ask(&verifier, payload, bytes, signature)
+}
+
+/// A file, the most octets of it that are read, and why it is refused.
+const REFUSED: [(&[u8], u32, AnswerFault); 15] = [
+    (b"trust S0V\n", 9, AnswerFault::TooBig),
+    (b"trust S0V", 1000, AnswerFault::BadLine { line: 1 }),
+    (b"trust S0VZ\n\n", 1000, AnswerFault::BadLine { line: 2 }),
+    (b"\n", 1000, AnswerFault::BadLine { line: 1 }),
+    (b"trust  S0VZ\n", 1000, AnswerFault::BadLine { line: 1 }),
+    (b"trust S0VZ \n", 1000, AnswerFault::BadLine { line: 1 }),
+    (b"trust S0VZ\r\n", 1000, AnswerFault::BadLine { line: 1 }),
+    (b"trust \n", 1000, AnswerFault::BadLine { line: 1 }),
+    (b"trust QR==\n", 1000, AnswerFault::BadLine { line: 1 }),
+    (b"trust QQ\n", 1000, AnswerFault::BadLine { line: 1 }),
+    (b"trust S0V-\n", 1000, AnswerFault::BadLine { line: 1 }),
+    (b"yes S0VZ QQ==\n", 1000, AnswerFault::BadLine { line: 1 }),
+    (
+        b"seal S0VZ\nwant S0VZ\n",
+        1000,
+        AnswerFault::BadLine { line: 1 },
+    ),
+    (
+        b"trust S0VZ\nwant S0VZ\n",
+        1000,
+        AnswerFault::BadLine { line: 2 },
+    ),
+    (b"want S0VZ\n", 9, AnswerFault::TooBig),
+];
+
+/// Octet by octet, the read of that number fails.
+fn sees_a_failed_read(rt: &(impl Abort + AllocGlobal), read: u64, kind: ErrorKind) {
+    let mut reader = Watched::new(Pieces::failing(LINES, 1, read, kind));
+    let said = read_answers(rt.alloc(), &mut reader, 1000);
+    assert_eq!(rt; said.err(), Some(AnswerFault::Read), "{kind:?} at {read}");
+    assert!(rt; reader.failed(), "{kind:?} at {read}");
+}
+
+/// A reader that never ends, of which one octet more than the most is taken.
+fn sees_no_end(rt: &(impl Abort + AllocGlobal), text: &[u8]) {
+    let mut reader = Watched::new(Pieces::endless(text, text.len()));
+    let said = read_answers(rt.alloc(), &mut reader, 1000);
+    assert_eq!(rt; said.err(), Some(AnswerFault::TooBig));
+    assert!(rt; !reader.failed());
+    assert_eq!(rt; reader.into_inner().taken, 1001);
+}
+
+/// Each fault, and how it is printed.
+const PRINTED: [(AnswerFault, &str); 4] = [
+    (AnswerFault::BadLine { line: 7 }, "A1 7"),
+    (AnswerFault::Read, "A2"),
+    (AnswerFault::TooBig, "A3"),
+    (AnswerFault::Memory, "A4"),
+];
+
+/// Whether the fault is printed so.
+fn is_printed(rt: &impl AllocGlobal, fault: AnswerFault, text: &str) -> bool {
+    match format!(in rt.alloc(); "{fault}") {
+        Ok(printed) => printed.as_str() == text,
+        Err(_) => false,
+    }
+}
+
+#[test]
+fn refuses(rt: HostRuntime) {
+    for (fault, text) in &PRINTED {
+        assert!(rt; is_printed(&rt, *fault, text), "{text}");
+    }
+    for (text, max, fault) in &REFUSED {
+        assert_eq!(rt; read(&rt, text, *max).err(), Some(*fault), "{text:?}");
+    }
+    sees_no_end(&rt, b"9");
+    sees_no_end(&rt, &[b'9'; 2000]);
+    for kind in [ErrorKind::Interrupted, ErrorKind::Other] {
+        for before in 0..=LINES.len() {
+            sees_a_failed_read(&rt, before as u64 + 1, kind);
+        }
+    }
+}
+
+/// What both judges say of these octets.
+fn sees(
+    rt: &impl Abort,
+    answers: &Answers,
+    payload: &[u8],
+    bytes: &[u8],
+    signature: &[u8],
+    want: (bool, bool),
+) {
+    assert_eq!(rt; ask_answers(answers, payload, bytes, signature), want);
+    assert_eq!(rt; ask_closures(answers, payload, bytes, signature), want);
+}
+
+/// The octets have the signature of three zeros.
+fn sees_seal(
+    rt: &(impl Abort + AllocGlobal),
+    answers: &Answers,
+    octets: &[u8],
+) -> Result<(), SealFault> {
+    let signature = answers.seal(rt.alloc(), octets)?;
+    assert_eq!(rt; signature.as_slice(), b"\0\0\0".as_slice());
+    Ok(())
+}
+
+/// The octets have no signature.
+fn sees_no_seal(rt: &(impl Abort + AllocGlobal), answers: &Answers, octets: &[u8]) {
+    let fault = answers.seal(rt.alloc(), octets).err();
+    assert_eq!(rt; fault, Some(SealFault::Refused));
+}
+
+#[test]
+fn answers_by_the_lines(rt: HostRuntime) -> Result<(), Fail> {
+    assert!(rt; !read(&rt, b"", 1000)?.trusts(b"KEY"));
+    assert!(rt; read(&rt, b"trust S0VZ", 1000)?.trusts(b"KEY"));
+    let answers = read(&rt, LINES, LINES.len() as u32)?;
+    sees(&rt, &answers, b"KEY", b"A", b"\0\0\0", (true, true));
+    sees(&rt, &answers, b"KEY", b"A", b"\x04\x10\x41", (true, false));
+    sees(&rt, &answers, b"KEY", b"B", b"\0\0\0", (true, false));
+    sees(&rt, &answers, b"KE", b"A", b"\0\0\0", (false, false));
+    sees(&rt, &answers, b"A", b"A", b"\0\0\0", (false, false));
+    sees_seal(&rt, &answers, b"A")?;
+    sees_no_seal(&rt, &answers, b"KEY");
+    let answers = read(&rt, b"seal S0VZ AAAA", 1000)?;
+    sees_seal(&rt, &answers, b"KEY")?;
+    sees_no_seal(&rt, &answers, b"KEX");
+    Ok(())
+}

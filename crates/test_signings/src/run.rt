@@ -1,0 +1,108 @@
+//! A run over octets, and what it wrote.
+ghost use Rattle.std.specs.Prelude.{◌≡◌, false};
+ghost use Rattle.ss_frame.specs.Watched.{has_failed};
+
+use crate::sealing::{Lenient, Seal, answer};
+use ss_block::{Alg, Head, Payload};
+use ss_frame::{Bytes, Limits, Watched};
+use ss_message::Field;
+use ss_origin::{Config, Grouping, Sealer};
+use ss_report::RunFault;
+use ss_signing::{SignFault, run_plan, run_sign};
+use std::alloc::{AllocError, Global};
+use std::io::{Read, Write};
+use test_devices::Paper;
+
+/// The payload of the certificate blocks.
+const PAYLOAD: &[u8] = b"2009-05-03T14:00:39Z K S0VZ";
+
+/// Which run, and for `Sign` what the sealer answers.
+#[derive(Clone, Copy, Debug)]
+pub enum Job {
+    Plan,
+    Sign(Seal),
+}
+
+/// How many hashes a block has, and how often it is sent.
+pub type Sizes = (u8, u8);
+
+/// How a run ended.
+#[derive(Clone, Copy)]
+pub struct Done {
+    pub said: Result<(), SignFault>,
+    pub read_failed: bool,
+    pub write_failed: bool,
+    /// What was written.
+    pub paper: Paper,
+}
+
+fn text(alloc: Global, octets: &[u8]) -> Result<Field, AllocError> {
+    Ok(Field::Text(Bytes::from_vec(Vec::from_slice(alloc, octets)?)))
+}
+
+/// One group, with PRI 110, HOSTNAME `h` and APP-NAME `s`.
+fn config(alloc: Global, sizes: Sizes) -> Result<Option<Config>, AllocError> {
+    let host = text(alloc, b"h")?;
+    let app = text(alloc, b"s")?;
+    let Some(head) = Head::new(110, host, app, Field::Nil, Field::Nil) else {
+        return Ok(None);
+    };
+    Ok(Some(Config {
+        head,
+        alg: Alg::Sha1,
+        rsid: 1,
+        grouping: Grouping::One { spri: 0 },
+        per_block: sizes.0,
+        copies: sizes.1,
+        frag: 500,
+    }))
+}
+
+/// A run between watched devices.
+pub(crate) fn run_by<R: Read, W: Write>(
+    alloc: Global,
+    job: Job,
+    reader: &mut Watched<R>,
+    writer: &mut Watched<W>,
+    sizes: Sizes,
+    limits: Limits,
+) -> Result<(), SignFault>
+    requires reader { has_failed reader.old ≡ false }
+    requires writer { has_failed writer.old ≡ false }
+{
+    let memory = SignFault::Run(RunFault::Memory);
+    let Ok(Some(config)) = config(alloc, sizes) else {
+        return Err(memory);
+    };
+    let Ok(Some(payload)) = Payload::parse(alloc, PAYLOAD) else {
+        return Err(memory);
+    };
+    match job {
+        Job::Plan => run_plan(alloc, reader, writer, config, payload, None, limits),
+        Job::Sign(told) => {
+            let seal = move |alloc: Global, octets: &[u8]| answer(alloc, told, octets);
+            let sealer = Sealer::new(&Lenient, payload, seal);
+            run_sign(alloc, reader, writer, config, sealer, None, limits)
+        }
+    }
+}
+
+/// Runs over what `source` gives.
+pub(crate) fn run<R: Read + Drop>(
+    alloc: Global,
+    job: Job,
+    source: R,
+    paper: Paper,
+    sizes: Sizes,
+    limits: Limits,
+) -> Done {
+    let mut reader = Watched::new(source);
+    let mut writer = Watched::new(paper);
+    let said = run_by(alloc, job, &mut reader, &mut writer, sizes, limits);
+    Done {
+        said,
+        read_failed: reader.failed(),
+        write_failed: writer.failed(),
+        paper: writer.into_inner(),
+    }
+}
