@@ -1,0 +1,373 @@
+#!/usr/bin/env python3
+"""Counts what a program does with an input and with one twice as large: at most 2.3 times as much.
+
+    cost.py PROGRAM [--count LIBRARY] [--slow PROGRAM] [--only WORD] [--show] [--instructions]
+
+No clock is read, so the answer is the same on each machine, however busy it is. What a run takes on an empty log is
+taken off both counts. They are
+
+  steps    how often a run of instructions was entered that goes on to the next jump, as valgrind counts them. A loop
+           takes one for each turn, so this sees a search through a list better than a count of instructions, of which
+           a hash has many without a jump. perf counts jumps where there is no valgrind; where neither is there,
+           nothing does, and that is said
+  calls    how often room was taken or changed
+  peak     the most octets that were taken at one time, from which nothing is taken off. There are few for each octet
+           that is read or written
+  moved    the octets that were copied, filled or kept by a change of room
+  passed   the octets that were read and written
+
+of which LIBRARY, made of tests/count.c, counts all but the steps. The inputs are those of cost_logs.py. The program of
+--slow, made of tests/slow.c, is one that is too slow in a way that it is told: it has to be found out. --only takes the
+shapes whose name holds a word, --show prints each ratio, and --instructions has callgrind count each instruction as a
+step, which takes some minutes. The last line is `cost: N passed, M failed`.
+"""
+import argparse
+import collections
+import concurrent.futures
+import os
+import re
+import shutil
+import subprocess
+import sys
+import tempfile
+
+import cost_logs as logs
+
+MOST = 2.3
+# what is too little to have a ratio: a list that grows once more, a number with one digit more
+SLACK = {"steps": 3000, "calls": 40, "peak": 4096, "moved": 4096, "passed": 0}
+# of the C library: so an instruction that copies many octets by itself doesn't count as one step for each
+TUNED = {"GLIBC_TUNABLES": "glibc.cpu.x86_rep_movsb_threshold=1000000000:glibc.cpu.x86_rep_stosb_threshold=1000000000"}
+# the most octets that are taken at one time: this many, and so many more for each octet that is read or written
+ROOM, ROOM_FOR_EACH = 1 << 19, 32
+# a run that takes more seconds hangs, however busy the machine is
+PATIENCE = 300
+COMMANDS = REVIEW, EXTRACT, QUESTIONS, INSPECT, PLAN, SIGN = "review", "extract", "questions", "inspect", "plan", "sign"
+
+# each shape, how large its smaller input is, the commands whose steps are counted, and those of which the rest is
+SHAPES = [
+    (logs.signed, 900, [REVIEW, QUESTIONS, EXTRACT, INSPECT], []),
+    (logs.unanswered, 900, [], [REVIEW, EXTRACT]),
+    (logs.by_sha256, 900, [], [REVIEW]),
+    (logs.falling, 900, [], [REVIEW, QUESTIONS, EXTRACT]),
+    (logs.equal, 900, [REVIEW], [EXTRACT]),
+    (logs.one_hash, 900, [REVIEW], [EXTRACT]),
+    (logs.hashes_alike, 450, [REVIEW], []),
+    (logs.sessions, 900, [REVIEW, QUESTIONS], [EXTRACT]),
+    (logs.hosts_alike, 900, [REVIEW], [QUESTIONS]),
+    (logs.groups, 768, [REVIEW], []),
+    (logs.apart, 900, [REVIEW], []),
+    (logs.far_apart, 900, [REVIEW], []),
+    (logs.disputed, 900, [REVIEW], []),
+    (logs.one_number, 900, [REVIEW], []),
+    (logs.repeated, 900, [REVIEW, QUESTIONS], [EXTRACT]),
+    (logs.overlapping, 900, [REVIEW], []),
+    (logs.signatures, 900, [REVIEW], []),
+    (logs.fragments_rising, 900, [], [REVIEW, QUESTIONS, EXTRACT]),
+    (logs.fragments_falling, 1800, [REVIEW], []),
+    (logs.fragments_shuffled, 900, [REVIEW], []),
+    (logs.copies, 900, [REVIEW], []),
+    (logs.copies_joined, 900, [], [REVIEW, QUESTIONS]),
+    (logs.fragments_apart, 896, [REVIEW], []),
+    (logs.scattered, 900, [], [REVIEW, QUESTIONS]),
+    (logs.stated, 900, [], [REVIEW]),
+    (logs.totals, 900, [], [REVIEW]),
+    (logs.spoilt, 900, [REVIEW], [INSPECT]),
+    (logs.shortest, 3000, [REVIEW, INSPECT], []),
+    (logs.long_text, 100_000, [], [REVIEW, INSPECT]),
+    (logs.no_text, 100_000, [REVIEW], [INSPECT]),
+    (logs.openings, 20_000, [REVIEW], [INSPECT]),
+    (logs.elements, 5000, [INSPECT], [REVIEW]),
+    (logs.elements_alike, 10_000, [REVIEW], [INSPECT]),
+    (logs.parameters, 12_000, [REVIEW], [INSPECT]),
+    (logs.escapes, 30_000, [REVIEW], [INSPECT]),
+    (logs.values, 30_000, [INSPECT], [REVIEW]),
+    (logs.pieces, 3000, [REVIEW], [INSPECT]),
+    (logs.beside, 3000, [REVIEW], [QUESTIONS]),
+    (logs.long_sign, 50_000, [REVIEW], [QUESTIONS]),
+    (logs.sent, 900, [PLAN, SIGN], []),
+    (logs.sent_one_by_one, 900, [SIGN], [PLAN]),
+    (logs.sent_equal, 900, [], [SIGN]),
+    (logs.sent_in_groups, 1920, [SIGN], [PLAN]),
+    (logs.sent_in_ranges, 1920, [], [PLAN]),
+    (logs.sent_often, 900, [], [SIGN]),
+    (logs.sent_payload, 900, [SIGN], [PLAN]),
+    (logs.yes_lines, 6000, [REVIEW], []),
+    (logs.yes_rising, 12_000, [], [REVIEW]),
+    (logs.yes_falling, 12_000, [], [REVIEW]),
+    (logs.yes_equal, 12_000, [], [REVIEW]),
+    (logs.yes_alike, 900, [REVIEW], []),
+    (logs.trust_lines, 6000, [REVIEW], []),
+    (logs.trust_equal, 12_000, [], [REVIEW]),
+    (logs.long_line, 100_000, [REVIEW], []),
+    (logs.bad_line, 24_000, [REVIEW], []),
+    (logs.seals_beside, 12_000, [], [REVIEW]),
+    (logs.seals, 6000, [SIGN], []),
+    (logs.seals_alike, 900, [], [SIGN]),
+    (logs.seals_equal, 12_000, [], [SIGN]),
+]
+# those that are read as lines too
+IN_LINES = {logs.signed, logs.sent}
+# each line repeats the payload: by its format this output grows with the square, and the rest may grow as it does
+AS_WRITTEN = {(logs.fragments_rising, QUESTIONS)}
+
+# what each slow stand-in has to be found out by, and on which shape
+SLOW = [
+    ("", logs.shortest, 3000, None),
+    ("looks", logs.shortest, 1500, "steps"),
+    ("octets", logs.no_text, 8000, "steps"),
+    ("copies", logs.shortest, 3000, "moved"),
+    ("keeps", logs.shortest, 1500, "peak"),
+    ("takes", logs.shortest, 3000, "calls"),
+    ("reads", logs.shortest, 3000, "passed"),
+    ("rooms", logs.shortest, 1500, "room"),
+]
+
+passed = failed = 0
+
+
+def tell(what, fault=""):
+    """One check, passed where there is no fault."""
+    global passed, failed
+    if not fault:
+        passed += 1
+        return
+    failed += 1
+    print("cost: %s: FAILED\n    %s" % (what, fault))
+
+
+# ---- steps
+
+class Counter:
+    """A tool that runs a program and says how many steps it took."""
+
+    def __init__(self, tool, words, said, told):
+        self.tool, self.words, self.said, self.told = tool, words, said, told
+        # what stands in front of the program
+        self.loader = []
+
+    def count(self, words, **how):
+        """How many steps a run takes, or None where that isn't told."""
+        with tempfile.NamedTemporaryFile() as said:
+            subprocess.run([self.tool, *self.words, self.said + said.name, *self.loader, *words], timeout=PATIENCE,
+                           stdout=subprocess.DEVNULL, stderr=subprocess.DEVNULL, check=False, **how)
+            found = re.search(self.told, said.read().decode(), re.MULTILINE)
+        return int(found[1].replace(",", "")) if found else None
+
+    def works(self):
+        return shutil.which(self.tool) and self.count(["/bin/true"], stdin=subprocess.DEVNULL)
+
+
+VALGRIND = Counter(
+    "valgrind", ["--tool=none", "--stats=yes", "--vgdb=no", "--vex-iropt-level=1", "--vex-guest-chase=no"],
+    "--log-file=", r"scheduler: ([0-9,]+) event checks")
+CALLGRIND = Counter("valgrind", ["--tool=callgrind", "--callgrind-out-file=/dev/null"],
+                    "--log-file=", r"Collected : (\d+)")
+PERF = Counter("perf", ["stat", "-x", ",", "-e", "branches:u"], "--output=", r"^(\d+),,branches")
+
+
+def without_debug_data(program, folder):
+    """The loader of a program with copies of itself and of the C library, by which debug data of them isn't found.
+
+    valgrind reads these data at each start, which takes longer than most runs here. They are found by the build ID.
+    """
+    listed = subprocess.run(["ldd", program], capture_output=True, text=True, check=False).stdout
+    loader = re.search(r"^\s*(/\S+/ld-\S+) \(", listed, re.MULTILINE)
+    library = re.search(r"libc\.so\.6 => (\S+)", listed)
+    if not loader or not library:
+        return []
+    note = b"\x04\0\0\0\x14\0\0\0\x03\0\0\0GNU\0"
+    for path, name in ((loader[1], "loader"), (library[1], "libc.so.6")):
+        with open(path, "rb") as file:
+            octets = file.read()
+        head, found, rest = octets.partition(note)
+        with open(os.path.join(folder, name), "wb") as file:
+            file.write(head + found + bytes(20) + rest[20:] if found else octets)
+    os.chmod(os.path.join(folder, "loader"), 0o755)
+    return [os.path.join(folder, "loader"), "--library-path", folder]
+
+
+# ---- runs
+
+def run(words, log, library="", environment=None):
+    """Status, standard output, standard error, and what the library counts."""
+    with tempfile.NamedTemporaryFile() as counts, open(log, "rb") as file:
+        loaded = {"LD_PRELOAD": library, "COUNTS": counts.name} if library else {}
+        done = subprocess.run(words, stdin=file, capture_output=True, timeout=PATIENCE, check=False,
+                              env={**(environment or os.environ), **loaded})
+        told = dict(zip(("calls", "peak", "moved", "passed"), map(int, counts.read().split())))
+    return done.returncode, done.stdout, done.stderr, told
+
+
+def count_frames(octets):
+    at = count = 0
+    while at < len(octets):
+        space = octets.index(b" ", at)
+        at, count = space + 1 + int(octets[at:space]), count + 1
+    return count
+
+
+def fault_of(said, wanted, of_frames):
+    """Whether a run says what the maker of its input says."""
+    status, out, err, _ = said
+    words = collections.Counter(line.split()[0].decode() for line in out.splitlines() if not of_frames)
+    told = count_frames(out) if of_frames else dict(words)
+    if (status, told) == wanted:
+        return ""
+    return "it ended with %d %r %r, and not with %r" % (status, told, err[:100], wanted)
+
+
+class Bench:
+    """A program, a folder for its inputs, and what counts."""
+
+    def __init__(self, program, folder, library, counter, environment=None):
+        self.program, self.folder, self.library, self.counter = program, folder, library, counter
+        self.environment = {**os.environ, **(environment or {})}
+        self.bases = {}
+
+    def kinds(self):
+        """What is counted, and None."""
+        by_library = ["calls", "peak", "room", "moved", "passed"] if self.library else []
+        return [None] + (["steps"] if self.counter else []) + by_library
+
+    def command(self, command, made, log, of_lines, stepped):
+        """What one command takes of an input that was written to a file, and the fault of what it says."""
+        words = made.options + (["--lines"] if of_lines else [])
+        lines = list(made.answers)
+        if command == SIGN:
+            wants = run([self.program, PLAN] + words, log)[1].splitlines()
+            lines += [b"seal " + line[5:] + b" AAAA" for line in wants]
+        if command in (REVIEW, EXTRACT, SIGN):
+            with open(log + ".answers", "wb") as file:
+                file.writelines(line + b"\n" for line in lines)
+            words = words + ["--answers", log + ".answers"]
+        words = [self.program, command] + words
+        said = run(words, log, self.library, self.environment)
+        counts = said[3]
+        if self.counter and stepped:
+            with open(log, "rb") as file:
+                counts["steps"] = self.counter.count(words, stdin=file, env={**self.environment, **TUNED}) or 0
+        return counts, fault_of(said, made.says[command], command in (EXTRACT, SIGN))
+
+    def counts(self, made, name, commands, stepped):
+        """The same of each command, as frames and as lines."""
+        done = {}
+        for of_lines in {of_lines for _, of_lines in commands}:
+            log = os.path.join(self.folder, "%s.%d" % (name, of_lines))
+            with open(log, "wb") as file:
+                file.writelines(text + b"\n" if of_lines else b"%d %s" % (len(text), text) for text in made.messages)
+            for command in (command for command, form in commands if form == of_lines):
+                done[command, of_lines] = self.command(command, made, log, of_lines, command in stepped)
+        return done
+
+    def empty(self, command):
+        """Counts what a command takes without an input, and gives the fault of what it says."""
+        made = logs.sending(0, 1) if command in (PLAN, SIGN) else logs.nothing()
+        counts, fault = self.counts(made, "empty." + command, [(command, False)], [command])[command, False]
+        # the most that is taken at one time may be taken at another time than with an input
+        self.bases[command] = {**counts, "peak": 0}
+        return fault
+
+    def less(self, command, counts):
+        return {kind: max(it - self.bases.get(command, {}).get(kind, 0), 0) for kind, it in counts.items()}
+
+    def twice(self, shape, n, stepped, others):
+        """Of each command, the counts of an input and of one twice as large, and the fault of what is said."""
+        forms = (False, True) if shape in IN_LINES else (False,)
+        commands = [(command, form) for command in stepped + others for form in forms]
+        small, large = (self.counts(shape(size), "%s.%d" % (shape.__name__, size), commands, stepped)
+                        for size in (n, 2 * n))
+        return {it: ([self.less(it[0], both[it][0]) for both in (small, large)], small[it][1] or large[it][1])
+                for it in commands}
+
+
+# ---- the checks
+
+def over(counts, as_written=False):
+    """The kinds of counts that grow too much, and a sentence on each."""
+    small, large = counts
+    most = dict.fromkeys(small, MOST)
+    if as_written:
+        most = {kind: MOST if kind == "peak" else MOST / 2 * large["passed"] / small["passed"] for kind in small}
+    return {kind: "%d %s, and %d for twice the input: %.2f times" % (
+        small[kind], kind, large[kind], large[kind] / max(small[kind], 1))
+        for kind in small if large[kind] > most[kind] * small[kind] + SLACK[kind]}
+
+
+def fault_of_room(counts):
+    """Whether more room is taken than for what is read: as for a length that is stated, and never comes."""
+    most = ROOM + ROOM_FOR_EACH * counts["passed"]
+    return "" if counts["peak"] <= most else "%d octets are taken, and at most %d wanted" % (counts["peak"], most)
+
+
+def shown(counts):
+    small, large = counts
+    return "  ".join("%s %9d %.2f" % (kind, it, large[kind] / max(it, 1)) for kind, it in sorted(small.items()))
+
+
+def check_program(bench, pool, word, show):
+    for command, fault in zip(COMMANDS, pool.map(bench.empty, COMMANDS)):
+        tell("%s of the empty log: what it says" % command, fault)
+    shapes = [it for it in SHAPES if word in it[0].__name__]
+    for (shape, *_), done in zip(shapes, [pool.submit(bench.twice, *it) for it in shapes]):
+        for (command, of_lines), (counts, fault) in done.result().items():
+            what = "%s of %s%s" % (command, shape.__name__, ", as lines" if of_lines else "")
+            tell(what + ": what it says", fault)
+            too_much = over(counts, (shape, command) in AS_WRITTEN)
+            for kind in counts[0]:
+                tell(what + ": " + kind, too_much.get(kind, ""))
+            if "peak" in counts[0]:
+                tell(what + ": room", fault_of_room(counts[1]))
+            if show:
+                print("%-36s %s" % (what, shown(counts)))
+
+
+def check_slow(benches, pool, show):
+    """That a program which is too slow is found out, and that one which isn't passes."""
+    runs = [it for it in SLOW if it[3] in benches[it[0]].kinds()]
+    done = [pool.submit(benches[name].twice, shape, n, *(([REVIEW], []) if kind in (None, "steps") else ([], [REVIEW])))
+            for name, shape, n, kind in runs]
+    for (name, shape, _, kind), it in zip(runs, done):
+        counts, fault = it.result()[REVIEW, False]
+        too_much = over(counts)
+        if "peak" in counts[1] and fault_of_room(counts[1]):
+            too_much["room"] = fault_of_room(counts[1])
+        tell("the stand-in %s: what it says" % name, fault)
+        if kind:
+            tell("the stand-in that %s is found out" % name, "" if kind in too_much else "%s: %r" % (kind, counts))
+        else:
+            tell("the stand-in that is even passes", "; ".join(too_much.values()))
+        if show:
+            print("the stand-in %-8s of %-10s: %s" % (name, shape.__name__, "; ".join(too_much.values()) or "nothing"))
+
+
+def main():
+    parser = argparse.ArgumentParser(description=__doc__, formatter_class=argparse.RawDescriptionHelpFormatter)
+    parser.add_argument("program")
+    parser.add_argument("--count", default="")
+    parser.add_argument("--slow", default="")
+    parser.add_argument("--only", default="")
+    parser.add_argument("--show", action="store_true")
+    parser.add_argument("--instructions", action="store_true")
+    given = parser.parse_args()
+    counter = next((it for it in ([CALLGRIND] if given.instructions else [VALGRIND, PERF]) if it.works()), None)
+    if not counter:
+        print("cost: neither valgrind nor perf counts here, so no steps are counted")
+    jobs = min(4, os.cpu_count() or 1)
+    with tempfile.TemporaryDirectory() as folder, concurrent.futures.ThreadPoolExecutor(jobs) as pool:
+        if counter and counter.tool == "valgrind":
+            counter.loader = without_debug_data(given.program, folder)
+        check_program(Bench(given.program, folder, given.count, counter), pool, given.only, given.show)
+        if given.slow:
+            benches = {}
+            for name, *_ in SLOW:
+                inputs = os.path.join(folder, "slow " + name)
+                os.mkdir(inputs)
+                benches[name] = Bench(given.slow, inputs, given.count, counter, {"SLOW": name})
+            check_slow(benches, pool, given.show)
+    print("cost: %d passed, %d failed" % (passed, failed))
+    return failed > 0 or passed == 0
+
+
+if __name__ == "__main__":
+    sys.exit(main())

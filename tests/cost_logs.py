@@ -1,0 +1,532 @@
+"""Logs and answers of so many parts, honest ones and those that strangers could make, for tests/cost.py.
+
+Each function takes a count and gives an `Input`, which has what commands have to say of it: the status, and how many
+lines of each first word there are, or for `extract` and `sign` how many frames. That shows that the input is what its
+name says. All of it was worked out from docs/FORMATS.md.
+"""
+import hashlib
+import random
+
+from signed_log import HEAD, PAYLOAD, b64, certificate, message, sha1_of, signature
+
+SIGN = b"AAAA"
+LAST = 9_999_999_999
+LONGEST = 99_999_999
+LONG_LINES = ["--max-len", "1048576"]
+# a review of an ordinary message reads no further than a scan for this; with it behind a text, that is parsed
+PARSED = b"[ssign]"
+
+
+class Input:
+    """A log, its answers, and what each command says."""
+
+    def __init__(self, *options, payload=PAYLOAD, answered=True):
+        self.messages, self.options, self.says = [], list(options), {}
+        self.payload = b64(payload)
+        self.answers = [b"trust " + self.payload] if answered else []
+
+    def put(self, *texts):
+        self.messages += texts
+
+    def put_block(self, block, valid=True, sign=SIGN):
+        front, back = block
+        self.messages.append(front + b' SIGN="' + sign + b'"' + back)
+        if valid:
+            self.answers.append(b"yes %s %s %s" % (self.payload, b64(front + back), sign))
+
+    def say(self, command, status, told):
+        self.says[command] = (status, told)
+        return self
+
+    def review(self, status, **words):
+        return self.say("review", status, {**words, "end": 1})
+
+
+def announcing(*hashes, first=1, gbc=0, rsid=7, group=(0, 0)):
+    """A signature block of hashes that are given as texts."""
+    return signature(first, [sha1_of(text) for text in hashes], gbc, rsid, group)
+
+
+def number(i):
+    return b"%d" % i
+
+
+def nothing(n=0):
+    """The empty log."""
+    made = Input(answered=False)
+    made.say("questions", 0, {})
+    made.say("extract", 0, 0)
+    made.say("inspect", 0, {"end": 1})
+    return made.review(0)
+
+
+# ---- honest logs
+
+def signed(n):
+    """Ten messages in a block."""
+    made = Input()
+    made.put_block(certificate())
+    for first in range(1, n + 1, 10):
+        texts = [message(i, 70) for i in range(first, first + 10)]
+        made.put(*texts)
+        made.put_block(announcing(*texts, first=first, gbc=first // 10))
+    made.review(0, session=1, ok=n)
+    made.say("questions", 0, {"trust": 1, "yes": 1 + n // 10})
+    made.say("extract", 0, n)
+    return made.say("inspect", 0, {"certificate": 1, "plain": n, "signature": n // 10, "end": 1})
+
+
+def unanswered(n):
+    """The same, and nobody answers."""
+    made = signed(n)
+    made.answers = []
+    made.say("extract", 1, 0)
+    return made.review(1, session=1, unlisted=n, refused=1 + n // 10)
+
+
+def by_sha256(n):
+    """The same with the other hash algorithm."""
+    made = Input()
+    made.put_block(certificate())
+    for first in range(1, n + 1, 10):
+        texts = [message(i, 70) for i in range(first, first + 10)]
+        made.put(*texts)
+        front, back = signature(first, [b64(hashlib.sha256(text).digest()) for text in texts], first // 10)
+        made.put_block((front.replace(b'"0111"', b'"0121"'), back))
+    return made.review(0, session=1, ok=n)
+
+
+# ---- logs that strangers could make
+
+def falling(n):
+    """The log backwards."""
+    made = signed(n)
+    made.messages.reverse()
+    return made
+
+
+def equal(n):
+    """Equal messages, announced under as many numbers."""
+    made, text = Input(), message(1, 70)
+    made.put_block(certificate())
+    for first in range(1, n + 1, 10):
+        made.put(*[text] * 10)
+        made.put_block(announcing(*[text] * 10, first=first, gbc=first // 10))
+    made.say("extract", 0, n)
+    return made.review(0, session=1, ok=n)
+
+
+def one_hash(n):
+    """One message, whose hash stands in each block."""
+    made = Input()
+    made.put(message(1))
+    made.put_block(certificate())
+    for i in range(n):
+        made.put_block(announcing(b"a", message(1), first=1 + 2 * i, gbc=i))
+    made.say("extract", 1, 1)
+    return made.review(1, session=1, ok=1, gap=2 * n - 1)
+
+
+def hashes_alike(n):
+    """Announced hashes that share their first 17 octets, and messages whose hashes share the first one."""
+    made, i, found = Input(), 0, 0
+    made.put_block(certificate())
+    for first in range(0, n, 10):
+        hashes = [b64(b"x" * 17 + (i * 7919 % 2**24).to_bytes(3, "big")) for i in range(first, first + 10)]
+        made.put_block(signature(first + 1, hashes, first))
+    while found < n:
+        i += 1
+        if hashlib.sha1(number(i)).digest()[0] == ord("x"):
+            found += 1
+            made.put(number(i))
+    return made.review(1, session=1, gap=n, unlisted=n)
+
+
+def sessions(n):
+    """A session for each message."""
+    made = Input()
+    for i in range(n):
+        made.put_block(certificate(rsid=i * 7919 % n))
+        made.put_block(announcing(number(i), rsid=i))
+    made.say("questions", 0, {"trust": n, "yes": 2 * n})
+    made.say("extract", 1, 0)
+    return made.review(1, session=n, gap=n)
+
+
+def hosts_alike(n):
+    """Sessions whose HOSTNAME differs at its end alone."""
+    made = Input()
+    for i in range(n):
+        front, back = certificate()
+        made.put_block((front.replace(b"gate", b"h" * 248 + b"%07d" % (i * 7919 % n)), back))
+    made.say("questions", 0, {"trust": n, "yes": n})
+    return made.review(0, session=n)
+
+
+def groups(n):
+    """768 groups in each session."""
+    made = Input()
+    for i in range(n):
+        if i % 768 == 0:
+            made.put_block(certificate(rsid=i // 768))
+        made.put_block(announcing(number(i), gbc=i, rsid=i // 768, group=(i % 768 // 192, i % 192)))
+    return made.review(1, session=-(-n // 768), gap=n)
+
+
+def apart(n):
+    """A hole in front of each number."""
+    made = Input()
+    made.put_block(certificate())
+    for i in range(n):
+        made.put_block(announcing(number(i), first=2 + 10 * i, gbc=i))
+    return made.review(1, session=1, gap=n, hole=n)
+
+
+def far_apart(n):
+    """The first number and the last one, of many sessions."""
+    made = Input()
+    for i in range(n):
+        made.put_block(certificate(rsid=i))
+        made.put_block(announcing(b"a", first=LAST, rsid=i))
+        made.put_block(announcing(b"b", gbc=1, rsid=i))
+    return made.review(1, session=n, gap=2 * n, hole=n)
+
+
+def disputed(n):
+    """Numbers with two hashes."""
+    made = Input()
+    made.put_block(certificate())
+    for i in range(n):
+        made.put_block(announcing(number(i), first=1 + i, gbc=i))
+        made.put_block(announcing(b"other", first=1 + i, gbc=i))
+    return made.review(1, session=1, gap=n)
+
+
+def one_number(n):
+    """One number with as many hashes."""
+    made = Input()
+    made.put_block(certificate())
+    for i in range(n):
+        made.put_block(announcing(number(i), gbc=i))
+    return made.review(1, session=1, gap=1)
+
+
+def repeated(n):
+    """One block as often, and its messages."""
+    made, texts = Input(), [message(i) for i in range(10)]
+    made.put_block(certificate())
+    made.put(*texts)
+    for i in range(n):
+        made.put_block(announcing(*texts), i == 0)
+    made.say("questions", 0, {"trust": 1, "yes": 1 + n})
+    made.say("extract", 0, 10)
+    return made.review(0, session=1, ok=10)
+
+
+def overlapping(n):
+    """Each number in ten blocks."""
+    made = Input()
+    made.put_block(certificate())
+    for i in range(n):
+        made.put_block(announcing(*map(number, range(i, i + 10)), first=1 + i, gbc=i))
+    return made.review(1, session=1, gap=n + 9)
+
+
+def signatures(n):
+    """One block with as many signatures, all of them valid."""
+    made = Input()
+    made.put_block(certificate())
+    for i in range(n):
+        made.put_block(announcing(b"a"), sign=b64(i.to_bytes(3, "big")))
+    return made.review(1, session=1, gap=1)
+
+
+def fragments(n, order):
+    """Fragments of one octet, of which one is valid: each answer holds the payload, so all would take too much."""
+    text = b"- U " + b64(b"x" * (3 * n // 4))
+    made = Input(payload=text)
+    for i in order(range(len(text))):
+        made.put_block(certificate(i + 1, text[i:i + 1], len(text)), i == 0)
+    made.say("extract", 1, 0)
+    made.say("questions", 0, {"trust": 1, "yes": len(text)})
+    return made.review(1, session=1, refused=len(text))
+
+
+def fragments_rising(n):
+    return fragments(n, list)
+
+
+def fragments_falling(n):
+    return fragments(n, reversed)
+
+
+def fragments_shuffled(n):
+    return fragments(n, lambda indexes: random.Random(1).sample(indexes, len(indexes)))
+
+
+def copies(n):
+    """Copies of one valid block, of a session with a payload of as many octets."""
+    text = b"- U " + b64(b"x" * (3 * n // 4))
+    made = Input(payload=text)
+    made.put_block(certificate(1, text[:1], len(text)))
+    made.put_block(certificate(2, text[1:], len(text)), False)
+    for _ in range(n):
+        made.put_block(certificate(1, text[:1], len(text)), False)
+    return made.review(1, session=1, refused=n + 2)
+
+
+def copies_joined(n):
+    """Copies of the one certificate block, all valid by one answer."""
+    made = Input()
+    for i in range(n):
+        made.put_block(certificate(), i == 0)
+    made.say("questions", 0, {"trust": 1, "yes": n})
+    return made.review(0, session=1)
+
+
+def fragments_apart(n):
+    """Fragments of one octet, eight of each session."""
+    made, text = Input(payload=b"- U AAAA"), b"- U AAAA"
+    for i in range(n):
+        made.put_block(certificate(i % 8 + 1, text[i % 8:i % 8 + 1], 8, i // 8))
+    return made.review(0, session=n // 8)
+
+
+def scattered(n):
+    """Fragments of one octet at scattered indexes of the longest payload."""
+    made = Input()
+    for i in range(n):
+        made.put_block(certificate(i * 7919 * 31 % LONGEST + 1, b"x", LONGEST), False)
+    made.say("questions", 0, {})
+    return made.review(1, session=1, refused=n)
+
+
+def stated(n):
+    """The longest payload stated, and its last octet alone sent, of as many sessions."""
+    made = Input()
+    for i in range(n):
+        made.put_block(certificate(LONGEST, b"x", LONGEST, i), False)
+    return made.review(1, session=n, refused=n)
+
+
+def totals(n):
+    """As many totals, of one session."""
+    made = Input()
+    for i in range(n):
+        made.put_block(certificate(1, b"x", 1 + i), False)
+    return made.review(1, session=1, refused=n)
+
+
+def spoilt(n):
+    """Blocks that are none, each of another kind than the one before."""
+    made = Input()
+    certified = b"".join(certificate()).replace(b"]", b' SIGN="AAAA"]')
+    announced = b"".join(announcing(b"a")).replace(b"]", b' SIGN="AAAA"]')
+    kinds = [announced + certified[len(HEAD):], announced + b"[ssign-cert]", announced.replace(b"0111", b"0112"),
+             certified.replace(b'INDEX="1"', b'INDEX="0"'), announced.replace(b'CNT="1"', b'CNT="2"'),
+             announced.replace(b'HB="', b'HB="A'), announced.replace(b"AAAA", b"AAA"),
+             certified.replace(b'INDEX="1"', b'INDEX="2"'),
+             announced.replace(b'FMN="1"', b'FMN="%d"' % LAST).replace(b'CNT="1"', b'CNT="2"').replace(
+                 b'HB="', b'HB="' + sha1_of(b"a") + b" ")]
+    made.put(*(kinds[i % 9] for i in range(n)))
+    made.say("inspect", 0, {"spoilt": n, "end": 1})
+    return made.review(1, spoilt=n)
+
+
+def shortest(n):
+    """Messages of one octet."""
+    made = Input()
+    made.put(*[b"a", b"b"] * (n // 2))
+    made.say("inspect", 0, {"unparsed": n, "end": 1})
+    return made.review(1, unlisted=n)
+
+
+# ---- one long message
+
+def one(text, kind, *options):
+    """A log of one message, of which `inspect` says `kind`."""
+    made = Input(*LONG_LINES, *options)
+    made.put(text)
+    made.say("inspect", 0, {kind: 1, "end": 1})
+    return made.review(1, **{"spoilt" if kind == "spoilt" else "unlisted": 1})
+
+
+def long_text(n):
+    return one(b"<13>1 - - - - - - " + b"x" * n, "plain")
+
+
+def no_text(n):
+    return one(b"x" * n, "unparsed")
+
+
+def openings(n):
+    """The beginning of a block's element again and again."""
+    return one(b"<13>1 - - - - - - " + b"[ssig" * n, "plain")
+
+
+def elements(n):
+    return one(b"<13>1 - - - - - " + b"".join(b"[%x]" % (i * 7919 % (1 << 20)) for i in range(n)) + PARSED, "spoilt")
+
+
+def elements_alike(n):
+    """Elements whose SD-IDs differ at their ends alone, and the last of which stood first."""
+    ids = [b"[" + b"a" * 20 + b"%06x]" % i for i in range(n)]
+    return one(b"<13>1 - - - - - " + b"".join(ids) + PARSED + ids[0], "unparsed")
+
+
+def parameters(n):
+    return one(b"<13>1 - - - - - [ssign" + b' a=""' * n + b"]", "spoilt")
+
+
+def escapes(n):
+    return one(b'<13>1 - - - - - [x a="' + b"\\]" * n + b'"]' + PARSED, "spoilt")
+
+
+def values(n):
+    """A long value of UTF-8, which is wrong at its end."""
+    return one(b'<13>1 - - - - - [x a="' + b"\xc3\xa9" * n + b'\xc3"]' + PARSED, "unparsed")
+
+
+def pieces(n):
+    """As many hashes in a block that states one."""
+    front, back = signature(1, [sha1_of(b"a")] * n)
+    text = front.replace(b'CNT="%d"' % n, b'CNT="1"') + b' SIGN="AAAA"' + back
+    return one(text, "spoilt")
+
+
+def beside(n):
+    """A block beside as many elements, each of which has a SIGN."""
+    made = Input(*LONG_LINES)
+    made.put_block(certificate())
+    front, back = announcing(b"a")
+    made.put_block((front, back + b"".join(b'[%x SIGN="AAAA"]' % i for i in range(n))))
+    made.say("questions", 0, {"trust": 1, "yes": 2})
+    return made.review(1, session=1, gap=1)
+
+
+def long_sign(n):
+    """A block with a long signature."""
+    made = Input(*LONG_LINES)
+    made.put_block(certificate(), sign=b64(b"x" * n))
+    made.say("questions", 0, {"trust": 1, "yes": 1})
+    return made.review(0, session=1)
+
+
+# ---- logs that are planned and signed
+
+def sending(n, wants, *options, payload=PAYLOAD, pri=13, text=message):
+    """Messages that are sent, with `wants` blocks, and seals for them that tests/cost.py makes of the plan."""
+    made = Input("--rsid", "7", "--payload=" + payload.decode(), *options, answered=False)
+    for i in range(n):
+        made.put(text(i, 70).replace(b"<13>", b"<%d>" % (i * 7919 % 192 if pri == "each" else pri), 1))
+    made.say("plan", 0, {"want": wants})
+    times = int(options[options.index("--copies") + 1]) if "--copies" in options else 1
+    return made.say("sign", 0, n + wants * times)
+
+
+def sent(n):
+    return sending(n, 1 + n // 10)
+
+
+def sent_one_by_one(n):
+    return sending(n, 1 + n, "--count", "1")
+
+
+def sent_equal(n):
+    return sending(n, 1 + n // 10, text=lambda i, octets: message(1, octets))
+
+
+def sent_in_groups(n):
+    """192 groups."""
+    return sending(n, 1 + 192 * -(-n // 192 // 10), "--groups", "pri", pri="each")
+
+
+def sent_in_ranges(n):
+    return sending(n, 1 + 192 * -(-n // 192 // 10), "--groups", ",".join(map(str, range(192))), pri="each")
+
+
+def sent_often(n):
+    return sending(n, 1 + n // 10, "--copies", "9")
+
+
+def sent_payload(n):
+    """A payload in fragments of one octet."""
+    return sending(10, n + 4 + 1, "--frag", "1", payload=b"- U " + b64(b"x" * (3 * n // 4)))
+
+
+# ---- answers
+
+def field(i, octets):
+    """A field of so many octets, in base64: spread, so that the file isn't in order already."""
+    return b64((i * 0x9E3779B97F4A7C15 % 2**64 % 2 ** (8 * octets)).to_bytes(octets, "big"))
+
+
+def asked(lines, status=0):
+    """A log of one block, and lines of answers behind its own."""
+    made = Input()
+    made.put_block(certificate())
+    made.answers += lines
+    if status == 2:
+        return made.say("review", 2, {})
+    return made.review(status, session=1)
+
+
+def yes_lines(n):
+    return asked(b"yes AAAA %s AAAA" % field(i, 8) for i in range(n))
+
+
+def yes_rising(n):
+    return asked(b"yes AAAA %s AAAA" % b64(i.to_bytes(3, "big")) for i in range(n))
+
+
+def yes_falling(n):
+    return asked(b"yes AAAA %s AAAA" % b64(i.to_bytes(3, "big")) for i in reversed(range(n)))
+
+
+def yes_equal(n):
+    return asked([b"yes AAAA AAAA AAAA"] * n)
+
+
+def yes_alike(n):
+    """Two payloads of 300 octets in turn, and octets and signatures that begin alike."""
+    payloads = [b64(octet * 300) for octet in (b"a", b"b")]
+    return asked(b"yes %s %s %s" % (payloads[i % 2], field(i, 170), field(i, 48)) for i in range(n))
+
+
+def trust_lines(n):
+    return asked(b"trust " + field(i, 8) for i in range(n))
+
+
+def trust_equal(n):
+    return asked([b"trust AAAA"] * n)
+
+
+def long_line(n):
+    return asked([b"yes AAAA AAAA " + b64(b"x" * n)])
+
+
+def bad_line(n):
+    return asked([b"trust AAAA"] * n + [b"trust"], 2)
+
+
+def seals_beside(n):
+    return asked(b"seal AAAA " + field(i, 3) for i in range(n))
+
+
+def sealing(lines):
+    """One block that is sealed, and lines of answers in front of its own."""
+    made = sending(0, 1)
+    made.answers += lines
+    return made
+
+
+def seals(n):
+    return sealing(b"seal %s AAAA" % field(i, 8) for i in range(n))
+
+
+def seals_alike(n):
+    return sealing(b"seal %s AAAA" % field(i, 300) for i in range(n))
+
+
+def seals_equal(n):
+    return sealing(b"seal AAAA " + field(i, 3) for i in range(n))

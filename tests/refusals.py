@@ -1,0 +1,380 @@
+#!/usr/bin/env python3
+"""Refuses each allocation of the built program in turn, in runs of every command.
+
+    refusals.py PROGRAM [LIBRARY] [--show]
+
+LIBRARY is made of tests/refuse.c; without it there are only runs with memory. First a run with memory has to say what
+another program says: review_runs.py, kinds.py, signing_model.py, or what was worked out by hand. Then its first
+allocation is refused, its second one, and so on, until a run has none left to refuse. Each of these runs has to end
+with status 2, nothing on standard output and one line on standard error, a code for want of memory that belongs to
+the command, and the codes have to come in the order of the run. A review that does without some list may also say all
+that it says with memory, and a run that is refused anyway its own refusal. Of logs whose output is longer than a
+buffer some allocations are refused, the last ones among them. The last line is `refusals: N passed, M failed`.
+"""
+import argparse
+import base64
+import collections
+import concurrent.futures
+import itertools
+import os
+import re
+import subprocess
+import sys
+import tempfile
+import threading
+
+import cost_logs as logs
+from review_examples import A, A2, ALL, B, C, CX, C9A, C9B, H, M1, M2, P1, READINGS, S, S7, certificate, signature
+from review_model import Log
+from review_runs import answers_text, answers_to, frame, line, run
+
+HERE = os.path.dirname(os.path.abspath(__file__))
+# the codes of each command, in their order: what belongs to the answers comes before the log
+CODES = {
+    "review": "(W2 )+(A4 )*((F4|V1|W2) )*",
+    "extract": "(W2 )+(A4 )*((F4|V1|W2) )*",
+    "questions": "(W2 )*((F4|V1|W2) )*",
+    "inspect": "(W2 )*((F4|W2) )*",
+    "plan": "(W2 )*((F4|O10|W2) )*((F4|O10 p|W2) )*((O10|W2) )*",
+    "sign": "(W2 )*(A4 )*((F4|O10|W2) )*((F4|O10 p|W2) )*((O10|W2) )*",
+    "explain": "(W2 )*",
+}
+# those that do without a list that they couldn't make as long as it will be
+DO_WITHOUT = ("review", "extract")
+# fewer allocations than reading any command line takes: these are tried once for each command line
+WORDS_ALONE = 80
+BUFFER = 65536
+
+# `wanted` is all that a run says, or its status; `some` is whether some allocations are refused alone
+Case = collections.namedtuple("Case", "name words log wanted answers some", defaults=[None, False])
+Said = collections.namedtuple("Said", "status out err")
+
+passed = failed = 0
+
+
+def tell(what, fault=""):
+    """One check, passed where there is no fault."""
+    global passed, failed
+    if not fault:
+        passed += 1
+        return
+    failed += 1
+    print("refusals: %s: FAILED\n    %s" % (what, fault))
+
+
+def refused(code):
+    return Said(2, b"", b"ssign: " + code.encode() + b"\n")
+
+
+# ---- inputs, and what a run with memory says
+
+def beside(rsid, *texts):
+    """The texts of the session 1 in another session."""
+    return [text.replace(b'RSID="1"', b'RSID="%d"' % rsid) for text in texts]
+
+
+OTHER = certificate(fragment=b"2009-05-03T14:00:40Z K S0VZ")
+# a session in each state, and each kind of line of a report
+EVERYTHING = [
+    M1, M1, M2, b"<13>1 - - - - - - nobody signed this", C9B, C9A,
+    signature(A, A), signature(A, first=3), signature(B, first=3), signature(B, base64.b64encode(b"x" * 20), first=8),
+    signature(A2, ver=b"0121", first=11), signature(A2, ver=b"0121", gbc=1, sg=1, spri=13),
+    *beside(2, C, certificate(total=28)), *beside(3, S7), *beside(4, CX), *beside(5, OTHER, S7), *beside(6, C, S),
+    signature(A, gbc=9), S.replace(b"0111", b"0211"), C + S[len(H):],
+]
+WORDS = ["session .* %s" % state for state in
+         ("disputed", "incomplete", "malformed", "untrusted", "unaccepted", "joined")]
+WORDS += ["ok .*", "gap .* lost", "gap .* disputed", "hole .*", "unlisted .*", "refused .*", "spoilt .*", "torn .*",
+          "end .*"]
+EXAMPLE = [M1, M2, C, S]
+
+
+def accepted(payload, signed, sign):
+    """Whether a signature of EVERYTHING is valid: not those of session 6, and not that of the block with GBC 9."""
+    return b'RSID="6"' not in signed and b'GBC="9"' not in signed
+
+
+def answers_of(messages, answers):
+    return answers_to(Log(messages), answers)
+
+
+def reviewed(name, command, octets, answers, *words, of_lines=False, **limits):
+    """A review, extract or questions, as the second review says."""
+    trusted, valid = answers
+    wanted = Said(*run(command, octets, of_lines, trusted=trusted, valid=valid, **limits))
+    text = None if command == "questions" else answers_text(trusted, valid)
+    words = [command, *(["--lines"] if of_lines else []), *words]
+    for option, value in limits.items():
+        words += ["--" + option.replace("_", "-"), str(value)]
+    return Case("%s of %s" % (command, name), words, octets, wanted, text)
+
+
+def reviews():
+    everything = answers_of(EVERYTHING, (lambda payload: payload == P1, accepted))
+    example, nobody = answers_of(EXAMPLE, ALL), (frozenset(), frozenset())
+    for unit, of_lines in ((frame, False), (line, True)):
+        log = b"".join(map(unit, EVERYTHING))
+        for command in ("review", "extract", "questions"):
+            yield reviewed("everything" + ", as lines" * of_lines, command, log + unit(M1)[:-1], everything,
+                           of_lines=of_lines)
+    log = b"".join(map(frame, EXAMPLE))
+    for command in ("review", "extract", "questions"):
+        yield reviewed("a clean log", command, log, example, max_len=1048576, max_messages=10000000)
+        yield reviewed("an empty log", command, b"", nobody)
+        yield reviewed("a log with no digit behind it", command, log + b"x", example)
+        yield reviewed("a log with a message that is too long", command, log, example, max_len=158)
+        yield reviewed("a log with a message too many", command, log, example, max_messages=3)
+        yield reviewed("a log with an empty line", command, b"abc\n\n", nobody, of_lines=True)
+    yield reviewed("a log that nobody answers for", "review", log, nobody)
+
+
+def inspected(name, messages, torn=b""):
+    """An inspection, as kinds.py says."""
+    octets = b"".join(map(frame, messages))
+    told = subprocess.run([sys.executable, "-B", os.path.join(HERE, "kinds.py"), "tell"], input=octets,
+                          capture_output=True, check=True).stdout
+    end = b"end %d\n" % len(messages)
+    told = told.removesuffix(end) + (b"torn %d\n" % len(octets) if torn else b"") + end
+    return Case("inspect of " + name, ["inspect"], octets + torn, Said(int(bool(torn)), told, b""))
+
+
+def inspections():
+    long = b"x" * 300
+    faults = [b"abc", b"<13>2 ", b"<13>1 x ", b"<13>1 - " + long + b" ", b"<13>1 - - " + long, b"<13>1 - - - " + long,
+              b"<13>1 - - - - " + long, b"<13>1 - - - - - x", b"<13>1 - - - - - [=]", b'<13>1 - - - - - [a b="\xff"]',
+              b"<13>1 - - - - - [a][a]", b"<13>1 - - - - - - \xef\xbb\xbf\xff"]
+    plain = [b'<13>1 - - - - - [a@1 b="\\]\\"\\\\" b=""][c@1] text', b"<191>1 2009-05-03T14:00:39.25-07:00 h a p m -"]
+    yield inspected("each fault of a message", faults)
+    yield inspected("each kind of message", [*plain, *(text for text, _ in READINGS)])
+    yield inspected("everything", EVERYTHING, torn=b"12")
+    log = b"".join(map(frame, EXAMPLE))
+    yield Case("inspect of a log with no digit behind it", ["inspect"], log + b"x", refused("F1 %d" % len(log)))
+    yield Case("inspect of lines", ["inspect", "--lines", "--max-len", "99", "--max-messages", "9"],
+               b"abc\n<13>1 - - - - - -\n", Said(0, b"unparsed 0 M1 0\nplain 1\nend 2\n", b""))
+    yield Case("inspect of a long line", ["inspect", "--lines", "--max-len", "3"], b"abc\nabcd\n", refused("F2 7"))
+
+
+# ---- answers
+
+def answering(name, lines, wanted=None, command="review"):
+    """The clean log with an answers file of these lines, all of which it says where no refusal is wanted."""
+    trusted, valid = answers_of(EXAMPLE, ALL)
+    log = b"".join(map(frame, EXAMPLE))
+    wanted = wanted or Said(*run(command, log, trusted=trusted, valid=valid))
+    return Case("answers: " + name, [command], log, wanted, b"".join(lines))
+
+
+def answers():
+    said = answers_text(*answers_of(EXAMPLE, ALL)).splitlines(keepends=True)
+    field = base64.b64encode(b"y" * 3000)
+    yield answering("each line twice, in another order", [*reversed(said), *said])
+    yield answering("a seal beside them", [b"seal %s AAAA\n" % field, *said])
+    yield answering("many others", [*(b"yes %s AAA%c AAAA\n" % (field, c) for c in b"AEIMQUYcgkosw048"), *said])
+    yield answering("the last LF missing", [b"".join(said)[:-1]])
+    for name, bad in (("an empty line", b"\n"), ("a CR", b"trust AAAA\r\n"), ("bad base64", b"trust AAA\n"),
+                      ("spare bits", b"trust AAB=\n"), ("another word", b"trusts AAAA\n"), ("no field", b"yes"),
+                      ("a field too few", b"yes AAAA AAAA\n"), ("a field too many", b"seal AAAA AAAA AAAA\n"),
+                      ("two spaces", b"trust  AAAA\n")):
+        yield answering(name, [*said, bad], refused("A1 %d" % (len(said) + 1)))
+    yield answering("a bad line, for an extract", [b"want AAAA\n"], refused("A1 1"), "extract")
+    yield Case("answers: a folder", ["review", "--answers", HERE], b"", refused("A2"))
+    missing = os.path.join(HERE, "no such file")
+    yield Case("answers: no such file", ["extract", "--answers", missing], b"", refused("A2"))
+
+
+# ---- plans and signed logs
+
+PAYLOAD = ["--payload", P1.decode(), "--rsid", "1"]
+TOLD = [b"<%d>1 - - - - - - %d" % (pri, i) for i, pri in enumerate((13, 14, 13, 110, 191, 0))]
+
+
+def modelled(command, words, octets):
+    return subprocess.run([sys.executable, "-B", os.path.join(HERE, "signing_model.py"), command, *words], input=octets,
+                          capture_output=True, check=True).stdout
+
+
+def seals_of(plan):
+    return b"".join(b"seal " + it.split()[1] + b" AAAA\n" for it in plan.splitlines())
+
+
+def signings():
+    long = ["--host", "h" * 255, "--app", "a" * 48, "--procid", "p" * 128, "--msgid", "m" * 32, "--pri", "0",
+            "--stamp", "2009-05-03T14:00:39.123456-07:00", "--ver", "0121"]
+    for name, words in (("one group", []), ("no message", []), ("two in a block", ["--count", "2", "--frag", "20"]),
+                        ("a group for each PRI", ["--groups", "pri", "--count", "1"]),
+                        ("ranges", ["--groups", "13,100,191", "--count", "2", "--copies", "3"]),
+                        ("192 ranges", ["--groups", ",".join(map(str, range(192)))]),
+                        ("nine copies", ["--copies", "9", "--frag", "9"]),
+                        ("long texts", long)):
+        octets = b"" if name == "no message" else b"".join(map(frame, TOLD))
+        plan, signed = (modelled(command, PAYLOAD + words, octets) for command in ("plan", "sign"))
+        if "--copies" not in words:
+            yield Case("plan: " + name, ["plan", *PAYLOAD, *words], octets, Said(0, plan, b""))
+        yield Case("sign: " + name, ["sign", *PAYLOAD, *words], octets, Said(0, signed, b""), seals_of(plan))
+    octets = b"".join(map(frame, TOLD))
+    lines = b"".join(map(line, TOLD))
+    plan = modelled("plan", PAYLOAD, octets)
+    yield Case("plan: lines", ["plan", "--lines", *PAYLOAD], lines, Said(0, plan, b""))
+    yield Case("sign: lines", ["sign", "--lines", *PAYLOAD], lines, Said(0, modelled("sign", PAYLOAD, octets), b""),
+               seals_of(plan))
+
+
+def refused_signings():
+    octets, two = b"".join(map(frame, TOLD)), ["--count", "2"]
+    plan = modelled("plan", PAYLOAD + two, octets)
+    seals = seals_of(plan).splitlines(keepends=True)
+    long = b" %s\n" % base64.b64encode(b"s" * 1025)
+    for name, log, code, lines in (
+            ("a torn log", octets + b"9 ab", "P1 %d" % len(octets), seals),
+            ("no digit", octets + b"x", "F1 %d" % len(octets), seals),
+            ("a message that is none", octets + b"3 abc", "O2 6", seals), ("a block", octets + frame(C), "O3 6", seals),
+            ("no seal", octets, "O6", []), ("no seal for a block", octets, "O6 3", [*seals[:2], *seals[3:]]),
+            ("a long signature", octets, "O7 1", [*seals[:1], seals[1][:-6] + long, *seals[2:]]),
+            ("a bad line", octets, "A1 2", [*seals[:1], b"want AAAA\n"])):
+        yield Case("sign: " + name, ["sign", *PAYLOAD, *two], log, refused(code), b"".join(lines))
+        if code[:2] in ("P1", "F1", "O3"):
+            yield Case("plan: " + name, ["plan", *PAYLOAD, *two], log, refused(code))
+    for words in (["--stamp", "x"], ["--host", "h" * 256], ["--groups", "1,0,191"]):
+        yield Case("plan: " + " ".join(words)[:20], ["plan", *PAYLOAD, *words], b"", refused("P2"))
+    yield Case("plan: --payload x", ["plan", "--rsid", "1", "--payload", "x"], b"", refused("P2"))
+
+
+def others():
+    """Runs whose text isn't in a format: there the words with memory are taken as they are, but for the status."""
+    for words, status in ((["explain", "S3"], 0), (["explain", "X"], 2), (["--help"], 0), (["sign", "--help"], 0),
+                          (["--version"], 0), (["review", "--nope"], 2), (["plan"], 2), ([], 2)):
+        yield Case("words: " + " ".join(words), words, b"", status)
+
+
+def long_outputs():
+    """Runs whose output is longer than a buffer, and begins to be written before its end is known."""
+    made = logs.signed(5000)
+    log, text = b"".join(map(frame, made.messages)), b"".join(it + b"\n" for it in made.answers)
+    for command in ("review", "extract", "questions", "inspect"):
+        asks = command in ("review", "extract")
+        yield Case("%s of a long log" % command, [command], log, 0, text if asks else None, True)
+    log = b"".join(map(frame, logs.sent(800).messages))
+    plan = modelled("plan", [*PAYLOAD, "--count", "2"], log)
+    yield Case("plan: a long log", ["plan", *PAYLOAD, "--count", "2"], log, Said(0, plan, b""), None, True)
+    yield Case("sign: a long log", ["sign", *PAYLOAD, "--count", "2"], log, 0, seals_of(plan), True)
+
+
+# ---- runs
+
+def fault_of_order(kind, codes):
+    """Whether the codes come in the order of a run, and their places rise."""
+    places = [int(it.split()[1]) for it in codes if " " in it]
+    if places != sorted(places):
+        return "the places don't rise: %s" % places
+    text = "".join(re.sub(r" \d+", " p", it) + " " for it in codes)
+    return "" if re.fullmatch(CODES[kind], text) else "the codes come in another order: %s" % text
+
+
+class Runner:
+    """Runs a program with an allocation refused."""
+
+    def __init__(self, program, library, folder):
+        self.program, self.library, self.folder = program, library, folder
+        self.own = threading.local()
+
+    def path(self, name):
+        return os.path.join(self.folder, "%s.%d" % (name, threading.get_ident()))
+
+    def run(self, words, log, refused_number):
+        """What a run says, and how many allocations it asked for."""
+        out, err = self.path("out"), self.path("err")
+        write = os.O_WRONLY | os.O_CREAT | os.O_TRUNC
+        loaded = {"LD_PRELOAD": self.library, "REFUSED": str(refused_number)} if self.library else {}
+        child = os.posix_spawn(
+            self.program, ["ssign", *words], {**os.environ, **loaded},
+            file_actions=[(os.POSIX_SPAWN_OPEN, 0, log, os.O_RDONLY, 0), (os.POSIX_SPAWN_OPEN, 1, out, write, 0o600),
+                          (os.POSIX_SPAWN_OPEN, 2, err, write, 0o600)])
+        status = os.waitstatus_to_exitcode(os.waitpid(child, 0)[1])
+        with open(out, "rb") as file:
+            out = file.read()
+        with open(err, "rb") as file:
+            text, count = file.read(), 0
+        if self.library:
+            text, _, count = text.rpartition(b"allocations ")
+        return Said(status, out, text), int(count or 0)
+
+    def case(self, place, case, first):
+        """Faults, the codes, and how often the run did without memory; `first` is the first allocation to refuse."""
+        log, answers = (os.path.join(self.folder, "%d.%s" % (place, end)) for end in ("log", "answers"))
+        for path, octets in ((log, case.log), (answers, case.answers)):
+            if octets is not None:
+                with open(path, "wb") as file:
+                    file.write(octets)
+        words = case.words + ([] if case.answers is None else ["--answers", answers])
+        clean, count = self.run(words, log, 0)
+        wanted = clean._replace(status=case.wanted) if isinstance(case.wanted, int) else case.wanted
+        faults = ["" if clean == wanted else "it says %r, and not %r" % (clean, wanted)]
+        if case.some:
+            faults.append("" if len(clean.out) > BUFFER else "its output fits into a buffer")
+        if not self.library:
+            return faults, [], 0
+        kind = case.words[0] if case.words and case.words[0] in CODES else "explain"
+        codes, without = [], 0
+        for number in numbers(first, count, case.some):
+            said, asked = self.run(words, log, number)
+            code = said.err[7:-1].decode(errors="replace")
+            if said == clean and (number == count + 1 or clean.status == 2 or kind in DO_WITHOUT):
+                without += number <= count
+                faults.append("" if number <= count or asked == count else "it asks for %d allocations" % asked)
+            elif number <= count and said == refused(code) and re.fullmatch(r"F4|A4|V1|W2|O10( \d+)?", code):
+                codes.append(code)
+                faults.append("")
+            else:
+                faults.append("allocation %d of %d: %r" % (number, count, said))
+        faults.append(fault_of_order(kind, codes))
+        return faults, codes, without
+
+
+def numbers(first, count, some):
+    """The allocations that are refused, and one more than there are."""
+    if not some:
+        return range(first, count + 2)
+    return sorted({*range(1, count, max(count // 20, 1)), *range(count - 20, count + 2)})
+
+
+def firsts(cases):
+    """The first allocation to refuse of each case."""
+    seen = set()
+    for case in cases:
+        words = (*case.words, case.answers is None)
+        yield WORDS_ALONE if words in seen else 1
+        seen.add(words)
+
+
+def shown(codes):
+    """Codes in a row, each with how often it came."""
+    return " ".join("%s*%d" % (code, len(list(found)))
+                    for code, found in itertools.groupby(it.split()[0] for it in codes))
+
+
+def main():
+    parser = argparse.ArgumentParser(description=__doc__, formatter_class=argparse.RawDescriptionHelpFormatter)
+    parser.add_argument("program")
+    parser.add_argument("library", nargs="?", default="")
+    parser.add_argument("--show", action="store_true")
+    given = parser.parse_args()
+    cases = [case for make in (reviews, inspections, answers, signings, refused_signings, others, long_outputs)
+             for case in make()]
+    first = cases[0].wanted.out.decode().splitlines()
+    for word in WORDS:
+        tell("everything has a line %s" % word, "" if any(re.fullmatch(word, it) for it in first) else "it has none")
+    jobs = min(4, os.cpu_count() or 1)
+    with tempfile.TemporaryDirectory() as folder, concurrent.futures.ThreadPoolExecutor(jobs) as pool:
+        runner = Runner(given.program, given.library, folder)
+        for case, it in zip(cases, pool.map(runner.case, range(len(cases)), cases, firsts(cases))):
+            faults, codes, without = it
+            for fault in faults:
+                tell(case.name, fault)
+            if given.show:
+                print("%-50s %5d refused, %d done without  %s" % (case.name, len(codes), without, shown(codes)))
+    print("refusals: %d passed, %d failed" % (passed, failed))
+    return failed > 0 or passed == 0
+
+
+if __name__ == "__main__":
+    sys.exit(main())
