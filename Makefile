@@ -1,4 +1,4 @@
-# Installs ssign and ssign-keys, or makes a Debian package of them. GNU make.
+# Installs ssign, ssign-keys and ssign-archive, or makes a Debian package of them. GNU make.
 #
 #   make                      sees that there is a program to install, and builds it if not
 #   make install              installs below PREFIX
@@ -6,7 +6,7 @@
 #   make deb                  makes a Debian package in the folder BUILD
 #   make pages                makes man/ and completions/ again, from what --help says
 #
-# DESTDIR is a scratch root in front of PREFIX. PYTHON is the interpreter for ssign-keys; without it `env` finds one.
+# DESTDIR is a scratch root in front of PREFIX. PYTHON is the interpreter for both tools; without it `env` finds one.
 
 PREFIX ?= /usr/local
 DESTDIR ?=

@@ -8,8 +8,8 @@ export SSIGN=$program
 made=$root/completions
 export LC_ALL=C
 
-files=(_ssign _ssign-keys ssign-keys.bash ssign-keys.fish ssign.bash ssign.fish)
-programs=(ssign)
+files=(_ssign _ssign-archive _ssign-keys ssign-archive.bash ssign-archive.fish ssign-keys.bash ssign-keys.fish ssign.bash ssign.fish)
+programs=(ssign ssign-archive)
 if python3 -c 'import cryptography' 2>"$scratch/err"; then
     programs+=(ssign-keys)
     python3 -B "$root/tools/make-pages" "$scratch/made" >"$scratch/out" 2>"$scratch/err"
@@ -36,7 +36,7 @@ offered=''
 help() {
     case $1 in
     ssign) COLUMNS=10000 "$program" ${2:+"$2"} --help </dev/null ;;
-    *) COLUMNS=10000 "$root/tools/$1" ${2:+"$2"} --help </dev/null ;;
+    *) COLUMNS=10000 "$root/tools/${1/#ssign-archive/archive}" ${2:+"$2"} --help </dev/null ;;
     esac
 }
 # options PROGRAM COMMAND: a line for each option, with the names of its values behind it.
@@ -60,6 +60,8 @@ holds 'explain names its codes' test "$codes"
 values() {
     case ${!#} in
     VER) printf '0111\n0121\n' ;;
+    HOW) printf 'host\nsession\n' ;;
+    DIR) echo sub ;;
     *.pem | FILE | PROGRAM | LOG) lines "$here" ;;
     *) [[ $1 != --groups ]] || printf 'one\npri\n' ;;
     esac
@@ -71,7 +73,8 @@ behind() {
     'ssign explain') tr ' ' '\n' <<<"$codes" ;;
     'ssign help') commands ssign | grep -vx help ;;
     'ssign-keys make') echo sub ;;
-    'ssign-keys '*) lines "$here" ;;
+    'ssign-keys '* | 'ssign-archive split') lines "$here" ;;
+    'ssign-archive '*) echo sub ;;
     *) return 1 ;;
     esac
 }
@@ -157,11 +160,11 @@ ask_bash ssign explain S3 M1
 same 'bash: a second code' $'M1\nM10\nM11\nM12'
 ask_bash ssign-keys verify --session-key ''
 same 'bash: a session has a name that nobody can guess' ''
-[[ ${#programs[@]} == 1 ]] || ask_bash ssign-keys verify --session-key session --
+[[ ${#programs[@]} == 2 ]] || ask_bash ssign-keys verify --session-key session --
 same 'bash: no option behind the session, where a file has to stand' ''
 ask_bash ssign review --answers key.pem --
 same 'bash: options behind a value' "$(options ssign review | cut -d ' ' -f 1)"
-holds 'bash: both are put there once' test "$(bash --norc --noprofile -c '. "$1"; . "$2"; complete -p | grep -c ssign' bash "$made/ssign.bash" "$made/ssign-keys.bash")" = 2
+holds 'bash: all are put there once' test "$(bash --norc --noprofile -c '. "$1"; . "$2"; . "$3"; complete -p | grep -c ssign' bash "$made/ssign.bash" "$made/ssign-keys.bash" "$made/ssign-archive.bash")" = 3
 
 # ---- fish
 ask_fish() {

@@ -70,32 +70,33 @@ holds 'nothing was built' test ! -e rt-ran
 installed=$(sed -n 's/^file //p' "$usr/share/suhvatek/installed" | sort)
 holds 'the list names what was put there' diff <(printf '%s\n' "$installed") <(cd "$usr" && find . ! -type d -printf '%P\n' | sort)
 wanted=(bin/ssign bin/ssign-keys share/suhvatek/ssign-keys share/suhvatek/ssign_keys/cli.py
-    share/man/man1/ssign.1 share/man/man1/ssign-keys.1 share/man/man5/ssign-answers.5 share/man/man5/ssign-report.5
+    bin/ssign-archive share/suhvatek/ssign-archive share/suhvatek/ssign_archive/cli.py
+    share/man/man1/ssign.1 share/man/man1/ssign-keys.1 share/man/man1/ssign-archive.1 share/man/man5/ssign-answers.5 share/man/man5/ssign-report.5
     share/bash-completion/completions/ssign share/bash-completion/completions/ssign-keys
     share/zsh/site-functions/_ssign share/zsh/site-functions/_ssign-keys
     share/fish/vendor_completions.d/ssign.fish share/fish/vendor_completions.d/ssign-keys.fish
-    share/doc/suhvatek/{README,SECURITY,CHANGELOG}.md share/doc/suhvatek/docs/{guide,FORMATS,PROOFS,messages}.md
+    share/doc/suhvatek/{README,SECURITY,CHANGELOG}.md share/doc/suhvatek/docs/{guide,FORMATS,PROOFS,messages,scale}.md
     share/doc/suhvatek/examples/signed/signed.frames share/doc/suhvatek/examples/systemd/ssign-review.service
     share/doc/suhvatek/examples/logrotate/ssign-rotated)
 for file in "${wanted[@]}"; do
     holds "$file is installed" test -s "$usr/$file"
 done
-for file in "$root"/tools/ssign_keys/*.py; do
-    holds "${file##*/} is installed" cmp "$file" "$usr/share/suhvatek/ssign_keys/${file##*/}"
+for file in "$root"/tools/ssign_{keys,archive}/*.py; do
+    holds "${file#"$root"/tools/} is installed" cmp "$file" "$usr/share/suhvatek/${file#"$root"/tools/}"
 done
 for file in "$root"/man/*.[15]; do
     holds "${file##*/} is installed" cmp "$file" "$usr/share/man/man${file##*.}/${file##*/}"
 done
-for command in ssign ssign-keys; do
+for command in ssign ssign-keys ssign-archive; do
     holds "the completion of $command for bash" cmp "$root/completions/$command.bash" "$usr/share/bash-completion/completions/$command"
     holds "the completion of $command for zsh" cmp "$root/completions/_$command" "$usr/share/zsh/site-functions/_$command"
     holds "the completion of $command for fish" cmp "$root/completions/$command.fish" "$usr/share/fish/vendor_completions.d/$command.fish"
 done
 holds 'whoever installs with a strict umask, all may read' test -z "$(find one -type f ! -perm 644 ! -perm 755 -o -type d ! -perm 755)"
-holds 'all may run the commands' test "$(stat -c %a "$usr/bin/ssign" "$usr/share/suhvatek/ssign-keys" | sort -u)" = 755
+holds 'all may run the commands' test "$(stat -c %a "$usr/bin/ssign" "$usr"/share/suhvatek/ssign-{keys,archive} | sort -u)" = 755
 holds 'no passing file is left' test -z "$(find one -name '*.new.*')"
 if command -v man >out; then
-    for page in ssign.1 ssign-keys.1 ssign-answers.5 ssign-report.5; do
+    for page in ssign.1 ssign-keys.1 ssign-archive.1 ssign-answers.5 ssign-report.5; do
         holds "man finds ${page%.*}" test "$(man -M "$scratch/$usr/share/man" -w "${page##*.}" "${page%.*}")" = "$scratch/$usr/share/man/man${page##*.}/$page"
     done
 else
@@ -153,6 +154,20 @@ keys() {
 }
 keys --help
 expect 'ssign-keys --help' 0 'SOME TEXT' ''
+mkdir -p stored/archive/gate
+cp "$signed/signed.frames" stored/archive/gate/log
+if parallel --version 2>&1 </dev/null | grep -q '^GNU parallel'; then
+    PATH=$scratch/fake:$PATH timeout "$patience" "$bin/ssign-archive" review stored/archive --results stored/results \
+        --answers "$signed/signed.answers" </dev/null >out 2>err
+    status=$?
+    expect 'ssign-archive review' 0 'SOME TEXT' ''
+else
+    echo "$name: skipped ssign-archive review, since GNU parallel isn't here"
+fi
+PATH=$scratch/fake:$PATH timeout "$patience" "$bin/ssign-archive" split --by host stored/archive/gate/log stored/split </dev/null >out 2>err
+status=$?
+holds 'ssign-archive split' test "$status" -le 1 -a -s out -a ! -s err
+holds 'the ssign in PATH is not the one that it runs' test ! -e other-ran
 if [[ $has_cryptography ]]; then
     keys verify --key "$signed/public-key.pem" "$signed/signed.frames"
     expect 'ssign-keys verify' 0 'SOME TEXT' ''
@@ -174,7 +189,7 @@ if [[ $has_cryptography ]]; then
     "$scratch/linked" verify --key "$signed/public-key.pem" "$signed/signed.frames" >out 2>err
     holds 'ssign-keys by another name' test "$?" = 0
 fi
-holds 'nothing was compiled beside the package' test ! -e "$bin/../share/suhvatek/ssign_keys/__pycache__"
+holds 'nothing was compiled beside the packages' test -z "$(ls -d "$bin"/../share/suhvatek/*/__pycache__ 2>err)"
 # another version, which had one more file; and what an interpreter compiled
 manifest="$bin/../share/suhvatek/installed"
 touch "$bin/../share/suhvatek/ssign_keys/gone.py"
@@ -339,6 +354,7 @@ for path in pathlib.Path(sys.argv[1]).glob("*.py"):
 print(" ".join(sorted(names - set(sys.stdlib_module_names))))'
 if python3 -c 'import sys; sys.stdlib_module_names' 2>err; then
     holds 'ssign-keys needs cryptography alone' test "$(python3 -c "$modules" "$root/tools/ssign_keys")" = cryptography
+    holds 'ssign-archive needs the other package alone' test "$(python3 -c "$modules" "$root/tools/ssign_archive")" = ssign_keys
 fi
 mkdir unpacked
 dpkg-deb -x "$package" unpacked

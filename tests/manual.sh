@@ -5,7 +5,7 @@
 . "$(dirname -- "$0")/lib.sh"
 need_program
 export SSIGN=$program
-pages=(ssign.1 ssign-keys.1 ssign-answers.5 ssign-report.5)
+pages=(ssign.1 ssign-keys.1 ssign-archive.1 ssign-answers.5 ssign-report.5)
 
 has_cryptography=
 python3 -c 'import cryptography' 2>"$scratch/err" && has_cryptography=1
@@ -103,6 +103,7 @@ else
     }
     compare ssign.1 "$program"
     [[ ! $has_cryptography ]] || compare ssign-keys.1 "$root/tools/ssign-keys"
+    compare ssign-archive.1 "$root/tools/archive"
 
     # each code that `explain` knows stands in the page, in its order
     codes=$("$program" explain nothing 2>&1 </dev/null | sed -n 's/^The codes: //p')

@@ -87,13 +87,14 @@ Architecture: amd64
 Maintainer: $maintainer
 Installed-Size: $size
 Depends: libc6 (>= $glibc), python3 (>= 3.9), python3-cryptography
-Suggests: bash-completion, gnupg, openssl, zstd
+Suggests: bash-completion, gnupg, openssl, parallel, zstd
 Description: reviews and signs logs of signed syslog messages
  ssign reports which messages of a stored syslog log are exactly those that
  their sender signed (RFC 5424, RFC 5848), which are missing or changed, and
  which no signature accounts for. It checks offline, even years later.
  .
  ssign-keys makes keys, signs stored logs, and checks signatures.
+ ssign-archive reviews archives of many logs, on one machine or on several.
 CONTROL
 }
 

@@ -99,12 +99,16 @@ list_files() {
     modes=() sources=() targets=()
     local documents=share/doc/suhvatek command
     put 755 "$program" bin/ssign
-    put link ../share/suhvatek/ssign-keys bin/ssign-keys
+    for command in ssign-keys ssign-archive; do
+        put link "../share/suhvatek/$command" "bin/$command"
+    done
     put 755 "$root/tools/ssign-keys" share/suhvatek/ssign-keys
+    put 755 "$root/tools/archive" share/suhvatek/ssign-archive
     put_all share/suhvatek/ssign_keys "$root"/tools/ssign_keys/*.py
+    put_all share/suhvatek/ssign_archive "$root"/tools/ssign_archive/*.py
     put_all share/man/man1 "$root"/man/*.1
     put_all share/man/man5 "$root"/man/*.5
-    for command in ssign ssign-keys; do
+    for command in ssign ssign-keys ssign-archive; do
         put 644 "$root/completions/$command.bash" "share/bash-completion/completions/$command"
         put 644 "$root/completions/_$command" "share/zsh/site-functions/_$command"
         put 644 "$root/completions/$command.fish" "share/fish/vendor_completions.d/$command.fish"
@@ -136,7 +140,7 @@ copy() {
         return
     fi
     with_mode[$1]+=$3$'\n'
-    if [[ $2 == */tools/ssign-keys ]]; then
+    if [[ $2 == */tools/@(ssign-keys|archive) ]]; then
         # nothing is written beside an installed package, so the interpreter keeps no compiled files there
         { printf '#!%s -B\n' "$python" && tail -n +2 -- "$2"; } >"$3"
     else
@@ -242,7 +246,7 @@ uninstall_all() {
         [[ ! -e $file && ! -L $file || -w ${file%/*} ]] || refuse "nothing can be taken out of ${file%/*}: run it as a user who may; nothing was taken away"
     done
     # what an interpreter compiled, where it was started without -B
-    rm -rf -- "$destination$prefix/share/suhvatek/ssign_keys/__pycache__"
+    rm -rf -- "$destination$prefix"/share/suhvatek/ssign_{keys,archive}/__pycache__
     # the list goes last, so that a second try knows all that is left
     if ! rm -f -- "${paths[@]}" || ! rm -f -- "$destination$prefix/$manifest"; then
         refuse 'not everything could be taken away: run make uninstall again'

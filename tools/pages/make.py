@@ -11,7 +11,8 @@ from .shells import bash, fish, zsh
 
 ROOT = os.path.normpath(os.path.join(os.path.dirname(os.path.realpath(__file__)), "..", ".."))
 # each page with the program whose commands it has
-PAGES = {"ssign.1": "ssign", "ssign-answers.5": "ssign", "ssign-report.5": "ssign", "ssign-keys.1": "ssign-keys"}
+PAGES = {"ssign.1": "ssign", "ssign-answers.5": "ssign", "ssign-report.5": "ssign", "ssign-keys.1": "ssign-keys",
+         "ssign-archive.1": "ssign-archive"}
 
 
 def read(*names: str) -> str:
@@ -21,14 +22,15 @@ def read(*names: str) -> str:
 
 
 def read_programs() -> Dict[str, Program]:
-    """Both programs. The one without named values takes them from the other's option of the same name."""
+    """All programs. Those without named values take them from the option of ssign with the same name."""
     ssign = read_program(os.path.abspath(os.environ.get("SSIGN") or os.path.join(ROOT, "ssign")), "ssign")
     keys = read_program(os.path.join(ROOT, "tools", "ssign-keys"), "ssign-keys")
     known = {option.name: option.choices for command in ssign.commands for option in command.options if option.choices}
-    for command in keys.commands:
+    archive = read_program(os.path.join(ROOT, "tools", "archive"), "ssign-archive")
+    for command in keys.commands + archive.commands:
         for option in command.options:
             option.choices = option.choices or known.get(option.name, [])
-    return {"ssign": ssign, "ssign-keys": keys}
+    return {"ssign": ssign, "ssign-keys": keys, "ssign-archive": archive}
 
 
 def make_all() -> Dict[str, str]:

@@ -6,10 +6,10 @@ from typing import List, Sequence
 from .help import Command, Option, Program
 
 # the names of values that are files, and of those that are folders
-FILES = ("FILE", "LOG", "PROGRAM", "PUBLIC.pem", "PRIVATE.pem", "CA.pem", "CERT.pem")
-FOLDERS = ("DIR",)
+FILES = ("FILE", "IN", "LOG", "PROGRAM", "PUBLIC.pem", "PRIVATE.pem", "CA.pem", "CERT.pem")
+FOLDERS = ("ARCHIVE", "DIR", "FOLDER")
 # options that may be given several times
-REPEATED = ("--key", "--session-key", "--ca", "--cert")
+REPEATED = ("--key", "--session-key", "--ca", "--cert", "--sshlogin")
 NOTE = "Made by tools/make-pages from what --help says."
 
 
@@ -177,10 +177,10 @@ def zsh_option(option: Option, codes: Sequence[str]) -> str:
 def zsh_command(program: Program, command: Command) -> List[str]:
     """The branch of a command."""
     specs = [zsh_option(it, program.codes) for it in command.options]
-    for value, _ in command.arguments:
+    for number, (value, _) in enumerate(command.arguments, 1):
         bare = value.strip("<>.[]")
         many = "..." in command.usage.split(bare)[-1] or "..." in value
-        specs.append(quoted(f"{'*' if many else '1'}:{bare}:{zsh_action(kind(value), [], program.codes)}"))
+        specs.append(quoted(f"{'*' if many else number}:{bare}:{zsh_action(kind(value), [], program.codes)}"))
     return [f"            {command.name})", "                _arguments \\",
             *[f"                    {it} \\" for it in specs], "                    && ret=0", "                ;;"]
 
@@ -225,6 +225,8 @@ def fish_option(name: str, condition: str, option: Option) -> str:
         made += f" -x -a {fish_quoted(' '.join(option.choices))}"
     elif option.values and kind(option.values[-1]) == "files":
         made += " -r -F"
+    elif option.values and kind(option.values[-1]) == "folders":
+        made += " -x -a '(__fish_complete_directories)'"
     elif option.values:
         made += " -x"
     return f"{made} -d {fish_quoted(brief(option.text))}"

@@ -74,9 +74,12 @@ def form_of(front: bytes) -> Optional[str]:
     return None
 
 
-def damaged(name: str, form: str, why: str) -> Fault:
-    """What is said of a compressed file that can't be expanded to its end."""
-    return Fault(f"{shown_name(name)} is compressed by {form} and damaged, so there is no verdict: {why}")
+class Damaged(Fault):
+    """A compressed file can't be expanded to its end. `cause` says why, without the name of the file."""
+
+    def __init__(self, name: str, form: str, why: str) -> None:
+        super().__init__(f"{shown_name(name)} is compressed by {form} and damaged, so there is no verdict: {why}")
+        self.cause = f"it is compressed by {form} and damaged: {why}"
 
 
 def expanded(name: str, form: str, pieces: Iterator[bytes]) -> Iterator[bytes]:
@@ -100,9 +103,9 @@ def expanded(name: str, form: str, pieces: Iterator[bytes]) -> Iterator[bytes]:
                     break
                 decoder, piece = None, rest
     except (zlib.error, lzma.LZMAError) as error:
-        raise damaged(name, form, str(error)) from error
+        raise Damaged(name, form, str(error)) from error
     if decoder is not None:
-        raise damaged(name, form, "its end is missing")
+        raise Damaged(name, form, "its end is missing")
 
 
 def expand_zstd(name: str, packed: BinaryIO, plain: BinaryIO, workplace: Workplace) -> None:
@@ -121,5 +124,5 @@ def expand_zstd(name: str, packed: BinaryIO, plain: BinaryIO, workplace: Workpla
         errors.seek(0)
         said = errors.read(1000).splitlines()
     if status != 0:
-        raise damaged(name, "zstd", shown(said[-1]) if said else f"zstd ended with status {status}")
+        raise Damaged(name, "zstd", shown(said[-1]) if said else f"zstd ended with status {status}")
     plain.seek(0, os.SEEK_END)

@@ -1,0 +1,58 @@
+# Made by tools/make-pages from what --help says. Completion of ssign-archive for fish.
+
+# __ssign_archive_command [COMMAND]: whether the command line has this command, or none yet.
+function __ssign_archive_command
+    set -l words (commandline -opc)
+    if set -q argv[1]
+        set -q words[2]; and test "$words[2]" = "$argv[1]"
+    else
+        not set -q words[2]
+    end
+end
+
+complete -c ssign-archive -f
+complete -c ssign-archive -n __ssign_archive_command -l help -s h -d 'show this help message and exit'
+complete -c ssign-archive -n __ssign_archive_command -a review -d 'Review each folder of an archive, and put the reports together'
+complete -c ssign-archive -n '__ssign_archive_command review' -l help -s h -d 'show this help message and exit'
+complete -c ssign-archive -n '__ssign_archive_command review' -l results -x -a '(__fish_complete_directories)' -d 'the folder for the results'
+complete -c ssign-archive -n '__ssign_archive_command review' -l answers -r -F -d 'the answers of a signature checker, for all parts'
+complete -c ssign-archive -n '__ssign_archive_command review' -l lines -d 'the log is one message a line, not octet-counted frames'
+complete -c ssign-archive -n '__ssign_archive_command review' -l max-len -x -d 'the longest message, in octets'
+complete -c ssign-archive -n '__ssign_archive_command review' -l max-messages -x -d 'the most messages'
+complete -c ssign-archive -n '__ssign_archive_command review' -l ssign -r -F -d 'the program ssign (default'
+complete -c ssign-archive -n '__ssign_archive_command review' -l jobs -x -d 'review so many parts at once, on each machine (default'
+complete -c ssign-archive -n '__ssign_archive_command review' -l sshlogin -x -d 'review on this machine, as GNU parallel names it'
+complete -c ssign-archive -n '__ssign_archive_command review' -l findings -x -d 'the most findings that are printed of a part'
+complete -c ssign-archive -n '__ssign_archive_command review' -l sessions -d 'print the sessions of each part, and where the messages of each group begin and end'
+complete -c ssign-archive -n '__ssign_archive_command review' -a '(__fish_complete_directories)'
+complete -c ssign-archive -n __ssign_archive_command -a prepare -d 'Write what the commands `part` and `table` need, and review nothing'
+complete -c ssign-archive -n '__ssign_archive_command prepare' -l help -s h -d 'show this help message and exit'
+complete -c ssign-archive -n '__ssign_archive_command prepare' -l results -x -a '(__fish_complete_directories)' -d 'the folder for the results'
+complete -c ssign-archive -n '__ssign_archive_command prepare' -l answers -r -F -d 'the answers of a signature checker, for all parts'
+complete -c ssign-archive -n '__ssign_archive_command prepare' -l lines -d 'the log is one message a line, not octet-counted frames'
+complete -c ssign-archive -n '__ssign_archive_command prepare' -l max-len -x -d 'the longest message, in octets'
+complete -c ssign-archive -n '__ssign_archive_command prepare' -l max-messages -x -d 'the most messages'
+complete -c ssign-archive -n '__ssign_archive_command prepare' -l ssign -r -F -d 'the program ssign (default'
+complete -c ssign-archive -n '__ssign_archive_command prepare' -a '(__fish_complete_directories)'
+complete -c ssign-archive -n __ssign_archive_command -a part -d 'Review one folder of a prepared archive'
+complete -c ssign-archive -n '__ssign_archive_command part' -l help -s h -d 'show this help message and exit'
+complete -c ssign-archive -n '__ssign_archive_command part' -a '(__fish_complete_directories)'
+complete -c ssign-archive -n __ssign_archive_command -a table -d 'Put together the reports that are there'
+complete -c ssign-archive -n '__ssign_archive_command table' -l help -s h -d 'show this help message and exit'
+complete -c ssign-archive -n '__ssign_archive_command table' -l findings -x -d 'the most findings that are printed of a part'
+complete -c ssign-archive -n '__ssign_archive_command table' -l sessions -d 'print the sessions of each part, and where the messages of each group begin and end'
+complete -c ssign-archive -n '__ssign_archive_command table' -a '(__fish_complete_directories)'
+complete -c ssign-archive -n __ssign_archive_command -a join -d 'Write the messages of a folder, as a review of it reads them'
+complete -c ssign-archive -n '__ssign_archive_command join' -l help -s h -d 'show this help message and exit'
+complete -c ssign-archive -n '__ssign_archive_command join' -l lines -d 'the log is one message a line, not octet-counted frames'
+complete -c ssign-archive -n '__ssign_archive_command join' -l max-len -x -d 'the longest message, in octets'
+complete -c ssign-archive -n '__ssign_archive_command join' -l max-messages -x -d 'the most messages'
+complete -c ssign-archive -n '__ssign_archive_command join' -a '(__fish_complete_directories)'
+complete -c ssign-archive -n __ssign_archive_command -a split -d 'Cut a log into parts that can be reviewed apart'
+complete -c ssign-archive -n '__ssign_archive_command split' -l help -s h -d 'show this help message and exit'
+complete -c ssign-archive -n '__ssign_archive_command split' -l by -x -a 'host session' -d 'a part for each HOSTNAME, or for each session with the messages that its blocks announce'
+complete -c ssign-archive -n '__ssign_archive_command split' -l lines -d 'the log is one message a line, not octet-counted frames'
+complete -c ssign-archive -n '__ssign_archive_command split' -l max-len -x -d 'the longest message, in octets'
+complete -c ssign-archive -n '__ssign_archive_command split' -l max-messages -x -d 'the most messages'
+complete -c ssign-archive -n '__ssign_archive_command split' -l ssign -r -F -d 'the program ssign (default'
+complete -c ssign-archive -n '__ssign_archive_command split' -F

@@ -1,0 +1,112 @@
+"""Reviews the parts of an archive by GNU parallel, on this machine or on several, and prints the table."""
+from __future__ import annotations
+
+import argparse
+import os
+import shlex
+import shutil
+import signal
+import subprocess
+import sys
+from typing import BinaryIO, List
+
+from ssign_keys.faults import Fault
+from ssign_keys.words import counted, shown_name
+from ssign_keys.workplace import Workplace, say
+
+from . import settings as settings_form
+from .prepare import Preparation
+from .settings import number
+from .table import Table, add_table_arguments
+
+# the launcher beside this package: in the repository, and where it is installed
+LAUNCHERS = ("archive", "ssign-archive")
+# how often a part is tried that fails
+TRIES = 2
+
+
+def add_arguments(parser: argparse.ArgumentParser) -> None:
+    """Says which words the command takes."""
+    settings_form.add_arguments(parser)
+    parser.add_argument("--jobs", type=number(1, 1024), metavar="N", help="review so many parts at once, on each machine "
+                        "(default: one for each processor)")
+    parser.add_argument("--sshlogin", action="append", default=[], metavar="LOGIN", help="review on this machine, as GNU "
+                        "parallel names it; may be given several times, and : is the machine here")
+    add_table_arguments(parser)
+
+
+def run(arguments: argparse.Namespace) -> int:
+    """Reviews what isn't done, and prints the table of everything."""
+    parallel = find_parallel()
+    with Preparation(arguments) as prepared:
+        left = len(prepared.parts) - len(prepared.done)
+        if prepared.done:
+            say(f"ssign-archive: {counted(len(prepared.done), 'part')} of {len(prepared.parts)} done before")
+        status = 0
+        if left:
+            status = run_parallel(engine_words(parallel, arguments, prepared), prepared.lock)
+        table = Table(prepared.results, prepared.settings)
+        worst = table.print(arguments.findings, arguments.sessions)
+        if status and worst != 2:
+            raise Fault(f"GNU parallel ended with the status {status}, though each part was reviewed")
+        return worst
+
+
+def find_parallel() -> str:
+    """The command of GNU parallel. Another program has the same name."""
+    found = shutil.which("parallel")
+    if found is None:
+        raise Fault("the command parallel is missing; on Debian and Ubuntu `apt-get install parallel` installs it")
+    said = subprocess.run([found, "--version"], stdin=subprocess.DEVNULL, capture_output=True, check=False)
+    if not said.stdout.startswith(b"GNU parallel"):
+        raise Fault(f"{shown_name(found)} isn't GNU parallel; on Debian and Ubuntu `apt-get install parallel` installs it")
+    return found
+
+
+def engine_words(parallel: str, arguments: argparse.Namespace, prepared: Preparation) -> List[str]:
+    """The command line of GNU parallel: a job for each part that the joblog doesn't call done."""
+    results = prepared.results
+    launcher = find_launcher()
+    for path in (launcher, results.path):
+        if "{" in path:
+            raise Fault(f"{shown_name(path)} has a brace in it, which GNU parallel would replace")
+    words = [parallel, "--joblog", results.joblog_path, "--resume-failed", "--retries", str(TRIES)]
+    if arguments.jobs is not None:
+        words += ["--jobs", str(arguments.jobs)]
+    for login in arguments.sshlogin:
+        words += ["--sshlogin", login]
+    job = [sys.executable or "python3"] if not arguments.sshlogin else []
+    command = " ".join(map(shlex.quote, [*job, launcher, "part", results.path]))
+    return [*words, "--null", "--arg-file", results.parts_path, f"{command} {{}}"]
+
+
+def find_launcher() -> str:
+    """What starts this program, on each machine."""
+    folder = os.path.dirname(os.path.dirname(os.path.realpath(__file__)))
+    for name in LAUNCHERS:
+        if os.path.isfile(os.path.join(folder, name)):
+            return os.path.join(folder, name)
+    raise Fault(f"there is no launcher in {shown_name(folder)}")
+
+
+def run_parallel(words: List[str], lock: BinaryIO) -> int:
+    """Runs the engine to its end. A signal that ends this process ends the engine and its jobs too.
+
+    Where this process is killed outright, the engine goes on, and holds the lock until it ends.
+    """
+    with Workplace():
+        child = subprocess.Popen(words, stdin=subprocess.DEVNULL, stdout=sys.stderr, start_new_session=True,
+                                 pass_fds=[lock.fileno()])
+        try:
+            return child.wait()
+        except BaseException:
+            # at the second signal GNU parallel ends its jobs
+            for _ in range(2):
+                child.send_signal(signal.SIGTERM)
+                try:
+                    child.wait(1)
+                    break
+                except subprocess.TimeoutExpired:
+                    continue
+            child.kill()
+            raise

@@ -1,0 +1,204 @@
+"""Cuts the log of a collector into parts that can be reviewed apart, and says whether they can be.
+
+The reports on the parts add up to the report on the whole log where (a) all blocks of a session lie in one part, and (b) a
+message without a block, that has a hash which a block announces, lies in the part of that block. (a) holds for each split
+here. Whether (b) does is looked at, message by message.
+"""
+from __future__ import annotations
+
+import argparse
+import os
+import shutil
+from dataclasses import dataclass, field
+from typing import BinaryIO, Dict, Iterator, List, NamedTuple, Set, Tuple
+
+from ssign_keys.faults import Fault
+from ssign_keys.files import reason
+from ssign_keys.programs import add_log_arguments, add_program_argument, find_program, log_words
+from ssign_keys.words import counted, shown_name
+from ssign_keys.workplace import Workplace, say
+
+from .announced import Announced
+from .feeding import run_over
+from .findings import Places, file_findings
+from .join import longest_of
+from .messages import each_message
+from .parts import Parts, name_of
+from .sources import Read, Reader
+from .tree import files_of, look
+
+# RFC 5424, section 6.2: HOSTNAME is the third word
+HOST = 2
+BLOCKS = (b"signature", b"certificate")
+ORDINARY = (b"plain", b"unparsed")
+
+
+def add_arguments(parser: argparse.ArgumentParser) -> None:
+    """Says which words the command takes."""
+    parser.add_argument("--by", required=True, choices=("host", "session"), metavar="HOW", help="a part for each HOSTNAME, or "
+                        "for each session with the messages that its blocks announce [possible values: host, session]")
+    add_log_arguments(parser)
+    add_program_argument(parser)
+    parser.add_argument("log", metavar="IN", help="the log, plain or compressed by gzip or xz, or a folder of logs that "
+                        "follow one another by their names")
+    parser.add_argument("out", metavar="OUTDIR", help="the folder for the parts, which may not be there yet")
+
+
+class Message(NamedTuple):
+    """A message of the log: what ssign calls it, its text, and its octets as they are stored."""
+
+    place: int
+    words: List[bytes]
+    text: bytes
+    stored: bytes
+
+
+@dataclass
+class Strays:
+    """Announced hashes whose message lies in another part than the block that announces it."""
+
+    count: int = 0
+    first_parts: Tuple[int, int] = (0, 0)
+    first_place: int = 0
+    _told: Set[Tuple[bytes, int]] = field(default_factory=set)
+
+    def add(self, digest: bytes, place: int, part: int, announcing: int) -> None:
+        """Takes one into account, once for each part that announces it."""
+        if (digest, announcing) in self._told:
+            return
+        self._told.add((digest, announcing))
+        self.count += 1
+        if self.count == 1:
+            self.first_place, self.first_parts = place, (part, announcing)
+
+
+def run(arguments: argparse.Namespace) -> int:
+    """Writes the parts. The status is 1 where (b) isn't met, or the log breaks off."""
+    program = os.path.abspath(find_program(arguments))
+    out = os.path.abspath(arguments.out)
+    if os.path.lexists(out):
+        raise Fault(f"{shown_name(out)} is there already")
+    passing = f"{out}.{os.getpid()}.new"
+    with Workplace() as workplace:
+        try:
+            os.mkdir(passing)
+        except OSError as fault:
+            raise Fault(f"{shown_name(passing)} can't be made: {reason(fault)}") from fault
+        try:
+            split = Split(arguments, Parts(passing))
+            split.run(program, workplace)
+            os.rename(passing, out)
+        except BaseException:
+            shutil.rmtree(passing, ignore_errors=True)
+            raise
+    return split.tell()
+
+
+class Split:
+    """A split of one log."""
+
+    def __init__(self, arguments: argparse.Namespace, parts: Parts) -> None:
+        self._log = os.path.normpath(arguments.log)
+        self._words = log_words(arguments)
+        self._are_lines = bool(arguments.lines)
+        self._longest = longest_of(arguments)
+        self._by_host = arguments.by == "host"
+        self._parts = parts
+        self._announced = Announced()
+        self._strays = Strays()
+        self._read: List[Read] = []
+        # the parts of the names that were met, since to spell the name of a folder for each message takes long
+        self._known: Dict[Tuple[bytes, ...], int] = {}
+
+    def run(self, program: str, workplace: Workplace) -> None:
+        """Asks ssign what each message is, learns which hashes are announced, and writes the parts."""
+        with workplace.new_file("inspection") as inspection:
+            reader = self._reader()
+            run_over(reader, program, ["inspect", *self._words], workplace, inspection)
+            self._read = reader.read
+            for message in self._messages(inspection):
+                if message.words[0] == b"signature":
+                    self._announced.add(message.text, self._block_part(message))
+            for message in self._messages(inspection):
+                self._put(message)
+        self._parts.write()
+
+    def _reader(self) -> Reader:
+        if os.path.isdir(self._log):
+            folder, files = self._log, files_of(self._log)
+        else:
+            folder, files = os.path.dirname(self._log), [look(self._log)]
+        if not files:
+            raise Fault(f"no file lies in {shown_name(folder)}")
+        return Reader(folder, files, self._are_lines, self._longest)
+
+    def _messages(self, inspection: BinaryIO) -> Iterator[Message]:
+        """The messages of the log, each with what ssign calls it."""
+        inspection.seek(0)
+        reader = self._reader()
+        place = 0
+        for whole in reader.wholes():
+            for begin, text, end in each_message(whole.octets, self._are_lines):
+                words = inspection.readline().split()
+                if words[1:2] != [b"%d" % place] or words[0] == b"torn":
+                    raise Fault("ssign inspect says something of other messages than were handed to it")
+                stored = whole.octets[begin : end + self._are_lines]
+                yield Message(place, words, whole.octets[text:end], stored)
+                place += 1
+        if inspection.readline() != b"end %d\n" % place or reader.read != self._read:
+            raise Fault(f"{shown_name(self._log)} was changed while it was read")
+
+    def _block_part(self, message: Message) -> int:
+        """The part of a block, by its session."""
+        return self._part_of("host", *message.words[2:3]) if self._by_host else self._part_of("session", *message.words[2:6])
+
+    def _part_of(self, kind: str, *words: bytes) -> int:
+        """The part of these words."""
+        known = self._known.get(words)
+        if known is None:
+            known = self._known[words] = self._parts.number(name_of(kind, *words))
+        return known
+
+    def _put(self, message: Message) -> None:
+        """Puts a message into its part."""
+        word = message.words[0]
+        if word in BLOCKS:
+            self._parts.put(self._block_part(message), message.stored, message.place, True)
+            return
+        announced = self._announced.of(message.text) if word in ORDINARY else {}
+        if self._by_host:
+            is_parsed = word != b"unparsed"
+            part = self._part_of("host", message.text.split(b" ", HOST + 1)[HOST]) if is_parsed else self._part_of("unparsed")
+        else:
+            part = next(iter(announced.values()))[0] if announced else self._part_of("rest")
+        for digest, announcing in announced.items():
+            for other in announcing:
+                if other != part:
+                    self._strays.add(digest, message.place, part, other)
+        self._parts.put(part, message.stored, message.place, False)
+
+    def tell(self) -> int:
+        """Prints the parts and the premises, and gives the status."""
+        parts, strays = self._parts, self._strays
+        for number in sorted(range(len(parts.names)), key=parts.names.__getitem__):
+            print(f"{parts.names[number]}: {counted(parts.messages[number], 'message')}, "
+                  f"{counted(parts.blocks[number], 'block')}")
+        print(f"{counted(sum(parts.messages), 'message')} in {counted(len(parts.names), 'part')}")
+        print("(a) met: all blocks of a session lie in one part")
+        if strays.count:
+            here, there = (parts.names[it] for it in strays.first_parts)
+            print(f"(b) NOT MET: {counted(strays.count, 'announced hash', 'announced hashes')} with the message in another "
+                  f"part. First: the message at {self._where(strays.first_place)} lies in {here}, and a block of {there} "
+                  "announces it. The reports on the parts don't add up to the report on the whole log.")
+        else:
+            print("(b) met: each message with an announced hash lies in the part of the block that announces it")
+        found = file_findings(".", self._read)
+        for where, what in found:
+            say(f"ssign-archive: {where}: {what}")
+        if any(it.octet is not None and it.why != "torn" for it in self._read):
+            return 2
+        return 1 if strays.count or found else 0
+
+    def _where(self, place: int) -> str:
+        """A place of the log, with its file."""
+        return f"place {place} ({Places('.', self._read).at(place)})"
