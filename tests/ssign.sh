@@ -463,7 +463,7 @@ for part in proofs/more.antt must-fail/more.edit README.md; do
     mkdir -p -- "$copy/crates/ss_frame/${part%/*}" 2>/dev/null
     echo more >"$copy/crates/ss_frame/${part/README.md/..\/README.md}"
 done
-printf '\n' >>"$copy/crates/rows/src/lib.rt"
+printf '\n' >>"$copy/crates/test_rows/src/lib.rt"
 ssign "$tools" review </dev/null
 expect 'a proof, a page and a test crate do not count' 0 'end 0' "$told"
 
@@ -767,7 +767,7 @@ odd=$'-o \xff\n\\\'"*'
 echo one >"$copy/crates/ss_frame/src/$odd"
 same_sources 'a name of any octets'
 holds 'sources.sh: it counts' test "$before" != "$("$copy/release/sources.sh")"
-printf '# behind all others\nss_else: ss_frame\nss_frame may_abort=0: itoa thiserror rows#' >>"$copy/crates.txt"
+printf '# behind all others\nss_else: ss_frame\nss_frame may_abort=0: itoa thiserror test_rows#' >>"$copy/crates.txt"
 same_sources 'a comment, a crate that the program does not stand on, and one that it does'
 printf '\n# nothing\n\n' >>"$copy/crates.txt"
 same_sources 'a last line that says nothing'
