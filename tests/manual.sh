@@ -118,7 +118,7 @@ else
     while IFS= read -r line; do
         line=${line#'| `'}
         holds "ssign-report.5 has a line ${line%%'`'*}" grep -qE "^ {7}${line%%'`'*}( |\$)" "$scratch/ssign-report.5.txt"
-    done < <(awk '/^## A report/ { on = 1; next } /^## / { on = 0 } on && /^\| `/' "$root/docs/FORMATS.md")
+    done < <(awk '/^## A report$/ { on = 1; next } /^## / { on = 0 } on && /^\| `/' "$root/docs/FORMATS.md")
 fi
 
 if command -v mandoc >"$scratch/out"; then

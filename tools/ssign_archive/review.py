@@ -23,6 +23,8 @@ from .table import Table, add_table_arguments
 LAUNCHERS = ("archive", "ssign-archive")
 # how often a part is tried that fails
 TRIES = 2
+# what the engine starts a job with, on each machine: the command is quoted for it, and a login shell may be another
+SHELL = "/bin/sh"
 
 
 def add_arguments(parser: argparse.ArgumentParser) -> None:
@@ -37,8 +39,9 @@ def add_arguments(parser: argparse.ArgumentParser) -> None:
 
 def run(arguments: argparse.Namespace) -> int:
     """Reviews what isn't done, and prints the table of everything."""
+    preparation = Preparation(arguments)
     parallel = find_parallel()
-    with Preparation(arguments) as prepared:
+    with preparation as prepared:
         left = len(prepared.parts) - len(prepared.done)
         if prepared.done:
             say(f"ssign-archive: {counted(len(prepared.done), 'part')} of {len(prepared.parts)} done before")
@@ -96,7 +99,7 @@ def run_parallel(words: List[str], lock: BinaryIO) -> int:
     """
     with Workplace():
         child = subprocess.Popen(words, stdin=subprocess.DEVNULL, stdout=sys.stderr, start_new_session=True,
-                                 pass_fds=[lock.fileno()])
+                                 pass_fds=[lock.fileno()], env={**os.environ, "PARALLEL_SHELL": SHELL})
         try:
             return child.wait()
         except BaseException:
