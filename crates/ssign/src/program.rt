@@ -110,9 +110,9 @@ fn run_log<R: Input + Print + Eprint + Screen + Files + AllocGlobal>(
     };
     let mut input = Opening::new(rt.reader());
     let ended = match answers_file(options) {
-        None => run_streams(rt, &mut input, task, &Nobody, limits),
+        None => run_streams(rt, &mut input, task, Nobody, limits),
         Some(file) => match open_answers(rt, file) {
-            Ok(answers) => run_streams(rt, &mut input, task, &answers, limits),
+            Ok(answers) => run_streams(rt, &mut input, task, answers, limits),
             Err(fault) => return refuse(rt, &fault, Remark::AnswersFile(file)),
         },
     };

@@ -20,14 +20,14 @@ use std::io::{BufWriter, Printer, Read};
 const BUFFER_SIZE: usize = 65_536;
 
 /// Makes a run from the input to standard output.
-pub fn run_streams<R: Print + AllocGlobal, I: Read + Drop, J: Judge>(
+pub fn run_streams<R: Print + AllocGlobal, I: Read + Drop, J: Judge + Drop>(
     rt: &R,
     input: I,
     task: Task,
-    judge: &J,
+    judge: J,
     limits: Limits,
 ) -> Result<Verdict, RunFault>
-    requires { J.sound judge.now }
+    requires { J.sound judge }
 {
     let mut reader = buffered(rt.alloc(), input)?;
     let mut writer = standard_output(rt)?;
