@@ -1,7 +1,8 @@
--- The findings of a report: its plain text without the `ok` lines.
+-- The findings of a report: what it says without its `ok` lines.
 use Rattle.std.specs.Prelude.{ℕ, Bool, true, false, List, [], if◌then◌else◌}
 use Rattle.ss_report.specs.Lines.{ReportLine, SessionLine, OkLine, GapLine, HoleLine, UnlistedLine, RefusedLine, SpoiltLine, TornLine, EndLine}
 use Rattle.ss_report.specs.ReportText.{line_text}
+use Rattle.ss_report.specs.Json.{line_object}
 
 abbrev pub is_ok : ReportLine → Bool
 is_ok (OkLine s g number place) = true
@@ -17,3 +18,7 @@ is_ok (EndLine count) = false
 -- each other line as it is
 abbrev pub finding_text : ReportLine → List ℕ
 finding_text line = if is_ok line then [] else line_text line
+
+-- the same as JSON
+abbrev pub finding_object : ReportLine → List ℕ
+finding_object line = if is_ok line then [] else line_object line

@@ -21,7 +21,6 @@ mod questions;
 pub mod report_text;
 mod review;
 mod review_as;
-mod review_with;
 mod verdict;
 mod words;
 
@@ -35,5 +34,4 @@ pub use output::write_whole;
 pub use questions::run_questions;
 pub use review::run_review;
 pub use review_as::run_review_as;
-pub use review_with::run_review_with;
 pub use verdict::Verdict;

@@ -1,8 +1,9 @@
 //! The findings of a report.
 ghost use Rattle.std.specs.Prelude.{◌≡◌};
 ghost use Rattle.ss_report.specs.Lines.{seen};
-ghost use Rattle.ss_report.specs.Findings.{is_ok, finding_text};
+ghost use Rattle.ss_report.specs.Findings.{is_ok, finding_text, finding_object};
 
+use crate::forms::json::write_object;
 use crate::forms::text::write_line;
 use crate::lines::form::Form;
 use crate::lines::line::Line;
@@ -19,6 +20,20 @@ impl Form for Findings {
     fn write<W: Write>(&self, writer: &mut Watched<W>, line: Line<'_>) {
         if !is_ok(line) {
             write_line(writer, line);
+        }
+    }
+}
+
+/// The JSON objects without those of `ok` lines.
+#[derive(Clone, Copy)]
+pub(crate) struct JsonFindings;
+
+impl Form for JsonFindings {
+    ghost text = { λ _. finding_object };
+
+    fn write<W: Write>(&self, writer: &mut Watched<W>, line: Line<'_>) {
+        if !is_ok(line) {
+            write_object(writer, line);
         }
     }
 }

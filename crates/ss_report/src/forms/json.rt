@@ -30,7 +30,7 @@ impl Form for Json {
 }
 
 /// Writes the object of a line.
-fn write_object<W: Write>(writer: &mut Watched<W>, line: Line<'_>)
+pub(crate) fn write_object<W: Write>(writer: &mut Watched<W>, line: Line<'_>)
     ensures { Writes (sink_of W.contents writer.old) (sink_of W.contents writer.new) (line_object (seen line.entry)) }
 {
     match line {

@@ -3,7 +3,7 @@ ghost use Rattle.ss_frame.specs.Watched.{sink_of};
 ghost use Rattle.ss_report.specs.Writing.{Writes};
 ghost use Rattle.ss_report.specs.Forms.{report_as};
 
-use crate::forms::findings::Findings;
+use crate::forms::findings::{Findings, JsonFindings};
 use crate::forms::json::Json;
 use crate::forms::text::Text;
 use crate::lines::walk::write_lines;
@@ -20,6 +20,8 @@ pub enum ReportForm {
     Findings,
     /// A JSON object (RFC 8259) for each line of the plain text.
     Json,
+    /// The JSON objects without those of `ok` lines.
+    JsonFindings,
 }
 
 /// Writes a report on a log with this end, in a form. Nothing is allocated.
@@ -35,5 +37,6 @@ pub(crate) fn write_report_as<W: Write>(
         ReportForm::Text => write_lines(&Text, writer, report, tail),
         ReportForm::Findings => write_lines(&Findings, writer, report, tail),
         ReportForm::Json => write_lines(&Json, writer, report, tail),
+        ReportForm::JsonFindings => write_lines(&JsonFindings, writer, report, tail),
     }
 }
