@@ -20,6 +20,8 @@ use Rattle.ssign.specs.declared.signing.Signing.TheVariants.{Plan, Sign}
 use Rattle.ssign.specs.SigningOptions.{AreVersions, Kept, number_rule, text_rule, usual_rule, with_signing_options}
 use Rattle.ss_signing.specs.declared.fault.SignFault.{SignFault}
 use Rattle.ss_report.specs.declared.fault.RunFault.{RunFault}
+use Rattle.ss_report.specs.declared.forms.report_form.ReportForm.{ReportForm}
+use Rattle.ss_report.specs.declared.forms.report_form.ReportForm.TheVariants as forms
 use Rattle.ss_report.specs.declared.verdict.Verdict.{Verdict}
 use Rattle.ss_report.specs.declared.verdict.Verdict.TheVariants.{Clean, Findings}
 
@@ -46,6 +48,13 @@ abbrev pub form_of : Bool → Form
 form_of true = Lines
 form_of false = Frames
 
+-- the form of a report, with or without `--findings` and `--json`
+abbrev pub report_form : (findings json : Bool) → ReportForm
+report_form false false = forms.Text
+report_form true false = forms.Findings
+report_form false true = forms.Json
+report_form true true = forms.JsonFindings
+
 -- the limits of a command with these numbers, and with or without `--lines`
 abbrev pub limits_with : (max_len max_messages : ℕ) (lines : Bool) → Allowance
 limits_with a b lines = record { max_len = a; max_messages = b; form = form_of lines }
@@ -55,8 +64,18 @@ limits_with a b lines = record { max_len = a; max_messages = b; form = form_of l
 abbrev pub answers_rule : Rule
 answers_rule = text_rule (codes "answers")
 
+-- a flag
+abbrev pub flag_rule : List ℕ → Rule
+flag_rule name = record (new_rule name) { long = Some name; action = Some SetTrue }
+
+abbrev pub findings_rule : Rule
+findings_rule = flag_rule (codes "findings")
+
+abbrev pub json_rule : Rule
+json_rule = flag_rule (codes "json")
+
 abbrev pub lines_rule : Rule
-lines_rule = record (new_rule (codes "lines")) { long = Some (codes "lines"); action = Some SetTrue }
+lines_rule = flag_rule (codes "lines")
 
 abbrev pub max_len_rule : Rule
 max_len_rule = usual_rule (number_rule (codes "max-len") (pos 1) (pos longest_message)) (codes "65536")
@@ -78,7 +97,7 @@ abbrev pub with_limits : App → App
 with_limits a = with_rule (with_rule (with_rule a lines_rule) max_len_rule) max_messages_rule
 
 abbrev pub review_app : App
-review_app = with_limits (with_rule (new_app (codes "review")) answers_rule)
+review_app = with_limits (with_rule (with_rule (with_rule (new_app (codes "review")) answers_rule) findings_rule) json_rule)
 
 abbrev pub questions_app : App
 questions_app = with_limits (new_app (codes "questions"))

@@ -3,11 +3,11 @@ ghost use Rattle.std.specs.Prelude.{◌≡◌, ◌<◌, ◌^◌, ◌∷◌, [], 
 ghost use Rattle.std.specs.Option.{SomeIff};
 ghost use Rattle.clap.specs.Words.{App, app_of, first_value, found_of, matched_of, new_app, raw_values, rule_of};
 ghost use Rattle.ss_frame.specs.Limits.{InRange};
-ghost use Rattle.ssign.specs.CommandLine.{answers_rule, code_rule, lines_rule, max_len_rule, max_messages_rule};
+ghost use Rattle.ssign.specs.CommandLine.{answers_rule, code_rule, findings_rule, json_rule, lines_rule, max_len_rule, max_messages_rule};
 ghost use Rattle.ssign.specs.CommandLine.{bare_app, explain_app, extract_app, inspect_app, plan_app, questions_app, review_app, sign_app, ssign_app};
 ghost use Rattle.ssign.specs.Explanation.{asked_of};
 ghost use Rattle.ssign.specs.SigningOptions.{AreVersions, Kept};
-ghost use Rattle.ssign.specs.CommandLine.{FlagIs, HasNumber, IsLocalApp, IsNoCommand, limits_with, name_of, text_of};
+ghost use Rattle.ssign.specs.CommandLine.{FlagIs, HasNumber, IsLocalApp, IsNoCommand, limits_with, name_of, report_form, text_of};
 ghost use Rattle.ssign.specs.CommandLine.{with_commands, with_limits};
 
 use crate::asked::asked_of;
@@ -16,6 +16,7 @@ use crate::signing_options::{versions, with_signing_options};
 use crate::task::Task;
 use clap::{Arg, ArgAction, ArgMatches, Command};
 use ss_frame::{LONGEST_MESSAGE, Limits, MOST_MESSAGES};
+use ss_report::ReportForm;
 use std::alloc::{AllocError, Global};
 
 /// The version of the program.
@@ -162,8 +163,8 @@ fn review<'a>(alloc: Global) -> Result<Command<'a>, AllocError>
     let about =
         "Reports which messages of the log on standard input are exactly those that their sender signed";
     let usage = "ssign review [OPTIONS] < FILE";
-    let review = over_log(alloc, "review", about, usage);
-    limited(alloc, review.arg(answers(alloc, CHECKED))?)
+    let review = over_log(alloc, "review", about, usage).arg(answers(alloc, CHECKED))?;
+    limited(alloc, review.arg(findings(alloc))?.arg(json(alloc))?)
 }
 
 fn questions<'a>(alloc: Global) -> Result<Command<'a>, AllocError>
@@ -267,6 +268,26 @@ fn answers<'a>(alloc: Global, help: &'a str) -> Arg<'a>
         .help(help)
 }
 
+fn findings<'a>(alloc: Global) -> Arg<'a>
+    ensures rule { rule_of result ≡ findings_rule }
+    ensures local { result.global ≡ false }
+{
+    Arg::new(alloc, "findings")
+        .long("findings")
+        .action(ArgAction::SetTrue)
+        .help("Leaves out the ok lines; the status is still that of the whole report")
+}
+
+fn json<'a>(alloc: Global) -> Arg<'a>
+    ensures rule { rule_of result ≡ json_rule }
+    ensures local { result.global ≡ false }
+{
+    Arg::new(alloc, "json")
+        .long("json")
+        .action(ArgAction::SetTrue)
+        .help("Writes a JSON object (RFC 8259) for each line of the report")
+}
+
 fn lines<'a>(alloc: Global) -> Arg<'a>
     ensures rule { rule_of result ≡ lines_rule }
     ensures local { result.global ≡ false }
@@ -334,6 +355,24 @@ pub fn answers_file<'a>(matches: &ArgMatches<'a>) -> Option<&'a str>
     ensures { option_map (λ s. s.now) result ≡ first_value (found_of matches.now) (codes "answers") }
 {
     matches.get_str("answers")
+}
+
+/// The form of a report that the flags ask for. A command without these flags has plain text.
+pub fn form_of_report(matches: &ArgMatches<'_>) -> ReportForm
+    ensures { (findings json : Bool) → FlagIs matches.now (codes "findings") findings
+        → FlagIs matches.now (codes "json") json → result ≡ report_form findings json }
+{
+    if matches.get_flag("findings") {
+        if matches.get_flag("json") {
+            ReportForm::JsonFindings
+        } else {
+            ReportForm::Findings
+        }
+    } else if matches.get_flag("json") {
+        ReportForm::Json
+    } else {
+        ReportForm::Text
+    }
 }
 
 /// The limits that the options give. `None` where an option has no number in its range, which a parse by `command`

@@ -9,7 +9,7 @@ use crate::signing::{Signing, run_signing};
 use crate::task::{Task, run_task};
 use ss_answers::Answers;
 use ss_frame::{Buffered, Limits, Watched};
-use ss_report::{RunFault, Verdict};
+use ss_report::{ReportForm, RunFault, Verdict};
 use ss_review::Judge;
 use ss_signing::SignFault;
 use std::alloc::Global;
@@ -24,6 +24,7 @@ pub fn run_streams<R: Print + AllocGlobal, I: Read + Drop, J: Judge + Drop>(
     rt: &R,
     input: I,
     task: Task,
+    form: ReportForm,
     judge: J,
     limits: Limits,
 ) -> Result<Verdict, RunFault>
@@ -31,7 +32,15 @@ pub fn run_streams<R: Print + AllocGlobal, I: Read + Drop, J: Judge + Drop>(
 {
     let mut reader = buffered(rt.alloc(), input)?;
     let mut writer = standard_output(rt)?;
-    run_task(rt.alloc(), &mut reader, &mut writer, task, judge, limits)
+    run_task(
+        rt.alloc(),
+        &mut reader,
+        &mut writer,
+        task,
+        form,
+        judge,
+        limits,
+    )
 }
 
 /// Makes a run that signs from the input to standard output.

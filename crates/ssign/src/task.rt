@@ -6,7 +6,9 @@ ghost use Rattle.ss_report.specs.Run.{Runs, Stops};
 ghost use Rattle.ssign.specs.Task.{job_of};
 
 use ss_frame::{Limits, Watched};
-use ss_report::{RunFault, Verdict, run_extract_with, run_inspect, run_questions, run_review_with};
+use ss_report::{
+    ReportForm, RunFault, Verdict, run_extract_with, run_inspect, run_questions, run_review_as,
+};
 use ss_review::Judge;
 use std::alloc::Global;
 use std::io::{Read, Write};
@@ -14,7 +16,7 @@ use std::io::{Read, Write};
 /// What is asked of a log.
 #[derive(Clone, Copy, Debug, PartialEq, Eq)]
 pub enum Task {
-    /// The report of a review.
+    /// The report of a review, in a form.
     Review,
     /// The questions of a review to a signature scheme.
     Questions,
@@ -24,8 +26,8 @@ pub enum Task {
     Inspect,
 }
 
-/// Reads a log to its end, and writes what is asked of it. Questions and inspections ask the judge nothing. The judge is
-/// let go once it is known which blocks are verified.
+/// Reads a log to its end, and writes what is asked of it: of a review, the report in this form. Questions and
+/// inspections ask the judge nothing. The judge is let go once it is known which blocks are verified.
 ///
 /// Nothing is written before the whole output is made. `RunFault::Write` exactly where a call of the writer failed; what
 /// was written then is a prefix of the output. After any other fault nothing was written: `RunFault::Frame` where the
@@ -35,22 +37,23 @@ pub fn run_task<R: Read, W: Write, J: Judge + Drop>(
     reader: &mut Watched<R>,
     writer: &mut Watched<W>,
     task: Task,
+    form: ReportForm,
     judge: J,
     limits: Limits,
 ) -> Result<Verdict, RunFault>
     requires reader { has_failed reader.old ≡ false }
     requires writer { has_failed writer.old ≡ false }
     requires sound { J.sound judge }
-    ensures done { IfOk result (Runs (job_of (answers J.trusted J.valid judge) task) limits
+    ensures done { IfOk result (Runs (job_of (answers J.trusted J.valid judge) form task) limits
         (source_of R.remaining reader.old) (source_of R.remaining reader.new)
         (sink_of W.contents writer.old) (sink_of W.contents writer.new)) }
-    ensures stopped { IfErr result (Stops (job_of (answers J.trusted J.valid judge) task) limits
+    ensures stopped { IfErr result (Stops (job_of (answers J.trusted J.valid judge) form task) limits
         (source_of R.remaining reader.old) (source_of R.remaining reader.new)
         (sink_of W.contents writer.old) (sink_of W.contents writer.new)) }
     ensures untouched { IfErr result (λ fault. fault ≢ RunFault.Write → writer.new ≡ writer.old) }
 {
     match task {
-        Task::Review => run_review_with(alloc, reader, writer, judge, limits),
+        Task::Review => run_review_as(alloc, reader, writer, judge, limits, form),
         Task::Questions => run_questions(alloc, reader, writer, limits),
         Task::Extract => run_extract_with(alloc, reader, writer, judge, limits),
         Task::Inspect => run_inspect(alloc, reader, writer, limits),

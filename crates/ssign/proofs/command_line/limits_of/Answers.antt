@@ -1,4 +1,4 @@
-use Rattle.std.proofs.Common.{◌==◌, ◌≡◌, ◌∙◌, ◌<◌, ◌^◌, ℕ, Bool, true, false, List, [], ◌∷◌, Option, Some, None, Result, cond, codes, drop, ap, refl, sym, inl, inr, arith}
+use Rattle.std.proofs.Common.{◌==◌, ◌≡◌, ◌∙◌, ◌<◌, ◌^◌, ℕ, Bool, true, false, List, [], ◌∷◌, Option, Some, None, Result, cond, codes, drop, ap, refl, sym, arith}
 use Rattle.std.specs.Prelude.{decimal}
 use Rattle.std.specs.Str.Parse.{IsNumeral, ParsesUnsigned, ExplainsUnsignedError, HasUnsignedDigitsIfOk, without_leading_plus}
 use Rattle.std.specs.declared.num.ParseIntError.{ParseIntError}
@@ -8,7 +8,8 @@ use Rattle.std.proofs.lemmas.Str.Parse.{digit_from_value}
 use Rattle.clap.specs.Words.{ReadsOne}
 use Rattle.clap.specs.declared.parser.matches.ArgMatches.{ArgMatches}
 use Rattle.ss_frame.specs.Limits.{InRange}
-use Rattle.ssign.specs.CommandLine.{FlagIs, HasNumber, SpellsNumber, text_of}
+use Rattle.ssign.specs.CommandLine.{HasNumber, SpellsNumber, text_of}
+use Rattle.ssign.proofs.Flags.{flag_is}
 use Rattle.ssign.proofs.command_line.limits_of.Goals as goal
 
 -- what `from_str` of a u32 says of its answer
@@ -57,13 +58,6 @@ has_number m option v none value = by_text (text_of m option) refl
     by_text (Some text) e =
         let read = value text e in
         (text, e, (read.0.0.0, sym read.0.1))
-
--- what `get_flag` answers is whether the flag is given
-flag_is : (m : ArgMatches) (flag : List ℕ) (r given : Bool) → (text_of m flag ≡ None → r ≡ false) → (text_of m flag ≡ Some (codes "true") → r ≡ true)
-    → (text_of m flag ≡ Some (codes "false") → r ≡ false) → FlagIs m flag given → given ≡ r
-flag_is m flag r true none value other e = sym (value e)
-flag_is m flag r false none value other (inl e) = sym (other e)
-flag_is m flag r false none value other (inr e) = sym (none e)
 
 pub returns-in_err-max_len-clause-value : goal.returns-in_err-max_len-clause-value
 returns-in_err-max_len-clause-value c = λ a b lines has_a has_b flag.
