@@ -85,7 +85,7 @@ _ssign() {
 # _ssign_words COMMAND CURRENT: a word that is no value of an option.
 _ssign_words() {
     case $1 in
-    review) _ssign_offer words '--answers --lines --max-len --max-messages --help' ;;
+    review) _ssign_offer words '--answers --findings --json --lines --max-len --max-messages --help' ;;
     questions) _ssign_offer words '--lines --max-len --max-messages --help' ;;
     extract) _ssign_offer words '--answers --lines --max-len --max-messages --help' ;;
     inspect) _ssign_offer words '--lines --max-len --max-messages --help' ;;

@@ -124,11 +124,11 @@ def answered(folder, answers):
 
 
 def shapes():
-    """The logs of cost_logs.py that it has a review of."""
+    """The logs of cost_logs.py that have a report."""
     for name, function in sorted(inspect.getmembers(logs, inspect.isfunction)):
         if function.__module__ == logs.__name__ and list(inspect.signature(function).parameters) == ["n"]:
             made = function(SIZE)
-            if isinstance(made, logs.Input) and "review" in made.says:
+            if isinstance(made, logs.Input) and made.says.get("review", (2,))[0] != 2:
                 yield name, made
 
 
@@ -169,7 +169,7 @@ def main():
         with open(os.path.join(ROOT, "docs", "guide.md"), "rb") as file:
             guide = file.read()
         with open(os.path.join(ROOT, "examples", "four-messages.frames"), "rb") as file:
-            log = file.read().replace(b"abc", b"abd")
+            log = file.read().replace(b"abc", b"abd", 1)
         for words in (["--findings"], ["--findings", "--json"]):
             call = " ".join(["./ssign review", *words, "--answers", "examples/four-messages.answers"])
             status, made = review(log, *words, "--answers", os.path.join(ROOT, "examples", "four-messages.answers"))
