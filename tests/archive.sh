@@ -32,14 +32,14 @@ says() {
 refuses() {
     expect "$1" 2 '' "ssign-archive: $2"
 }
-# row N MESSAGES SESSIONS: the row of a clean originator.
-row() {
+# clean_part N MESSAGES SESSIONS: the line of a clean originator in the table.
+clean_part() {
     printf 'gate-%s 8 %s 320 0 0 0 0 0 joined %s clean' "$@"
 }
 # All have 320 messages. A session has one certificate block, and one signature block for ten messages.
-rows=("$(row 1 353 1)" "$(row 2 360 8)")
+rows=("$(clean_part 1 353 1)" "$(clean_part 2 360 8)")
 for number in 3 4 5 6 7 8; do
-    rows+=("$(row "$number" 354 2)")
+    rows+=("$(clean_part "$number" 354 2)")
 done
 # others NUMBER..: the rows of all originators but these.
 others() {
