@@ -1,6 +1,6 @@
 -- The state of a session that is computed is the one that its certificate blocks state together.
 use Rattle.std.proofs.Common.{◌≡◌, ℕ, ◌+◌, ◌<◌, ◌≤◌, inl, inr, Bool, true, false, cond, ◌&&◌, not, List, [], ◌∷◌, length, map, filter, refl, sym, ap, ◌∙◌, subst, arith}
-use Rattle.std.specs.Prelude.{nat_le, nat_lt, slice_index, Option, Some, None, is_some, Ok, Err}
+use Rattle.std.specs.Prelude.{nat_le, nat_lt, slice_index, Option, Some, None, is_some, Result, Ok, Err}
 use Rattle.std.specs.List.{list_all, range_with_len}
 use Rattle.std.proofs.lemmas.Bool.{le-leb, lt-ltb, leb-true, ltb-true, true≢false, cases_Bool, and_parts, and_from, false_from_ne_true, true_from_ne_false}
 use Rattle.std.proofs.lemmas.List.FromFn.{length-map-range_with_len, get_or-map-range_with_len}
@@ -15,7 +15,7 @@ use Rattle.ss_review.specs.declared.report.session_report.SessionState.{SessionS
 use Rattle.ss_review.specs.declared.report.session_report.SessionState.TheVariants as states
 use Rattle.ss_review.specs.Payloads.{certificate_of, certificates, octets, is_disputed, has_index, cover, lacks_some, octet_at, joined_text, payload_or_malformed, stated_payload}
 use Rattle.ss_review.specs.Verified.{Answers, signature_of, is_valid, is_accepted, judged, joined, state_in}
-use Rattle.ss_review.specs.States.{stated_by, StatesText, HasValidOctet, IsCovered, IsPayloadBlock, IsInState}
+use Rattle.ss_review.specs.States.{stated_by, StatesText, HasValidOctet, IsCovered, IsPayloadBlock, IsJoinedUnder, IsInState}
 use Rattle.ss_origin.proofs.Members.{Has, has_from_contains, contains_from_has}
 use Rattle.ss_review.proofs.Members.{has-filter, from_has-filter, has-filter_map, from_has-filter_map}
 use Rattle.ss_review.proofs.Tests.{any_member, member_any, all_member, member_all, in_range, from_in_range}
@@ -77,6 +77,17 @@ judged_trusted says bs text false e = ap (λ b. state_in (cond (not b) (Err stat
 text_stated : (bs : List BlockMessage) (text : List ℕ) → StatesText (stated_by (certificates bs)) text → stated_payload (certificates bs) ≡ payload_or_malformed text
 text_stated bs text t = text_payload (certificates bs) t.undisputed t.gapless text t.text_is
 
+judged_ok : (says : Answers) (bs : List BlockMessage) (text : List ℕ) → says.trusted text ≡ true → is_accepted says bs text ≡ true → judged says bs (Ok text) ≡ Ok text
+judged_ok says bs text trust accept =
+    ap (λ b. cond (not b) (Err states.Untrusted) (cond (is_accepted says bs text) (Ok text) (Err states.Unaccepted))) trust
+    ∙ ap (λ b. cond b (Ok text) (Err states.Unaccepted)) accept
+
+pub joined_under : (says : Answers) (bs : List BlockMessage) (text : List ℕ) → IsJoinedUnder says bs text → joined says bs ≡ Ok text
+unfolding joined
+joined_under says bs text j =
+    ap (judged says bs) (text_stated bs text j.0 ∙ payload_ok text j.1)
+    ∙ judged_ok says bs text j.2 (accepted_from says bs text j.3)
+
 pub in_state : (says : Answers) (bs : List BlockMessage) (state : SessionState) → IsInState says bs state → state_in (joined says bs) ≡ state
 unfolding joined
 in_state says bs states.Disputed d = ap (λ r. state_in (judged says bs r)) (disputed_payload (certificates bs) d)
@@ -91,10 +102,7 @@ in_state says bs states.Unaccepted u =
     ap (λ r. state_in (judged says bs r)) (text_stated bs u.0 u.1 ∙ payload_ok u.0 u.2)
     ∙ judged_trusted says bs u.0 true u.3
     ∙ ap (λ b. state_in (cond b (Ok u.0) (Err states.Unaccepted))) refused
-in_state says bs states.Joined j =
-    ap (λ r. state_in (judged says bs r)) (text_stated bs j.0 j.1 ∙ payload_ok j.0 j.2)
-    ∙ judged_trusted says bs j.0 true j.3
-    ∙ ap (λ b. state_in (cond b (Ok j.0) (Err states.Unaccepted))) (accepted_from says bs j.0 j.4)
+in_state says bs states.Joined j = ap state_in (joined_under says bs j.0 j.1)
 
 -- ---- there is a state that is stated
 
@@ -124,7 +132,7 @@ by_payload says bs text t None e = (states.Malformed, (text, t, e))
 by_payload says bs text t (Some value) e =
     elim (cases_Bool (says.trusted text)) [
       | inl trusted ↦ (elim (cases_Bool (is_accepted says bs text)) [
-        | inl accepted ↦ (states.Joined, (text, t, (value, e), trusted, covered_from says bs text accepted))
+        | inl accepted ↦ (states.Joined, (text, (t, (value, e), trusted, covered_from says bs text accepted)))
         | inr refused ↦ (states.Unaccepted, (text, t, (value, e), trusted, λ covered. true≢false (sym (accepted_from says bs text covered) ∙ refused)))
       ])
       | inr distrusted ↦ (states.Untrusted, (text, t, (value, e), distrusted))
@@ -154,3 +162,14 @@ pub state_told : (says : Answers) (bs : List BlockMessage) (state : SessionState
 state_told says bs state e =
     let w : (state : SessionState) × IsInState says bs state = some_state says bs in
     subst (λ st. IsInState says bs st) (sym (in_state says bs w.0 w.1) ∙ e) w.1
+
+-- ---- the payload
+
+one_payload : (r : Result (List ℕ) SessionState) (text other : List ℕ) → r ≡ Ok text → r ≡ Ok other → text ≡ other
+one_payload r text other e f = cc
+
+-- a joined session is joined under one text, which is the payload
+pub payload_told : (says : Answers) (bs : List BlockMessage) (text : List ℕ) → joined says bs ≡ Ok text → IsJoinedUnder says bs text
+payload_told says bs text e =
+    let j : IsInState says bs states.Joined = state_told says bs states.Joined (ap state_in e) in
+    subst (IsJoinedUnder says bs) (one_payload (joined says bs) j.0 text (joined_under says bs j.0 j.1) e) j.1

@@ -1,5 +1,5 @@
 -- What holds of every log.
-use Rattle.std.specs.Prelude.{◌≡◌, ◌↔◌, ℕ, ◌+◌, ◌<◌, true, List, [], ◌∷◌, ◌++◌, length, Contains, Some}
+use Rattle.std.specs.Prelude.{◌≡◌, ◌↔◌, ℕ, ◌+◌, ◌<◌, true, List, [], ◌∷◌, ◌++◌, length, Contains, Some, Ok}
 use Rattle.ss_block.specs.declared.spoil.Spoil.{Spoil}
 use Rattle.ss_review.specs.declared.report.entry.Why.{Why}
 use Rattle.ss_review.specs.declared.report.report.Report.{Report}
@@ -13,7 +13,7 @@ use Rattle.ss_review.specs.Announced.{Key, rows, keys, is_disputed_key}
 use Rattle.ss_review.specs.Assigned.{assigned}
 use Rattle.ss_review.specs.Report.{report}
 use Rattle.ss_review.specs.Announcing.{IsAnnounced, IsDisputedKey}
-use Rattle.ss_review.specs.States.{IsInState}
+use Rattle.ss_review.specs.States.{IsJoinedUnder, IsInState}
 use Rattle.ss_review.specs.Listing.{IsDue}
 use Rattle.ss_review.specs.Meaning.{IsListed, IsGap, IsTold, IsInOrder, IsReport}
 use Rattle.ss_review.specs.Witness.{IsWitnessed}
@@ -118,6 +118,13 @@ StatesAreTheirs =
     (says : Answers) (log : List (List ℕ)) (s : Session) (state : SessionState)
     → (state_in (joined says (of_session (blocks (notes log)) s)) ≡ state)
     ↔ IsInState says (of_session (blocks (notes log)) s) state
+
+-- a session is joined under exactly the text that its certificate blocks state together, which is trusted and accepted
+abbrev pub JoinedPayloadsAreStated : Type 0
+JoinedPayloadsAreStated =
+    (says : Answers) (log : List (List ℕ)) (s : Session) (text : List ℕ)
+    → (joined says (of_session (blocks (notes log)) s) ≡ Ok text)
+    ↔ IsJoinedUnder says (of_session (blocks (notes log)) s) text
 
 -- each place of a log is exactly one of listed, unlisted, a verified block, refused and spoilt, and no other place is any
 abbrev pub EveryPlaceIsTold : Type 0

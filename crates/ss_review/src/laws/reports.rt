@@ -4,6 +4,7 @@ ghost use Rattle.ss_review.specs.Laws.{
   AssignedWhereDue,
   EveryPlaceIsTold,
   GapsAreUnassigned,
+  JoinedPayloadsAreStated,
   KeysAreAnnounced,
   ListedAreAssigned,
   ListedAreWitnessed,
@@ -32,6 +33,12 @@ pub fn spoilt_ends_add_themselves()
 /// The state of a session is the one that its certificate blocks state together, and no other.
 pub fn states_are_theirs()
     ensures { StatesAreTheirs }
+{}
+
+/// A session is joined under exactly the text that its certificate blocks state together. It is a payload block, it is
+/// trusted, and the certificate blocks that are valid under it cover it.
+pub fn joined_payloads_are_stated()
+    ensures { JoinedPayloadsAreStated }
 {}
 
 /// A place is assigned to one key at most.
