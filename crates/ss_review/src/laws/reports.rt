@@ -81,12 +81,13 @@ pub fn listed_are_witnessed()
     blocks_are_in_range();
 }
 
-/// The listed messages are those assigned to announced numbers, each is witnessed, no number and no message is listed
-/// twice, the report rises, and the gaps are the numbers that are announced and unmatched.
+/// The listed messages are those assigned to announced numbers, which are those that are due, each is witnessed, no number
+/// and no message is listed twice, the report rises, and the gaps are the numbers that are announced and unmatched.
 pub fn reports_list_what_is_announced()
     ensures { ReportsListWhatIsAnnounced }
 {
     listed_are_assigned();
+    assigned_where_due();
     listed_are_witnessed();
     places_have_one_key();
     reports_are_in_order();
