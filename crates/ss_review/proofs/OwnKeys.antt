@@ -42,7 +42,7 @@ has_own_hash : (alg : Alg) (p : HashPair) → has_hash (pair_hash p alg) p ≡ t
 has_own_hash algs.Sha1 p = (and_parts _ _ (same_itself p)).0
 has_own_hash algs.Sha256 p = (and_parts _ _ (same_itself p)).1
 
-own_alg : (alg : Alg) (p : HashPair) → block.is_of alg (pair_hash p alg) ≡ true
+pub own_alg : (alg : Alg) (p : HashPair) → block.is_of alg (pair_hash p alg) ≡ true
 own_alg algs.Sha1 p = refl
 own_alg algs.Sha256 p = refl
 

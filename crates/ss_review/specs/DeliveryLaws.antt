@@ -163,6 +163,20 @@ ListedWhereStored = (x : Case) → IsCase x → HashesTellPairs x → OthersWant
     → (k : Key) (m : List ℕ) → k.session ≡ own_session x.s → IsTold (report_in x) k → message_of x k ≡ Some m
     → HasMessage (report_in x) k ↔ IsStored x m
 
+-- The chain gave the number a message, and the message that is stored at the place has its hash.
+pub record HasHashOfGiven (x : Case) (k : Key) (place : ℕ) : Type 0 where
+  pub given : List ℕ
+  pub given_is : message_of x k ≡ Some given
+  pub stored : List ℕ
+  pub stored_is : slice_get x.log place ≡ Some stored
+  pub no_block : is_normal (note stored) ≡ true
+  pub same_hash : hash_of x.s.config.alg stored ≡ hash_of x.s.config.alg given
+
+-- What is listed under a number of the session has the hash of the message that the chain gave this number.
+abbrev pub ListedHaveTheirHash : Type 0
+ListedHaveTheirHash = (x : Case) → IsCase x
+    → (k : Key) (place : ℕ) → k.session ≡ own_session x.s → IsListed (report_in x) k place → HasHashOfGiven x k place
+
 -- ---- clean
 
 -- Where everything that was sent is stored, each message as often as it was accepted, the session is joined and the report

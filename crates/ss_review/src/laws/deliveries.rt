@@ -4,6 +4,7 @@ ghost use Rattle.ss_review.specs.DeliveryLaws.{
   AnnouncedByBlocks,
   JoinedByFragments,
   ListedByRank,
+  ListedHaveTheirHash,
   ListedWhereStored,
   NothingIsDisputed,
   WholeDeliveriesAreClean,
@@ -14,6 +15,7 @@ use crate::laws::delivered::{
 };
 use crate::laws::reports::{
     announced_are_told, keys_are_announced, listed_are_assigned, one_report,
+    reports_list_what_is_announced,
 };
 use crate::laws::whole::{
     blocks_are_verified, groups_have_no_hole, messages_are_listed, nothing_is_spoilt,
@@ -67,6 +69,14 @@ pub fn listed_where_stored()
     ranks_are_below_counts();
     announced_are_told();
     keys_are_announced();
+}
+
+/// The stored message that is listed under a number has the hash of the message which the originators gave this number.
+pub fn listed_have_their_hash()
+    ensures { ListedHaveTheirHash }
+{
+    announced_by_blocks();
+    reports_list_what_is_announced();
 }
 
 /// Where `begin` was accepted, nothing stayed pending, and everything that was sent is stored, each message as often as
