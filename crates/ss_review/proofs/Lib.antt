@@ -50,6 +50,7 @@ pub mod Dues
 pub mod EntriesMeant
 pub mod SameReports
 pub mod OneReport
+pub mod AgreeingSchemes
 pub mod Sorting
 pub mod NumbersCovered
 pub mod EqualCounts

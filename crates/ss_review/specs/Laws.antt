@@ -12,6 +12,8 @@ use Rattle.ss_review.specs.Verified.{Answers, joined, state_in}
 use Rattle.ss_review.specs.Announced.{Key, rows, keys, is_disputed_key}
 use Rattle.ss_review.specs.Assigned.{assigned}
 use Rattle.ss_review.specs.Report.{report}
+use Rattle.ss_review.specs.declared.questions.question.Question.{Question}
+use Rattle.ss_review.specs.Questions.{questions, answer}
 use Rattle.ss_review.specs.Announcing.{IsAnnounced, IsDisputedKey}
 use Rattle.ss_review.specs.States.{IsJoinedUnder, IsInState}
 use Rattle.ss_review.specs.Listing.{IsDue}
@@ -89,6 +91,13 @@ ReportsListWhatIsAnnounced = (says : Answers) (log : List (List ℕ)) → ListsW
 -- two logs with equal notes have equal reports
 abbrev pub NotesSuffice : Type 0
 NotesSuffice = (says : Answers) (log other : List (List ℕ)) → notes log ≡ notes other → report says log ≡ report says other
+
+-- two schemes that answer alike all that is asked about a log give it one report
+abbrev pub AgreeingSchemesGiveOneReport : Type 0
+AgreeingSchemesGiveOneReport =
+    (says other : Answers) (log : List (List ℕ))
+    → ((q : Question) → Contains (questions (blocks (notes log))) q → answer says q ≡ answer other q)
+    → report says log ≡ report other log
 
 abbrev pub with_spoilt : Report → Spoil → Report
 with_spoilt r cause = record {

@@ -1,5 +1,5 @@
 -- What a review asks of a scheme, as often as a block stands in its log.
-use Rattle.std.specs.Prelude.{ℕ, List, [], ◌∷◌, map, flat_map, Option, Result, Ok, Err}
+use Rattle.std.specs.Prelude.{ℕ, Bool, List, [], ◌∷◌, map, flat_map, Option, Result, Ok, Err}
 use Rattle.ss_block.specs.Block as block
 use Rattle.ss_block.specs.declared.session.Session.{Session}
 use Rattle.ss_review.specs.declared.report.session_report.SessionState.{SessionState}
@@ -10,7 +10,7 @@ use Rattle.ss_review.specs.declared.questions.question.Question.TheVariants as q
 use Rattle.ss_review.specs.declared.keep.message.BlockMessage.{BlockMessage}
 use Rattle.ss_review.specs.Sessions.{sessions, of_session}
 use Rattle.ss_review.specs.Payloads.{certificate_of, certificates, stated_payload}
-use Rattle.ss_review.specs.Verified.{signature_of}
+use Rattle.ss_review.specs.Verified.{Answers, signature_of}
 
 -- whether the block is valid under the payload
 abbrev pub question_about : List ℕ → BlockMessage → Question
@@ -24,6 +24,11 @@ asked bs (Ok payload) = question.Trust payload ∷ map (question_about payload) 
 -- is valid under it, in order of place
 unfoldable pub questions : List BlockMessage → List Question
 questions bs = flat_map (λ s. asked (of_session bs s) (stated_payload (certificates (of_session bs s)))) (sessions bs)
+
+-- what a scheme answers to a question
+abbrev pub answer : Answers → Question → Bool
+answer says (question.Trust payload) = says.trusted payload
+answer says (question.Yes payload octets signature) = says.valid payload octets signature
 
 -- ---- the same session by session, with each payload once
 

@@ -1,5 +1,6 @@
 //! What holds of the reports of all logs, and of some.
 ghost use Rattle.ss_review.specs.Laws.{
+  AgreeingSchemesGiveOneReport,
   AnnouncedAreTold,
   AssignedWhereDue,
   EveryPlaceIsTold,
@@ -23,6 +24,12 @@ use ss_block::laws::readings::{blocks_are_in_range, blocks_are_signed};
 /// Two logs with equal notes have equal reports.
 pub fn notes_suffice()
     ensures { NotesSuffice }
+{}
+
+/// Two schemes that answer alike all that is asked about a log give it one report. So whoever answers the questions of a
+/// log has answered all that its report rests on.
+pub fn agreeing_schemes_give_one_report()
+    ensures { AgreeingSchemesGiveOneReport }
 {}
 
 /// A spoilt block at the end of a log adds itself and one to the count, and changes nothing else.
