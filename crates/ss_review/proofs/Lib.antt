@@ -85,3 +85,4 @@ pub mod MissingRuns
 pub mod CountedTold
 pub mod CountedMeant
 pub mod NextNumbers
+pub mod CountedRange

@@ -5,8 +5,10 @@ use Rattle.std.specs.List.Sorted.{IsStrictlySortedBy}
 use Rattle.std.specs.Ordering.{nat_cmp}
 use Rattle.ss_block.specs.declared.session.Session.{Session}
 use Rattle.ss_block.specs.Block as block
+use Rattle.ss_block.specs.Ranges.{last_number, past_last_number}
 use Rattle.ss_review.specs.declared.keep.message.BlockMessage.{BlockMessage}
 use Rattle.ss_review.specs.declared.keep.message.Said.TheVariants.{Hashes}
+use Rattle.ss_review.specs.declared.counted.counted_session.CountedSession.{CountedSession}
 use Rattle.ss_review.specs.declared.counted.missing.MissingRun.{MissingRun}
 use Rattle.ss_review.specs.declared.report.group_report.GroupReport.{GroupReport}
 use Rattle.ss_review.specs.declared.report.session_report.SessionReport.{SessionReport}
@@ -15,7 +17,7 @@ use Rattle.ss_review.specs.Contents.{blocks}
 use Rattle.ss_review.specs.Verified.{Answers, is_verified}
 use Rattle.ss_review.specs.Announcing.{IsAnnounced}
 use Rattle.ss_review.specs.Report.{report}
-use Rattle.ss_review.specs.Counted.{gbcs, next_after, next_number, missing}
+use Rattle.ss_review.specs.Counted.{gbcs, counted_sessions, next_after, next_number, missing}
 
 -- a verified signature block of the session states this GBC
 pub record IsCounted (says : Answers) (bs : List BlockMessage) (s : Session) (gbc : ℕ) : Type 0 where
@@ -45,6 +47,12 @@ pub record IsNext (is_there : ℕ → Type 0) (next : ℕ) : Type 0 where
   pub above : (n : ℕ) → is_there n → n < next
   pub behind : (next ≡ 0) ⊎ ((n : ℕ) × is_there n × (next ≡ n + 1))
 
+-- the values of a session rise and have at most ten digits, so the next one is at most 10,000,000,000
+pub record IsInRange (s : CountedSession) : Type 0 where
+  pub rise : IsStrictlySortedBy nat_cmp s.gbcs
+  pub within : All (λ g. g ≤ last_number) s.gbcs
+  pub next : next_after s.gbcs ≤ past_last_number
+
 -- the values of a session rise, and are those that its verified signature blocks state
 abbrev pub CountedAreVerified : Type 0
 CountedAreVerified =
@@ -70,3 +78,13 @@ NextNumbersFollow =
     (says : Answers) (log : List (List ℕ)) (s : SessionReport) (g : GroupReport)
     → Contains (report says log).sessions s → Contains s.groups g
     → IsNext (λ n. IsAnnounced says (blocks (notes log)) (record { session = s.session; group = g.group; number = n })) (next_number g)
+
+-- the values of each session are in range
+abbrev pub CountedAreInRange : Type 0
+CountedAreInRange = (says : Answers) (log : List (List ℕ)) → All IsInRange (counted_sessions says (blocks (notes log)))
+
+-- the next number of each group is at most 10,000,000,000
+abbrev pub NextNumbersAreInRange : Type 0
+NextNumbersAreInRange =
+    (says : Answers) (log : List (List ℕ))
+    → All (λ s. All (λ g. next_number g ≤ past_last_number) s.groups) (report says log).sessions

@@ -17,7 +17,7 @@ mod sessions;
 
 pub use counted::counted_report::CountedReport;
 pub use counted::counted_session::{CountedSession, CountedSessions, Gbcs};
-pub use counted::missing::{MissingRun, MissingRuns, missing_runs, next_gbc};
+pub use counted::missing::{MissingRun, MissingRuns, missing_blocks, missing_runs, next_gbc};
 pub use fault::ReviewFault;
 pub use keep::reviewer::Reviewer;
 pub use keep::spoilt::{SpoiltPlace, SpoiltPlaces};

@@ -1,7 +1,15 @@
 //! What holds of the signature blocks that logs have, and of those that are missing (RFC 5848, section 4.2.5).
-ghost use Rattle.ss_review.specs.CountedLaws.{CountedAreVerified, CountedOrMissing, NextGbcFollows, NextNumbersFollow};
+ghost use Rattle.ss_review.specs.CountedLaws.{
+  CountedAreInRange,
+  CountedAreVerified,
+  CountedOrMissing,
+  NextGbcFollows,
+  NextNumbersAreInRange,
+  NextNumbersFollow,
+};
 
 use crate::laws::reports::{announced_are_told, reports_are_in_order};
+use ss_block::laws::readings::blocks_are_in_range;
 
 /// The GBC values of a session are those that its verified signature blocks state, each once and rising.
 pub fn counted_are_verified()
@@ -26,4 +34,19 @@ pub fn next_numbers_follow()
 {
     announced_are_told();
     reports_are_in_order();
+}
+
+/// The GBC values of each session rise, and each is at most 9,999,999,999. So its next GBC is at most 10,000,000,000.
+pub fn counted_are_in_range()
+    ensures { CountedAreInRange }
+{
+    blocks_are_in_range();
+}
+
+/// The next number of each group of a report is at most 10,000,000,000.
+pub fn next_numbers_are_in_range()
+    ensures { NextNumbersAreInRange }
+{
+    blocks_are_in_range();
+    next_numbers_follow();
 }

@@ -17,7 +17,7 @@ fn next_behind(entry: &Entry) -> u64
 }
 
 impl GroupReport {
-    /// The number of the next message of the group, from 1 to 10,000,000,000: one more than the greatest number that is
+    /// The number of the next message of the group, 0 to 10,000,000,000: one more than the greatest number that is
     /// announced, or 0 where none is.
     pub fn next_number(&self) -> u64
         ensures { let next = next_number self.now in next < 2 ^ 64 → result ≡ next }

@@ -1,0 +1,5 @@
+use Rattle.ss_review.proofs.CountedRange.{counted_are_in_range}
+use Rattle.ss_review.proofs.laws.counted.counted_are_in_range.Goals as goal
+
+pub returns : goal.returns
+returns c = counted_are_in_range c.blocks_are_in_range.ensures
