@@ -1,5 +1,5 @@
 //! The ranges of a configuration and of counters.
-ghost use Rattle.std.specs.Prelude.{◌≡◌, ◌↔◌, ◌&&◌, IfOk, IsTrue};
+ghost use Rattle.std.specs.Prelude.{◌≡◌, ◌↔◌, ◌&&◌, false, IfOk, IsTrue};
 ghost use Rattle.std.specs.List.{list_all};
 ghost use Rattle.ss_origin.specs.Groups.{are_bounds, is_grouping, has_group};
 ghost use Rattle.ss_origin.specs.Configs.{is_between, is_config, IsFit};
@@ -49,7 +49,8 @@ fn is_config(config: &Config) -> bool
 /// Whether a configuration is in its ranges, and the payload's text has at most 99,999,999 octets. Memory is taken for
 /// the text, and given back.
 pub fn is_fit(alloc: Global, config: &Config, payload: &Payload) -> Result<bool, NoMemory>
-    ensures { IfOk result (λ b. IsTrue b ↔ IsFit config.now payload.now) }
+    ensures fit { IfOk result (λ b. IsTrue b ↔ IsFit config.now payload.now) }
+    ensures ranges_first { is_config config.now ≡ false → result ≡ Ok false }
 {
     if !is_config(config) {
         return Ok(false);
