@@ -1,8 +1,10 @@
 //! The messages that an originator takes.
-ghost use Rattle.std.specs.Prelude.{◌≡◌, ◌⊎◌, true, false, not, OnOk, IfOk, IfErr};
+ghost use Rattle.std.specs.Prelude.{◌≡◌, ◌⊎◌, true, false, not, Err, OnOk, IfOk, IfErr};
 ghost use Rattle.std.specs.List.{All};
+ghost use Rattle.ss_message.specs.declared.fault.BadPart.{BadPart};
 ghost use Rattle.ss_message.specs.Layout.{value_of};
 ghost use Rattle.ss_message.specs.Places.{ElementIsWithin};
+ghost use Rattle.ss_message.specs.Reading.{header_at};
 ghost use Rattle.ss_block.specs.Reading.{reading, value_reading};
 ghost use Rattle.ss_origin.specs.declared.fault.OriginFault.TheVariants.{NotSyslog, HasBlock, Memory};
 ghost use Rattle.ss_origin.specs.Calls.{pri_of};
@@ -28,6 +30,7 @@ pub fn plain_pri(alloc: Global, message: &[u8]) -> Result<u8, OriginFault>
     ensures fault { IfErr result (λ f. (f ≡ Memory)
         ⊎ ((f ≡ NotSyslog) × (is_unparsed (reading message.now) ≡ true))
         ⊎ ((f ≡ HasBlock) × (is_unparsed (reading message.now) ≡ false) × (is_plain (reading message.now) ≡ false))) }
+    ensures header_first { (b : BadPart) → header_at message.now ≡ Err b → result ≡ Err NotSyslog }
 {
     let parsed = match parse(alloc, message) {
         Ok(parsed) => parsed,
