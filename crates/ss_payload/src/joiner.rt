@@ -131,9 +131,11 @@ impl Joiner {
     ///
     /// Where memory runs out, `NoMemory`.
     pub fn payload(&self) -> Result<Option<Bytes>, NoMemory>
-        ensures { (stated : Stated)
+        ensures payload { (stated : Stated)
             → Stands self.now stated
             → IfOk result (λ text. MatchOption text (¬ HasState stated Whole) (λ t. HasState stated Whole × IsPayload stated t)) }
+        // Another state is seen before memory is taken.
+        ensures state_first { (stated : Stated) → Stands self.now stated → ¬ HasState stated Whole → result ≡ Ok None }
     {
         match self.whole() {
             Some(total) => Ok(Some(self.runs.text(self.alloc, total)?)),

@@ -1,7 +1,8 @@
 //! The payload block of a session (RFC 5848, section 5.2).
-ghost use Rattle.std.specs.Prelude.{◌≡◌, Some, IfOk, IfSome};
+ghost use Rattle.std.specs.Prelude.{◌≡◌, ℕ, List, Option, Some, None, option_and_then, IfOk, IfSome};
 ghost use Rattle.ss_payload.specs.Payload.{PayloadValue, IsPayload, Spells, if_suited, payload_text};
-ghost use Rattle.ss_payload.specs.PayloadReading.{payload_in};
+ghost use Rattle.ss_message.specs.Stamp.{Moment};
+ghost use Rattle.ss_payload.specs.PayloadReading.{stamp_and_rest_in, first_in, kind_in, payload_in};
 
 use crate::kind::Kind;
 use crate::payload_reading::payload_of;
@@ -79,6 +80,12 @@ impl Payload {
         ensures found { IfOk result (λ o. IfSome o (λ p. IsPayload p × Spells bytes.now p)) }
         // What is spelled so is read.
         ensures only { (p : PayloadValue) → IsPayload p → Spells bytes.now p → IfOk result (λ o. o ≡ Some p) }
+        // Whether a stamp stands in front, and the letter of a type behind it, is seen before memory is taken.
+        ensures stamp_first { stamp_and_rest_in bytes.now ≡ None → result ≡ Ok None }
+        ensures letter_first { (stamp : Option Moment) (rest : List ℕ)
+            → stamp_and_rest_in bytes.now ≡ Some (stamp, rest)
+            → option_and_then (λ first. kind_in first.0) (first_in rest) ≡ None
+            → result ≡ Ok None }
     {
         payload_of(alloc, bytes)
     }

@@ -1,10 +1,11 @@
 //! Payload blocks read from the left (RFC 5848, section 5.2).
-ghost use Rattle.std.specs.Prelude.{◌≡◌, ◌==◌, IfOk, IfSome, option_map};
+ghost use Rattle.std.specs.Prelude.{◌≡◌, ◌==◌, ℕ, List, Option, Some, None, option_and_then, IfOk, IfSome, option_map};
 ghost use Rattle.std.specs.List.{position};
 ghost use Rattle.ss_frame.specs.Ascii.{sp};
+ghost use Rattle.ss_message.specs.Stamp.{Moment};
 ghost use Rattle.ss_message.specs.StampReading.{stamp_of};
 ghost use Rattle.ss_payload.specs.Payload.{IsPayload};
-ghost use Rattle.ss_payload.specs.PayloadReading.{parts_at_space, stamp_in, stamp_and_rest_in, no_blob_in, some_blob_in, blob_in, payload_in};
+ghost use Rattle.ss_payload.specs.PayloadReading.{parts_at_space, stamp_in, stamp_and_rest_in, no_blob_in, some_blob_in, blob_in, first_in, kind_in, payload_in};
 
 use crate::kind::{Kind, kind_of};
 use crate::payload::Payload;
@@ -91,6 +92,11 @@ fn stamp_and_rest(text: &[u8]) -> Option<(Option<Stamp>, &[u8])>
 pub fn payload_of(alloc: Global, text: &[u8]) -> Result<Option<Payload>, NoMemory>
     ensures value { IfOk result (λ o. o ≡ payload_in text.now) }
     ensures in_range { IfOk result (λ o. IfSome o IsPayload) }
+    ensures stamp_first { stamp_and_rest_in text.now ≡ None → result ≡ Ok None }
+    ensures letter_first { (stamp : Option Moment) (rest : List ℕ)
+        → stamp_and_rest_in text.now ≡ Some (stamp, rest)
+        → option_and_then (λ first. kind_in first.0) (first_in rest) ≡ None
+        → result ≡ Ok None }
 {
     let Some((stamp, rest)) = stamp_and_rest(text) else {
         return Ok(None);
