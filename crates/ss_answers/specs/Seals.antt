@@ -1,17 +1,17 @@
 -- Which signatures an answers file gives.
-use Rattle.std.specs.Prelude.{◌≡◌, ℕ, Bool, false, List, Option, Some, None, Ok, Err}
+use Rattle.std.specs.Prelude.{◌≡◌, ◌≢◌, ℕ, Bool, false, List, Option, Some, None, Ok, Err}
 use Rattle.std.specs.Str.{bytes_eq}
 use Rattle.ss_origin.specs.declared.sealer.SealFault.TheVariants.{Refused, Memory}
 use Rattle.ss_origin.specs.Sealing.{Answers}
 use Rattle.ss_answers.specs.Answers.{Answer, seal_of}
 
 -- Without a file everything is refused. With one a signature is that of the first `seal` line with these octets, and
--- octets are refused where there is none.
+-- octets are refused where there is none. Memory is wanted only for a signature that is there.
 abbrev pub seals_of : Option (List Answer) → Answers
 seals_of None octets answer = answer ≡ Err Refused
 seals_of (Some lines) octets (Ok signature) = seal_of lines octets ≡ Some signature
 seals_of (Some lines) octets (Err Refused) = seal_of lines octets ≡ None
-seals_of (Some lines) octets (Err Memory) = Unit {0}
+seals_of (Some lines) octets (Err Memory) = seal_of lines octets ≢ None
 
 -- the octets are given this signature: the first `seal` line with them has it
 abbrev pub is_signature : List ℕ → Option (List ℕ) → Bool

@@ -37,7 +37,7 @@ impl Model for Answers {
 }
 
 impl Answers {
-    ghost use Rattle.std.specs.Prelude.{◌≡◌, Some, None, IfOk, IfErr};
+    ghost use Rattle.std.specs.Prelude.{◌≡◌, Some, None, Err, IfOk, IfErr};
     ghost use Rattle.ss_answers.specs.Answers.{SaysTheSame, trusted, valid, seal_of};
     ghost use Rattle.ss_answers.specs.AnswerLine.{answers_of, IfRefused};
 
@@ -81,6 +81,8 @@ impl Answers {
     pub fn seal(&self, alloc: Global, bytes: &[u8]) -> Result<Vec<u8>, SealFault>
         ensures ok { IfOk result (λ signature. seal_of self.now bytes.now ≡ Some signature.items) }
         ensures refused { IfErr result (λ fault. IfRefused fault (seal_of self.now bytes.now ≡ None)) }
+        // That no line gives them one is seen before memory is taken.
+        ensures refused_first { seal_of self.now bytes.now ≡ None → result ≡ Err SealFault.Refused }
     {
         let Some(place) = find(&self.octets, &self.places, Key::seal(bytes)) else {
             return Err(SealFault::Refused);
