@@ -11,4 +11,4 @@ returns-in_err-write_whole-clause-stopped g c =
     rw (p.1, p.2, c.in_err-write_whole.ensures.0)
     (run_fails_to_write job c.args.limits (source_of g.R.Read.remaining c.args.reader.now) (source_of g.R.Read.remaining c.read_whole.new.reader) c.in_ok-messages.messages.items
     (sink_of g.W.Write.contents c.args.writer.now) (sink_of g.W.Write.contents c.write_whole.new.writer)
-    c.in_ok-text.text.items c.as_slice.result.now c.in_ok-messages.ensures.read c.in_ok-text.ensures c.as_slice.ensures.value c.in_err-write_whole.ensures.1)
+    c.in_ok-text.text.items c.as_slice.result.now c.in_ok-messages.ensures.read c.in_ok-text.ensures.sent c.as_slice.ensures.value c.in_err-write_whole.ensures.1)
