@@ -8,3 +8,6 @@ pub mod EncodedSoFar
 pub mod QuestionLines
 pub mod EscapedText
 pub mod ListedText
+pub mod WholeLines
+pub mod MissingWritten
+pub mod CountersWritten

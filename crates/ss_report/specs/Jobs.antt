@@ -1,5 +1,5 @@
 -- The runs over a log: what each writes of its messages and its tail, and its verdict.
-use Rattle.std.specs.Prelude.{true, false}
+use Rattle.std.specs.Prelude.{true, false, flat_map}
 use Rattle.ss_frame.specs.Frame.{frames}
 use Rattle.ss_frame.specs.Limits.{Allowance}
 use Rattle.ss_frame.specs.Watched.{Source, Sink}
@@ -12,8 +12,11 @@ use Rattle.ss_review.specs.Extract.{extract}
 use Rattle.ss_review.specs.Laws.{ListsWhatIsAnnounced}
 use Rattle.ss_report.specs.Inspection.{inspection}
 use Rattle.ss_report.specs.ReportText.{report_lines}
-use Rattle.ss_report.specs.Forms.{report_as}
+use Rattle.ss_report.specs.Forms.{line_as, report_as}
+use Rattle.ss_block.specs.declared.session.Session.{Session}
+use Rattle.ss_report.specs.Whole.{TellsMissing, whole_lines, whole_verdict}
 use Rattle.ss_report.specs.QuestionText.{question_lines}
+use Rattle.ss_report.specs.Counters.{counter_lines}
 use Rattle.ss_report.specs.Verdict.{end_verdict, report_verdict}
 use Rattle.ss_report.specs.Run.{Job, Runs}
 use Rattle.ss_report.specs.declared.forms.report_form.ReportForm.{ReportForm}
@@ -43,10 +46,26 @@ reviewing_as form says = record {
   reviews = true;
 }
 
+-- the report in a form, with what is missing of each session's signature blocks, which is a finding
+abbrev pub reviewing_whole : ReportForm → Answers → Job
+reviewing_whole form says = record {
+  output = λ messages tail. flat_map (line_as form) (whole_lines says (blocks (notes messages)) (report says messages) tail);
+  verdict = λ messages tail. whole_verdict says (blocks (notes messages)) (report says messages) tail;
+  reviews = true;
+}
+
 -- what a review asks of a signature scheme
 abbrev pub asking : Job
 asking = record {
   output = λ messages tail. question_lines (questions (blocks (notes messages)));
+  verdict = λ messages tail. end_verdict tail;
+  reviews = true;
+}
+
+-- the counters of the joined sessions
+abbrev pub counting : Answers → Job
+counting says = record {
+  output = λ messages tail. counter_lines says (blocks (notes messages)) (report says messages);
   verdict = λ messages tail. end_verdict tail;
   reviews = true;
 }
@@ -68,3 +87,9 @@ pub record Reviews (says : Answers) (limits : Allowance) (before after : Source)
 pub record ReviewsAs (form : ReportForm) (says : Answers) (limits : Allowance) (before after : Source) (was is : Sink) (verdict : Verdict) : Type 0 where
   pub run : Runs (reviewing_as form says) limits before after was is verdict
   pub listed : ListsWhatIsAnnounced says run.messages (report says run.messages)
+
+-- the same of a review in a form with what is missing of the signature blocks, which is told of each session
+pub record ReviewsWhole (form : ReportForm) (says : Answers) (limits : Allowance) (before after : Source) (was is : Sink) (verdict : Verdict) : Type 0 where
+  pub run : Runs (reviewing_whole form says) limits before after was is verdict
+  pub listed : ListsWhatIsAnnounced says run.messages (report says run.messages)
+  pub missing : (s : Session) → TellsMissing says (blocks (notes run.messages)) s

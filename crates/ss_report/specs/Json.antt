@@ -8,7 +8,7 @@ use Rattle.ss_review.specs.declared.report.entry.Why.{Why}
 use Rattle.ss_review.specs.declared.report.session_report.SessionState.{SessionState}
 use Rattle.ss_report.specs.Words.{field_word, cause_number}
 use Rattle.ss_report.specs.ReportText.{state_word, why_word}
-use Rattle.ss_report.specs.Lines.{ReportLine, SessionLine, OkLine, GapLine, HoleLine, UnlistedLine, RefusedLine, SpoiltLine, TornLine, EndLine}
+use Rattle.ss_report.specs.Lines.{ReportLine, SessionLine, OkLine, GapLine, HoleLine, BlocksLine, UnlistedLine, RefusedLine, SpoiltLine, TornLine, EndLine}
 
 -- `"` and `\`
 abbrev pub is_escaped : ℕ → Bool
@@ -55,6 +55,10 @@ unfoldable pub hole_object : Session → Group → (first last : ℕ) → List �
 hole_object s g first last =
     codes "{\"line\":\"hole\"" ++ session_members s ++ group_members g ++ number_member (codes "first") first ++ number_member (codes "last") last ++ codes "}\n"
 
+unfoldable pub blocks_object : Session → (first last : ℕ) → List ℕ
+blocks_object s first last =
+    codes "{\"line\":\"blocks\"" ++ session_members s ++ number_member (codes "first") first ++ number_member (codes "last") last ++ codes "}\n"
+
 -- the line of a kind that says one number
 unfoldable pub number_object : (kind key : List ℕ) → ℕ → List ℕ
 number_object kind key number = codes "{\"line\":\"" ++ kind ++ codes "\"" ++ number_member key number ++ codes "}\n"
@@ -70,6 +74,7 @@ line_object (SessionLine s state) = session_object s state
 line_object (OkLine s g number place) = ok_object s g number place
 line_object (GapLine s g number why) = gap_object s g number why
 line_object (HoleLine s g first last) = hole_object s g first last
+line_object (BlocksLine s first last) = blocks_object s first last
 line_object (UnlistedLine place) = number_object (codes "unlisted") (codes "place") place
 line_object (RefusedLine place) = number_object (codes "refused") (codes "place") place
 line_object (SpoiltLine place cause) = spoilt_object place cause

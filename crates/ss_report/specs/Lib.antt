@@ -10,7 +10,9 @@ pub mod Json
 pub mod Forms
 pub mod Listed
 pub mod QuestionText
+pub mod Counters
 pub mod Verdict
+pub mod Whole
 pub mod Fed
 pub mod Writing
 pub mod Run

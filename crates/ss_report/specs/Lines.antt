@@ -1,4 +1,5 @@
--- The lines of a report as data, in the order in which every form of it has them.
+-- The lines of a report as data, in the order in which every form of it has them. Those of missing signature blocks are
+-- told where they are asked for (`Whole.antt`).
 use Rattle.std.specs.Prelude.{ℕ, List, [], ◌∷◌, ◌++◌, map, flat_map}
 use Rattle.ss_frame.specs.declared.step.Tail.{Tail}
 use Rattle.ss_frame.specs.declared.step.Tail.TheVariants as tails
@@ -22,6 +23,7 @@ pub data ReportLine : Type 0 where
   OkLine : Session → Group → (number place : ℕ) → ReportLine
   GapLine : Session → Group → (number : ℕ) → Why → ReportLine
   HoleLine : Session → Group → (first last : ℕ) → ReportLine
+  BlocksLine : Session → (first last : ℕ) → ReportLine
   UnlistedLine : (place : ℕ) → ReportLine
   RefusedLine : (place : ℕ) → ReportLine
   SpoiltLine : (place : ℕ) → Spoil → ReportLine
@@ -49,13 +51,16 @@ abbrev pub tail_lines : Tail → List ReportLine
 tail_lines tails.Clean = []
 tail_lines (tails.Torn pos) = TornLine pos ∷ []
 
--- all of them
-unfoldable pub lines : Report → Tail → List ReportLine
-lines report tail = flat_map session_lines report.sessions
-    ++ map UnlistedLine report.unlisted
+-- those behind the lines of the sessions
+unfoldable pub other_lines : Report → Tail → List ReportLine
+other_lines report tail = map UnlistedLine report.unlisted
     ++ map RefusedLine report.refused
     ++ map spoilt_place_line report.spoilt
     ++ (tail_lines tail ++ EndLine report.count ∷ [])
+
+-- all of a report that says nothing of missing signature blocks
+unfoldable pub lines : Report → Tail → List ReportLine
+lines report tail = flat_map session_lines report.sessions ++ other_lines report tail
 
 -- the line that the code hands on, which refers to its session
 abbrev pub seen : Line → ReportLine
@@ -63,6 +68,7 @@ seen (line.Session s state) = SessionLine s.now state
 seen (line.Ok s g number place) = OkLine s.now g number place
 seen (line.Gap s g number why) = GapLine s.now g number why
 seen (line.Hole s g first last) = HoleLine s.now g first last
+seen (line.Blocks s run) = BlocksLine s.now run.first run.last
 seen (line.Unlisted place) = UnlistedLine place
 seen (line.Refused place) = RefusedLine place
 seen (line.Spoilt place cause) = SpoiltLine place cause

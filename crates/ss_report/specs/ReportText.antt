@@ -10,7 +10,7 @@ use Rattle.ss_review.specs.declared.report.session_report.SessionState.{SessionS
 use Rattle.ss_review.specs.declared.report.session_report.SessionState.TheVariants as states
 use Rattle.ss_review.specs.declared.report.report.Report.{Report}
 use Rattle.ss_report.specs.Words.{spaced, session_words, group_words, number_line, spoilt_line}
-use Rattle.ss_report.specs.Lines.{ReportLine, SessionLine, OkLine, GapLine, HoleLine, UnlistedLine, RefusedLine, SpoiltLine, TornLine, EndLine, lines}
+use Rattle.ss_report.specs.Lines.{ReportLine, SessionLine, OkLine, GapLine, HoleLine, BlocksLine, UnlistedLine, RefusedLine, SpoiltLine, TornLine, EndLine, lines}
 
 abbrev pub state_word : SessionState → List ℕ
 state_word states.Joined = codes "joined"
@@ -40,12 +40,17 @@ gap_text s g number why = codes "gap" ++ session_words s ++ group_words g ++ spa
 unfoldable pub hole_text : Session → Group → (first last : ℕ) → List ℕ
 hole_text s g first last = codes "hole" ++ session_words s ++ group_words g ++ spaced first ++ spaced last ++ codes "\n"
 
+-- blocks HOST APP PROCID RSID FIRST LAST
+unfoldable pub blocks_text : Session → (first last : ℕ) → List ℕ
+blocks_text s first last = codes "blocks" ++ session_words s ++ spaced first ++ spaced last ++ codes "\n"
+
 -- the text of a line
 abbrev pub line_text : ReportLine → List ℕ
 line_text (SessionLine s state) = session_text s state
 line_text (OkLine s g number place) = ok_text s g number place
 line_text (GapLine s g number why) = gap_text s g number why
 line_text (HoleLine s g first last) = hole_text s g first last
+line_text (BlocksLine s first last) = blocks_text s first last
 line_text (UnlistedLine place) = number_line (codes "unlisted") place
 line_text (RefusedLine place) = number_line (codes "refused") place
 line_text (SpoiltLine place cause) = spoilt_line place cause

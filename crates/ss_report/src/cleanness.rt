@@ -22,7 +22,8 @@ fn has_no_other(report: &Report) -> bool
         && is_none(report.spoilt.as_slice())
 }
 
-fn is_none<T>(items: &[T]) -> bool
+/// Whether there is no item.
+pub(crate) fn is_none<T>(items: &[T]) -> bool
     ensures { result ≡ is_none items.now }
 {
     match items {
@@ -44,7 +45,8 @@ fn is_whole(session: &SessionReport) -> bool
     is_joined(session.state) && are_listed(session.groups.as_slice())
 }
 
-fn is_joined(state: SessionState) -> bool
+/// Whether the payload of a session is joined.
+pub(crate) fn is_joined(state: SessionState) -> bool
     ensures { result ≡ is_joined state }
 {
     match state {

@@ -3,6 +3,7 @@
 #![tactic(auto)]
 
 mod cleanness;
+mod counters;
 mod encoded;
 mod ending;
 mod extract;
@@ -13,6 +14,7 @@ mod inspect;
 mod inspection;
 mod lines;
 mod log;
+mod missing;
 mod next;
 mod outcome;
 mod output;
@@ -21,9 +23,11 @@ mod questions;
 pub mod report_text;
 mod review;
 mod review_as;
+mod review_whole;
 mod verdict;
 mod words;
 
+pub use counters::run_counters;
 pub use ending::put_end;
 pub use extract::{run_extract, run_extract_with};
 pub use fault::RunFault;
@@ -34,4 +38,5 @@ pub use output::write_whole;
 pub use questions::run_questions;
 pub use review::run_review;
 pub use review_as::run_review_as;
+pub use review_whole::run_review_whole;
 pub use verdict::Verdict;

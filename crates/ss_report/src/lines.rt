@@ -2,3 +2,4 @@
 pub(crate) mod form;
 pub(crate) mod line;
 pub(crate) mod walk;
+pub(crate) mod walk_whole;

@@ -1,16 +1,19 @@
 //! Whether a run over a log found anything.
 ghost use Rattle.std.specs.Prelude.{◌≡◌};
 ghost use Rattle.ss_report.specs.Verdict.{end_verdict, report_verdict};
+ghost use Rattle.ss_report.specs.Whole.{verdict_with};
 
 use crate::cleanness::is_clean;
+use crate::missing::is_nothing_missing;
 use ss_frame::Tail;
-use ss_review::Report;
+use ss_review::{MissingRuns, Report};
 
 /// Whether a log leaves anything to look into.
 #[derive(Clone, Copy, Debug, PartialEq, Eq)]
 pub enum Verdict {
     /// Of a review: each announced message is listed, each stored message is listed or a verified block, each session
-    /// is joined, and the log has a clean end. Of an inspection and of questions: the log has a clean end.
+    /// is joined, and the log has a clean end. Of a review that says which signature blocks are missing: besides, none
+    /// is. Of an inspection, of questions and of counters: the log has a clean end.
     Clean,
     /// Something of that isn't so.
     Findings,
@@ -32,6 +35,18 @@ pub(crate) fn report_verdict(report: &Report, tail: Tail) -> Verdict
 {
     if is_clean(report) {
         end_verdict(tail)
+    } else {
+        Verdict::Findings
+    }
+}
+
+/// Whether the report leaves nothing to look into, nothing is missing of any session's signature blocks, and the log
+/// has a clean end.
+pub(crate) fn verdict_with(report: &Report, missing: &[MissingRuns], tail: Tail) -> Verdict
+    ensures { result ≡ verdict_with report.now missing.now tail }
+{
+    if is_nothing_missing(missing) {
+        report_verdict(report, tail)
     } else {
         Verdict::Findings
     }

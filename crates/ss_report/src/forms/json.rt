@@ -2,7 +2,7 @@
 ghost use Rattle.ss_frame.specs.Watched.{sink_of};
 ghost use Rattle.ss_report.specs.Writing.{Writes};
 ghost use Rattle.ss_report.specs.Lines.{seen};
-ghost use Rattle.ss_report.specs.Json.{session_object, ok_object, gap_object, hole_object, number_object, spoilt_object, line_object};
+ghost use Rattle.ss_report.specs.Json.{session_object, ok_object, gap_object, hole_object, blocks_object, number_object, spoilt_object, line_object};
 
 use crate::forms::members::{
     write_group_members, write_number_member, write_session_members, write_word_member,
@@ -14,7 +14,7 @@ use crate::output::{write_number, write_text};
 use crate::words::number_of_cause;
 use ss_block::{Group, Session, Spoil};
 use ss_frame::Watched;
-use ss_review::{SessionState, Why};
+use ss_review::{MissingRun, SessionState, Why};
 use std::io::Write;
 
 /// A JSON object for each line, ended by LF, in ASCII.
@@ -53,6 +53,7 @@ pub(crate) fn write_object<W: Write>(writer: &mut Watched<W>, line: Line<'_>)
             first,
             last,
         } => write_hole(writer, session, group, first, last),
+        Line::Blocks { session, run } => write_blocks(writer, session, run),
         Line::Unlisted { place } => write_one(writer, b"unlisted", b"place", u64::from(place)),
         Line::Refused { place } => write_one(writer, b"refused", b"place", u64::from(place)),
         Line::Spoilt { place, cause } => write_spoilt(writer, u64::from(place), cause),
@@ -122,6 +123,17 @@ fn write_hole<W: Write>(
     write_group_members(writer, group);
     write_number_member(writer, b"first", first);
     write_number_member(writer, b"last", last);
+    write_text(writer, b"}\n");
+}
+
+#[tactic(auto, unfolding(crate::specs::Json::blocks_object))]
+fn write_blocks<W: Write>(writer: &mut Watched<W>, session: &Session, run: MissingRun)
+    ensures { Writes (sink_of W.contents writer.old) (sink_of W.contents writer.new) (blocks_object session.now run.first run.last) }
+{
+    write_text(writer, b"{\"line\":\"blocks\"");
+    write_session_members(writer, session);
+    write_number_member(writer, b"first", run.first);
+    write_number_member(writer, b"last", run.last);
     write_text(writer, b"}\n");
 }
 

@@ -3,7 +3,7 @@ ghost use Rattle.std.specs.Prelude.{◌≡◌};
 ghost use Rattle.ss_frame.specs.Watched.{sink_of};
 ghost use Rattle.ss_report.specs.Writing.{Writes};
 ghost use Rattle.ss_report.specs.Lines.{seen};
-ghost use Rattle.ss_report.specs.ReportText.{state_word, why_word, session_text, ok_text, gap_text, hole_text, line_text};
+ghost use Rattle.ss_report.specs.ReportText.{state_word, why_word, session_text, ok_text, gap_text, hole_text, blocks_text, line_text};
 
 use crate::lines::form::Form;
 use crate::lines::line::Line;
@@ -13,7 +13,7 @@ use crate::words::{
 };
 use ss_block::{Group, Session};
 use ss_frame::Watched;
-use ss_review::{SessionState, Why};
+use ss_review::{MissingRun, SessionState, Why};
 use std::io::Write;
 
 /// The plain text: each line ended by LF, with one SP between two fields.
@@ -52,6 +52,7 @@ pub(crate) fn write_line<W: Write>(writer: &mut Watched<W>, line: Line<'_>)
             first,
             last,
         } => write_hole(writer, session, group, first, last),
+        Line::Blocks { session, run } => write_blocks(writer, session, run),
         Line::Unlisted { place } => write_number_line(writer, b"unlisted", u64::from(place)),
         Line::Refused { place } => write_number_line(writer, b"refused", u64::from(place)),
         Line::Spoilt { place, cause } => write_spoilt(writer, u64::from(place), cause),
@@ -149,5 +150,17 @@ fn write_hole<W: Write>(
     write_group(writer, group);
     write_spaced(writer, first);
     write_spaced(writer, last);
+    write_text(writer, b"\n");
+}
+
+/// blocks HOST APP PROCID RSID FIRST LAST
+#[tactic(auto, unfolding(crate::specs::ReportText::blocks_text))]
+fn write_blocks<W: Write>(writer: &mut Watched<W>, session: &Session, run: MissingRun)
+    ensures { Writes (sink_of W.contents writer.old) (sink_of W.contents writer.new) (blocks_text session.now run.first run.last) }
+{
+    write_text(writer, b"blocks");
+    write_session(writer, session);
+    write_spaced(writer, run.first);
+    write_spaced(writer, run.last);
     write_text(writer, b"\n");
 }

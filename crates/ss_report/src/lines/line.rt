@@ -1,6 +1,6 @@
 //! A line of a report.
 use ss_block::{Group, Session, Spoil};
-use ss_review::{SessionState, Why};
+use ss_review::{MissingRun, SessionState, Why};
 
 /// A thing that a report says. Places count the messages of the log from 0; numbers are 1 to 9,999,999,999.
 #[derive(Clone, Copy)]
@@ -30,6 +30,12 @@ pub(crate) enum Line<'r> {
         group: Group,
         first: u64,
         last: u64,
+    },
+    /// No verified signature block of the session has a GBC (RFC 5848, section 4.2.5) of this run, though one has a
+    /// greater. The GBC count from 0.
+    Blocks {
+        session: &'r Session,
+        run: MissingRun,
     },
     /// A message without a block that is listed nowhere.
     Unlisted {

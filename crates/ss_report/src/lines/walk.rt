@@ -2,7 +2,7 @@
 ghost use Rattle.std.specs.Prelude.{◌≡◌, ◌++◌, ◌∷◌, [], map, flat_map};
 ghost use Rattle.ss_frame.specs.Watched.{sink_of};
 ghost use Rattle.ss_report.specs.Writing.{Writes};
-ghost use Rattle.ss_report.specs.Lines.{UnlistedLine, RefusedLine, EndLine, entry_line, group_lines, session_lines, spoilt_place_line, tail_lines, lines, seen};
+ghost use Rattle.ss_report.specs.Lines.{UnlistedLine, RefusedLine, EndLine, entry_line, group_lines, session_lines, spoilt_place_line, tail_lines, other_lines, lines, seen};
 
 use crate::lines::form::Form;
 use crate::lines::line::Line;
@@ -22,6 +22,19 @@ pub(crate) fn write_lines<F: Form, W: Write>(
     ensures { Writes (sink_of W.contents writer.old) (sink_of W.contents writer.new) (flat_map (F.text form.now) (lines report.now tail)) }
 {
     write_sessions(form, writer, report.sessions.as_slice());
+    write_others(form, writer, report, tail);
+}
+
+/// The lines behind those of the sessions.
+#[tactic(auto, unfolding(crate::specs::Lines::other_lines))]
+pub(crate) fn write_others<F: Form, W: Write>(
+    form: &F,
+    writer: &mut Watched<W>,
+    report: &Report,
+    tail: Tail,
+)
+    ensures { Writes (sink_of W.contents writer.old) (sink_of W.contents writer.new) (flat_map (F.text form.now) (other_lines report.now tail)) }
+{
     write_unlisted(form, writer, report.unlisted.as_slice());
     write_refused(form, writer, report.refused.as_slice());
     write_spoilts(form, writer, report.spoilt.as_slice());
@@ -37,7 +50,11 @@ fn write_sessions<F: Form, W: Write>(form: &F, writer: &mut Watched<W>, sessions
 }
 
 /// The session's line, and those of its groups.
-fn write_session<F: Form, W: Write>(form: &F, writer: &mut Watched<W>, report: &SessionReport)
+pub(crate) fn write_session<F: Form, W: Write>(
+    form: &F,
+    writer: &mut Watched<W>,
+    report: &SessionReport,
+)
     ensures { Writes (sink_of W.contents writer.old) (sink_of W.contents writer.new) (flat_map (F.text form.now) (session_lines report.now)) }
 {
     let session = &report.session;

@@ -1,5 +1,5 @@
-use Rattle.std.proofs.Common.{map, flat_map, ◌++◌, ◌∷◌, []}
-use Rattle.ss_report.specs.Lines.{UnlistedLine, RefusedLine, EndLine, session_lines, spoilt_place_line, tail_lines, lines}
+use Rattle.std.proofs.Common.{flat_map}
+use Rattle.ss_report.specs.Lines.{session_lines, other_lines, lines}
 use Rattle.ss_report.proofs.LinesWritten.{lines_then}
 use Rattle.ss_report.proofs.lines.walk.write_lines.Goals as goal
 
@@ -9,14 +9,4 @@ returns g c =
     let text = g.F.Form.text c.args.form.now in
     let report = c.args.report.now in
     let sessions = rw c.as_slice.ensures at c.write_sessions.ensures in
-    let unlisted = rw c.as_slice-2.ensures at c.write_unlisted.ensures in
-    let refused = rw c.as_slice-3.ensures at c.write_refused.ensures in
-    let spoilts = rw c.as_slice-4.ensures at c.write_spoilts.ensures in
-    let some = flat_map session_lines report.sessions in
-    let more = some ++ map UnlistedLine report.unlisted in
-    let most = more ++ map RefusedLine report.refused in
-    let told = most ++ map spoilt_place_line report.spoilt in
-    let to_unlisted = lines_then text _ _ _ some (map UnlistedLine report.unlisted) sessions unlisted in
-    let to_refused = lines_then text _ _ _ more (map RefusedLine report.refused) to_unlisted refused in
-    let to_spoilts = lines_then text _ _ _ most (map spoilt_place_line report.spoilt) to_refused spoilts in
-    lines_then text _ _ _ told (tail_lines c.args.tail ++ EndLine report.count ∷ []) to_spoilts c.write_end.ensures
+    lines_then text _ _ _ (flat_map session_lines report.sessions) (other_lines report c.args.tail) sessions c.write_others.ensures
