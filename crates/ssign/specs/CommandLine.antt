@@ -13,8 +13,9 @@ use Rattle.ss_frame.specs.declared.limits.Form.{Form}
 use Rattle.ss_frame.specs.declared.limits.Form.TheVariants.{Frames, Lines}
 use Rattle.ssign.specs.declared.command_line.Order.{Order}
 use Rattle.ssign.specs.declared.command_line.Order.TheVariants.{Log, Sent, Explain}
+use Rattle.ssign.specs.declared.task.Reporting.{Reporting}
 use Rattle.ssign.specs.declared.task.Task.{Task}
-use Rattle.ssign.specs.declared.task.Task.TheVariants.{Review, Questions, Extract, Inspect}
+use Rattle.ssign.specs.declared.task.Task.TheVariants.{Review, Questions, Extract, Inspect, Counters}
 use Rattle.ssign.specs.declared.signing.Signing.{Signing}
 use Rattle.ssign.specs.declared.signing.Signing.TheVariants.{Plan, Sign}
 use Rattle.ssign.specs.SigningOptions.{AreVersions, Kept, number_rule, text_rule, usual_rule, with_signing_options}
@@ -55,6 +56,10 @@ report_form true false = forms.Findings
 report_form false true = forms.Json
 report_form true true = forms.JsonFindings
 
+-- how a review is reported, with or without these flags and `--whole`
+abbrev pub reporting : (findings json whole : Bool) → Reporting
+reporting findings json whole = record { form = report_form findings json; whole = whole }
+
 -- the limits of a command with these numbers, and with or without `--lines`
 abbrev pub limits_with : (max_len max_messages : ℕ) (lines : Bool) → Allowance
 limits_with a b lines = record { max_len = a; max_messages = b; form = form_of lines }
@@ -73,6 +78,9 @@ findings_rule = flag_rule (codes "findings")
 
 abbrev pub json_rule : Rule
 json_rule = flag_rule (codes "json")
+
+abbrev pub whole_rule : Rule
+whole_rule = flag_rule (codes "whole")
 
 abbrev pub lines_rule : Rule
 lines_rule = flag_rule (codes "lines")
@@ -97,7 +105,7 @@ abbrev pub with_limits : App → App
 with_limits a = with_rule (with_rule (with_rule a lines_rule) max_len_rule) max_messages_rule
 
 abbrev pub review_app : App
-review_app = with_limits (with_rule (with_rule (with_rule (new_app (codes "review")) answers_rule) findings_rule) json_rule)
+review_app = with_limits (with_rule (with_rule (with_rule (with_rule (new_app (codes "review")) answers_rule) findings_rule) json_rule) whole_rule)
 
 abbrev pub questions_app : App
 questions_app = with_limits (new_app (codes "questions"))
@@ -113,6 +121,9 @@ plan_app versions = with_limits (with_signing_options versions (new_app (codes "
 
 abbrev pub sign_app : Kept → App
 sign_app versions = with_limits (with_signing_options versions (with_rule (new_app (codes "sign")) answers_rule))
+
+abbrev pub counters_app : App
+counters_app = with_limits (with_rule (new_app (codes "counters")) answers_rule)
 
 abbrev pub explain_app : App
 explain_app = with_rule (new_app (codes "explain")) code_rule
@@ -130,7 +141,7 @@ with_commands app (command ∷ commands) = with_commands (with_subcommand app co
 -- of the versions of blocks it takes those that are kept
 abbrev pub ssign_app : Kept → App
 ssign_app versions = with_commands bare_app (
-    review_app ∷ questions_app ∷ extract_app ∷ inspect_app ∷ plan_app versions ∷ sign_app versions ∷ explain_app ∷ [])
+    review_app ∷ questions_app ∷ extract_app ∷ inspect_app ∷ plan_app versions ∷ sign_app versions ∷ counters_app ∷ explain_app ∷ [])
 
 -- a command is this one, and has no global argument
 pub record IsLocalApp (command : Command) (app : App) : Type 0 where
@@ -144,6 +155,7 @@ task_name Review = codes "review"
 task_name Questions = codes "questions"
 task_name Extract = codes "extract"
 task_name Inspect = codes "inspect"
+task_name Counters = codes "counters"
 
 abbrev pub signing_name : Signing → List ℕ
 signing_name Plan = codes "plan"
@@ -157,7 +169,7 @@ name_of Explain = codes "explain"
 -- no command has this name
 abbrev pub IsNoCommand : List ℕ → Type 0
 IsNoCommand name = (name ≢ codes "review") × (name ≢ codes "questions") × (name ≢ codes "extract")
-    × (name ≢ codes "inspect") × (name ≢ codes "plan") × (name ≢ codes "sign") × (name ≢ codes "explain")
+    × (name ≢ codes "inspect") × (name ≢ codes "plan") × (name ≢ codes "sign") × (name ≢ codes "counters") × (name ≢ codes "explain")
 
 -- ---- the exit status
 

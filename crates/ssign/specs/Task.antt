@@ -1,14 +1,20 @@
 -- What is asked of a log.
+use Rattle.std.specs.Prelude.{if◌then◌else◌}
 use Rattle.ss_review.specs.Verified.{Answers}
 use Rattle.ss_report.specs.Run.{Job}
-use Rattle.ss_report.specs.Jobs.{asking, extracting, inspecting, reviewing_as}
-use Rattle.ss_report.specs.declared.forms.report_form.ReportForm.{ReportForm}
+use Rattle.ss_report.specs.Jobs.{asking, counting, extracting, inspecting, reviewing_as, reviewing_whole}
+use Rattle.ssign.specs.declared.task.Reporting.{Reporting}
 use Rattle.ssign.specs.declared.task.Task.{Task}
-use Rattle.ssign.specs.declared.task.Task.TheVariants.{Review, Questions, Extract, Inspect}
+use Rattle.ssign.specs.declared.task.Task.TheVariants.{Review, Questions, Extract, Inspect, Counters}
 
--- what a run makes of a log: under these answers, or without any, and of a report in this form
-abbrev pub job_of : Answers → ReportForm → Task → Job
-job_of says form Review = reviewing_as form says
-job_of says form Questions = asking
-job_of says form Extract = extracting says
-job_of says form Inspect = inspecting
+-- a review, with or without the signature blocks that are missing
+abbrev pub review_of : Answers → Reporting → Job
+review_of says r = if r.whole then reviewing_whole r.form says else reviewing_as r.form says
+
+-- what a run makes of a log: under these answers, or without any, and of a review as it is to be reported
+abbrev pub job_of : Answers → Reporting → Task → Job
+job_of says r Review = review_of says r
+job_of says r Questions = asking
+job_of says r Extract = extracting says
+job_of says r Inspect = inspecting
+job_of says r Counters = counting says

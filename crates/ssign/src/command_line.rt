@@ -3,17 +3,17 @@ ghost use Rattle.std.specs.Prelude.{◌≡◌, ◌<◌, ◌^◌, ◌∷◌, [], 
 ghost use Rattle.std.specs.Option.{SomeIff};
 ghost use Rattle.clap.specs.Words.{App, app_of, first_value, found_of, matched_of, new_app, raw_values, rule_of};
 ghost use Rattle.ss_frame.specs.Limits.{InRange};
-ghost use Rattle.ssign.specs.CommandLine.{answers_rule, code_rule, findings_rule, json_rule, lines_rule, max_len_rule, max_messages_rule};
-ghost use Rattle.ssign.specs.CommandLine.{bare_app, explain_app, extract_app, inspect_app, plan_app, questions_app, review_app, sign_app, ssign_app};
+ghost use Rattle.ssign.specs.CommandLine.{answers_rule, code_rule, findings_rule, json_rule, lines_rule, max_len_rule, max_messages_rule, whole_rule};
+ghost use Rattle.ssign.specs.CommandLine.{bare_app, counters_app, explain_app, extract_app, inspect_app, plan_app, questions_app, review_app, sign_app, ssign_app};
 ghost use Rattle.ssign.specs.Explanation.{asked_of};
 ghost use Rattle.ssign.specs.SigningOptions.{AreVersions, Kept};
-ghost use Rattle.ssign.specs.CommandLine.{FlagIs, HasNumber, IsLocalApp, IsNoCommand, limits_with, name_of, report_form, text_of};
+ghost use Rattle.ssign.specs.CommandLine.{FlagIs, HasNumber, IsLocalApp, IsNoCommand, limits_with, name_of, report_form, reporting, text_of};
 ghost use Rattle.ssign.specs.CommandLine.{with_commands, with_limits};
 
 use crate::asked::asked_of;
 use crate::signing::Signing;
 use crate::signing_options::{versions, with_signing_options};
-use crate::task::Task;
+use crate::task::{Reporting, Task};
 use clap::{Arg, ArgAction, ArgMatches, Command};
 use ss_frame::{LONGEST_MESSAGE, Limits, MOST_MESSAGES};
 use ss_report::ReportForm;
@@ -57,13 +57,14 @@ pub enum Order {
 }
 
 /// What the commands ask for, in their order.
-const ORDERS: [Order; 7] = [
+const ORDERS: [Order; 8] = [
     Order::Log(Task::Review),
     Order::Log(Task::Questions),
     Order::Log(Task::Extract),
     Order::Log(Task::Inspect),
     Order::Sent(Signing::Plan),
     Order::Sent(Signing::Sign),
+    Order::Log(Task::Counters),
     Order::Explain,
 ];
 
@@ -75,7 +76,7 @@ pub fn command<'a>(alloc: Global) -> Result<Command<'a>, AllocError>
     let command = with_review_and_questions(alloc, bare(alloc))?;
     let command = with_extract_and_inspect(alloc, command)?;
     let command = with_plan_and_sign(alloc, command, versions)?;
-    command.subcommand(explain(alloc)?)
+    with_counters_and_explain(alloc, command)
 }
 
 /// The program with the commands `review` and `questions`.
@@ -115,6 +116,18 @@ fn with_plan_and_sign<'a>(
     command.subcommand(sign(alloc, versions)?)
 }
 
+/// The program with the commands `counters` and `explain`.
+fn with_counters_and_explain<'a>(
+    alloc: Global,
+    command: Command<'a>,
+) -> Result<Command<'a>, AllocError>
+    ensures { (app : App) → IsLocalApp command.entry app
+        → IfOk result (λ c. IsLocalApp c (with_commands app (counters_app ∷ explain_app ∷ []))) }
+{
+    let command = command.subcommand(counters(alloc)?)?;
+    command.subcommand(explain(alloc)?)
+}
+
 /// The same commands, of which each option of a number takes a negative one as its value, and then says its range.
 pub fn negative_command<'a>(alloc: Global) -> Result<Command<'a>, AllocError> {
     let mut command = bare(alloc);
@@ -131,6 +144,7 @@ fn command_of<'a>(alloc: Global, order: Order) -> Result<Command<'a>, AllocError
         Order::Log(Task::Questions) => questions(alloc),
         Order::Log(Task::Extract) => extract(alloc),
         Order::Log(Task::Inspect) => inspect(alloc),
+        Order::Log(Task::Counters) => counters(alloc),
         Order::Sent(Signing::Plan) => plan(alloc, versions()),
         Order::Sent(Signing::Sign) => sign(alloc, versions()),
         Order::Explain => explain(alloc),
@@ -164,7 +178,8 @@ fn review<'a>(alloc: Global) -> Result<Command<'a>, AllocError>
         "Reports which messages of the log on standard input are exactly those that their sender signed";
     let usage = "ssign review [OPTIONS] < FILE";
     let review = over_log(alloc, "review", about, usage).arg(answers(alloc, CHECKED))?;
-    limited(alloc, review.arg(findings(alloc))?.arg(json(alloc))?)
+    let review = review.arg(findings(alloc))?.arg(json(alloc))?;
+    limited(alloc, review.arg(whole(alloc))?)
 }
 
 fn questions<'a>(alloc: Global) -> Result<Command<'a>, AllocError>
@@ -212,6 +227,17 @@ fn sign<'a>(alloc: Global, versions: &'a [&'a str]) -> Result<Command<'a>, Alloc
     let usage = "ssign sign --answers FILE --payload TEXT --rsid N [OPTIONS] < FILE";
     let sign = over_log(alloc, "sign", about, usage).arg(answers(alloc, SEALED))?;
     limited(alloc, with_signing_options(alloc, sign, versions)?)
+}
+
+fn counters<'a>(alloc: Global) -> Result<Command<'a>, AllocError>
+    ensures { IfOk result (λ c. IsLocalApp c counters_app) }
+{
+    let about =
+        "Writes how far the signature blocks of the log reach: the next GBC of each joined session, \
+        and the next number of each of its groups";
+    let usage = "ssign counters [OPTIONS] < FILE";
+    let counters = over_log(alloc, "counters", about, usage);
+    limited(alloc, counters.arg(answers(alloc, CHECKED))?)
 }
 
 fn explain<'a>(alloc: Global) -> Result<Command<'a>, AllocError>
@@ -275,7 +301,7 @@ fn findings<'a>(alloc: Global) -> Arg<'a>
     Arg::new(alloc, "findings")
         .long("findings")
         .action(ArgAction::SetTrue)
-        .help("Leaves out the ok lines; the status is still that of the whole report")
+        .help("Leaves out the ok lines; the status stays as it is")
 }
 
 fn json<'a>(alloc: Global) -> Arg<'a>
@@ -286,6 +312,19 @@ fn json<'a>(alloc: Global) -> Arg<'a>
         .long("json")
         .action(ArgAction::SetTrue)
         .help("Writes a JSON object (RFC 8259) for each line of the report")
+}
+
+fn whole<'a>(alloc: Global) -> Arg<'a>
+    ensures rule { rule_of result ≡ whole_rule }
+    ensures local { result.global ≡ false }
+{
+    Arg::new(alloc, "whole")
+        .long("whole")
+        .action(ArgAction::SetTrue)
+        .help(
+            "Also reports which signature blocks of each session are missing, by their counter GBC; each such line is \
+                a finding",
+        )
 }
 
 fn lines<'a>(alloc: Global) -> Arg<'a>
@@ -335,6 +374,7 @@ pub fn order_of(name: &str) -> Option<Order>
         "questions" => Some(Order::Log(Task::Questions)),
         "extract" => Some(Order::Log(Task::Extract)),
         "inspect" => Some(Order::Log(Task::Inspect)),
+        "counters" => Some(Order::Log(Task::Counters)),
         "plan" => Some(Order::Sent(Signing::Plan)),
         "sign" => Some(Order::Sent(Signing::Sign)),
         "explain" => Some(Order::Explain),
@@ -358,7 +398,7 @@ pub fn answers_file<'a>(matches: &ArgMatches<'a>) -> Option<&'a str>
 }
 
 /// The form of a report that the flags ask for. A command without these flags has plain text.
-pub fn form_of_report(matches: &ArgMatches<'_>) -> ReportForm
+fn form_of_report(matches: &ArgMatches<'_>) -> ReportForm
     ensures { (findings json : Bool) → FlagIs matches.now (codes "findings") findings
         → FlagIs matches.now (codes "json") json → result ≡ report_form findings json }
 {
@@ -372,6 +412,18 @@ pub fn form_of_report(matches: &ArgMatches<'_>) -> ReportForm
         ReportForm::Json
     } else {
         ReportForm::Text
+    }
+}
+
+/// How a review is to be reported. A command without these flags has plain text alone.
+pub fn reporting_of(matches: &ArgMatches<'_>) -> Reporting
+    ensures { (findings json whole : Bool) → FlagIs matches.now (codes "findings") findings
+        → FlagIs matches.now (codes "json") json → FlagIs matches.now (codes "whole") whole
+        → result ≡ reporting findings json whole }
+{
+    Reporting {
+        form: form_of_report(matches),
+        whole: matches.get_flag("whole"),
     }
 }
 

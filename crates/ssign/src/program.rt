@@ -5,7 +5,7 @@ ghost use Rattle.ssign.specs.CommandLine.{AreMistaken, signing_status, status_of
 ghost use Rattle.ssign.specs.Explanation.{has_code};
 
 use crate::command_line::{
-    Order, answers_file, asked_code, command, form_of_report, limits_of, order_of,
+    Order, answers_file, asked_code, command, limits_of, order_of, reporting_of,
 };
 use crate::explain::explanation_of;
 use crate::explanations::{Explanation, FAULTS, REFUSALS, UNPRINTED, WORDS};
@@ -110,12 +110,12 @@ fn run_log<R: Input + Print + Eprint + Screen + Files + AllocGlobal>(
     let Some(limits) = limits_of(options) else {
         return REFUSED;
     };
-    let form = form_of_report(options);
+    let reporting = reporting_of(options);
     let mut input = Opening::new(rt.reader());
     let ended = match answers_file(options) {
-        None => run_streams(rt, &mut input, task, form, Nobody, limits),
+        None => run_streams(rt, &mut input, task, reporting, Nobody, limits),
         Some(file) => match open_answers(rt, file) {
-            Ok(answers) => run_streams(rt, &mut input, task, form, answers, limits),
+            Ok(answers) => run_streams(rt, &mut input, task, reporting, answers, limits),
             Err(fault) => return refuse(rt, &fault, Remark::AnswersFile(file)),
         },
     };

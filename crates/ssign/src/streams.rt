@@ -6,10 +6,10 @@ use crate::explain::write_explanation;
 use crate::explanations::Explanation;
 use crate::settings::Settings;
 use crate::signing::{Signing, run_signing};
-use crate::task::{Task, run_task};
+use crate::task::{Reporting, Task, run_task};
 use ss_answers::Answers;
 use ss_frame::{Buffered, Limits, Watched};
-use ss_report::{ReportForm, RunFault, Verdict};
+use ss_report::{RunFault, Verdict};
 use ss_review::Judge;
 use ss_signing::SignFault;
 use std::alloc::Global;
@@ -24,7 +24,7 @@ pub fn run_streams<R: Print + AllocGlobal, I: Read + Drop, J: Judge + Drop>(
     rt: &R,
     input: I,
     task: Task,
-    form: ReportForm,
+    reporting: Reporting,
     judge: J,
     limits: Limits,
 ) -> Result<Verdict, RunFault>
@@ -37,7 +37,7 @@ pub fn run_streams<R: Print + AllocGlobal, I: Read + Drop, J: Judge + Drop>(
         &mut reader,
         &mut writer,
         task,
-        form,
+        reporting,
         judge,
         limits,
     )

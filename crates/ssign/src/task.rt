@@ -3,11 +3,12 @@ ghost use Rattle.std.specs.Prelude.{◌≡◌, ◌≢◌, false, IfOk, IfErr};
 ghost use Rattle.ss_frame.specs.Watched.{has_failed, source_of, sink_of};
 ghost use Rattle.ss_review.specs.Verified.{answers};
 ghost use Rattle.ss_report.specs.Run.{Runs, Stops};
-ghost use Rattle.ssign.specs.Task.{job_of};
+ghost use Rattle.ssign.specs.Task.{review_of, job_of};
 
 use ss_frame::{Limits, Watched};
 use ss_report::{
-    ReportForm, RunFault, Verdict, run_extract_with, run_inspect, run_questions, run_review_as,
+    ReportForm, RunFault, Verdict, run_counters, run_extract_with, run_inspect, run_questions,
+    run_review_as, run_review_whole,
 };
 use ss_review::Judge;
 use std::alloc::Global;
@@ -16,7 +17,7 @@ use std::io::{Read, Write};
 /// What is asked of a log.
 #[derive(Clone, Copy, Debug, PartialEq, Eq)]
 pub enum Task {
-    /// The report of a review, in a form.
+    /// The report of a review.
     Review,
     /// The questions of a review to a signature scheme.
     Questions,
@@ -24,12 +25,23 @@ pub enum Task {
     Extract,
     /// What each message is.
     Inspect,
+    /// How far the signature blocks reach.
+    Counters,
 }
 
-/// Reads a log to its end, and writes what is asked of it: of a review, the report in this form. Questions and
+/// How a review is reported.
+#[derive(Clone, Copy, Debug, PartialEq, Eq)]
+pub struct Reporting {
+    /// In which form.
+    pub form: ReportForm,
+    /// Whether it says which signature blocks of each session are missing, below the greatest GBC that is there.
+    pub whole: bool,
+}
+
+/// Reads a log to its end, and writes what is asked of it: of a review, the report as it is wanted. Questions and
 /// inspections ask the judge nothing. The judge is let go once it is known which blocks are verified.
 ///
-/// Nothing is written before the whole output is made. `RunFault::Write` exactly where a call of the writer failed; what
+/// Nothing is written before the log is read and all that it leads to stands. `RunFault::Write` exactly where a call of the writer failed; what
 /// was written then is a prefix of the output. After any other fault nothing was written: `RunFault::Frame` where the
 /// log can't be read to its end, `RunFault::Review` (V1) and `RunFault::Memory` for want of memory.
 pub fn run_task<R: Read, W: Write, J: Judge + Drop>(
@@ -37,25 +49,53 @@ pub fn run_task<R: Read, W: Write, J: Judge + Drop>(
     reader: &mut Watched<R>,
     writer: &mut Watched<W>,
     task: Task,
-    form: ReportForm,
+    reporting: Reporting,
     judge: J,
     limits: Limits,
 ) -> Result<Verdict, RunFault>
     requires reader { has_failed reader.old ≡ false }
     requires writer { has_failed writer.old ≡ false }
     requires sound { J.sound judge }
-    ensures done { IfOk result (Runs (job_of (answers J.trusted J.valid judge) form task) limits
+    ensures done { IfOk result (Runs (job_of (answers J.trusted J.valid judge) reporting task) limits
         (source_of R.remaining reader.old) (source_of R.remaining reader.new)
         (sink_of W.contents writer.old) (sink_of W.contents writer.new)) }
-    ensures stopped { IfErr result (Stops (job_of (answers J.trusted J.valid judge) form task) limits
+    ensures stopped { IfErr result (Stops (job_of (answers J.trusted J.valid judge) reporting task) limits
         (source_of R.remaining reader.old) (source_of R.remaining reader.new)
         (sink_of W.contents writer.old) (sink_of W.contents writer.new)) }
     ensures untouched { IfErr result (λ fault. fault ≢ RunFault.Write → writer.new ≡ writer.old) }
 {
     match task {
-        Task::Review => run_review_as(alloc, reader, writer, judge, limits, form),
+        Task::Review => run_reported(alloc, reader, writer, reporting, judge, limits),
         Task::Questions => run_questions(alloc, reader, writer, limits),
         Task::Extract => run_extract_with(alloc, reader, writer, judge, limits),
         Task::Inspect => run_inspect(alloc, reader, writer, limits),
+        Task::Counters => run_counters(alloc, reader, writer, judge, limits),
+    }
+}
+
+/// Reads a log to its end, reviews its messages, and writes the report as it is wanted.
+fn run_reported<R: Read, W: Write, J: Judge + Drop>(
+    alloc: Global,
+    reader: &mut Watched<R>,
+    writer: &mut Watched<W>,
+    reporting: Reporting,
+    judge: J,
+    limits: Limits,
+) -> Result<Verdict, RunFault>
+    requires reader { has_failed reader.old ≡ false }
+    requires writer { has_failed writer.old ≡ false }
+    requires sound { J.sound judge }
+    ensures done { IfOk result (Runs (review_of (answers J.trusted J.valid judge) reporting) limits
+        (source_of R.remaining reader.old) (source_of R.remaining reader.new)
+        (sink_of W.contents writer.old) (sink_of W.contents writer.new)) }
+    ensures stopped { IfErr result (Stops (review_of (answers J.trusted J.valid judge) reporting) limits
+        (source_of R.remaining reader.old) (source_of R.remaining reader.new)
+        (sink_of W.contents writer.old) (sink_of W.contents writer.new)) }
+    ensures untouched { IfErr result (λ fault. fault ≢ RunFault.Write → writer.new ≡ writer.old) }
+{
+    if reporting.whole {
+        run_review_whole(alloc, reader, writer, judge, limits, reporting.form)
+    } else {
+        run_review_as(alloc, reader, writer, judge, limits, reporting.form)
     }
 }

@@ -3,7 +3,7 @@
 use super::Explanation;
 
 /// Lines of a report, states of a session, lines of an inspection, and lines of answers, plans and questions.
-pub static WORDS: [Explanation; 24] = [
+pub static WORDS: [Explanation; 26] = [
     Explanation {
         code: "session",
         text: "A session is one run of a sender: its blocks share HOSTNAME, APP-NAME, PROCID and a number, the RSID. \
@@ -36,12 +36,21 @@ pub static WORDS: [Explanation; 24] = [
             stored, are unlisted.",
     },
     Explanation {
+        code: "blocks",
+        text: "Only ssign review --whole writes this line. It ends with the first and the last of some values of GBC, \
+            which counts the signature blocks of a session from 0. No signature block that counts has one of these \
+            values, but one has a greater value. So blocks were lost, or don't count, and their messages may be lost \
+            with them. Look for refused and spoilt lines, and for the blocks in the logs before and after this one, or \
+            in those of other collectors.",
+    },
+    Explanation {
         code: "unlisted",
         text: "No number lists this stored message. There are four cases. It was never signed, or its block comes only \
             after the end of this log: no other line shows this. Its block was lost, or doesn't count: a hole, a \
-            refused line or a session that isn't joined may show this. Nothing shows that the last block of a group \
-            was lost. Somebody changed it or put it in: a gap and this line together usually mean that a message was \
-            changed. It is a copy too many: an ok line lists an equal message at an earlier place.",
+            refused line or a session that isn't joined may show this. Only a blocks line, of --whole, may show that \
+            the last block of a group was lost. Somebody changed it or put it in: a gap and this line together usually \
+            mean that a message was changed. It is a copy too many: an ok line lists an equal message at an earlier \
+            place.",
     },
     Explanation {
         code: "refused",
@@ -126,6 +135,14 @@ pub static WORDS: [Explanation; 24] = [
         text: "A certificate block: first its session, then its group (SG and SPRI). TPBL is the length of the \
             session's payload. INDEX is where the block's fragment begins in the payload, from 1, and FLEN is how long \
             the fragment is. Run ssign review to see whether it counts.",
+    },
+    Explanation {
+        code: "count",
+        text: "A line of ssign counters, for a joined session. One number behind the RSID is the GBC of the session's \
+            next signature block. Three numbers there are a group, SG and SPRI, and the number of the group's next \
+            message. 10000000000 means that a counter is used up. Keep these lines elsewhere, where nobody who can \
+            change the log can change them. If a later run over the same log gives a smaller number, or leaves a line \
+            out, signature blocks are missing or no longer count.",
     },
     Explanation {
         code: "want",
