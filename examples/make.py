@@ -5,11 +5,13 @@ four-messages.frames   two messages, a certificate block and a signature block o
 four-messages.answers  what a signature checker says about that log that accepts all of it
 torn.frames            the first 100 octets of that log, as a crash leaves them
 kinds.frames           a message of each kind that `inspect` tells, and a torn end
+lost-block.frames      a log of two groups, of which the only block of one is lost with its message
+lost-block.answers     what a signature checker says about that log that accepts all of it
 one-message.log        a message, as a line
 one-message.seals      what a signer says who gives every block of that log the same signature
 
-The two messages are the samples of FIPS 180, whose hashes are published, and the signatures are the three octets 0:
-these files show the layout, and nothing in them is signed by a real key (for that see signed/ beside this file).
+The messages of the first log are the samples of FIPS 180, whose hashes are published, and all signatures are the three
+octets 0: these files show the layout, and nothing in them is signed by a real key (for that see signed/ beside this file).
 """
 import base64
 import hashlib
@@ -66,11 +68,30 @@ def certificate_block():
     )
 
 
-def signature_block(*hashes):
+def signature_block(*hashes, group=(0, 0), before=0, first=1):
+    """The block of these hashes: `before` is how many signature blocks were sent before it."""
     return block(
-        b"ssign", (b"VER", b"0111"), (b"RSID", b"1"), (b"SG", b"0"), (b"SPRI", b"0"),
-        (b"GBC", b"0"), (b"FMN", b"1"), (b"CNT", b"%d" % len(hashes)), (b"HB", b" ".join(map(in_base64, hashes))),
+        b"ssign", (b"VER", b"0111"), (b"RSID", b"1"), (b"SG", b"%d" % group[0]), (b"SPRI", b"%d" % group[1]),
+        (b"GBC", b"%d" % before), (b"FMN", b"%d" % first), (b"CNT", b"%d" % len(hashes)),
+        (b"HB", b" ".join(map(in_base64, hashes))),
     )
+
+
+def answers_to(texts):
+    """What a checker says that accepts these blocks."""
+    payload = in_base64(PAYLOAD)
+    lines = [b"trust %s\n" % payload]
+    return b"".join(lines + [b"yes %s %s %s\n" % (payload, in_base64(it), in_base64(SIGNATURE)) for it in texts])
+
+
+def lost_block():
+    """A log and its answers: the block with GBC 1 isn't there, and it was the only one of the messages with PRI 14."""
+    sent = [(b"<13>1 - - - - - - first", (1, 13), 0, 1), (b"<13>1 - - - - - - third", (1, 13), 2, 2)]
+    messages, texts = [signed(certificate_block())], [certificate_block()]
+    for message, group, before, first in sent:
+        texts.append(signature_block(hashlib.sha1(message).digest(), group=group, before=before, first=first))
+        messages += [message, signed(texts[-1])]
+    return b"".join(map(frame, messages)), answers_to(texts)
 
 
 def kinds():
@@ -95,12 +116,11 @@ def main():
     want([len(it) for it in texts], [130, 147])
     log = b"".join(map(frame, messages))
     want(len(log), 373)
-    payload = in_base64(PAYLOAD)
-    answers = [b"trust %s\n" % payload]
-    answers += [b"yes %s %s %s\n" % (payload, in_base64(it), in_base64(SIGNATURE)) for it in texts]
+    lost, answers = lost_block()
     made = {
-        "four-messages.frames": log, "four-messages.answers": b"".join(answers), "torn.frames": log[:100],
-        "kinds.frames": kinds(), "one-message.log": ONE + b"\n", "one-message.seals": seals(),
+        "four-messages.frames": log, "four-messages.answers": answers_to(texts), "torn.frames": log[:100],
+        "kinds.frames": kinds(), "lost-block.frames": lost, "lost-block.answers": answers,
+        "one-message.log": ONE + b"\n", "one-message.seals": seals(),
     }
     for name, octets in made.items():
         with open(os.path.join(folder, name), "wb") as file:

@@ -60,6 +60,12 @@ told() {
     expect "$1" "$2" "$3" ''
 }
 
+# missing WHAT STATUS REPORT: the same, of the findings with missing blocks.
+missing() {
+    run review --whole --findings --lines --answers "$scratch/answers"
+    expect "$1, with --whole" "$2" "$3" ''
+}
+
 # counted WHAT LINES: one check, of the lines `signature` of an inspection of the log of standard input.
 counted() {
     run inspect --lines
@@ -81,6 +87,8 @@ ok gate signer - 7 0 0 1 1
 ok gate signer - 7 0 0 2 2
 ok gate signer - 7 0 0 3 4
 ok gate signer - 7 0 0 4 5
+end 7' < <(head -n 7 -- "$scratch/week")
+missing 'a tail is cut off behind a block' 0 'session gate signer - 7 joined
 end 7' < <(head -n 7 -- "$scratch/week")
 told 'a tail is cut off behind a message' 1 'session gate signer - 7 joined
 ok gate signer - 7 0 0 1 1
@@ -122,6 +130,8 @@ counted 'GBC counts the blocks of all groups' 'signature 4 gate signer - 7 1 13 
 signature 6 gate signer - 7 1 14 1 1 2
 signature 9 gate signer - 7 1 13 2 3 2
 signature 12 gate signer - 7 1 14 3 3 2' <"$scratch/groups"
+missing 'two groups as they were signed' 0 'session gate signer - 7 joined
+end 13' <"$scratch/groups"
 places groups 0 1 3 4 7 8 9 >"$scratch/one-group"
 told 'a group is taken out' 0 'session gate signer - 7 joined
 ok gate signer - 7 1 13 1 1
@@ -131,6 +141,9 @@ ok gate signer - 7 1 13 4 5
 end 7' <"$scratch/one-group"
 counted 'GBC has a gap where the blocks of a group are missing' 'signature 3 gate signer - 7 1 13 0 1 2
 signature 6 gate signer - 7 1 13 2 3 2' <"$scratch/one-group"
+missing 'a group is taken out' 1 'session gate signer - 7 joined
+blocks gate signer - 7 1 1
+end 7' <"$scratch/one-group"
 places groups 0 1 2 3 4 5 6 10 11 12 >"$scratch/no-last-block"
 told 'the last block of a group is taken out, with its messages' 0 'session gate signer - 7 joined
 ok gate signer - 7 1 13 1 1
@@ -143,6 +156,12 @@ end 10' <"$scratch/no-last-block"
 counted 'GBC has a gap where the last block of a group is missing' 'signature 4 gate signer - 7 1 13 0 1 2
 signature 6 gate signer - 7 1 14 1 1 2
 signature 9 gate signer - 7 1 14 3 3 2' <"$scratch/no-last-block"
+missing 'the last block of a group is taken out, with its messages' 1 'session gate signer - 7 joined
+blocks gate signer - 7 2 2
+end 10' <"$scratch/no-last-block"
+places groups 0 1 2 3 4 5 6 7 8 9 >"$scratch/no-very-last-block"
+missing 'the very last block is taken out, with its messages' 0 'session gate signer - 7 joined
+end 10' <"$scratch/no-very-last-block"
 
 # Two sessions of one key
 message 13 old1 old2 | signed old gate 7 "$key"
@@ -163,6 +182,9 @@ told 'an older session stands in place of the present one' 0 'session gate signe
 ok gate signer - 7 0 0 1 1
 ok gate signer - 7 0 0 2 2
 end 4' <"$scratch/old"
+missing 'all of a session but its certificate block is taken out' 0 'session gate signer - 7 joined
+session gate signer - 8 joined
+end 5' < <(head -n 1 -- "$scratch/old" && cat -- "$scratch/new")
 told 'all of a session but its certificate block is taken out' 0 'session gate signer - 7 joined
 session gate signer - 8 joined
 ok gate signer - 8 0 0 1 2
@@ -237,6 +259,29 @@ session relay signer - 1 joined
 ok relay signer - 1 0 0 1 5
 ok relay signer - 1 0 0 2 6
 end 8' < <(cat -- "$scratch/first" "$scratch/second")
+
+# Counters of the two first logs that were kept, and those of the logs whose ends were cut off
+kept() {
+    run counters --lines --answers "$scratch/answers"
+    expect "the counters: $1" 0 "$2" ''
+}
+accepted week
+kept 'a log as it was signed' 'count gate signer - 7 3
+count gate signer - 7 0 0 7' <"$scratch/week"
+kept 'a tail is cut off behind a block' 'count gate signer - 7 2
+count gate signer - 7 0 0 5' < <(head -n 7 -- "$scratch/week")
+accepted groups
+kept 'two groups as they were signed' 'count gate signer - 7 4
+count gate signer - 7 1 13 5
+count gate signer - 7 1 14 5' <"$scratch/groups"
+kept 'the last block of the session is taken out, with its messages' 'count gate signer - 7 3
+count gate signer - 7 1 13 5
+count gate signer - 7 1 14 3' < <(places groups 0 1 2 3 4 5 6 7 8 9)
+kept 'the last block of a group is taken out, with its messages' 'count gate signer - 7 4
+count gate signer - 7 1 13 3
+count gate signer - 7 1 14 5' < <(places groups 0 1 2 3 4 5 6 10 11 12)
+kept 'a group is taken out' 'count gate signer - 7 3
+count gate signer - 7 1 13 5' < <(places groups 0 1 3 4 7 8 9)
 
 # Questions that nobody checked let a forged log pass
 message 13 forged1 forged2 | signed stranger gate 9 "$other_key"

@@ -5,7 +5,8 @@
 
 mkdir -- "$scratch/made"
 holds 'examples/make.py runs' python3 "$root/examples/make.py" "$scratch/made"
-for file in four-messages.frames four-messages.answers torn.frames kinds.frames one-message.log one-message.seals; do
+for file in four-messages.frames four-messages.answers torn.frames kinds.frames lost-block.frames lost-block.answers \
+    one-message.log one-message.seals; do
     holds "examples/$file is what make.py makes" cmp -- "$root/examples/$file" "$scratch/made/$file"
 done
 
