@@ -42,27 +42,28 @@ TUNED = {"GLIBC_TUNABLES": "glibc.cpu.x86_rep_movsb_threshold=1000000000:glibc.c
 ROOM, ROOM_FOR_EACH = 1 << 19, 32
 # a run that takes more seconds hangs, however busy the machine is
 PATIENCE = 300
-COMMANDS = REVIEW, EXTRACT, QUESTIONS, INSPECT, PLAN, SIGN = "review", "extract", "questions", "inspect", "plan", "sign"
+COMMANDS = REVIEW, WHOLE, EXTRACT, QUESTIONS, INSPECT, PLAN, SIGN, COUNTERS = (
+    "review", "review --whole", "extract", "questions", "inspect", "plan", "sign", "counters")
 
 # each shape, how large its smaller input is, the commands whose steps are counted, and those of which the rest is
 SHAPES = [
-    (logs.signed, 900, [REVIEW, QUESTIONS, EXTRACT, INSPECT], []),
+    (logs.signed, 900, [REVIEW, QUESTIONS, EXTRACT, INSPECT], [COUNTERS]),
     (logs.unanswered, 900, [], [REVIEW, EXTRACT]),
     (logs.by_sha256, 900, [], [REVIEW]),
-    (logs.falling, 900, [], [REVIEW, QUESTIONS, EXTRACT]),
+    (logs.falling, 900, [], [WHOLE, QUESTIONS, EXTRACT]),
     (logs.equal, 900, [REVIEW], [EXTRACT]),
     (logs.one_hash, 900, [REVIEW], [EXTRACT]),
     (logs.hashes_alike, 450, [REVIEW], []),
-    (logs.sessions, 900, [REVIEW, QUESTIONS], [EXTRACT]),
+    (logs.sessions, 900, [COUNTERS, QUESTIONS], [REVIEW, EXTRACT]),
     (logs.hosts_alike, 900, [REVIEW], [QUESTIONS]),
-    (logs.groups, 768, [REVIEW], []),
-    (logs.apart, 900, [REVIEW], []),
-    (logs.far_apart, 900, [REVIEW], []),
+    (logs.groups, 768, [REVIEW, COUNTERS], []),
+    (logs.apart, 900, [WHOLE], []),
+    (logs.far_apart, 900, [WHOLE], []),
     (logs.disputed, 900, [REVIEW], []),
     (logs.one_number, 900, [REVIEW], []),
-    (logs.repeated, 900, [REVIEW, QUESTIONS], [EXTRACT]),
+    (logs.repeated, 900, [WHOLE, QUESTIONS], [EXTRACT]),
     (logs.overlapping, 900, [REVIEW], []),
-    (logs.signatures, 900, [REVIEW], []),
+    (logs.signatures, 900, [WHOLE], []),
     (logs.fragments_rising, 900, [], [REVIEW, QUESTIONS, EXTRACT]),
     (logs.fragments_falling, 1800, [REVIEW], []),
     (logs.fragments_shuffled, 900, [REVIEW], []),
@@ -237,11 +238,11 @@ class Bench:
         if command == SIGN:
             wants = run([self.program, PLAN] + words, log)[1].splitlines()
             lines += [b"seal " + line[5:] + b" AAAA" for line in wants]
-        if command in (REVIEW, EXTRACT, SIGN):
+        if command in (REVIEW, WHOLE, EXTRACT, SIGN, COUNTERS):
             with open(log + ".answers", "wb") as file:
                 file.writelines(line + b"\n" for line in lines)
             words = words + ["--answers", log + ".answers"]
-        words = [self.program, command] + words
+        words = [self.program, *command.split(), *words]
         said = run(words, log, self.library, self.environment)
         counts = said[3]
         if self.counter and stepped:

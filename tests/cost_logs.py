@@ -41,6 +41,10 @@ class Input:
     def review(self, status, **words):
         return self.say("review", status, {**words, "end": 1})
 
+    def whole(self, status, **words):
+        """The same, with missing blocks."""
+        return self.say("review --whole", status, {**words, "end": 1})
+
 
 def announcing(*hashes, first=1, gbc=0, rsid=7, group=(0, 0)):
     """A signature block of hashes that are given as texts."""
@@ -57,6 +61,8 @@ def nothing(n=0):
     made.say("questions", 0, {})
     made.say("extract", 0, 0)
     made.say("inspect", 0, {"end": 1})
+    made.say("counters", 0, {})
+    made.whole(0)
     return made.review(0)
 
 
@@ -71,8 +77,10 @@ def signed(n):
         made.put(*texts)
         made.put_block(announcing(*texts, first=first, gbc=first // 10))
     made.review(0, session=1, ok=n)
+    made.whole(0, session=1, ok=n)
     made.say("questions", 0, {"trust": 1, "yes": 1 + n // 10})
     made.say("extract", 0, n)
+    made.say("counters", 0, {"count": 2})
     return made.say("inspect", 0, {"certificate": 1, "plain": n, "signature": n // 10, "end": 1})
 
 
@@ -81,6 +89,8 @@ def unanswered(n):
     made = signed(n)
     made.answers = []
     made.say("extract", 1, 0)
+    made.say("counters", 0, {})
+    made.whole(1, session=1, unlisted=n, refused=1 + n // 10)
     return made.review(1, session=1, unlisted=n, refused=1 + n // 10)
 
 
@@ -150,6 +160,7 @@ def sessions(n):
         made.put_block(announcing(number(i), rsid=i))
     made.say("questions", 0, {"trust": n, "yes": 2 * n})
     made.say("extract", 1, 0)
+    made.say("counters", 0, {"count": 2 * n})
     return made.review(1, session=n, gap=n)
 
 
@@ -170,25 +181,28 @@ def groups(n):
         if i % 768 == 0:
             made.put_block(certificate(rsid=i // 768))
         made.put_block(announcing(number(i), gbc=i, rsid=i // 768, group=(i % 768 // 192, i % 192)))
+    made.say("counters", 0, {"count": -(-n // 768) + n})
     return made.review(1, session=-(-n // 768), gap=n)
 
 
 def apart(n):
-    """A hole in front of each number."""
+    """A hole in front of each number, and a block that is missing in front of each block, which come in no order."""
     made = Input()
     made.put_block(certificate())
     for i in range(n):
-        made.put_block(announcing(number(i), first=2 + 10 * i, gbc=i))
+        made.put_block(announcing(number(i), first=2 + 10 * i, gbc=1 + 2 * (i * 7919 % n)))
+    made.whole(1, session=1, gap=n, hole=n, blocks=n)
     return made.review(1, session=1, gap=n, hole=n)
 
 
 def far_apart(n):
-    """The first number and the last one, of many sessions."""
+    """The first number and the last one, and the second block and the last one, of many sessions."""
     made = Input()
     for i in range(n):
         made.put_block(certificate(rsid=i))
-        made.put_block(announcing(b"a", first=LAST, rsid=i))
+        made.put_block(announcing(b"a", first=LAST, gbc=LAST, rsid=i))
         made.put_block(announcing(b"b", gbc=1, rsid=i))
+    made.whole(1, session=n, gap=2 * n, hole=n, blocks=2 * n)
     return made.review(1, session=n, gap=2 * n, hole=n)
 
 
@@ -220,6 +234,7 @@ def repeated(n):
         made.put_block(announcing(*texts), i == 0)
     made.say("questions", 0, {"trust": 1, "yes": 1 + n})
     made.say("extract", 0, 10)
+    made.whole(0, session=1, ok=10)
     return made.review(0, session=1, ok=10)
 
 
@@ -238,6 +253,7 @@ def signatures(n):
     made.put_block(certificate())
     for i in range(n):
         made.put_block(announcing(b"a"), sign=b64(i.to_bytes(3, "big")))
+    made.whole(1, session=1, gap=1)
     return made.review(1, session=1, gap=1)
 
 

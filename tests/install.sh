@@ -144,6 +144,7 @@ as_here 'ssign inspect' inspect <"$root/examples/kinds.frames"
 options=(--payload '2009-05-03T14:00:39Z K S0VZ' --rsid 1 --host h --app s --lines)
 as_here 'ssign plan' plan "${options[@]}" <"$root/examples/one-message.log"
 as_here 'ssign sign' sign "${options[@]}" --answers "$root/examples/one-message.seals" <"$root/examples/one-message.log"
+as_here 'ssign counters' counters --answers "$signed/signed.answers" <"$signed/signed.frames"
 as_here 'ssign explain' explain F1 </dev/null
 as_here 'a refusal' review <"$signed/ten-messages.log"
 

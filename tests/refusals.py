@@ -24,15 +24,18 @@ import tempfile
 import threading
 
 import cost_logs as logs
+from counters import counters_text
 from review_examples import A, A2, ALL, B, C, CX, C9A, C9B, H, M1, M2, P1, READINGS, S, S7, certificate, signature
 from review_model import Log
-from review_runs import answers_text, answers_to, frame, line, run
+from review_runs import answers_text, answers_to, frame, joined, line, read_frames, read_lines, run
+from whole import status_of, whole_text
 
 HERE = os.path.dirname(os.path.abspath(__file__))
 # the codes of each command, in their order: what belongs to the answers comes before the log
 CODES = {
     "review": "(W2 )+(A4 )*((F4|V1|W2) )*",
     "extract": "(W2 )+(A4 )*((F4|V1|W2) )*",
+    "counters": "(W2 )+(A4 )*((F4|V1|W2) )*",
     "questions": "(W2 )*((F4|V1|W2) )*",
     "inspect": "(W2 )*((F4|W2) )*",
     "plan": "(W2 )*((F4|O10|W2) )*((F4|O10 p|W2) )*((O10|W2) )*",
@@ -40,7 +43,7 @@ CODES = {
     "explain": "(W2 )*",
 }
 # those that do without a list that they couldn't make as long as it will be
-DO_WITHOUT = ("review", "extract")
+DO_WITHOUT = ("review", "extract", "counters")
 # fewer allocations than reading any command line takes: these are tried once for each command line
 WORDS_ALONE = 80
 BUFFER = 65536
@@ -78,14 +81,14 @@ OTHER = certificate(fragment=b"2009-05-03T14:00:40Z K S0VZ")
 EVERYTHING = [
     M1, M1, M2, b"<13>1 - - - - - - nobody signed this", C9B, C9A,
     signature(A, A), signature(A, first=3), signature(B, first=3), signature(B, base64.b64encode(b"x" * 20), first=8),
-    signature(A2, ver=b"0121", first=11), signature(A2, ver=b"0121", gbc=1, sg=1, spri=13),
+    signature(A2, ver=b"0121", first=11), signature(A2, ver=b"0121", gbc=7, sg=1, spri=13),
     *beside(2, C, certificate(total=28)), *beside(3, S7), *beside(4, CX), *beside(5, OTHER, S7), *beside(6, C, S),
     signature(A, gbc=9), S.replace(b"0111", b"0211"), C + S[len(H):],
 ]
 WORDS = ["session .* %s" % state for state in
          ("disputed", "incomplete", "malformed", "untrusted", "unaccepted", "joined")]
-WORDS += ["ok .*", "gap .* lost", "gap .* disputed", "hole .*", "unlisted .*", "refused .*", "spoilt .*", "torn .*",
-          "end .*"]
+WORDS += ["ok .*", "gap .* lost", "gap .* disputed", "hole .*", "blocks .*", "unlisted .*", "refused .*", "spoilt .*",
+          "torn .*", "end .*"]
 EXAMPLE = [M1, M2, C, S]
 
 
@@ -98,10 +101,31 @@ def answers_of(messages, answers):
     return answers_to(Log(messages), answers)
 
 
+def with_missing_blocks(octets, answers, of_lines):
+    """A review with --whole, as the second review says."""
+    messages, torn = (read_lines if of_lines else read_frames)(octets)
+    text = whole_text(Log(messages), *answers, torn)
+    return Said(status_of(text), joined(text), b"")
+
+
+def counted(octets, answers, of_lines, **limits):
+    """The counters, as the second review says. A log is refused as by `questions`."""
+    said = Said(*run("questions", octets, of_lines, **limits))
+    if said.status == 2:
+        return said
+    messages, torn = (read_lines if of_lines else read_frames)(octets)
+    return Said(int(torn is not None), joined(counters_text(Log(messages), *answers)), b"")
+
+
 def reviewed(name, command, octets, answers, *words, of_lines=False, **limits):
-    """A review, extract or questions, as the second review says."""
+    """A review, extract, questions or counters, as the second review says."""
     trusted, valid = answers
-    wanted = Said(*run(command, octets, of_lines, trusted=trusted, valid=valid, **limits))
+    if command == "counters":
+        wanted = counted(octets, answers, of_lines, **limits)
+    elif "--whole" in words:
+        wanted = with_missing_blocks(octets, answers, of_lines)
+    else:
+        wanted = Said(*run(command, octets, of_lines, trusted=trusted, valid=valid, **limits))
     text = None if command == "questions" else answers_text(trusted, valid)
     words = [command, *(["--lines"] if of_lines else []), *words]
     for option, value in limits.items():
@@ -114,8 +138,9 @@ def reviews():
     example, nobody = answers_of(EXAMPLE, ALL), (frozenset(), frozenset())
     for unit, of_lines in ((frame, False), (line, True)):
         log = b"".join(map(unit, EVERYTHING))
-        for command in ("review", "extract", "questions"):
-            yield reviewed("everything" + ", as lines" * of_lines, command, log + unit(M1)[:-1], everything,
+        for command in ("review", "extract", "questions", "counters"):
+            words = ["--whole"] if command == "review" and not of_lines else []
+            yield reviewed("everything" + ", as lines" * of_lines, command, log + unit(M1)[:-1], everything, *words,
                            of_lines=of_lines)
     log = b"".join(map(frame, EXAMPLE))
     for command in ("review", "extract", "questions"):
@@ -125,7 +150,9 @@ def reviews():
         yield reviewed("a log with a message that is too long", command, log, example, max_len=158)
         yield reviewed("a log with a message too many", command, log, example, max_messages=3)
         yield reviewed("a log with an empty line", command, b"abc\n\n", nobody, of_lines=True)
-    yield reviewed("a log that nobody answers for", "review", log, nobody)
+    yield reviewed("a log that nobody answers for", "review", log, nobody, "--whole")
+    yield reviewed("a clean log", "counters", log, example)
+    yield reviewed("a log with no digit behind it", "counters", log + b"x", example)
 
 
 def inspected(name, messages, torn=b""):
@@ -252,7 +279,8 @@ def long_outputs():
     log, text = b"".join(map(frame, made.messages)), b"".join(it + b"\n" for it in made.answers)
     for command in ("review", "extract", "questions", "inspect"):
         asks = command in ("review", "extract")
-        yield Case("%s of a long log" % command, [command], log, 0, text if asks else None, True)
+        words = [command, "--whole"] if command == "review" else [command]
+        yield Case("%s of a long log" % command, words, log, 0, text if asks else None, True)
     log = b"".join(map(frame, logs.sent(800).messages))
     plan = modelled("plan", [*PAYLOAD, "--count", "2"], log)
     yield Case("plan: a long log", ["plan", *PAYLOAD, "--count", "2"], log, Said(0, plan, b""), None, True)

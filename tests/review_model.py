@@ -49,6 +49,7 @@ class Block:
         if self.is_certificate:
             self.total, self.index, self.fragment = number[b"TPBL"], number[b"INDEX"], value[b"FRAG"]
         else:
+            self.gbc = number[b"GBC"]
             algorithm, _ = HASHES[value[b"VER"]]
             hashes = [base64_of(piece) for piece in value[b"HB"].split(b" ")]
             self.rows = [(number[b"FMN"] + i, algorithm, octets) for i, octets in enumerate(hashes)]

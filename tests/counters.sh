@@ -1,0 +1,7 @@
+#!/usr/bin/env bash
+# `counters`, against the definition: tests/counters.py.
+# shellcheck source=tests/lib.sh
+. "$(dirname -- "$0")/lib.sh"
+need_program
+
+exec python3 -B "$root/tests/counters.py" compare "$program"

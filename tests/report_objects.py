@@ -1,0 +1,65 @@
+"""The objects of `ssign review --json`, read by Python's `json`, and the lines of the plain report that they are.
+
+`fault_of(plain, made)` says what is wrong with JSON that was made for a plain text.
+"""
+import itertools
+import json
+
+SESSION = ["host", "app", "procid", "rsid"]
+GROUP = [*SESSION, "sg", "spri"]
+# the keys of each line, in their order, as docs/FORMATS.md has them
+KEYS = {
+    "session": [*SESSION, "state"],
+    "ok": [*GROUP, "number", "place"],
+    "gap": [*GROUP, "number", "why"],
+    "hole": [*GROUP, "first", "last"],
+    "blocks": [*SESSION, "first", "last"],
+    "unlisted": ["place"],
+    "refused": ["place"],
+    "spoilt": ["place", "cause"],
+    "torn": ["offset"],
+    "end": ["count"],
+}
+TEXTS = {"line", "host", "app", "procid", "state", "why", "cause"}
+
+# the words of the lines that were read
+words_seen = set()
+
+
+def no_such_number(text):
+    """Refuses what RFC 8259 has no word for, and numbers that aren't whole."""
+    raise ValueError(f"{text} is no number of a report")
+
+
+def plain_of(line):
+    """The line of the plain report that this object is, and what is wrong with it."""
+    if not line.isascii() or any(octet < 32 for octet in line):
+        return b"", "an octet that isn't printable ASCII"
+    pairs = json.loads(line, object_pairs_hook=list, parse_float=no_such_number, parse_constant=no_such_number)
+    word = pairs[0][1]
+    words_seen.add(word)
+    if [key for key, _ in pairs] != ["line", *KEYS[word]]:
+        return b"", f"the keys {[key for key, _ in pairs]}"
+    for key, value in pairs:
+        if type(value) is not (str if key in TEXTS else int):
+            return b"", f"{key} is {value!r}"
+    if json.dumps(dict(pairs), separators=(",", ":")).encode() != line:
+        return b"", "an escape or a space that isn't needed"
+    return " ".join(str(value) for _, value in pairs).encode(), ""
+
+
+def fault_of(plain, made):
+    """What is wrong with JSON that was made for a plain text."""
+    if not made.endswith(b"\n") and made:
+        return "the last line has no LF"
+    lines = made.splitlines()
+    for line, wanted in itertools.zip_longest(lines, plain.splitlines()):
+        if line is None or wanted is None:
+            return f"{len(lines)} lines, and not {len(plain.splitlines())}"
+        try:
+            said, fault = plain_of(line)
+        except (ValueError, KeyError, IndexError, TypeError) as found:
+            said, fault = b"", repr(found)
+        if fault or said != wanted:
+            return f"{line!r} for {wanted!r}: {fault}"
+    return ""
