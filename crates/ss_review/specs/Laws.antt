@@ -72,10 +72,10 @@ OneReport =
     ((says : Answers) (log : List (List ℕ)) → IsReport says (contents (notes log)) (report says log))
     × ((says : Answers) (log : List (List ℕ)) (r : Report) → IsReport says (contents (notes log)) r → r ≡ report says log)
 
--- What a report lists of a log. The listed messages are exactly those assigned to announced numbers, which are those that
--- are due, by membership and counts: each one's hash stands at its number in a block on whose exact signed octets the
--- scheme says yes under the session's joined payload; no number and no stored message is listed twice, numbers rise within
--- session and group, and the gaps are exactly the numbers announced but unmatched.
+-- What a report lists of a log. The listed messages are exactly those assigned to announced numbers, and exactly those
+-- that are due, by membership and counts: each one's hash stands at its number in a block on whose exact signed octets
+-- the scheme says yes under the session's joined payload; no number and no stored message is listed twice, numbers rise
+-- within session and group, and the gaps are exactly the numbers announced but unmatched.
 pub record ListsWhatIsAnnounced (says : Answers) (log : List (List ℕ)) (r : Report) : Type 0 where
   pub listed : (k : Key) (place : ℕ) → IsListed r k place ↔ IsAssigned says (notes log) k place
   pub due : (k : Key) (place : ℕ) → IsListed r k place ↔ IsDue says (contents (notes log)) k place

@@ -40,11 +40,14 @@ IsCovered says bs payload = (index : ℕ) → 1 ≤ index → index ≤ length p
 abbrev pub IsPayloadBlock : List ℕ → Type 0
 IsPayloadBlock text = (value : PayloadValue) × (payload_in text ≡ Some value)
 
--- The session of these blocks is joined under the text: it is the one text that they state, it is a payload block, it is
--- trusted, and the blocks that are valid under it cover it.
+-- The session of these blocks is joined under the text: it is the one text that they state, it is a payload block, it
+-- is trusted, and the blocks that are valid under it cover it.
 abbrev pub IsJoinedUnder : Answers → List BlockMessage → List ℕ → Type 0
 IsJoinedUnder says bs text =
-    StatesText (stated_by (certificates bs)) text × IsPayloadBlock text × (says.trusted text ≡ true) × IsCovered says bs text
+    StatesText (stated_by (certificates bs)) text
+    × IsPayloadBlock text
+    × (says.trusted text ≡ true)
+    × IsCovered says bs text
 
 -- the session of these blocks is in the state
 abbrev pub IsInState : Answers → List BlockMessage → SessionState → Type 0

@@ -26,8 +26,8 @@ pub fn notes_suffice()
     ensures { NotesSuffice }
 {}
 
-/// Two schemes that answer alike all that is asked about a log give it one report. So whoever answers the questions of a
-/// log has answered all that its report rests on.
+/// Two schemes that answer alike all that is asked about a log give it one report. So whoever answers these questions
+/// has answered all that the report rests on.
 pub fn agreeing_schemes_give_one_report()
     ensures { AgreeingSchemesGiveOneReport }
 {}
@@ -88,8 +88,8 @@ pub fn listed_are_witnessed()
     blocks_are_in_range();
 }
 
-/// The listed messages are those assigned to announced numbers, which are those that are due, each is witnessed, no number
-/// and no message is listed twice, the report rises, and the gaps are the numbers that are announced and unmatched.
+/// The listed messages are those assigned to announced numbers, and those that are due. Each is witnessed, no number and
+/// no message is listed twice, the report rises, and the gaps are the numbers that are announced and unmatched.
 pub fn reports_list_what_is_announced()
     ensures { ReportsListWhatIsAnnounced }
 {
