@@ -1,5 +1,5 @@
 -- The report of a log with what is missing of each session's signature blocks: each states its Global Block Counter, GBC,
--- how many were sent before it in its session, over all groups (RFC 5848, section 4.2.5).
+-- how many were sent before it in its session, over all groups (RFC 5848, section 4.2.4).
 use Rattle.std.specs.Prelude.{ℕ, List, ◌++◌, map, flat_map, if◌then◌else◌}
 use Rattle.std.specs.List.{list_all, zip}
 use Rattle.ss_frame.specs.declared.step.Tail.{Tail}

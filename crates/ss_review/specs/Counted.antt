@@ -1,5 +1,5 @@
 -- Which signature blocks of a session a log has, and which are missing. Each states its Global Block Counter, GBC: how
--- many signature blocks were sent before it in its session, over all groups (RFC 5848, section 4.2.5).
+-- many signature blocks were sent before it in its session, over all groups (RFC 5848, section 4.2.4).
 use Rattle.std.specs.Prelude.{ℕ, ◌+◌, ◌-◌, nat_lt, max, fold, List, [], ◌∷◌, ◌++◌, map, filter, flat_map, if◌then◌else◌}
 use Rattle.std.specs.Ordering.{nat_cmp}
 use Rattle.ss_block.specs.declared.session.Session.{Session}

@@ -31,7 +31,7 @@ pub(crate) enum Line<'r> {
         first: u64,
         last: u64,
     },
-    /// No verified signature block of the session has a GBC (RFC 5848, section 4.2.5) of this run, though one has a
+    /// No verified signature block of the session has a GBC (RFC 5848, section 4.2.4) of this run, though one has a
     /// greater. The GBC count from 0.
     Blocks {
         session: &'r Session,

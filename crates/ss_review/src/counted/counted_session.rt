@@ -11,7 +11,7 @@ pub struct CountedSession {
     /// Whose it is.
     pub session: Session,
     /// The GBC of its verified signature blocks, each value once, rising. It says how many signature blocks were sent
-    /// before the block in its session, over all groups (RFC 5848, section 4.2.5).
+    /// before the block in its session, over all groups (RFC 5848, section 4.2.4).
     pub gbcs: Gbcs,
 }
 
