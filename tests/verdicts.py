@@ -6,6 +6,8 @@
     verdicts.py split LOG N FIRST SECOND                a log of N messages, and one of the others
     verdicts.py last LOG | count LOG                    where the torn frame begins; how many messages there are
     verdicts.py damage KIND LOG                         the log, damaged
+    verdicts.py without LOG GBC..                       a log of groups by PRI, without the signature blocks with these
+                                                        counters and the messages that they announce
     verdicts.py signal NAME FILE WORD..                 runs a command, sends it a signal once FILE is there, and tells
                                                         the signal by which it ended
     verdicts.py terminal WORD..                         runs a command whose standard error is a terminal, and tells what
@@ -16,6 +18,7 @@ from __future__ import annotations
 import json
 import os
 import pty
+import re
 import signal
 import subprocess
 import sys
@@ -41,7 +44,7 @@ def wanted(line: str, stored: List[bytes], log: str) -> Dict[str, object]:
     """The object for a line of a report, but for the name of a key."""
     word, *fields = line.split(" ")
     names: Dict[str, object] = {"line": word}
-    if word in ("session", "ok", "gap", "hole"):
+    if word in ("session", "ok", "gap", "hole", "blocks"):
         names.update(host=fields[0], app=fields[1], procid=fields[2], rsid=int(fields[3]))
     if word in ("ok", "gap", "hole"):
         names.update(sg=int(fields[4]), spri=int(fields[5]))
@@ -53,6 +56,8 @@ def wanted(line: str, stored: List[bytes], log: str) -> Dict[str, object]:
         names.update(number=int(fields[6]), why=fields[7])
     elif word == "hole":
         names.update(first=int(fields[6]), last=int(fields[7]))
+    elif word == "blocks":
+        names.update(first=int(fields[4]), last=int(fields[5]))
     elif word == "end":
         names.update(count=int(fields[0]))
     elif word == "torn":
@@ -83,6 +88,11 @@ def check_json(report: str, path: str, log: str, status: str, *options: str) -> 
         assert verdict[count] == words.count(word), count
     assert verdict["lost"] + verdict["disputed"] == words.count("gap")
     assert sum(verdict["sessions"].values()) == words.count("session")
+    runs = [[int(field) for field in it.split(" ")[5:]] for it in lines if it.startswith("blocks ")]
+    missing = {"missing_blocks": sum(last - first + 1 for first, last in runs)} if "--whole" in options else {}
+    assert {key: verdict[key] for key in verdict if "blocks" in key} == missing, (verdict, missing)
+    assert list(verdict) == ["line", "status", "verdict", "sessions", "listed", "lost", "disputed", "unannounced", *missing,
+                             "unlisted", "refused", "spoilt", "torn", "groups"], list(verdict)
 
 
 def is_block(text: bytes) -> bool:
@@ -109,6 +119,21 @@ def damaged(kind: str, stored: List[bytes]) -> List[bytes]:
     if kind == "run":
         return [text for place, text in enumerate(stored) if place not in (plain[0], plain[1], plain[2], plain[8])]
     raise AssertionError(kind)
+
+
+def without(stored: List[bytes], counters: List[int]) -> List[bytes]:
+    """The messages of a log of groups by PRI, but for signature blocks with these counters and what they announce."""
+    members: Dict[bytes, List[int]] = {}
+    gone = []
+    for place, text in enumerate(stored):
+        if not is_block(text):
+            members.setdefault(text[1 : text.index(b">")], []).append(place)
+    for place, text in enumerate(stored):
+        block = re.search(rb' SPRI="(\d+)" GBC="(\d+)" FMN="(\d+)" CNT="(\d+)" ', text)
+        if block and int(block[2]) in counters:
+            first = int(block[3]) - 1
+            gone += [place, *members[block[1]][first : first + int(block[4])]]
+    return [text for place, text in enumerate(stored) if place not in gone]
 
 
 def ended_by(name: str, path: str, *words: str) -> str:
@@ -166,6 +191,8 @@ def main(command: str, *words: str) -> None:
         print(len(messages(words[0])[0]))
     elif command == "damage":
         write(damaged(words[0], messages(words[1])[0]), frame)
+    elif command == "without":
+        write(without(messages(words[0])[0], list(map(int, words[1:]))), frame)
     elif command == "terminal":
         print(on_terminal(*words))
     elif command == "signal":

@@ -212,6 +212,137 @@ keys verify --key others/public-key.pem both
 says 'the key of the session behind alone' 1 '  key: others/public-key.pem'
 holds 'the session in front has no key' test "$(sed -n '/RSID 1$/,/RSID 2$/p' out | grep -c '  key: ')" = 0
 
+# ---- missing signature blocks: ten messages in groups by PRI, of which each block has one, so that GBC rises from 0 to 9
+keys sign "${words[@]}" --rsid 1 --groups pri --count 1 --lines "$ten"
+cp out grouped
+# lose GBC..: without these signature blocks and their messages it's the file stored
+lose() {
+    python3 -B "$root/tests/verdicts.py" without grouped "$@" >stored
+}
+# same_without WHAT STATUS OPTION..: whether the last output and status are those without --whole
+same_without() {
+    local what=$1 wanted=$2
+    shift 2
+    cp out with
+    keys verify --key keys/public-key.pem "$@" stored
+    holds "$what: it is the verdict without --whole" cmp out with
+    holds "$what: and its status" test "$status" = "$wanted"
+}
+unseen_block="the block isn't here, or isn't believed, and messages that it announced may be missing unseen"
+unseen_blocks="they aren't here, or aren't believed, and messages that they announced may be missing unseen"
+cp grouped stored
+keys verify --key keys/public-key.pem --whole stored
+says 'no block is missing' 0 "$all_there"
+same_without 'no block is missing' 0
+as_reviewed 'no block is missing' stored --whole
+as_reviewed 'no block is missing, without --whole' stored
+
+lose 1
+nine_there='Verdict: All 9 announced messages are there, unchanged, and nothing else is.'
+keys verify --key keys/public-key.pem stored
+says 'a group taken out, without --whole' 0 "$nine_there"
+holds 'a group taken out, without --whole: no block is named' test "$(grep -ci 'missing signature' out)" = 0
+keys verify --key keys/public-key.pem --whole stored
+cp out with
+says 'a group taken out' 1 "  missing signature blocks: GBC 1; $unseen_block" 'Stored messages: 20; 9 are listed, 11 are valid blocks' \
+    'Verdict: FINDINGS: of 9 announced messages 9 are there, unchanged; 1 signature block is missing or isn'\''t believed, so messages may be missing unseen.'
+keys verify --key keys/public-key.pem stored
+holds 'a group taken out: nothing else is said otherwise' cmp <(grep -v '^Verdict: ' out) <(grep -v '^Verdict: \|^  missing signature' with)
+as_reviewed 'a group taken out' stored --whole
+as_reviewed 'a group taken out, without --whole' stored
+keys verify --key keys/public-key.pem --json --whole stored
+holds 'a group taken out: its object' grep -Fqx \
+    '{"line":"blocks","host":"gate","app":"signer","procid":"-","rsid":1,"first":1,"last":1}' out
+holds 'a group taken out: how many' grep -Fq '"unannounced":0,"missing_blocks":1,"unlisted":0,' out
+python3 -B "$root/tests/verdicts.py" lines stored >stored.lines
+keys verify --key keys/public-key.pem --whole --lines stored.lines
+says 'a group taken out, as lines' 1 "  missing signature blocks: GBC 1; $unseen_block"
+
+lose 0 3 4 5
+keys verify --key keys/public-key.pem --whole stored
+says 'two runs' 1 "  missing signature blocks: GBC 0; $unseen_block" "  missing signature blocks: GBC 3 to 5 (3 blocks); $unseen_blocks"
+holds 'two runs: in the verdict' \
+    grep -q '; 4 signature blocks are missing or aren.t believed, so messages may be missing unseen\(;.*\)\?\.$' out
+as_reviewed 'two runs' stored --whole
+keys verify --key keys/public-key.pem --json --whole stored
+holds 'two runs: how many' grep -Fq ',"missing_blocks":4,' out
+
+lose 9
+keys verify --key keys/public-key.pem --whole stored
+says 'the last block, which nothing tells of' 0 "$nine_there"
+same_without 'the last block' 0
+as_reviewed 'the last block' stored --whole
+keys verify --key keys/public-key.pem --json --whole stored
+holds 'the last block: none is known to be missing' grep -Fq ',"missing_blocks":0,' out
+
+# a block that is changed, and no message taken out
+LC_ALL=C sed -e 's/ GBC="1" / GBC="0" /' grouped >stored
+keys verify --key keys/public-key.pem --whole stored
+says 'a block changed, in a group of its own' 1 "  missing signature blocks: GBC 1; $unseen_block" \
+    'Verdict: FINDINGS: of 9 announced messages 9 are there, unchanged; 1 signature block is missing or isn'\''t believed, so messages may be missing unseen; 1 stored message is unlisted; 1 block isn'\''t believed.'
+as_reviewed 'a block changed, in a group of its own' stored --whole
+damage block
+keys verify --key keys/public-key.pem --whole stored
+says 'a block changed' 1 "  missing signature blocks: GBC 1; $unseen_block" \
+    'Verdict: FINDINGS: of 6 announced messages 6 are there, unchanged; 4 numbers aren'\''t announced; 1 signature block is missing or isn'\''t believed, so messages may be missing unseen; 4 stored messages are unlisted; 1 block isn'\''t believed.'
+
+# each session has its own, below its own groups
+lose 2
+cp stored front
+keys sign "${words[@]}" --rsid 2 --groups pri --count 1 --lines "$ten"
+cp out grouped
+lose 7
+cat front stored >both
+keys verify --key keys/public-key.pem --whole both
+holds 'two sessions: status 1' test "$status" = 1
+holds 'two sessions: each has its own' cmp <(grep -o '^Session: .*\|^  missing signature blocks: [^;]*' out) \
+    <(printf '%s\n' "$session" '  missing signature blocks: GBC 2' "${session/%1/2}" '  missing signature blocks: GBC 7')
+as_reviewed 'two sessions' both --whole
+keys verify --key others/public-key.pem --whole both
+says 'another key: no block counts' 1 '  state: untrusted; its key is none that you trust, so nothing of it counts'
+cp both stored
+cp out with
+keys verify --key others/public-key.pem stored
+holds 'another key: it is the verdict without --whole' cmp out with
+keys verify --key keys/public-key.pem --whole "$root/examples/producers/logger.log"
+holds 'no block at all' grep -q '^Verdict: NOTHING WAS SIGNED: ' out
+keys verify --key keys/public-key.pem --whole <(printf '')
+says 'an empty log, with --whole' 0 \
+    'Verdict: NOTHING WAS SIGNED: the log is empty, so nothing in it is changed, and nobody can say what is missing.'
+
+# an older ssign: without --whole it is called by the same words as ever, and with it nothing is asked
+cp both stored
+# shellcheck disable=SC2016
+printf '#!/bin/sh\necho "$*" >>called\nfor it in "$@"; do\n    [ "$it" != --whole ] || { echo "error: unexpected argument" >&2; exit 2; }\ndone\nexec %q "$@"\n' "$program" >older
+chmod +x older
+keys verify --key keys/public-key.pem --raw stored
+cp out with
+keys verify --key keys/public-key.pem --raw --ssign ./older stored
+holds 'an older ssign without --whole: the report' cmp out with
+holds 'an older ssign without --whole: its words' cmp <(sed 's|=.*/answers$|=answers|' called) <(printf '%s\n' questions 'review --answers=answers')
+rm called
+for form in '' --json --raw; do
+    keys verify --key keys/public-key.pem --whole ${form:+"$form"} --answers-out unkept --ssign ./older stored
+    refuses "an older ssign with --whole $form" "error: unexpected argument
+ssign-keys: the program ./older has no \`review --whole\`, so it can't say which signature blocks are missing: name a newer one with --ssign, or leave --whole out"
+done
+holds 'an older ssign with --whole: nothing is asked' cmp called <(printf '%s\n' 'review --whole' 'review --whole' 'review --whole')
+holds 'an older ssign with --whole: no answers are kept' test ! -e unkept
+# shellcheck disable=SC2016
+printf '#!/bin/sh\necho "$*" >>called\nexec %q "$@"\n' "$program" >recording
+chmod +x recording
+rm called
+keys verify --key keys/public-key.pem --whole --max-len 9999 --ssign ./recording stored
+holds 'a newer ssign: its words' cmp <(sed 's|=/.*/answers |=answers |' called) \
+    <(printf '%s\n' 'review --whole' 'questions --max-len=9999' 'review --answers=answers --whole --max-len=9999')
+printf '#!/bin/sh\necho "ssign: F4" >&2\nexit 2\n' >older
+keys verify --key keys/public-key.pem --whole --ssign ./older stored
+refuses 'a refusal is no want of --whole' 'ssign: F4'
+# shellcheck disable=SC2016
+printf '#!/bin/sh\nkill -9 $$\n' >older
+keys verify --key keys/public-key.pem --whole --ssign ./older stored
+refuses 'a program that dies is no want of --whole' 'ssign-keys: ssign review was ended by the signal SIGKILL, as where memory runs out'
+
 # ---- what no block signed, and hostile texts
 for it in logger rsyslog syslog-ng; do
     log=$root/examples/producers/$it.log

@@ -25,8 +25,8 @@ def names_of(session: Session) -> Fields:
 class Machine(Teller):
     """Writes JSON into a passing file, as the report is read."""
 
-    def __init__(self, out: BinaryIO, log: Log, finder: Finder, notes: Notes) -> None:
-        super().__init__()
+    def __init__(self, out: BinaryIO, log: Log, finder: Finder, notes: Notes, is_whole: bool) -> None:
+        super().__init__(is_whole)
         self._out = out
         self._log = log
         self._finder = finder
@@ -66,6 +66,9 @@ class Machine(Teller):
         self._reach.append({**names_of(group.session), "sg": group.sg, "spri": group.spri, "last": group.last, "gbc": greatest,
                             "fallen": group.fallen, "first_fallen": group.first_fallen if group.fallen else None})
 
+    def missing_blocks(self, session: Session, first: int, last: int) -> None:
+        self._put({"line": "blocks", **names_of(session), "first": first, "last": last})
+
     def stray(self, kind: str, place: int, cause: str) -> None:
         found = self._finder.find(place)
         why: Fields = {"cause": cause} if kind == "spoilt" else {}
@@ -81,9 +84,10 @@ class Machine(Teller):
     def verdict(self, status: int) -> None:
         """Tells the verdict, with all counts, and how far it reaches."""
         totals = self.totals
+        missing: Fields = {} if self.missing is None else {"missing_blocks": self.missing}
         self._put({
-            "line": "verdict", "status": status, "verdict": sentence(status, totals, self.states),
+            "line": "verdict", "status": status, "verdict": sentence(status, totals, self.states, self.missing or 0),
             "sessions": dict(sorted(self.states.items())), "listed": totals.listed, "lost": totals.lost,
-            "disputed": totals.disputed, "unannounced": totals.unannounced, "unlisted": totals.unlisted,
+            "disputed": totals.disputed, "unannounced": totals.unannounced, **missing, "unlisted": totals.unlisted,
             "refused": totals.refused, "spoilt": totals.spoilt, "torn": totals.torn is not None, "groups": self._reach,
         })

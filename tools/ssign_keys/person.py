@@ -47,11 +47,19 @@ def numbers_words(first: int, last: int) -> str:
     return f"numbers {first} to {last} ({last - first + 1} messages)"
 
 
+def blocks_words(first: int, last: int) -> str:
+    """A run of missing signature blocks, and what that means."""
+    if first == last:
+        return f"GBC {first}; the block isn't here, or isn't believed, and messages that it announced may be missing unseen"
+    return (f"GBC {first} to {last} ({last - first + 1} blocks); they aren't here, or aren't believed, and messages that they "
+            "announced may be missing unseen")
+
+
 class Person(Teller):
     """Writes for a person, into a passing file, as the report is read."""
 
-    def __init__(self, out: BinaryIO, log: Log, finder: Finder, notes: Notes) -> None:
-        super().__init__()
+    def __init__(self, out: BinaryIO, log: Log, finder: Finder, notes: Notes, is_whole: bool) -> None:
+        super().__init__(is_whole)
         self._out = out
         self._log = log
         self._finder = finder
@@ -112,6 +120,9 @@ class Person(Teller):
         greatest = None if self._vouched is None else self._vouched.greatest.get((group.sg, group.spri))
         self._reach.append((group, greatest))
 
+    def missing_blocks(self, session: Session, first: int, last: int) -> None:
+        self._put(f"  missing signature blocks: {blocks_words(first, last)}")
+
     def stray(self, kind: str, place: int, cause: str) -> None:
         if self._heading != kind:
             self._heading = kind
@@ -136,7 +147,7 @@ class Person(Teller):
 
     def verdict(self, status: int) -> None:
         """Tells the verdict, and what it says nothing of."""
-        self._put(f"Verdict: {sentence(status, self.totals, self.states)}")
+        self._put(f"Verdict: {sentence(status, self.totals, self.states, self.missing or 0)}")
         if not self._reach:
             return
         self._put("The verdict says nothing of what was sent behind the last block that is here:")

@@ -79,9 +79,12 @@ class Totals:
 class Teller(ABC):
     """Tells of the lines of a report, one after the other. What is counted stands in `totals` and `states`."""
 
-    def __init__(self) -> None:
+    def __init__(self, is_whole: bool = False) -> None:
+        """A whole report, of `ssign review --whole`, also has lines about missing signature blocks."""
         self.totals = Totals()
         self.states: Dict[str, int] = {}
+        # how many signature blocks are missing; None where the report doesn't speak of them
+        self.missing: Optional[int] = 0 if is_whole else None
 
     @abstractmethod
     def session(self, session: Session, state: str) -> None:
@@ -106,6 +109,9 @@ class Teller(ABC):
     @abstractmethod
     def end_group(self, group: Group) -> None:
         """Tells of a group of which all lines were told."""
+
+    def missing_blocks(self, session: Session, first: int, last: int) -> None:
+        """Tells of values of GBC that no verified signature block has. Only a whole report has such a line."""
 
     @abstractmethod
     def stray(self, kind: str, place: int, cause: str) -> None:
@@ -174,6 +180,10 @@ class Reading:
             state = fields[4].decode("ascii")
             teller.states[state] = teller.states.get(state, 0) + 1
             teller.session(self._session, state)
+        elif word == b"blocks" and teller.missing is not None:
+            first, last = int(fields[4]), int(fields[5])
+            teller.missing += last - first + 1
+            teller.missing_blocks(self._session, first, last)
         elif word in (b"unlisted", b"refused", b"spoilt"):
             kind = word.decode("ascii")
             setattr(totals, kind, getattr(totals, kind) + 1)

@@ -7,8 +7,11 @@ from .report import Totals
 from .words import counted
 
 
-def sentence(status: int, totals: Totals, states: Dict[str, int]) -> str:
-    """What the report comes to. It is clean only where ssign said so by its status 0."""
+def sentence(status: int, totals: Totals, states: Dict[str, int], missing: int = 0) -> str:
+    """What the report comes to. It is clean only where ssign said so by its status 0.
+
+    `missing` is how many signature blocks a whole report calls missing.
+    """
     sessions = sum(states.values())
     if totals.messages == 0:
         return empty(totals)
@@ -21,7 +24,7 @@ def sentence(status: int, totals: Totals, states: Dict[str, int]) -> str:
         )
     if status == 0:
         return clean(totals)
-    return findings(totals, sessions - states["joined"])
+    return findings(totals, sessions - states["joined"], missing)
 
 
 def empty(totals: Totals) -> str:
@@ -58,7 +61,7 @@ def order(totals: Totals) -> str:
     return " But they don't stand in the order in which they were signed."
 
 
-def findings(totals: Totals, unbelieved: int) -> str:
+def findings(totals: Totals, unbelieved: int, missing: int) -> str:
     """Of a log with a session that is joined, in which something isn't as it was signed."""
     signed = totals.listed + totals.lost + totals.disputed
     parts: List[str] = []
@@ -74,6 +77,8 @@ def findings(totals: Totals, unbelieved: int) -> str:
         said += ", and " + ", and ".join(parts)
     others = [
         (totals.unannounced, "number isn't announced", "numbers aren't announced"),
+        (missing, "signature block is missing or isn't believed, so messages may be missing unseen",
+         "signature blocks are missing or aren't believed, so messages may be missing unseen"),
         (totals.unlisted, "stored message is unlisted", "stored messages are unlisted"),
         (totals.refused, "block isn't believed", "blocks aren't believed"),
         (totals.spoilt, "message is a spoilt block", "messages are spoilt blocks"),

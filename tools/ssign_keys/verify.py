@@ -32,6 +32,8 @@ def add_arguments(parser: argparse.ArgumentParser) -> None:
                         help="an originator's public key, which you got by another way than with the log")
     trust_options.add_arguments(parser)
     add_log_arguments(parser)
+    parser.add_argument("--whole", action="store_true", help="also say which signature blocks of each session are missing, "
+                        "by their counter GBC; that is a finding")
     parser.add_argument("--jobs", type=positive, default=1, metavar="N", help="check signatures by so many processes "
                         "(default: 1)")
     form = parser.add_mutually_exclusive_group()
@@ -61,8 +63,10 @@ def run(arguments: argparse.Namespace) -> int:
         with Workplace() as workplace:
             refuse_to_overwrite(arguments.answers_out)
             trust = Trust.from_arguments(arguments)
+            if arguments.whole:
+                refuse_without_whole(program, workplace, progress)
             log = open_log(arguments.logs, arguments.lines, workplace, progress)
-            verifier = Verifier(program, log_words(arguments), log, workplace, progress)
+            verifier = Verifier(program, log_words(arguments), arguments.whole, log, workplace, progress)
             notes = verifier.answer(trust, arguments.jobs)
             status = verifier.review()
             verifier.tell_unused(trust)
@@ -88,9 +92,11 @@ def run(arguments: argparse.Namespace) -> int:
 class Verifier:
     """The runs of ssign over a log, with what is kept of them."""
 
-    def __init__(self, program: str, words: List[str], log: Log, workplace: Workplace, progress: Progress) -> None:
+    def __init__(self, program: str, words: List[str], is_whole: bool, log: Log, workplace: Workplace,
+                 progress: Progress) -> None:
         self._program = program
         self._words = words
+        self._is_whole = is_whole
         self._log = log
         self._workplace = workplace
         self._progress = progress
@@ -142,7 +148,7 @@ class Verifier:
 
     def review(self) -> int:
         """Has ssign review the log under the answers that were kept, and gives its status."""
-        return self._review([f"--answers={self.answers_path}"])
+        return self._review([f"--answers={self.answers_path}", *(["--whole"] if self._is_whole else [])])
 
     def _review(self, words: List[str]) -> int:
         """Has ssign review the log, with these words besides."""
@@ -171,13 +177,24 @@ class Verifier:
 
     def tell(self, form: Union[Type[Machine], Type[Person]], out: BinaryIO, notes: Notes, status: int) -> None:
         """Tells the report and the verdict in one of the two forms."""
-        teller = form(out, self._log, Finder(self._log, self._progress), notes)
+        teller = form(out, self._log, Finder(self._log, self._progress), notes, self._is_whole)
         Reading(teller).read(self.report, self._progress)
         teller.verdict(status)
         finish(out)
 
     def _reading(self, phase: str) -> Callable[[], None]:
         return lambda: self._progress.show(phase, self._log.position(), self._log.size, "octets")
+
+
+def refuse_without_whole(program: str, workplace: Workplace, progress: Progress) -> None:
+    """Refuses an older ssign, which doesn't know --whole, before the log is read. An empty log shows it."""
+    try:
+        Run(program, ["review", "--whole"], workplace, progress, subprocess.DEVNULL, subprocess.DEVNULL).end(lambda: None)
+    except Refused as refused:
+        if refused.code is not None:
+            raise
+        raise Fault(f"the program {shown_name(program)} has no `review --whole`, so it can't say which signature blocks are "
+                    "missing: name a newer one with --ssign, or leave --whole out") from refused
 
 
 def refuse_to_overwrite(path: Optional[str]) -> None:
