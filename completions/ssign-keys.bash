@@ -84,7 +84,7 @@ _ssign_keys_words() {
     case $1 in
     verify)
         if [[ $2 == -* ]]; then
-            _ssign_keys_offer words '--help --key --session-key --ca --cert --lines --max-len --max-messages --jobs --raw --json --answers-out --ssign'
+            _ssign_keys_offer words '--help --key --session-key --ca --cert --lines --max-len --max-messages --whole --jobs --raw --json --answers-out --ssign'
         else
             _ssign_keys_offer files
         fi

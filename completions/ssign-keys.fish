@@ -21,6 +21,7 @@ complete -c ssign-keys -n '__ssign_keys_command verify' -l cert -r -F -d 'trust 
 complete -c ssign-keys -n '__ssign_keys_command verify' -l lines -d 'the log is one message a line, not octet-counted frames'
 complete -c ssign-keys -n '__ssign_keys_command verify' -l max-len -x -d 'the longest message, in octets'
 complete -c ssign-keys -n '__ssign_keys_command verify' -l max-messages -x -d 'the most messages'
+complete -c ssign-keys -n '__ssign_keys_command verify' -l whole -d 'also say which signature blocks of each session are missing, by their counter GBC'
 complete -c ssign-keys -n '__ssign_keys_command verify' -l jobs -x -d 'check signatures by so many processes (default'
 complete -c ssign-keys -n '__ssign_keys_command verify' -l raw -d 'print the report of `ssign review` as it stands'
 complete -c ssign-keys -n '__ssign_keys_command verify' -l json -d 'print a JSON object for each line of the report, and one for the verdict'
