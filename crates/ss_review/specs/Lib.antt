@@ -21,6 +21,7 @@ pub mod Accounts
 pub mod Counted
 pub mod CountedLaws
 pub mod CountedSoFar
+pub mod Kept
 pub mod Laws
 pub mod Rows
 pub mod Assigning
