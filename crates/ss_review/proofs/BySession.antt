@@ -29,7 +29,7 @@ back s bs = sectioned.back session_of session_cmp_total session_cmp_exact s bs
 
 -- ---- a sorted list stands by session
 
-not_gt : (c : Ordering) → is_lt (ordering_reverse c) ≡ false → is_gt c ≡ false
+pub not_gt : (c : Ordering) → is_lt (ordering_reverse c) ≡ false → is_gt c ≡ false
 not_gt Less e = refl
 not_gt Equal e = refl
 not_gt Greater e = cc
@@ -136,7 +136,7 @@ ends_section bs start count d up below long within =
 
 -- ---- a stable sort keeps the sections
 
-ties_at : (c : Ordering) → (not (is_lt (ordering_reverse c)) && not (is_lt c)) ≡ is_eq c
+pub ties_at : (c : Ordering) → (not (is_lt (ordering_reverse c)) && not (is_lt c)) ≡ is_eq c
 ties_at Less = refl
 ties_at Equal = refl
 ties_at Greater = refl

@@ -86,3 +86,7 @@ pub mod CountedTold
 pub mod CountedMeant
 pub mod NextNumbers
 pub mod CountedRange
+pub mod KeptBySession
+pub mod Lookups
+pub mod KeptNumbers
+pub mod KnownSessions

@@ -23,14 +23,14 @@ use Rattle.ss_review.proofs.TotalOrders.{less_is, then_first}
 -- ---- filters that keep a part
 
 module _ {X : Type 0} (q : X → Bool) where
-  filter_before : (xs : List X) (i : ℕ) → AllWithin (λ x. q x ≡ false) xs 0 i → filter q xs ≡ filter q (drop i xs)
+  pub filter_before : (xs : List X) (i : ℕ) → AllWithin (λ x. q x ≡ false) xs 0 i → filter q xs ≡ filter q (drop i xs)
   filter_before xs zero none = refl
   filter_before [] (suc i) none = refl
   filter_before (x ∷ xs) (suc i) none =
       ap (λ b. cond b (x ∷ filter q xs) (filter q xs)) (none 0 x (omega arith) (omega arith))
       ∙ filter_before xs i (λ k d low high. none (suc k) d (omega arith) (omega arith))
 
-  filter_within : (xs : List X) (i : ℕ) → IsPartitionPoint (λ x. q x ≡ true) (λ x. q x ≡ false) xs i → filter q xs ≡ take i xs
+  pub filter_within : (xs : List X) (i : ℕ) → IsPartitionPoint (λ x. q x ≡ true) (λ x. q x ≡ false) xs i → filter q xs ≡ take i xs
   filter_within [] zero point = refl
   filter_within [] (suc i) point = refl
   filter_within (x ∷ xs) zero point =
@@ -60,17 +60,17 @@ rise_at (n ∷ ns) up (suc i) zero d le below = absurd (omega arith)
 rise_at (n ∷ ns) up (suc i) (suc j) d le below = rise_at ns up.1 i j d (omega arith) (omega arith)
 
 -- what isn't above another session stands before what that one stands before
-lt_of : (c : Ordering) (a b s : Session) → session_cmp a b ≡ c → is_gt c ≡ false → session_cmp b s ≡ Less → session_cmp a s ≡ Less
+pub lt_of : (c : Ordering) (a b s : Session) → session_cmp a b ≡ c → is_gt c ≡ false → session_cmp b s ≡ Less → session_cmp a s ≡ Less
 lt_of Less a b s e g l = session_cmp_total.trans a b s e l
 lt_of Equal a b s e g l = ap (λ t. session_cmp t s) (session_cmp_exact a b e) ∙ l
 lt_of Greater a b s e g l = absurd (cc)
 
-eq_of : (c : Ordering) → is_lt c ≡ false → is_gt c ≡ false → is_eq c ≡ true
+pub eq_of : (c : Ordering) → is_lt c ≡ false → is_gt c ≡ false → is_eq c ≡ true
 eq_of Less l g = absurd (cc)
 eq_of Equal l g = refl
 eq_of Greater l g = absurd (cc)
 
-apart : (c : Ordering) → is_lt c ≡ true → is_eq c ≡ false
+pub apart : (c : Ordering) → is_lt c ≡ true → is_eq c ≡ false
 apart Less e = refl
 apart Equal e = absurd (cc)
 apart Greater e = refl

@@ -22,6 +22,7 @@ pub mod Counted
 pub mod CountedLaws
 pub mod CountedSoFar
 pub mod Kept
+pub mod KeptSoFar
 pub mod Laws
 pub mod Rows
 pub mod Assigning
