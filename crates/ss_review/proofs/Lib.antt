@@ -90,3 +90,10 @@ pub mod KeptBySession
 pub mod Lookups
 pub mod KeptNumbers
 pub mod KnownSessions
+pub mod Shortfalls
+pub mod KeptBlocks
+pub mod HoleAt
+pub mod Fates
+pub mod CleanUpTo
+pub mod CountersGiven
+pub mod LostTold

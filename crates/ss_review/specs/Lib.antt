@@ -23,6 +23,7 @@ pub mod CountedLaws
 pub mod CountedSoFar
 pub mod Kept
 pub mod KeptSoFar
+pub mod KeptLaws
 pub mod Laws
 pub mod Rows
 pub mod Assigning

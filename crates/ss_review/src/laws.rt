@@ -3,5 +3,6 @@
 pub mod counted;
 mod delivered;
 pub mod deliveries;
+pub mod kept;
 pub mod reports;
 mod whole;

@@ -1,0 +1,5 @@
+use Rattle.ss_review.proofs.LostTold.{reach_the_end}
+use Rattle.ss_review.proofs.laws.kept.own_counters_reach_the_end.Goals as goal
+
+pub returns : goal.returns
+returns c = reach_the_end c.numbers_go_on.ensures

@@ -1,0 +1,186 @@
+-- What holds of every log, up to counters that somebody kept: whatever they tell of was sent, and is there or told as
+-- missing.
+use Rattle.std.specs.Prelude.{◌≡◌, ◌≢◌, ◌⊎◌, ℕ, ◌-◌, ◌<◌, ◌≤◌, true, List, [], ◌∷◌, length, map, flat_map, slice_get, All, Contains, Some, if◌then◌else◌}
+use Rattle.std.specs.List.{zip}
+use Rattle.ss_block.specs.declared.session.Session.{Session}
+use Rattle.ss_block.specs.Hashes.{hash_of}
+use Rattle.ss_origin.specs.declared.counters.NextNumber.{NextNumber}
+use Rattle.ss_origin.specs.Groups.{group_of}
+use Rattle.ss_origin.specs.Chain.{start_behind, given_to}
+use Rattle.ss_review.specs.declared.counted.counted_session.CountedSession.{CountedSession}
+use Rattle.ss_review.specs.declared.counted.counter.Counter.{Counter}
+use Rattle.ss_review.specs.declared.counted.counter.Counts.TheVariants as counts
+use Rattle.ss_review.specs.declared.counted.shortfall.GroupTail.{GroupTail}
+use Rattle.ss_review.specs.declared.counted.shortfall.Shortfall.{Shortfall}
+use Rattle.ss_review.specs.declared.counted.shortfall.LogShortfalls.{LogShortfalls}
+use Rattle.ss_review.specs.declared.report.entry.Why.{Why}
+use Rattle.ss_review.specs.declared.report.entry.Entry.TheVariants as entry
+use Rattle.ss_review.specs.declared.report.group_report.GroupReport.{GroupReport}
+use Rattle.ss_review.specs.declared.report.report.Report.{Report}
+use Rattle.ss_review.specs.declared.report.session_report.SessionReport.{SessionReport}
+use Rattle.ss_review.specs.Notes.{note, notes}
+use Rattle.ss_review.specs.Contents.{blocks}
+use Rattle.ss_review.specs.Verified.{Answers}
+use Rattle.ss_review.specs.Verdict.{is_joined, is_clean}
+use Rattle.ss_review.specs.Announced.{Key}
+use Rattle.ss_review.specs.Announcing.{IsAnnounced}
+use Rattle.ss_review.specs.Meaning.{Tells, IsListed, IsGap}
+use Rattle.ss_review.specs.Report.{report}
+use Rattle.ss_review.specs.Counted.{counted_sessions, next_after, next_number, missing_blocks}
+use Rattle.ss_review.specs.CountedLaws.{IsCounted, IsInRun}
+use Rattle.ss_review.specs.Delivery.{own_session, is_normal}
+use Rattle.ss_review.specs.Delivered.{own_number}
+use Rattle.ss_review.specs.DeliveryLaws.{Case, IsCase, says, report_in}
+use Rattle.ss_review.specs.Kept.{kept_gbc, kept_number, log_shortfalls, AreReviewed}
+
+-- what is missing of a log up to these counters
+abbrev pub shortfalls_of : Answers → List (List ℕ) → List Counter → LogShortfalls
+shortfalls_of says log cs = log_shortfalls cs (report says log).sessions (counted_sessions says (blocks (notes log)))
+
+-- the premises of what computes it hold of every log
+abbrev pub LogsAreReviewed : Type 0
+LogsAreReviewed = (says : Answers) (log : List (List ℕ)) → AreReviewed (report says log).sessions (counted_sessions says (blocks (notes log)))
+
+-- ---- messages
+
+-- what is missing of a session, which the log has blocks of, or none
+abbrev pub IsToldOf : LogShortfalls → Shortfall → Type 0
+IsToldOf all f = Contains all.known f ⊎ Contains all.absent f
+
+-- the number comes behind the last announced one of its group, and is told as missing
+pub record IsInTail (all : LogShortfalls) (k : Key) : Type 0 where
+  pub shortfall : Shortfall
+  pub told : IsToldOf all shortfall
+  pub session_is : shortfall.session ≡ k.session
+  pub tail : GroupTail
+  pub tail_told : Contains shortfall.tails tail
+  pub group_is : tail.group ≡ k.group
+  pub from : tail.first ≤ k.number
+  pub to : k.number ≤ tail.last
+
+-- the report has a hole of its group with the number
+pub record IsInHole (r : Report) (k : Key) : Type 0 where
+  pub first : ℕ
+  pub last : ℕ
+  pub told : Tells r k.session k.group (entry.Hole first last)
+  pub from : first ≤ k.number
+  pub to : k.number ≤ last
+
+-- what became of the message with a number
+pub data Fate : Type 0 where
+  Listed : Fate
+  Gap : Fate
+  Hole : Fate
+  Tail : Fate
+
+abbrev pub HasFate : Report → LogShortfalls → Key → Fate → Type 0
+HasFate r all k Listed = (place : ℕ) × IsListed r k place
+HasFate r all k Gap = (why : Why) × IsGap r k why
+HasFate r all k Hole = IsInHole r k
+HasFate r all k Tail = IsInTail all k
+
+-- Each number below its group's counter is exactly one of listed, a gap, in a hole and in a tail. A number in a tail is
+-- below its group's counter and not announced.
+abbrev pub EveryNumberIsTold : Type 0
+EveryNumberIsTold =
+    (says : Answers) (log : List (List ℕ)) (cs : List Counter) (k : Key)
+    → (1 ≤ k.number → k.number < kept_number cs k.session k.group
+    → (fate : Fate) × HasFate (report says log) (shortfalls_of says log cs) k fate
+    × ((other : Fate) → HasFate (report says log) (shortfalls_of says log cs) k other → other ≡ fate))
+    × (IsInTail (shortfalls_of says log cs) k → (k.number < kept_number cs k.session k.group) × ¬ IsAnnounced says (blocks (notes log)) k)
+
+-- ---- signature blocks
+
+-- the value is in a run of missing blocks of the session
+pub record IsInRunOf (all : LogShortfalls) (s : Session) (gbc : ℕ) : Type 0 where
+  pub shortfall : Shortfall
+  pub told : IsToldOf all shortfall
+  pub session_is : shortfall.session ≡ s
+  pub run : IsInRun shortfall.blocks gbc
+
+-- each value below the session's counter is that of a verified signature block, or told as missing, and none is both
+abbrev pub EveryBlockIsTold : Type 0
+EveryBlockIsTold =
+    (says : Answers) (log : List (List ℕ)) (cs : List Counter) (s : Session) (gbc : ℕ)
+    → (gbc < kept_gbc cs s → IsCounted says (blocks (notes log)) s gbc ⊎ IsInRunOf (shortfalls_of says log cs) s gbc)
+    × (IsCounted says (blocks (notes log)) s gbc → ¬ IsInRunOf (shortfalls_of says log cs) s gbc)
+
+-- ---- nothing is missing
+
+-- nothing of a session is told as missing, and no session
+pub record NothingIsMissing (all : LogShortfalls) : Type 0 where
+  pub tails : All (λ f. f.tails ≡ []) all.known
+  pub blocks : All (λ f. f.blocks ≡ []) all.known
+  pub sessions : all.absent ≡ []
+
+-- Where a report is clean and nothing is told as missing, each number below its group's counter is listed, and each value
+-- below the session's counter is that of a verified signature block.
+abbrev pub CleanUpToCounters : Type 0
+CleanUpToCounters =
+    (says : Answers) (log : List (List ℕ)) (cs : List Counter)
+    → is_clean (report says log) ≡ true
+    → NothingIsMissing (shortfalls_of says log cs)
+    → ((k : Key) → 1 ≤ k.number → k.number < kept_number cs k.session k.group → (place : ℕ) × IsListed (report says log) k place)
+    × ((s : Session) (gbc : ℕ) → gbc < kept_gbc cs s → IsCounted says (blocks (notes log)) s gbc)
+
+-- ---- the counters of the log itself
+
+abbrev pub group_given : Session → GroupReport → Counter
+group_given s g = record { session = s; counts = counts.Messages g.group; next = next_number g }
+
+-- the GBC of a session's next signature block, then the number of the next message of each of its groups
+abbrev pub session_given : SessionReport → CountedSession → List Counter
+session_given s c = record { session = s.session; counts = counts.Blocks; next = next_after c.gbcs } ∷ map (group_given s.session) s.groups
+
+-- a session that isn't joined has no verified block, and no counter
+abbrev pub given_beside : SessionReport × CountedSession → List Counter
+given_beside p = if is_joined p.0.state then session_given p.0 p.1 else []
+
+-- the counters of a log, of each session of its report
+unfoldable pub counters_given : List SessionReport → List CountedSession → List Counter
+counters_given sessions counted = flat_map given_beside (zip sessions counted)
+
+-- Up to its own counters a log has nothing missing but what it tells by itself.
+pub record AddNothing (counted : List CountedSession) (all : LogShortfalls) : Type 0 where
+  pub tails : All (λ f. f.tails ≡ []) all.known
+  pub sessions : all.absent ≡ []
+  pub blocks : map (λ f. f.blocks) all.known ≡ map (λ c. missing_blocks c.gbcs) counted
+
+abbrev pub CountersGivenBack : Type 0
+CountersGivenBack =
+    (says : Answers) (log : List (List ℕ))
+    → let counted = counted_sessions says (blocks (notes log)) in
+    AddNothing counted (shortfalls_of says log (counters_given (report says log).sessions counted))
+
+-- ---- the counters of originators that follow one another
+
+-- The counters reach the end of each group: past the number of the last message that the chain gave it.
+abbrev pub ReachTheEnd : Case → List Counter → Type 0
+ReachTheEnd x cs = (spri : ℕ) → spri < 192
+    → let given = length (given_to x.s.config spri x.chain) in
+    1 ≤ given → given < kept_number cs (own_session x.s) (group_of x.s.config.grouping spri)
+
+abbrev pub number_kept : Case → NextNumber → Counter
+number_kept x n = record { session = own_session x.s; counts = counts.Messages (group_of x.s.config.grouping n.spri); next = n.number }
+
+-- the counters that the newest originator of the chain ended with
+unfoldable pub counters_kept : Case → List Counter
+counters_kept x =
+    let ended = (start_behind x.s.config x.chain).counters in
+    record { session = own_session x.s; counts = counts.Blocks; next = ended.gbc } ∷ map (number_kept x) ended.groups
+
+-- they reach the end of each group
+abbrev pub OwnCountersReachTheEnd : Type 0
+OwnCountersReachTheEnd = (x : Case) → ReachTheEnd x (counters_kept x)
+
+-- no message without a block in the log has the hash of this one
+abbrev pub IsLost : Case → List ℕ → Type 0
+IsLost x m = (n : List ℕ) → Contains x.log n → is_normal (note n) ≡ true → hash_of x.s.config.alg n ≢ hash_of x.s.config.alg m
+
+-- Counters that reach the end of each group tell of each lost message: its number is a gap, in a hole or in a tail.
+abbrev pub LostAreTold : Type 0
+LostAreTold = (x : Case) → IsCase x → (cs : List Counter) → ReachTheEnd x cs
+    → (spri number : ℕ) (m : List ℕ) → spri < 192 → 1 ≤ number → slice_get (given_to x.s.config spri x.chain) (number - 1) ≡ Some m
+    → IsLost x m
+    → let k = own_number x spri number in
+    ((why : Why) × IsGap (report_in x) k why) ⊎ (IsInHole (report_in x) k ⊎ IsInTail (shortfalls_of (says x) x.log cs) k)
