@@ -79,15 +79,17 @@ HasFate r all k Gap = (why : Why) × IsGap r k why
 HasFate r all k Hole = IsInHole r k
 HasFate r all k Tail = IsInTail all k
 
--- Each number below its group's counter is exactly one of listed, a gap, in a hole and in a tail. A number in a tail is
--- below its group's counter and not announced.
-abbrev pub EveryNumberIsTold : Type 0
-EveryNumberIsTold =
-    (says : Answers) (log : List (List ℕ)) (cs : List Counter) (k : Key)
-    → (1 ≤ k.number → k.number < kept_number cs k.session k.group
+-- A number below its group's counter is exactly one of listed, a gap, in a hole and in a tail. A number in a tail is below
+-- its group's counter and not announced.
+abbrev pub NumberIsTold : Answers → List (List ℕ) → List Counter → Key → Type 0
+NumberIsTold says log cs k =
+    (1 ≤ k.number → k.number < kept_number cs k.session k.group
     → (fate : Fate) × HasFate (report says log) (shortfalls_of says log cs) k fate
     × ((other : Fate) → HasFate (report says log) (shortfalls_of says log cs) k other → other ≡ fate))
     × (IsInTail (shortfalls_of says log cs) k → (k.number < kept_number cs k.session k.group) × ¬ IsAnnounced says (blocks (notes log)) k)
+
+abbrev pub EveryNumberIsTold : Type 0
+EveryNumberIsTold = (says : Answers) (log : List (List ℕ)) (cs : List Counter) (k : Key) → NumberIsTold says log cs k
 
 -- ---- signature blocks
 
@@ -98,12 +100,14 @@ pub record IsInRunOf (all : LogShortfalls) (s : Session) (gbc : ℕ) : Type 0 wh
   pub session_is : shortfall.session ≡ s
   pub run : IsInRun shortfall.blocks gbc
 
--- each value below the session's counter is that of a verified signature block, or told as missing, and none is both
-abbrev pub EveryBlockIsTold : Type 0
-EveryBlockIsTold =
-    (says : Answers) (log : List (List ℕ)) (cs : List Counter) (s : Session) (gbc : ℕ)
-    → (gbc < kept_gbc cs s → IsCounted says (blocks (notes log)) s gbc ⊎ IsInRunOf (shortfalls_of says log cs) s gbc)
+-- a value below the session's counter is that of a verified signature block, or told as missing, and never both
+abbrev pub BlockIsTold : Answers → List (List ℕ) → List Counter → Session → ℕ → Type 0
+BlockIsTold says log cs s gbc =
+    (gbc < kept_gbc cs s → IsCounted says (blocks (notes log)) s gbc ⊎ IsInRunOf (shortfalls_of says log cs) s gbc)
     × (IsCounted says (blocks (notes log)) s gbc → ¬ IsInRunOf (shortfalls_of says log cs) s gbc)
+
+abbrev pub EveryBlockIsTold : Type 0
+EveryBlockIsTold = (says : Answers) (log : List (List ℕ)) (cs : List Counter) (s : Session) (gbc : ℕ) → BlockIsTold says log cs s gbc
 
 -- ---- nothing is missing
 
