@@ -40,3 +40,4 @@ pub mod Delivery
 pub mod DeliveryLaws
 pub mod Delivered
 pub mod Whole
+pub mod CounterText
