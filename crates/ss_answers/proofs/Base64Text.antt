@@ -7,7 +7,7 @@ use Rattle.ss_frame.specs.Ascii.{lf, sp}
 use Rattle.base64.proofs.EngineFacts.{decode_of-encode_of}
 use Rattle.ss_payload.specs.StrictBase64.{base64}
 use Rattle.ss_payload.proofs.Base64Text.{Clear, Clear-base64, no_space}
-use Rattle.ss_answers.specs.Answers.{Lacks}
+use Rattle.ss_answers.specs.Lines.{Lacks}
 
 pub Lacks-space : (octets : List ℕ) → Lacks sp (base64 octets)
 Lacks-space octets = no_space octets

@@ -10,7 +10,8 @@ use Rattle.ss_answers.specs.declared.field.Span.{Span}
 use Rattle.ss_answers.specs.declared.line.Known.{Known}
 use Rattle.ss_frame.specs.Ascii.{sp}
 use Rattle.ss_payload.specs.StrictBase64.{base64}
-use Rattle.ss_answers.specs.Answers.{Trust, Yes, Seal, Lacks, given_signature}
+use Rattle.ss_answers.specs.Answers.{Trust, Yes, Seal, given_signature}
+use Rattle.ss_answers.specs.Lines.{Lacks}
 use Rattle.ss_answers.specs.AnswerKey.{key_of, seal_key, trust_key, yes_key}
 use Rattle.ss_answers.specs.AnswerLine.{AreKnown, Grows, HasField, IsKnown, IsWithin, KeepsField, KeepsLine, KeepsPair, KeepsPayload, KeepsTriple, answer_at, answer_by_fields, answers_at, no_span, part, place_of}
 use Rattle.ss_answers.proofs.Base64Text.{Lacks-space}
@@ -269,3 +270,7 @@ pub within-kept : (old new text : List ℕ) (places : List Place) (place : Place
     → AllByRecursion (IsWithin (length old)) places → AllByRecursion (IsWithin (length new)) (places ++ place ∷ [])
 within-kept old new text places place kept within =
     within-push (length new) places place (within-more (length old) (length new) places (length-Grows old new (length text) kept.grows) within) kept.within
+
+pub length-answers_at : (octets : List ℕ) (places : List Place) → length (answers_at octets places) ≡ length places
+length-answers_at octets [] = refl
+length-answers_at octets (x ∷ places) = omega (arith, length-answers_at octets places)

@@ -1,7 +1,9 @@
 mod AnswerLaws
 mod AnswerLines
 mod Base64Text
+mod Cuts
 mod Decoded
 mod KeptLines
+mod LineLaws
 mod OrderedLines
 mod ReadLines

@@ -1,22 +1,17 @@
 -- What reading a file of answers takes from its reader, and when each fault comes.
-use Rattle.std.specs.Prelude.{◌≡◌, ℕ, ◌+◌, ◌^◌, ◌<◌, ◌≤◌, Bool, true, false, ◌⊎◌, List, [], ◌∷◌, ◌++◌, length, Option, Result, Ok, Err}
-use Rattle.std.specs.Io.KnownBytes.{Consumes, IsAtEnd}
-use Rattle.ss_frame.specs.Ascii.{lf}
+use Rattle.std.specs.Prelude.{ℕ, ◌^◌, ◌<◌, Bool, true, false, List, length, Option, Result, Ok, Err}
 use Rattle.ss_answers.specs.declared.fault.AnswerFault.{AnswerFault}
 use Rattle.ss_answers.specs.declared.fault.AnswerFault.TheVariants.{BadLine, Read, TooBig, Memory}
-use Rattle.ss_answers.specs.Answers.{Answer, HasFirstBadLine, HasLines, SaysTheSame, ended}
+use Rattle.ss_answers.specs.declared.input.InputFault.{InputFault}
+use Rattle.ss_answers.specs.declared.input.InputFault.TheVariants as inputs
+use Rattle.ss_answers.specs.Input.{GivesAll, GivesMore}
+use Rattle.ss_answers.specs.Answers.{Answer, HasFirstBadLine, HasLines, SaysTheSame}
 
--- a reader gave a text and no more, within the limit
-pub record GivesAll (old new : Option (List ℕ)) (max : ℕ) (text : List ℕ) : Type 0 where
-  pub taken : Consumes old new text
-  pub at_end : IsAtEnd new
-  pub within : length text ≤ max
-
--- a reader gave more than the limit, of which one octet more was taken
-pub record GivesMore (old new : Option (List ℕ)) (max : ℕ) : Type 0 where
-  pub text : List ℕ
-  pub taken : Consumes old new text
-  pub beyond : length text ≡ max + 1
+-- a file that wasn't read gives no answers
+abbrev pub answer_fault : InputFault → AnswerFault
+answer_fault inputs.Read = Read
+answer_fault inputs.TooBig = TooBig
+answer_fault inputs.Memory = Memory
 
 -- whether a fault is that of a read
 abbrev pub is_read : AnswerFault → Bool
@@ -29,13 +24,6 @@ is_read Memory = false
 abbrev pub failed_read : {T : Type 0} → Result T AnswerFault → Bool
 failed_read (Ok x) = false
 failed_read (Err fault) = is_read fault
-
--- what a fault says of the reader, where the text wasn't looked at
-abbrev pub IsInputFault : Option (List ℕ) → Option (List ℕ) → ℕ → AnswerFault → Type 0
-IsInputFault old new max (BadLine line) = ⊥
-IsInputFault old new max Read = Unit {0}
-IsInputFault old new max TooBig = GivesMore old new max
-IsInputFault old new max Memory = Unit {0}
 
 -- what a fault says of the text
 abbrev pub IsTextFault : List ℕ → AnswerFault → Type 0
@@ -64,32 +52,6 @@ IsAnswerFault old new max (BadLine line) = IsBadLine old new max line
 IsAnswerFault old new max Read = Unit {0}
 IsAnswerFault old new max TooBig = GivesMore old new max
 IsAnswerFault old new max Memory = Unit {0}
-
--- ---- parts of the reading
-
--- a fault of one read
-abbrev pub IsReadOrMemory : AnswerFault → Type 0
-IsReadOrMemory (BadLine line) = ⊥
-IsReadOrMemory Read = Unit {0}
-IsReadOrMemory TooBig = ⊥
-IsReadOrMemory Memory = Unit {0}
-
--- one read took some octets, at most so many, and none only at the end
-pub record TakesSome (old new : Option (List ℕ)) (before after : List ℕ) (most count : ℕ) : Type 0 where
-  pub octets : List ℕ
-  pub taken : Consumes old new octets
-  pub appended : after ≡ before ++ octets
-  pub counted : length octets ≡ count
-  pub fits : count ≤ most
-  pub none : count ≡ 0 → IsAtEnd new
-
--- a text begins with these lines, and this is left, or its last line had no line feed
-abbrev pub IsReadUpTo : List ℕ → List Answer → List ℕ → Type 0
-IsReadUpTo text lines rest = (text ≡ ended lines ++ rest) ⊎ ((rest ≡ []) × (text ++ lf ∷ [] ≡ ended lines))
-
--- a text is a line and what follows its line feed, or a line without one
-abbrev pub IsCutAfterLine : List ℕ → List ℕ → List ℕ → Type 0
-IsCutAfterLine text line after = (text ≡ line ++ lf ∷ after) ⊎ ((text ≡ line) × (after ≡ []))
 
 -- ---- a file
 

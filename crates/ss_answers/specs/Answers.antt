@@ -1,11 +1,12 @@
 -- Files that hold the answers of a signature checker: what a line says, how it is spelt, which lines a text
 -- has, and what lines say together.
-use Rattle.std.specs.Prelude.{◌≡◌, ℕ, ◌+◌, ◌<◌, ◌==◌, Bool, false, if◌then◌else◌, ◌&&◌, ◌⊎◌, List, [], ◌∷◌, ◌++◌, length, codes, Option, Some, None, option_and_then}
-use Rattle.std.specs.List.{All, AllByRecursion, find, flat_map, list_any}
+use Rattle.std.specs.Prelude.{◌≡◌, ℕ, ◌<◌, Bool, false, ◌&&◌, List, ◌∷◌, ◌++◌, length, codes, Option, Some, None, option_and_then}
+use Rattle.std.specs.List.{find, list_any}
 use Rattle.std.specs.Str.{bytes_eq}
 use Rattle.base64.specs.GeneralPurpose.{IsBytes}
-use Rattle.ss_frame.specs.Ascii.{lf, sp}
+use Rattle.ss_frame.specs.Ascii.{sp}
 use Rattle.ss_payload.specs.StrictBase64.{base64}
+use Rattle.ss_answers.specs.Lines.{AreLines, IsFirstBad, SpellsNone}
 
 -- what a line says: a payload is trusted; under a payload, octets have this valid signature; octets are to be
 -- given this signature
@@ -31,23 +32,16 @@ HasFields (Trust payload) = IsField payload
 HasFields (Yes payload octets signature) = IsField payload × IsField octets × IsField signature
 HasFields (Seal octets signature) = IsField octets × IsField signature
 
--- lines, each ended by a line feed
-abbrev pub ended : List Answer → List ℕ
-ended lines = flat_map (λ line. line_text line ++ lf ∷ []) lines
+-- a text has these lines; its first line that is none has this number
+abbrev pub HasLines : List ℕ → List Answer → Type 0
+HasLines text lines = AreLines HasFields line_text text lines
 
--- a text has these lines: it spells each of them, ended by a line feed that may be missing at the last
-pub record HasLines (text : List ℕ) (lines : List Answer) : Type 0 where
-  pub fields : AllByRecursion HasFields lines
-  pub spelt : (text ≡ ended lines) ⊎ (text ++ lf ∷ [] ≡ ended lines)
+abbrev pub HasFirstBadLine : List ℕ → ℕ → Type 0
+HasFirstBadLine text number = IsFirstBad HasFields line_text text number
 
--- the first line of a text, up to its line feed or to the end
-abbrev pub first_line : List ℕ → List ℕ
-first_line [] = []
-first_line (octet ∷ text) = if octet == lf then [] else octet ∷ first_line text
-
--- the octet stands nowhere in the text
-abbrev pub Lacks : ℕ → List ℕ → Type 0
-Lacks octet text = All (λ x. (x == octet) ≡ false) text
+-- a text is the spelling of no line
+abbrev pub IsNoLine : List ℕ → Type 0
+IsNoLine text = SpellsNone HasFields line_text text
 
 -- a text is no field; two fields with a space between them, and no such two; three, and no such three
 abbrev pub IsNoField : List ℕ → Type 0
@@ -65,21 +59,6 @@ IsTriple text first second third = IsField first × IsField second × IsField th
 
 abbrev pub IsNoTriple : List ℕ → Type 0
 IsNoTriple text = (first second third : List ℕ) → IsTriple text first second third → ⊥
-
--- a text is the spelling of no line
-abbrev pub IsNoLine : List ℕ → Type 0
-IsNoLine text = (line : Answer) → HasFields line → text ≡ line_text line → ⊥
-
--- the line of this number is the first bad one: good lines stand before it, and what follows them begins with
--- a line that is none
-pub record HasFirstBadLine (text : List ℕ) (number : ℕ) : Type 0 where
-  pub lines : List Answer
-  pub rest : List ℕ
-  pub fields : AllByRecursion HasFields lines
-  pub before : text ≡ ended lines ++ rest
-  pub some : 0 < length rest
-  pub place : number ≡ length lines + 1
-  pub bad : IsNoLine (first_line rest)
 
 -- ---- laws
 

@@ -1,3 +1,5 @@
+pub mod Lines
+pub mod Input
 pub mod Answers
 pub mod AnswerLine
 pub mod AnswerKey

@@ -1,4 +1,5 @@
 //! Why answers weren't read.
+use crate::input::InputFault;
 use thiserror::Error;
 
 /// Why a file of answers wasn't taken.
@@ -19,4 +20,19 @@ pub enum AnswerFault {
     /// A4: want of memory.
     #[error("A4")]
     Memory,
+}
+
+impl From<InputFault> for AnswerFault {
+    ghost use Rattle.std.specs.Prelude.{◌≡◌};
+    ghost use Rattle.ss_answers.specs.AnswerInput.{answer_fault};
+
+    ghost from_gives = { λ f e. e ≡ answer_fault f };
+
+    fn from(fault: InputFault) -> AnswerFault {
+        match fault {
+            InputFault::Read => AnswerFault::Read,
+            InputFault::TooBig => AnswerFault::TooBig,
+            InputFault::Memory => AnswerFault::Memory,
+        }
+    }
 }

@@ -1,15 +1,25 @@
-//! Reading all of a file of answers before a line of it is looked at.
+//! Reading all of a file before a line of it is looked at.
 ghost use Rattle.std.specs.Prelude.{◌≡◌, ◌<◌, ◌≤◌, ◌||◌, false, IfOk, IfErr, length, vec_len};
 ghost use Rattle.ss_frame.specs.Watched.{has_failed, inner_of};
-ghost use Rattle.ss_answers.specs.AnswerInput.{GivesAll, IsInputFault, IsReadOrMemory, TakesSome, failed_read};
+ghost use Rattle.ss_answers.specs.Input.{GivesAll, IsInputFault, IsReadOrMemory, TakesSome, failed_input};
 
-use crate::fault::AnswerFault;
 use ss_frame::Watched;
 use std::alloc::{AllocError, Global};
 use std::io::Read;
 
 /// The most octets that one read asks for.
 const CHUNK: usize = 65_536;
+
+/// Why not all of a file was read.
+#[derive(Clone, Copy, Debug)]
+pub enum InputFault {
+    /// A read failed.
+    Read,
+    /// There are more octets than were allowed.
+    TooBig,
+    /// Memory ran out.
+    Memory,
+}
 
 /// Reads all that a reader gives, which is at most `max` octets. It takes at most one octet more.
 ///
@@ -20,16 +30,16 @@ pub fn read_all<R: Read>(
     alloc: Global,
     reader: &mut Watched<R>,
     max: u32,
-) -> Result<Vec<u8>, AnswerFault>
+) -> Result<Vec<u8>, InputFault>
     requires { has_failed reader.old ≡ false }
     ensures ok { IfOk result (λ text. GivesAll (R.remaining (inner_of reader.old)) (R.remaining (inner_of reader.new)) max text.items) }
     ensures err { IfErr result (λ fault. IsInputFault (R.remaining (inner_of reader.old)) (R.remaining (inner_of reader.new)) max fault) }
-    ensures failed { has_failed reader.new ≡ failed_read result }
+    ensures failed { has_failed reader.new ≡ failed_input result }
 {
     let limit = max as usize;
     let mut text = Vec::new(alloc);
     let Ok(mut chunk) = zeros(alloc, CHUNK) else {
-        return Err(AnswerFault::Memory);
+        return Err(InputFault::Memory);
     };
     loop {
         let most = (limit - text.len() + 1).min(CHUNK);
@@ -38,7 +48,7 @@ pub fn read_all<R: Read>(
             return Ok(text);
         }
         if text.len() > limit {
-            return Err(AnswerFault::TooBig);
+            return Err(InputFault::TooBig);
         }
     }
 }
@@ -55,17 +65,17 @@ fn read_some<R: Read>(
     reader: &mut Watched<R>,
     chunk: &mut [u8],
     text: &mut Vec<u8>,
-) -> Result<usize, AnswerFault>
+) -> Result<usize, InputFault>
     requires { 0 < length chunk.old }
     ensures ok { IfOk result (λ count. TakesSome (R.remaining (inner_of reader.old)) (R.remaining (inner_of reader.new)) text.old.items text.new.items (length chunk.old) count) }
     ensures err { IfErr result (λ fault. IsReadOrMemory fault) }
-    ensures failed { has_failed reader.new ≡ (has_failed reader.old || failed_read result) }
+    ensures failed { has_failed reader.new ≡ (has_failed reader.old || failed_input result) }
 {
     let Ok(count) = reader.read(chunk) else {
-        return Err(AnswerFault::Read);
+        return Err(InputFault::Read);
     };
     match text.extend_from_slice(&chunk[..count]) {
         Ok(()) => Ok(count),
-        Err(_) => Err(AnswerFault::Memory),
+        Err(_) => Err(InputFault::Memory),
     }
 }

@@ -1,6 +1,7 @@
 //! Files that hold the answers of a signature checker, and the signatures of a signer: they are read, and asked.
 #![tactic(auto)]
 
+mod cut;
 mod fault;
 mod field;
 mod file;

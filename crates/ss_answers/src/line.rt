@@ -2,9 +2,10 @@
 ghost use Rattle.std.specs.Prelude.{◌≡◌, ◌++◌, ◌∷◌, ◌+◌, ◌<◌, ◌^◌, List, ℕ, length, codes, IfOk, IfErr, OnOk, MatchOption};
 ghost use Rattle.std.specs.BTreeMap.{values};
 ghost use Rattle.ss_frame.specs.Ascii.{sp};
-ghost use Rattle.ss_answers.specs.Answers.{IsNoField, IsNoPair, IsNoTriple, IsNoLine, Lacks};
+ghost use Rattle.ss_answers.specs.Answers.{IsNoField, IsNoPair, IsNoTriple, IsNoLine};
 ghost use Rattle.ss_answers.specs.AnswerLine.{AreKnown, IfBad, IsKnown, KeepsLine, KeepsPair, KeepsPayload, KeepsTriple};
 
+use crate::cut::cut_word;
 use crate::field::{self, LineFault, Span};
 use crate::place::Place;
 use std::collections::BTreeMap;
@@ -17,8 +18,6 @@ pub struct Known<'a> {
     /// Where its octets stand.
     pub span: Span,
 }
-
-const SPACE: u8 = b' ';
 
 /// Keeps a line, which is given without its line feed: its fields are decoded behind the octets of the lines before it.
 /// The payload of the line before isn't decoded again; that of this line is told with its place.
@@ -96,7 +95,7 @@ fn triple<'a>(
         let (bytes, signature) = pair(octets, rest)?;
         return Ok((known, bytes, signature));
     }
-    let Some((first, rest)) = cut(text) else {
+    let Some((first, rest)) = cut_word(text) else {
         return Err(LineFault::Bad);
     };
     let payload = among(octets, first, payloads)?;
@@ -135,21 +134,12 @@ fn pair(octets: &mut Vec<u8>, text: &[u8]) -> Result<(Span, Span), LineFault>
     ensures ok { IfOk result (λ p. KeepsPair octets.old.items octets.new.items text.now p.0 p.1) }
     ensures bad { IfErr result (λ fault. IfBad fault (IsNoPair text.now)) }
 {
-    let Some((first, second)) = cut(text) else {
+    let Some((first, second)) = cut_word(text) else {
         return Err(LineFault::Bad);
     };
     let bytes = field::keep(octets, first)?;
     let signature = field::keep(octets, second)?;
     Ok((bytes, signature))
-}
-
-/// What stands before the first space, and what stands after it.
-fn cut(text: &[u8]) -> Option<(&[u8], &[u8])>
-    ensures { MatchOption result (Lacks sp text.now)
-        (λ parts. Lacks sp parts.0.now × (text.now ≡ parts.0.now ++ sp ∷ parts.1.now)) }
-{
-    let at = text.iter().position(|octet| *octet == SPACE)?;
-    Some((&text[..at], &text[at + 1..]))
 }
 
 /// What stands after a beginning and a space, where the text begins so.

@@ -1,9 +1,9 @@
 //! The lines of a file of answers.
 ghost use Rattle.std.specs.Prelude.{◌<◌, ◌^◌, length, IfOk, IfErr};
-ghost use Rattle.ss_frame.specs.Ascii.{lf};
-ghost use Rattle.ss_answers.specs.Answers.{HasLines, Lacks};
-ghost use Rattle.ss_answers.specs.AnswerInput.{IsCutAfterLine, IsTextFault};
+ghost use Rattle.ss_answers.specs.Answers.{HasLines};
+ghost use Rattle.ss_answers.specs.AnswerInput.{IsTextFault};
 
+use crate::cut::cut_line;
 use crate::fault::AnswerFault;
 use crate::field::LineFault;
 use crate::line;
@@ -19,8 +19,6 @@ pub struct Lines {
     /// For each line, where its fields stand.
     pub places: Vec<Place>,
 }
-
-const LINE_FEED: u8 = b'\n';
 
 ghost use Rattle.ss_answers.specs.AnswerLine.{answers_of};
 
@@ -60,16 +58,4 @@ pub fn read_lines(alloc: Global, text: &[u8]) -> Result<Lines, AnswerFault>
         rest = after;
     }
     Ok(lines)
-}
-
-/// The first line of a text, and what stands after its line feed.
-fn cut_line(text: &[u8]) -> (&[u8], &[u8])
-    ensures lacks { Lacks lf result.0.now }
-    ensures cut { IsCutAfterLine text.now result.0.now result.1.now }
-    ensures shorter { 0 < length text.now → length result.1.now < length text.now }
-{
-    match text.iter().position(|octet| *octet == LINE_FEED) {
-        Some(at) => (&text[..at], &text[at + 1..]),
-        None => (text, &[]),
-    }
 }

@@ -3,7 +3,8 @@ use Rattle.std.proofs.lemmas.Result.{err_from_is_err_and}
 use Rattle.ss_frame.specs.Ascii.{sp}
 use Rattle.ss_payload.specs.StrictBase64.{base64}
 use Rattle.ss_answers.specs.AnswerLine.{HasField}
-use Rattle.ss_answers.proofs.AnswerLines.{IfBad-weaker, IsNoTriple-from_first, IsNoTriple-from_rest, nowhere}
+use Rattle.ss_answers.proofs.AnswerLines.{IfBad-weaker, IsNoTriple-from_first, IsNoTriple-from_rest}
+use Rattle.ss_answers.proofs.Cuts.{nowhere}
 use Rattle.ss_answers.proofs.KeptLines.{AreKnown-grows, KeepsTriple-payload, KeepsTriple-known, Lacks-known}
 use Rattle.ss_answers.proofs.line.triple.Goals as goal
 
@@ -24,16 +25,16 @@ returns-clause-ok c =
 pub returns-in_err-payload-clause-bad : goal.returns-in_err-payload-clause-bad
 returns-in_err-payload-clause-bad c =
     let p = err_from_is_err_and c.from_residual-in_err-payload.result c.from_residual-in_err-payload.ensures.1 in
-    rw (p.1, p.2) (IfBad-weaker _ _ _ (IsNoTriple-from_first _ _ _ c.in-Some-cut.ensures.0 c.in-Some-cut.ensures.1) c.in_err-payload.ensures.bad)
+    rw (p.1, p.2) (IfBad-weaker _ _ _ (IsNoTriple-from_first _ _ _ c.in-Some-cut_word.ensures.0 c.in-Some-cut_word.ensures.1) c.in_err-payload.ensures.bad)
 
 pub returns-in_err-bytes-2-clause-bad : goal.returns-in_err-bytes-2-clause-bad
 returns-in_err-bytes-2-clause-bad c =
     let p = err_from_is_err_and c.from_residual-in_err-bytes-2.result c.from_residual-in_err-bytes-2.ensures.1 in
-    rw (p.1, p.2) (IfBad-weaker _ _ _ (IsNoTriple-from_rest _ _ _ c.in-Some-cut.ensures.0 c.in-Some-cut.ensures.1) c.in_err-bytes-2.ensures.bad)
+    rw (p.1, p.2) (IfBad-weaker _ _ _ (IsNoTriple-from_rest _ _ _ c.in-Some-cut_word.ensures.0 c.in-Some-cut_word.ensures.1) c.in_err-bytes-2.ensures.bad)
 
 pub returns-2-clause-ok : goal.returns-2-clause-ok
 returns-2-clause-ok c =
-    KeepsTriple-payload _ _ _ _ _ _ _ _ _ c.in-Some-cut.ensures.1 c.in_ok-payload.ensures.ok c.in_ok-bytes-2.ensures.ok
+    KeepsTriple-payload _ _ _ _ _ _ _ _ _ c.in-Some-cut_word.ensures.1 c.in_ok-payload.ensures.ok c.in_ok-bytes-2.ensures.ok
 
 pub returns-clause-payloads : goal.returns-clause-payloads
 returns-clause-payloads c = AreKnown-grows _ _ _ _ c.in_ok-bytes.ensures.ok.grows c.requires.payloads

@@ -1,9 +1,9 @@
 use Rattle.std.proofs.Common.{◌≡◌, ◌<◌, [], ◌∷◌, ◌++◌, length, length-append, arith, rules, ap, ◌∙◌}
 use Rattle.std.proofs.lemmas.Bool.Decides.{nat_tests}
-use Rattle.ss_answers.specs.Answers.{IsNoLine}
+use Rattle.ss_answers.specs.Answers.{HasFields, IsNoLine, line_text}
 use Rattle.ss_answers.specs.AnswerLine.{KeepsLine, answers_at, answers_of}
-use Rattle.ss_answers.proofs.KeptLines.{answers-push, length-Grows-most, within-kept}
-use Rattle.ss_answers.proofs.ReadLines.{IsReadUpTo-more, cut_sizes, fields-push, first_line-cut, length-answers_at, reached_some}
+use Rattle.ss_answers.proofs.KeptLines.{answers-push, length-Grows-most, length-answers_at, within-kept}
+use Rattle.ss_answers.proofs.ReadLines.{IsUpTo-more, cut_sizes, first_line-cut, good-push, reached_some}
 use Rattle.ss_answers.proofs.lines.read_lines.Goals as goal
 
 pub loop-last-preserved : goal.loop-last-preserved
@@ -13,13 +13,13 @@ loop-last-preserved c =
     let answers : answers_at c.keep.new.octets.items c.push.new.self.items ≡ answers_of c.loop-last.lines ++ kept.line ∷ [] =
     ap (answers_at c.keep.new.octets.items) pushed ∙ answers-push _ _ _ _ _ kept c.loop-last.invariant.within in
     let some : 0 < length c.loop-last.rest.now = grind (arith, nat_tests) in
-    let before = reached_some _ _ _ c.loop-last.invariant.reached some in
+    let before = reached_some line_text _ _ _ c.loop-last.invariant.reached some in
     let shorter = c.cut_line.ensures.shorter some in
     let sizes = cut_sizes _ _ _ c.cut_line.ensures.cut in
     let most = length-Grows-most _ _ _ kept.grows in
     record {
-      fields = rw answers (fields-push _ _ c.loop-last.invariant.fields kept.fields);
-      reached = rw answers (IsReadUpTo-more _ _ _ _ _ _ before c.cut_line.ensures.cut kept.spelt);
+      fields = rw answers (good-push HasFields _ _ c.loop-last.invariant.fields kept.fields);
+      reached = rw answers (IsUpTo-more line_text _ _ _ _ _ _ before c.cut_line.ensures.cut kept.spelt);
       within = rw pushed (within-kept _ _ _ _ _ kept c.loop-last.invariant.within);
       counted = omega (arith, shorter, ap length pushed, length-append c.loop-last.lines.places.items (c.in-Ok.place ∷ []), c.loop-last.invariant.counted);
       known = c.in-Ok.ensures.known;
@@ -35,7 +35,7 @@ returns-in-Err-Bad-clause-err c =
       lines = answers_of c.loop-last.lines;
       rest = c.loop-last.rest.now;
       fields = c.loop-last.invariant.fields;
-      before = reached_some _ _ _ c.loop-last.invariant.reached some;
+      before = reached_some line_text _ _ _ c.loop-last.invariant.reached some;
       some = some;
       place = omega (arith, length-answers_at c.loop-last.lines.octets.items c.loop-last.lines.places.items);
       bad = rw (first_line-cut _ _ _ c.cut_line.ensures.lacks c.cut_line.ensures.cut) none;

@@ -1,0 +1,49 @@
+-- Texts of lines, each ended by LF: told for lines of any kind, by which of them are good and how each is spelt.
+use Rattle.std.specs.Prelude.{◌≡◌, ℕ, ◌+◌, ◌<◌, ◌==◌, false, if◌then◌else◌, ◌⊎◌, List, [], ◌∷◌, ◌++◌, length, flat_map}
+use Rattle.std.specs.List.{All, AllByRecursion}
+use Rattle.ss_frame.specs.Ascii.{lf}
+
+-- the octet stands nowhere in the text
+abbrev pub Lacks : ℕ → List ℕ → Type 0
+Lacks octet text = All (λ x. (x == octet) ≡ false) text
+
+-- lines, each ended by a line feed
+abbrev pub ended : {A : Type 0} → (A → List ℕ) → List A → List ℕ
+ended spell lines = flat_map (λ line. spell line ++ lf ∷ []) lines
+
+-- a text has these lines: it spells each of them, ended by a line feed that may be missing at the last
+pub record AreLines {A : Type 0} (good : A → Type 0) (spell : A → List ℕ) (text : List ℕ) (lines : List A)
+    : Type 0 where
+  pub fields : AllByRecursion good lines
+  pub spelt : (text ≡ ended spell lines) ⊎ (text ++ lf ∷ [] ≡ ended spell lines)
+
+-- the first line of a text, up to its line feed or to the end
+abbrev pub first_line : List ℕ → List ℕ
+first_line [] = []
+first_line (octet ∷ text) = if octet == lf then [] else octet ∷ first_line text
+
+-- a text is the spelling of no good line
+abbrev pub SpellsNone : {A : Type 0} → (A → Type 0) → (A → List ℕ) → List ℕ → Type 0
+SpellsNone {A} good spell text = (line : A) → good line → text ≡ spell line → ⊥
+
+-- the line of this number is the first bad one: good lines stand before it, and what follows them begins with
+-- a line that is none
+pub record IsFirstBad {A : Type 0} (good : A → Type 0) (spell : A → List ℕ) (text : List ℕ) (number : ℕ) : Type 0 where
+  pub lines : List A
+  pub rest : List ℕ
+  pub fields : AllByRecursion good lines
+  pub before : text ≡ ended spell lines ++ rest
+  pub some : 0 < length rest
+  pub place : number ≡ length lines + 1
+  pub bad : SpellsNone good spell (first_line rest)
+
+-- ---- parts of the reading
+
+-- a text begins with these lines, and this is left, or its last line had no line feed
+abbrev pub IsUpTo : {A : Type 0} → (A → List ℕ) → List ℕ → List A → List ℕ → Type 0
+IsUpTo spell text lines rest =
+    (text ≡ ended spell lines ++ rest) ⊎ ((rest ≡ []) × (text ++ lf ∷ [] ≡ ended spell lines))
+
+-- a text is a line and what follows its line feed, or a line without one
+abbrev pub IsCutAfterLine : List ℕ → List ℕ → List ℕ → Type 0
+IsCutAfterLine text line after = (text ≡ line ++ lf ∷ after) ⊎ ((text ≡ line) × (after ≡ []))

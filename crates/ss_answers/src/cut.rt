@@ -1,0 +1,29 @@
+//! Cutting a text at its first line feed, and a line at its first space.
+ghost use Rattle.std.specs.Prelude.{◌≡◌, ◌++◌, ◌∷◌, ◌<◌, length, MatchOption};
+ghost use Rattle.ss_frame.specs.Ascii.{lf, sp};
+ghost use Rattle.ss_answers.specs.Lines.{IsCutAfterLine, Lacks};
+
+const LINE_FEED: u8 = b'\n';
+
+const SPACE: u8 = b' ';
+
+/// The first line of a text, and what stands after its line feed.
+pub fn cut_line(text: &[u8]) -> (&[u8], &[u8])
+    ensures lacks { Lacks lf result.0.now }
+    ensures cut { IsCutAfterLine text.now result.0.now result.1.now }
+    ensures shorter { 0 < length text.now → length result.1.now < length text.now }
+{
+    match text.iter().position(|octet| *octet == LINE_FEED) {
+        Some(at) => (&text[..at], &text[at + 1..]),
+        None => (text, &[]),
+    }
+}
+
+/// What stands before the first space, and what stands after it.
+pub fn cut_word(text: &[u8]) -> Option<(&[u8], &[u8])>
+    ensures { MatchOption result (Lacks sp text.now)
+        (λ parts. Lacks sp parts.0.now × (text.now ≡ parts.0.now ++ sp ∷ parts.1.now)) }
+{
+    let at = text.iter().position(|octet| *octet == SPACE)?;
+    Some((&text[..at], &text[at + 1..]))
+}
