@@ -1,6 +1,8 @@
 mod AnswerLaws
 mod AnswerLines
 mod Base64Text
+mod CounterLaws
+mod CounterWords
 mod Cuts
 mod Decoded
 mod KeptLines

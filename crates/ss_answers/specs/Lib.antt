@@ -5,3 +5,5 @@ pub mod AnswerLine
 pub mod AnswerKey
 pub mod AnswerInput
 pub mod Seals
+pub mod CounterLine
+pub mod CounterInput

@@ -1,5 +1,6 @@
-//! What holds of every text of answers.
+//! What holds of every text of answers, and of every text of counters.
 ghost use Rattle.ss_answers.specs.Answers.{BadLineIsDetermined, LinesAreDetermined, NoTextIsGoodAndBad};
+ghost use Rattle.ss_answers.specs.CounterLine.{BadCounterIsDetermined, CountersAreDetermined, NoCountersAreGoodAndBad};
 
 /// A text of answers has no bad line, so that a fault of a line comes only where there are no answers.
 pub fn no_text_is_good_and_bad()
@@ -14,4 +15,19 @@ pub fn lines_are_determined()
 /// A text has at most one first bad line.
 pub fn bad_line_is_determined()
     ensures { BadLineIsDetermined }
+{}
+
+/// A text of counters has no bad line, so that a fault of a line comes only where there are no counters.
+pub fn no_counters_are_good_and_bad()
+    ensures { NoCountersAreGoodAndBad }
+{}
+
+/// A text has its counters in one way, so that they are determined.
+pub fn counters_are_determined()
+    ensures { CountersAreDetermined }
+{}
+
+/// A text has at most one first line that is no counter.
+pub fn bad_counter_is_determined()
+    ensures { BadCounterIsDetermined }
 {}

@@ -1,6 +1,8 @@
-//! Files that hold the answers of a signature checker, and the signatures of a signer: they are read, and asked.
+//! Files that hold the answers of a signature checker and the signatures of a signer, which are read and asked, and
+//! files that hold counters.
 #![tactic(auto)]
 
+mod counters;
 mod cut;
 mod fault;
 mod field;
@@ -14,6 +16,8 @@ mod place;
 mod seals;
 mod table;
 
+pub use counters::fault::CounterFault;
+pub use counters::file::{open_counters, read_counters};
 pub use fault::AnswerFault;
 pub use file::{open_answers, read_answers};
 pub use seals::GivenSeals;

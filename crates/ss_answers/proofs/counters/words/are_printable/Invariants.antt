@@ -1,0 +1,7 @@
+use Rattle.std.proofs.Common.{◌≡◌, drop}
+use Rattle.std.specs.List.{list_all}
+use Rattle.ss_message.specs.Octets.{is_printable}
+use Rattle.ss_answers.proofs.counters.words.are_printable.Given as goal
+
+abbrev pub invariant-loop-octet : goal.invariant-loop-octet
+invariant-loop-octet l = list_all is_printable l.octets ≡ list_all is_printable (drop l.octet-index l.octets)

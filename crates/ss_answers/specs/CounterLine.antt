@@ -1,0 +1,134 @@
+-- Files of counters: which counters have a line, how a text spells them, and what a line is cut into as it is read.
+use Rattle.std.specs.Prelude.{◌≡◌, ℕ, ◌≤◌, true, List, ◌∷◌, ◌++◌, decimal}
+use Rattle.ss_frame.specs.Ascii.{sp}
+use Rattle.ss_message.specs.declared.draft.Field.{Field}
+use Rattle.ss_message.specs.Draft.{drafted_field}
+use Rattle.ss_message.specs.Layout.{field_of}
+use Rattle.ss_message.specs.Message.{is_field}
+use Rattle.ss_message.specs.Octets.{is_text}
+use Rattle.ss_block.specs.declared.block.Group.{Group}
+use Rattle.ss_block.specs.declared.session.Session.{Session}
+use Rattle.ss_block.specs.Block.{IsGroup}
+use Rattle.ss_block.specs.Ranges.{last_number, past_last_number}
+use Rattle.ss_block.specs.Session.{field_from}
+use Rattle.ss_review.specs.declared.counted.counter.Counter.{Counter}
+use Rattle.ss_review.specs.declared.counted.counter.Counts.{Counts}
+use Rattle.ss_review.specs.declared.counted.counter.Counts.TheVariants.{Blocks, Messages}
+use Rattle.ss_review.specs.CounterText.{counter_line, field_word}
+use Rattle.ss_answers.specs.declared.counters.words.CounterWords.{CounterWords}
+use Rattle.ss_answers.specs.declared.counters.words.SessionWords.{SessionWords}
+use Rattle.ss_answers.specs.Lines.{AreLines, IsFirstBad, SpellsNone}
+
+-- a header field: absent, or so many octets of printable US-ASCII that aren't `-` (RFC 5424, section 6)
+abbrev pub IsName : (limit : ℕ) → Field → Type 0
+IsName limit f = is_field limit (drafted_field f) ≡ true
+
+-- HOSTNAME, APP-NAME and PROCID (RFC 5424, section 6.2), and RSID of at most ten digits (RFC 5848, section 4.2.2)
+pub record IsSession (s : Session) : Type 0 where
+  pub host : IsName 255 s.host
+  pub app : IsName 48 s.app
+  pub procid : IsName 128 s.procid
+  pub rsid : s.rsid ≤ last_number
+
+-- the GBC or the number of what comes next, which may be the one behind the last
+abbrev pub IsNext : Counts → ℕ → Type 0
+IsNext Blocks next = next ≤ past_last_number
+IsNext (Messages g) next = IsGroup g × (1 ≤ next) × (next ≤ past_last_number)
+
+pub record IsCounter (c : Counter) : Type 0 where
+  pub session : IsSession c.session
+  pub next : IsNext c.counts c.next
+
+-- a text has these counters; its first line that is none has this number
+abbrev pub HasCounters : List ℕ → List Counter → Type 0
+HasCounters text counters = AreLines IsCounter counter_line text counters
+
+abbrev pub HasFirstBadCounter : List ℕ → ℕ → Type 0
+HasFirstBadCounter text number = IsFirstBad IsCounter counter_line text number
+
+-- a text is the spelling of no counter
+abbrev pub IsNoCounter : List ℕ → Type 0
+IsNoCounter text = SpellsNone IsCounter counter_line text
+
+-- ---- laws
+
+-- no text has counters and a first bad line
+abbrev pub NoCountersAreGoodAndBad : Type 0
+NoCountersAreGoodAndBad = (text : List ℕ) (counters : List Counter) (number : ℕ)
+    → HasCounters text counters → HasFirstBadCounter text number → ⊥
+
+-- a text has its counters in one way
+abbrev pub CountersAreDetermined : Type 0
+CountersAreDetermined = (text : List ℕ) (counters others : List Counter)
+    → HasCounters text counters → HasCounters text others → counters ≡ others
+
+-- a text has one first line that is no counter
+abbrev pub BadCounterIsDetermined : Type 0
+BadCounterIsDetermined = (text : List ℕ) (m n : ℕ) → HasFirstBadCounter text m → HasFirstBadCounter text n → m ≡ n
+
+-- ---- parts of the reading
+
+-- what stands behind `count `: a session and the rest behind it, and then what is counted
+abbrev pub session_text : Session → List ℕ → List ℕ
+session_text s rest =
+    field_word s.host ++ sp ∷ (field_word s.app ++ sp ∷ (field_word s.procid ++ sp ∷ (decimal s.rsid ++ sp ∷ rest)))
+
+abbrev pub next_text : Counts → ℕ → List ℕ
+next_text Blocks next = decimal next
+next_text (Messages g) next = decimal g.sg ++ sp ∷ (decimal g.spri ++ sp ∷ decimal next)
+
+-- a text begins with a word of so many octets of printable US-ASCII, as fields are spelt, and with no such word
+pub record BeginsWithWord (limit : ℕ) (text word rest : List ℕ) : Type 0 where
+  pub printable : is_text limit word ≡ true
+  pub spelt : text ≡ word ++ sp ∷ rest
+
+abbrev pub BeginsWithNoWord : (limit : ℕ) → List ℕ → Type 0
+BeginsWithNoWord limit text = (word rest : List ℕ) → BeginsWithWord limit text word rest → ⊥
+
+-- a text begins with the spelling of a number, and with that of none
+pub record BeginsWithNumber (least most : ℕ) (text : List ℕ) (number : ℕ) (rest : List ℕ) : Type 0 where
+  pub low : least ≤ number
+  pub high : number ≤ most
+  pub spelt : text ≡ decimal number ++ sp ∷ rest
+
+abbrev pub BeginsWithNoNumber : (least most : ℕ) → List ℕ → Type 0
+BeginsWithNoNumber least most text = (number : ℕ) (rest : List ℕ) → BeginsWithNumber least most text number rest → ⊥
+
+-- a text begins with the spelling of a session, and with that of none
+pub record BeginsWithSession (text : List ℕ) (s : Session) (rest : List ℕ) : Type 0 where
+  pub session : IsSession s
+  pub spelt : text ≡ session_text s rest
+
+abbrev pub BeginsWithNoSession : List ℕ → Type 0
+BeginsWithNoSession text = (s : Session) (rest : List ℕ) → BeginsWithSession text s rest → ⊥
+
+-- a text says what is counted, and it doesn't
+pub record SpellsNext (text : List ℕ) (counts : Counts) (next : ℕ) : Type 0 where
+  pub in_range : IsNext counts next
+  pub spelt : text ≡ next_text counts next
+
+abbrev pub SpellsNoNext : List ℕ → Type 0
+SpellsNoNext text = (counts : Counts) (next : ℕ) → SpellsNext text counts next → ⊥
+
+abbrev pub SpellsNoGroup : List ℕ → Type 0
+SpellsNoGroup text = (g : Group) (next : ℕ) → SpellsNext text (Messages g) next → ⊥
+
+-- a text is the line of a counter
+pub record SpellsCounter (text : List ℕ) (c : Counter) : Type 0 where
+  pub counter : IsCounter c
+  pub spelt : text ≡ counter_line c
+
+-- the field, the session and the counter of words
+abbrev pub field_by : List ℕ → Field
+field_by octets = field_from (field_of octets)
+
+abbrev pub session_by : SessionWords → Session
+session_by w = record {
+  host = field_by w.host.now;
+  app = field_by w.app.now;
+  procid = field_by w.procid.now;
+  rsid = w.rsid;
+}
+
+abbrev pub counter_by : CounterWords → Counter
+counter_by w = record { session = session_by w.session; counts = w.counts; next = w.next }

@@ -1,0 +1,66 @@
+//! Reading a file of counters.
+ghost use Rattle.std.specs.Prelude.{◌≡◌, false, IfOk, IfErr};
+ghost use Rattle.ss_frame.specs.Watched.{has_failed, inner_of};
+ghost use Rattle.ss_answers.specs.CounterInput.{AreCounters, AreCountersOfFile, IsCounterFault};
+ghost use Rattle.ss_answers.specs.CounterInput.{IsCountersFileFault, read_failed};
+
+use crate::counters::fault::CounterFault;
+use crate::counters::lines::read_counter_lines;
+use crate::input::read_all;
+use ss_frame::{List, Watched};
+use ss_review::Counters;
+use std::alloc::Global;
+use std::fs;
+use std::io::Read;
+use std::rt::Files;
+
+/// The counters that a reader gives, in at most `max` octets, in their order. All is read before a line is looked at,
+/// at most one octet more than `max`, and the reader is one that hasn't failed yet.
+///
+/// # Errors
+///
+/// `Read` exactly where a read failed in the call, an interrupted one too; `TooBig` where there are more than
+/// `max` octets; else `BadLine` with the number, from 1, of the first line that is no counter; `Memory`.
+pub fn read_counters<R: Read>(
+    alloc: Global,
+    reader: &mut Watched<R>,
+    max: u32,
+) -> Result<Counters, CounterFault>
+    requires { has_failed reader.old ≡ false }
+    ensures ok { IfOk result (λ counters. AreCounters (R.remaining (inner_of reader.old))
+        (R.remaining (inner_of reader.new)) max counters) }
+    ensures err { IfErr result (λ fault. IsCounterFault (R.remaining (inner_of reader.old))
+        (R.remaining (inner_of reader.new)) max fault) }
+    ensures failed { has_failed reader.new ≡ read_failed result }
+{
+    let text = read_all(alloc, reader, max)?;
+    let counters = read_counter_lines(alloc, &text)?;
+    Ok(List::from_vec(counters))
+}
+
+/// The counters of a file, of at most 4,294,967,295 octets, in their order.
+///
+/// # Errors
+///
+/// `Read` where the file can't be opened, is a folder or can't be read; the others as `read_counters`.
+pub fn open_counters<R: Files + AllocGlobal>(rt: &R, path: &str) -> Result<Counters, CounterFault>
+    ensures ok { IfOk result AreCountersOfFile }
+    ensures err { IfErr result IsCountersFileFault }
+{
+    let Ok(file) = fs::open(rt, path) else {
+        return Err(CounterFault::Read);
+    };
+    let mut reader = Watched::new(file);
+    read_file(rt.alloc(), &mut reader)
+}
+
+/// The counters that a file gives.
+fn read_file<R: Read>(alloc: Global, reader: &mut Watched<R>) -> Result<Counters, CounterFault>
+    requires { has_failed reader.old ≡ false }
+    ensures ok { IfOk result (λ counters. AreCounters (R.remaining (inner_of reader.old))
+        (R.remaining (inner_of reader.new)) 4294967295 counters) }
+    ensures err { IfErr result (λ fault. IsCounterFault (R.remaining (inner_of reader.old))
+        (R.remaining (inner_of reader.new)) 4294967295 fault) }
+{
+    read_counters(alloc, reader, u32::MAX)
+}
