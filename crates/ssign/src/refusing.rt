@@ -32,6 +32,8 @@ pub enum Remark<'a> {
     Nothing,
     /// This answers file.
     AnswersFile(&'a str),
+    /// This counters file.
+    CountersFile(&'a str),
     /// This option, and its text.
     Text(TextOption, &'a str),
     /// The log, of which this most likely is the cause.
@@ -43,6 +45,7 @@ impl Display for Remark<'_> {
         match self {
             Remark::Nothing => Ok(()),
             Remark::AnswersFile(file) => writeln!(f, "The answers file is --answers {file:?}."),
+            Remark::CountersFile(file) => writeln!(f, "The counters file is --counters {file:?}."),
             Remark::Text(option, text) => {
                 writeln!(f, "The option is --{} {text:?}.", option.name())?;
                 if *option == TextOption::Payload && !text.contains(' ') {

@@ -2,7 +2,7 @@
 use super::Explanation;
 
 /// The numbers that a refusal prints.
-pub static REFUSALS: [Explanation; 21] = [
+pub static REFUSALS: [Explanation; 25] = [
     Explanation {
         code: "F1",
         text: "F1 OFFSET: the octet there can't stand in the length of a frame. A length begins with 1 to 9, goes on \
@@ -58,6 +58,28 @@ pub static REFUSALS: [Explanation; 21] = [
         code: "A4",
         text: "There wasn't enough memory for the answers. Give the program more memory, or leave out lines that \
             answer no question of ssign questions.",
+    },
+    Explanation {
+        code: "C1",
+        text: "C1 LINE: this line of the counters file has none of the forms count HOST APP PROCID RSID GBC and count \
+            HOST APP PROCID RSID SG SPRI NUMBER, as ssign counters writes them. One space stands between two fields, \
+            and no number has leading zeros. An empty line is wrong too, and so is a CR at the end of a line. Only the \
+            first such line is named: mend it.",
+    },
+    Explanation {
+        code: "C2",
+        text: "The counters file can't be opened, is a folder, or reading it failed. See that the path after \
+            --counters is right, and that the file can be read.",
+    },
+    Explanation {
+        code: "C3",
+        text: "The counters file has more than 4294967295 octets. Of several counters that count the same, keep only \
+            the greatest.",
+    },
+    Explanation {
+        code: "C4",
+        text: "There wasn't enough memory for the counters. Give the program more memory. Of several counters that \
+            count the same, keep only the greatest.",
     },
     Explanation {
         code: "V1",
