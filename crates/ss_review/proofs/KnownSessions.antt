@@ -21,8 +21,9 @@ use Rattle.ss_review.specs.CountedLaws.{IsInRange}
 use Rattle.ss_review.specs.Sessions.{same_session}
 use Rattle.ss_review.specs.Kept.{absent_among, AreGroups, AreReviewed}
 use Rattle.ss_origin.proofs.Members.{Has, has-map, has_from_contains}
-use Rattle.ss_review.proofs.Lookups.{any_of, any_none, found_nowhere}
+use Rattle.ss_review.proofs.Lookups.{any_none, found_nowhere}
 use Rattle.ss_review.proofs.Members.{from_has-map}
+use Rattle.ss_review.proofs.Tests.{member_any}
 
 abbrev of : SessionReport → Session
 of r = r.session
@@ -41,7 +42,7 @@ module _ (s : Session) (rs : List SessionReport) where
   pub known : (i : ℕ) (d : SessionReport) → i < length rs → session_cmp (get_or rs i d).session s ≡ Equal → true ≡ list_any (same_session s) (map of rs)
   known i d below tie =
       let r = get_or rs i d in
-      sym (any_of (same_session s) (map of rs) r.session (has-of r (has_from_contains rs r (i, below, get_or_default rs i r d below))) (turned s r.session ∙ ap is_eq tie))
+      sym (member_any (same_session s) (map of rs) r.session (has-of r (has_from_contains rs r (i, below, get_or_default rs i r d below))) (turned s r.session ∙ ap is_eq tie))
     where
       has-of : (r : SessionReport) → Has rs r → Has (map of rs) r.session
       has-of r h = has-map of rs r h

@@ -15,16 +15,7 @@ use Rattle.ss_origin.proofs.Members.{Has, has-map, has_from_contains, contains_f
 use Rattle.ss_review.proofs.Rising.{below_all, all_below}
 use Rattle.ss_review.proofs.Sections.{keeps_none}
 
--- ---- one that passes, or none
-
-pub any_of : {X : Type 0} (p : X → Bool) (xs : List X) (x : X) → Has xs x → p x ≡ true → list_any p xs ≡ true
-any_of p [] x h t = absurd h
-any_of p (y ∷ ys) x (inl e) t = ap (λ b. b || list_any p ys) (ap p e ∙ t)
-any_of p (y ∷ ys) x (inr h) t = ap (λ b. p y || b) (any_of p ys x h t) ∙ either (p y)
-  where
-    either : (b : Bool) → (b || true) ≡ true
-    either true = refl
-    either false = refl
+-- ---- none passes
 
 pub any_none : {X : Type 0} (p : X → Bool) (xs : List X) → ((x : X) → Has xs x → p x ≡ false) → list_any p xs ≡ false
 any_none p [] none = refl

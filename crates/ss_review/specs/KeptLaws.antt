@@ -1,6 +1,7 @@
--- What holds of every log, up to counters that somebody kept: whatever they tell of was sent, and is there or told as
--- missing.
-use Rattle.std.specs.Prelude.{◌≡◌, ◌≢◌, ◌⊎◌, ℕ, ◌-◌, ◌<◌, ◌≤◌, true, List, [], ◌∷◌, length, map, flat_map, slice_get, All, Contains, Some, if◌then◌else◌}
+-- What holds of every log up to counters that somebody kept: each number and each block below them is there, or it is
+-- reported as missing.
+use Rattle.std.specs.Prelude.{◌≡◌, ◌≢◌, ◌⊎◌, ℕ, ◌-◌, ◌<◌, ◌≤◌, true, if◌then◌else◌}
+use Rattle.std.specs.Prelude.{List, [], ◌∷◌, length, map, flat_map, slice_get, All, Contains, Some}
 use Rattle.std.specs.List.{zip}
 use Rattle.ss_block.specs.declared.session.Session.{Session}
 use Rattle.ss_block.specs.Hashes.{hash_of}
@@ -39,15 +40,17 @@ shortfalls_of says log cs = log_shortfalls cs (report says log).sessions (counte
 
 -- the premises of what computes it hold of every log
 abbrev pub LogsAreReviewed : Type 0
-LogsAreReviewed = (says : Answers) (log : List (List ℕ)) → AreReviewed (report says log).sessions (counted_sessions says (blocks (notes log)))
+LogsAreReviewed =
+    (says : Answers) (log : List (List ℕ))
+    → AreReviewed (report says log).sessions (counted_sessions says (blocks (notes log)))
 
 -- ---- messages
 
--- what is missing of a session, which the log has blocks of, or none
+-- this is reported of a session, whether the log has a block of it or not
 abbrev pub IsToldOf : LogShortfalls → Shortfall → Type 0
 IsToldOf all f = Contains all.known f ⊎ Contains all.absent f
 
--- the number comes behind the last announced one of its group, and is told as missing
+-- the number is reported as missing behind the last announced one of its group
 pub record IsInTail (all : LogShortfalls) (k : Key) : Type 0 where
   pub shortfall : Shortfall
   pub told : IsToldOf all shortfall
@@ -86,7 +89,8 @@ NumberIsTold says log cs k =
     (1 ≤ k.number → k.number < kept_number cs k.session k.group
     → (fate : Fate) × HasFate (report says log) (shortfalls_of says log cs) k fate
     × ((other : Fate) → HasFate (report says log) (shortfalls_of says log cs) k other → other ≡ fate))
-    × (IsInTail (shortfalls_of says log cs) k → (k.number < kept_number cs k.session k.group) × ¬ IsAnnounced says (blocks (notes log)) k)
+    × (IsInTail (shortfalls_of says log cs) k
+    → (k.number < kept_number cs k.session k.group) × ¬ IsAnnounced says (blocks (notes log)) k)
 
 abbrev pub EveryNumberIsTold : Type 0
 EveryNumberIsTold = (says : Answers) (log : List (List ℕ)) (cs : List Counter) (k : Key) → NumberIsTold says log cs k
@@ -100,10 +104,11 @@ pub record IsInRunOf (all : LogShortfalls) (s : Session) (gbc : ℕ) : Type 0 wh
   pub session_is : shortfall.session ≡ s
   pub run : IsInRun shortfall.blocks gbc
 
--- a value below the session's counter is that of a verified signature block, or told as missing, and never both
+-- A value below the session's counter is that of a verified signature block, or reported as missing. None is both.
 abbrev pub BlockIsTold : Answers → List (List ℕ) → List Counter → Session → ℕ → Type 0
 BlockIsTold says log cs s gbc =
-    (gbc < kept_gbc cs s → IsCounted says (blocks (notes log)) s gbc ⊎ IsInRunOf (shortfalls_of says log cs) s gbc)
+    (gbc < kept_gbc cs s
+    → IsCounted says (blocks (notes log)) s gbc ⊎ IsInRunOf (shortfalls_of says log cs) s gbc)
     × (IsCounted says (blocks (notes log)) s gbc → ¬ IsInRunOf (shortfalls_of says log cs) s gbc)
 
 abbrev pub EveryBlockIsTold : Type 0
@@ -111,20 +116,21 @@ EveryBlockIsTold = (says : Answers) (log : List (List ℕ)) (cs : List Counter) 
 
 -- ---- nothing is missing
 
--- nothing of a session is told as missing, and no session
+-- nothing of a session is reported as missing, and no session is
 pub record NothingIsMissing (all : LogShortfalls) : Type 0 where
   pub tails : All (λ f. f.tails ≡ []) all.known
   pub blocks : All (λ f. f.blocks ≡ []) all.known
   pub sessions : all.absent ≡ []
 
--- Where a report is clean and nothing is told as missing, each number below its group's counter is listed, and each value
--- below the session's counter is that of a verified signature block.
+-- If a report is clean and nothing is missing, each number below its group's counter is listed. Each value below its
+-- session's counter is then that of a verified signature block.
 abbrev pub CleanUpToCounters : Type 0
 CleanUpToCounters =
     (says : Answers) (log : List (List ℕ)) (cs : List Counter)
     → is_clean (report says log) ≡ true
     → NothingIsMissing (shortfalls_of says log cs)
-    → ((k : Key) → 1 ≤ k.number → k.number < kept_number cs k.session k.group → (place : ℕ) × IsListed (report says log) k place)
+    → ((k : Key) → 1 ≤ k.number → k.number < kept_number cs k.session k.group
+    → (place : ℕ) × IsListed (report says log) k place)
     × ((s : Session) (gbc : ℕ) → gbc < kept_gbc cs s → IsCounted says (blocks (notes log)) s gbc)
 
 -- ---- the counters of the log itself
@@ -134,7 +140,9 @@ group_given s g = record { session = s; counts = counts.Messages g.group; next =
 
 -- the GBC of a session's next signature block, then the number of the next message of each of its groups
 abbrev pub session_given : SessionReport → CountedSession → List Counter
-session_given s c = record { session = s.session; counts = counts.Blocks; next = next_after c.gbcs } ∷ map (group_given s.session) s.groups
+session_given s c =
+    record { session = s.session; counts = counts.Blocks; next = next_after c.gbcs }
+    ∷ map (group_given s.session) s.groups
 
 -- a session that isn't joined has no verified block, and no counter
 abbrev pub given_beside : SessionReport × CountedSession → List Counter
@@ -144,7 +152,7 @@ given_beside p = if is_joined p.0.state then session_given p.0 p.1 else []
 unfoldable pub counters_given : List SessionReport → List CountedSession → List Counter
 counters_given sessions counted = flat_map given_beside (zip sessions counted)
 
--- Up to its own counters a log has nothing missing but what it tells by itself.
+-- Up to its own counters nothing is missing of a log but what it shows by itself.
 pub record AddNothing (counted : List CountedSession) (all : LogShortfalls) : Type 0 where
   pub tails : All (λ f. f.tails ≡ []) all.known
   pub sessions : all.absent ≡ []
@@ -165,7 +173,11 @@ ReachTheEnd x cs = (spri : ℕ) → spri < 192
     1 ≤ given → given < kept_number cs (own_session x.s) (group_of x.s.config.grouping spri)
 
 abbrev pub number_kept : Case → NextNumber → Counter
-number_kept x n = record { session = own_session x.s; counts = counts.Messages (group_of x.s.config.grouping n.spri); next = n.number }
+number_kept x n = record {
+  session = own_session x.s;
+  counts = counts.Messages (group_of x.s.config.grouping n.spri);
+  next = n.number;
+}
 
 -- the counters that the newest originator of the chain ended with
 unfoldable pub counters_kept : Case → List Counter
@@ -179,12 +191,14 @@ OwnCountersReachTheEnd = (x : Case) → ReachTheEnd x (counters_kept x)
 
 -- no message without a block in the log has the hash of this one
 abbrev pub IsLost : Case → List ℕ → Type 0
-IsLost x m = (n : List ℕ) → Contains x.log n → is_normal (note n) ≡ true → hash_of x.s.config.alg n ≢ hash_of x.s.config.alg m
+IsLost x m = (n : List ℕ) → Contains x.log n → is_normal (note n) ≡ true
+    → hash_of x.s.config.alg n ≢ hash_of x.s.config.alg m
 
--- Counters that reach the end of each group tell of each lost message: its number is a gap, in a hole or in a tail.
+-- If the counters reach the end of each group, the number of each lost message is a gap, in a hole or in a tail.
 abbrev pub LostAreTold : Type 0
 LostAreTold = (x : Case) → IsCase x → (cs : List Counter) → ReachTheEnd x cs
-    → (spri number : ℕ) (m : List ℕ) → spri < 192 → 1 ≤ number → slice_get (given_to x.s.config spri x.chain) (number - 1) ≡ Some m
-    → IsLost x m
+    → (spri number : ℕ) (m : List ℕ) → spri < 192 → 1 ≤ number
+    → slice_get (given_to x.s.config spri x.chain) (number - 1) ≡ Some m → IsLost x m
     → let k = own_number x spri number in
-    ((why : Why) × IsGap (report_in x) k why) ⊎ (IsInHole (report_in x) k ⊎ IsInTail (shortfalls_of (says x) x.log cs) k)
+    ((why : Why) × IsGap (report_in x) k why)
+    ⊎ (IsInHole (report_in x) k ⊎ IsInTail (shortfalls_of (says x) x.log cs) k)

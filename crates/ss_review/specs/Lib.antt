@@ -24,6 +24,7 @@ pub mod CountedSoFar
 pub mod Kept
 pub mod KeptSoFar
 pub mod KeptLaws
+pub mod KeptRows
 pub mod Laws
 pub mod Rows
 pub mod Assigning

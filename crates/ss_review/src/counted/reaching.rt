@@ -7,7 +7,8 @@ ghost use Rattle.ss_block.specs.Order.{session_cmp};
 ghost use Rattle.ss_block.specs.Ranges.{past_last_number};
 ghost use Rattle.ss_review.specs.Counted.{next_after};
 ghost use Rattle.ss_review.specs.Sessions.{same_session};
-ghost use Rattle.ss_review.specs.Kept.{shortfall_in, shortfall, shortfall_beside, absent_among, log_shortfalls, AreGroups, AreReviewed};
+ghost use Rattle.ss_review.specs.Kept.{shortfall_in, shortfall, shortfall_beside, absent_among, log_shortfalls};
+ghost use Rattle.ss_review.specs.Kept.{AreGroups, AreReviewed};
 ghost use Rattle.ss_review.specs.KeptSoFar.{led_to, StandBySession};
 
 use crate::counted::counted_session::CountedSession;
@@ -101,11 +102,12 @@ fn absent_shortfalls(
     Ok(Shortfalls::from_vec(absent))
 }
 
-/// What is missing of each session up to the counters that were kept of it, from what a review says of a log and from
-/// the GBC of its verified signature blocks, session by session. The counters come in any order; of several that count
-/// the same, the greatest is right. A session that the log has no block of is told too, if it has a counter.
+/// What is missing of each session up to the counters that were kept of it. `sessions` is what a review says of a log,
+/// and `counted` has the GBC of the verified signature blocks of each of these sessions. The counters come in any order;
+/// of several that count the same, the greatest is right. If a session has a counter and no block, it is in `absent`.
 ///
-/// It takes time in proportion to n log n, for n counters, sessions, groups and GBC. `NoMemory` where memory runs out.
+/// It takes time in proportion to n log n, for n counters, sessions, groups, entries and GBC. `NoMemory` where memory
+/// runs out.
 pub fn log_shortfalls(
     alloc: Global,
     counters: &[Counter],

@@ -8,6 +8,7 @@ ghost use Rattle.ss_review.specs.KeptLaws.{
   LostAreTold,
   OwnCountersReachTheEnd,
 };
+ghost use Rattle.ss_review.specs.KeptRows.{ShortfallsAreThese};
 
 use crate::laws::counted::{
     counted_are_in_range, counted_are_verified, counted_or_missing, next_numbers_are_in_range,
@@ -20,7 +21,7 @@ use crate::laws::reports::{
 };
 use ss_origin::laws::chains::numbers_go_on;
 
-/// What a review says of any log, and the GBC of its verified signature blocks, rise and are in range. So they meet all
+/// Of every log, what a review says and the GBC of the verified signature blocks rise and are in range. That is all
 /// that `log_shortfalls` asks for.
 pub fn logs_are_reviewed()
     ensures { LogsAreReviewed }
@@ -45,7 +46,7 @@ pub fn every_number_is_told()
     gaps_are_unassigned();
 }
 
-/// Each value below its session's counter is the GBC of a verified signature block, or in a run of missing ones, and none
+/// Each value below its session's counter is the GBC of a verified signature block, or in a run of missing ones. None
 /// is both.
 pub fn every_block_is_told()
     ensures { EveryBlockIsTold }
@@ -54,8 +55,8 @@ pub fn every_block_is_told()
     counted_or_missing();
 }
 
-/// Where a report is clean, no number is in a tail, no block is missing and no session is absent, each message below its
-/// group's counter is listed, and the log has each signature block below its session's counter.
+/// If a report is clean, and no tail, no missing block and no absent session is reported, each message below its group's
+/// counter is listed. The log then has each signature block below its session's counter.
 pub fn clean_up_to_counters()
     ensures { CleanUpToCounters }
 {
@@ -63,13 +64,13 @@ pub fn clean_up_to_counters()
     every_block_is_told();
 }
 
-/// Up to the counters that a log itself gives, it has no tail and no absent session, and the blocks that are missing
-/// without them.
+/// Up to the counters that a log itself gives, there is no tail and no absent session, and the missing blocks are those
+/// that the log shows without them.
 pub fn counters_given_back()
     ensures { CountersGivenBack }
 {}
 
-/// The counters that the newest of originators ended with reach the end of each group that they were given a message of.
+/// The counters that the newest of the originators ended with go past the last message of each group.
 pub fn own_counters_reach_the_end()
     ensures { OwnCountersReachTheEnd }
 {
@@ -86,3 +87,8 @@ pub fn lost_are_told()
     every_number_is_told();
     listed_have_their_hash();
 }
+
+/// What is missing of small logs up to some counters, computed.
+pub fn shortfalls_are_these()
+    ensures { ShortfallsAreThese }
+{}
