@@ -1,5 +1,5 @@
 //! How often messages were wanted.
-ghost use Rattle.std.specs.Prelude.{◌≡◌, ◌<◌, ◌+◌, ◌^◌, ℕ, [], length, map, Contains, IfOk, if◌then◌else◌, ◌==◌};
+ghost use Rattle.std.specs.Prelude.{◌≡◌, ◌<◌, ◌≤◌, ◌+◌, ◌^◌, ℕ, [], length, map, Contains, IfOk, if◌then◌else◌, ◌==◌};
 ghost use Rattle.std.specs.Ordering.{nat_cmp};
 ghost use Rattle.std.specs.List.Sorted.{IsStrictlySortedBy};
 ghost use Rattle.ss_review.specs.declared.keep.stored_message.StoredMessage.{StoredMessage};
@@ -17,8 +17,9 @@ pub(crate) struct Counters {
 
 /// How many counts there have to be for these messages, whose places rise.
 fn room_for(messages: &[StoredMessage]) -> usize
-    ensures { IsStrictlySortedBy nat_cmp (map (λ m. m.place) messages.now)
+    ensures room { IsStrictlySortedBy nat_cmp (map (λ m. m.place) messages.now)
         → (m : StoredMessage) → Contains messages.now m → m.place < result }
+    ensures least { (n : ℕ) → ((m : StoredMessage) → Contains messages.now m → m.place < n) → result ≤ n }
 {
     if messages.is_empty() {
         return 0;
@@ -33,6 +34,9 @@ impl Counters {
         ensures none { IfOk result (λ c. Tallies c []) }
         ensures room { IsStrictlySortedBy nat_cmp (map (λ m. m.place) messages.now)
             → IfOk result (λ c. (m : StoredMessage) → Contains messages.now m → m.place < length c.counts.items) }
+        ensures least { (n : ℕ)
+            → ((m : StoredMessage) → Contains messages.now m → m.place < n)
+            → IfOk result (λ c. length c.counts.items ≤ n) }
     {
         let count = room_for(messages);
         let mut counts = Vec::with_capacity(alloc, count)?;
