@@ -1,10 +1,12 @@
 //! Whether the payload of a session is trusted, and accepted by valid certificate blocks (RFC 5848, section 7).
-ghost use Rattle.std.specs.Prelude.{◌≡◌, Bool, map, filter, Ok, IfOk, OnOk};
+ghost use Rattle.std.specs.Prelude.{◌≡◌, Bool, map, filter, Some, Ok, IfOk, OnOk};
+ghost use Rattle.std.specs.BTreeMap.{get};
 ghost use Rattle.ss_review.specs.declared.keep.message.BlockMessage.{BlockMessage};
+ghost use Rattle.ss_review.specs.declared.sessions.found_blocks.Claim.{Claim};
 ghost use Rattle.ss_review.specs.Payloads.{certificates};
 ghost use Rattle.ss_review.specs.Verified.{answers, signature_of, is_valid, is_accepted, judged, joined};
 ghost use Rattle.ss_review.specs.Covering.{spans_of, accepted_span};
-ghost use Rattle.ss_review.specs.FoundBlocks.{TellsEqualsAlike, KeepsWhatHolds};
+ghost use Rattle.ss_review.specs.FoundBlocks.{claim_cmp, IsClaimOf, TellsEqualsAlike, KeepsWhatHolds};
 
 use crate::keep::message::{BlockMessage, Said};
 use crate::report::session_report::SessionState;
@@ -53,6 +55,9 @@ pub(crate) fn valid_once<'a, J: Judge>(
         → KeepsWhatHolds f found.old
         → f message.now ≡ is_valid (answers J.trusted J.valid judge.now) payload.now message.now
         → OnOk result (KeepsWhatHolds f found.new) }
+    ensures remembered { (k : Claim)
+        → IsClaimOf k message.now
+        → IfOk result (λ b. get claim_cmp found.new.found k ≡ Some b) }
 {
     if let Some(is_valid) = found.get(message) {
         return Ok(is_valid);
