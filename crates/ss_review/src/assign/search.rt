@@ -118,6 +118,7 @@ impl<'a> Search<'a> {
             → IsNotBelow hash.now self.old.last
             → FoundLast (hashes_in self.new.list) self.new.start self.new.found (Some hash.now) }
         ensures last { self.new.last ≡ Some hash.now }
+        ensures onward { self.old.start ≤ self.new.start }
         ensures list { self.new.list ≡ self.old.list }
     {
         if self.was_asked(hash) {
