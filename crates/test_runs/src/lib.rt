@@ -22,6 +22,8 @@ mod rows;
 #[cfg(test)]
 mod run;
 #[cfg(test)]
+mod shortfalls;
+#[cfg(test)]
 mod stops;
 #[cfg(test)]
 mod texts;
