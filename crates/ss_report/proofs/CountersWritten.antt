@@ -20,6 +20,7 @@ use Rattle.ss_review.specs.Report.{session_report, report_of, report}
 use Rattle.ss_review.specs.Counted.{counted_session, counted_sessions, next_after, next_number}
 use Rattle.ss_review.specs.CountedLaws.{IsInRange, CountedAreInRange, NextNumbersAreInRange}
 use Rattle.ss_report.specs.Writing.{Writes}
+use Rattle.ss_report.specs.declared.notation.Notation.{Notation}
 use Rattle.ss_report.specs.Counters.{AreInRange, counters_of, counter_lines, counters_beside, counter_lines_with}
 use Rattle.ss_report.proofs.Writings.{writes_more, writes_same}
 
@@ -40,17 +41,17 @@ module _ (ss : List SessionReport) (cs : List CountedSession) where
         (All-get_or (λ (t : CountedSession). next_after t.gbcs ≤ past_last_number) cs n c at.in_counted range.gbcs),
   )
 
-  pub counters_more : (a b d : Sink) (n m : ℕ) (s : SessionReport) (c : CountedSession) → IsNextPair n s c → m ≡ n + 1
-      → Writes a b (flat_map counters_beside (take n (zip ss cs))) → Writes b d (counters_beside (s, c)) → Writes a d (flat_map counters_beside (take m (zip ss cs)))
-  counters_more a b d n m s c at more so_far next =
+  pub counters_more : (notation : Notation) (a b d : Sink) (n m : ℕ) (s : SessionReport) (c : CountedSession) → IsNextPair n s c → m ≡ n + 1
+      → Writes a b (flat_map (counters_beside notation) (take n (zip ss cs))) → Writes b d (counters_beside notation (s, c)) → Writes a d (flat_map (counters_beside notation) (take m (zip ss cs)))
+  counters_more notation a b d n m s c at more so_far next =
       let both : n < length (zip ss cs) = omega (arith, length-zip ss cs, at.in_sessions, at.in_counted) in
       let pair : (s, c) ≡ get_or (zip ss cs) n (s, c) = (λ i. (at.session i, at.counted i)) ∙ sym (get_or-zip ss cs n (s, c) at.in_sessions at.in_counted) in
-      writes_same a d _ _ (writes_more counters_beside (zip ss cs) n (s, c) a b d _ both so_far next (ap counters_beside pair))
-      (ap (λ k. flat_map counters_beside (take k (zip ss cs))) (sym more))
+      writes_same a d _ _ (writes_more (counters_beside notation) (zip ss cs) n (s, c) a b d _ both so_far next (ap (counters_beside notation) pair))
+      (ap (λ k. flat_map (counters_beside notation) (take k (zip ss cs))) (sym more))
 
-  pub all_counters : (a b : Sink) (n : ℕ) → n ≡ min (length ss) (length cs) → Writes a b (flat_map counters_beside (take n (zip ss cs))) → Writes a b (flat_map counters_beside (zip ss cs))
-  all_counters a b n all so_far =
-      writes_same a b _ _ so_far (ap (flat_map counters_beside) (take_all n (zip ss cs) (omega (arith, length-zip ss cs, all))))
+  pub all_counters : (notation : Notation) (a b : Sink) (n : ℕ) → n ≡ min (length ss) (length cs) → Writes a b (flat_map (counters_beside notation) (take n (zip ss cs))) → Writes a b (flat_map (counters_beside notation) (zip ss cs))
+  all_counters notation a b n all so_far =
+      writes_same a b _ _ so_far (ap (flat_map (counters_beside notation)) (take_all n (zip ss cs) (omega (arith, length-zip ss cs, all))))
 
 -- what a review says of a log is in range
 pub report_in_range : CountedAreInRange → NextNumbersAreInRange → (says : Answers) (log : List (List ℕ)) (r : Report) (cs : List CountedSession)
@@ -63,14 +64,14 @@ report_in_range counted numbers says log r cs r_is cs_is = record {
 }
 
 -- the counters that are found, session by session, are those of the log
-counters_found : (says : Answers) (log : Contents) (rs : List Row) (bs : List BlockMessage) (ss : List Session)
-    → flat_map counters_beside (zip (map (session_report says log rs) ss) (map (counted_session says bs) ss)) ≡ flat_map (counters_of says bs) (map (session_report says log rs) ss)
-counters_found says log rs bs [] = refl
-counters_found says log rs bs (s ∷ ss) = ap (λ ls. counters_of says bs (session_report says log rs s) ++ ls) (counters_found says log rs bs ss)
+counters_found : (notation : Notation) (says : Answers) (log : Contents) (rs : List Row) (bs : List BlockMessage) (ss : List Session)
+    → flat_map (counters_beside notation) (zip (map (session_report says log rs) ss) (map (counted_session says bs) ss)) ≡ flat_map (counters_of notation says bs) (map (session_report says log rs) ss)
+counters_found notation says log rs bs [] = refl
+counters_found notation says log rs bs (s ∷ ss) = ap (λ ls. counters_of notation says bs (session_report says log rs s) ++ ls) (counters_found notation says log rs bs ss)
 
-pub counters_are : (says : Answers) (messages : List (List ℕ))
-    → counter_lines_with (report says messages) (counted_sessions says (blocks (notes messages))) ≡ counter_lines says (blocks (notes messages)) (report says messages)
+pub counters_are : (notation : Notation) (says : Answers) (messages : List (List ℕ))
+    → counter_lines_with notation (report says messages) (counted_sessions says (blocks (notes messages))) ≡ counter_lines notation says (blocks (notes messages)) (report says messages)
 unfolding report_of counter_lines counter_lines_with
-counters_are says messages =
+counters_are notation says messages =
     let bs = blocks (notes messages) in
-    counters_found says (contents (notes messages)) (rows says bs) bs (sessions bs)
+    counters_found notation says (contents (notes messages)) (rows says bs) bs (sessions bs)

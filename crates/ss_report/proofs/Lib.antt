@@ -11,3 +11,4 @@ pub mod ListedText
 pub mod WholeLines
 pub mod MissingWritten
 pub mod CountersWritten
+pub mod Tallies

@@ -7,21 +7,22 @@ use Rattle.ss_frame.specs.Watched.{Sink}
 use Rattle.ss_review.specs.declared.counted.missing.MissingRun.{MissingRun}
 use Rattle.ss_review.specs.declared.report.session_report.SessionReport.{SessionReport}
 use Rattle.ss_report.specs.Writing.{Writes}
+use Rattle.ss_report.specs.declared.lines.detail.Detail.{Detail}
 use Rattle.ss_report.specs.Lines.{ReportLine}
 use Rattle.ss_report.specs.Whole.{lines_and_missing, lines_beside}
 use Rattle.ss_report.proofs.Writings.{writes_same}
 use Rattle.ss_report.proofs.LinesWritten.{octets_of, lines_more}
 
-module _ (text : ReportLine → List ℕ) (ss : List SessionReport) (ms : List (List MissingRun)) where
+module _ (detail : Detail) (text : ReportLine → List ℕ) (ss : List SessionReport) (ms : List (List MissingRun)) where
   pub sessions_more : (a b d : Sink) (n m : ℕ) (s : SessionReport) (runs : List MissingRun) → n < length ss → n < length ms → s ≡ get_or ss n s → runs ≡ get_or ms n runs → m ≡ n + 1
-      → Writes a b (octets_of text lines_beside (take n (zip ss ms))) → Writes b d (flat_map text (lines_and_missing s runs)) → Writes a d (octets_of text lines_beside (take m (zip ss ms)))
+      → Writes a b (octets_of text (lines_beside detail) (take n (zip ss ms))) → Writes b d (flat_map text (lines_and_missing detail s runs)) → Writes a d (octets_of text (lines_beside detail) (take m (zip ss ms)))
   sessions_more a b d n m s runs in_sessions in_missing session missing more so_far next =
       let both : n < length (zip ss ms) = omega (arith, length-zip ss ms, in_sessions, in_missing) in
       let pair : (s, runs) ≡ get_or (zip ss ms) n (s, runs) = (λ i. (session i, missing i)) ∙ sym (get_or-zip ss ms n (s, runs) in_sessions in_missing) in
-      writes_same a d _ _ (lines_more text lines_beside (zip ss ms) n (s, runs) a b d (lines_and_missing s runs) both so_far next (ap lines_beside pair))
-      (ap (λ k. octets_of text lines_beside (take k (zip ss ms))) (sym more))
+      writes_same a d _ _ (lines_more text (lines_beside detail) (zip ss ms) n (s, runs) a b d (lines_and_missing detail s runs) both so_far next (ap (lines_beside detail) pair))
+      (ap (λ k. octets_of text (lines_beside detail) (take k (zip ss ms))) (sym more))
 
   pub all_sessions : (a b : Sink) (n : ℕ) → n ≡ min (length ss) (length ms)
-      → Writes a b (octets_of text lines_beside (take n (zip ss ms))) → Writes a b (octets_of text lines_beside (zip ss ms))
+      → Writes a b (octets_of text (lines_beside detail) (take n (zip ss ms))) → Writes a b (octets_of text (lines_beside detail) (zip ss ms))
   all_sessions a b n all so_far =
-      writes_same a b _ _ so_far (ap (octets_of text lines_beside) (take_all n (zip ss ms) (omega (arith, length-zip ss ms, all))))
+      writes_same a b _ _ so_far (ap (octets_of text (lines_beside detail)) (take_all n (zip ss ms) (omega (arith, length-zip ss ms, all))))

@@ -1,6 +1,6 @@
 -- The findings of a report: what it says without its `ok` lines.
 use Rattle.std.specs.Prelude.{ℕ, Bool, true, false, List, [], if◌then◌else◌}
-use Rattle.ss_report.specs.Lines.{ReportLine, SessionLine, OkLine, GapLine, HoleLine, BlocksLine, UnlistedLine, RefusedLine, SpoiltLine, TornLine, EndLine}
+use Rattle.ss_report.specs.Lines.{ReportLine, SessionLine, OkLine, GapLine, HoleLine, BlocksLine, TallyLine, UnlistedLine, RefusedLine, SpoiltLine, UnlistedCountLine, RefusedCountLine, SpoiltCountLine, TornLine, EndLine}
 use Rattle.ss_report.specs.ReportText.{line_text}
 use Rattle.ss_report.specs.Json.{line_object}
 
@@ -10,9 +10,13 @@ is_ok (SessionLine s state) = false
 is_ok (GapLine s g number why) = false
 is_ok (HoleLine s g first last) = false
 is_ok (BlocksLine s first last) = false
+is_ok (TallyLine s g t) = false
 is_ok (UnlistedLine place) = false
 is_ok (RefusedLine place) = false
 is_ok (SpoiltLine place cause) = false
+is_ok (UnlistedCountLine count) = false
+is_ok (RefusedCountLine count) = false
+is_ok (SpoiltCountLine count) = false
 is_ok (TornLine offset) = false
 is_ok (EndLine count) = false
 

@@ -1,5 +1,6 @@
--- What each message of a log is, one line a message, each ended by LF, with one SP between two fields.
-use Rattle.std.specs.Prelude.{ℕ, ◌+◌, List, [], ◌∷◌, ◌++◌, codes, decimal, length, Option, Some, None}
+-- What each message of a log is, one line a message, each ended by LF: words with one SP between two, or a JSON object
+-- (RFC 8259). The findings alone leave out the plain messages.
+use Rattle.std.specs.Prelude.{ℕ, ◌+◌, Bool, true, false, ◌&&◌, if◌then◌else◌, List, [], ◌∷◌, ◌++◌, codes, decimal, length, Option, Some, None}
 use Rattle.ss_frame.specs.declared.step.Tail.{Tail}
 use Rattle.ss_message.specs.declared.fault.Part.{Part}
 use Rattle.ss_message.specs.declared.fault.Part.TheVariants as parts
@@ -9,7 +10,12 @@ use Rattle.ss_block.specs.declared.reading.Reading.TheVariants as readings
 use Rattle.ss_block.specs.Reading.{reading}
 use Rattle.ss_block.specs.Session.{session}
 use Rattle.ss_report.specs.Words.{spaced, session_words, group_words, number_line, spoilt_line}
+use Rattle.ss_report.specs.Json.{number_member, session_members, group_members, number_object, spoilt_object}
+use Rattle.ss_report.specs.Forms.{notation_of, has_findings_alone}
 use Rattle.ss_report.specs.Ending.{end_lines}
+use Rattle.ss_report.specs.declared.notation.Notation.{Notation}
+use Rattle.ss_report.specs.declared.notation.Notation.TheVariants.{Plain, Json}
+use Rattle.ss_report.specs.declared.forms.report_form.ReportForm.{ReportForm}
 
 -- the number of the part at fault, 1 to 12
 abbrev pub part_number : Part → ℕ
@@ -41,14 +47,45 @@ line_of (readings.Certificate b) s place =
     codes "certificate" ++ spaced place ++ known_session_words s ++ group_words b.group ++ spaced b.total ++ spaced b.index ++ spaced (length b.fragment) ++ codes "\n"
 line_of (readings.Spoilt cause) s place = spoilt_line place cause
 
-unfoldable pub message_line : ℕ → List ℕ → List ℕ
-message_line place message = line_of (reading message) (session message) place
+-- the members of a session, where one is known
+abbrev pub known_session_members : Option Session → List ℕ
+known_session_members None = []
+known_session_members (Some s) = session_members s
+
+-- the same line as JSON
+abbrev pub object_of : Reading → Option Session → ℕ → List ℕ
+object_of readings.Plain s place = number_object (codes "plain") (codes "place") place
+object_of (readings.Unparsed part pos) s place =
+    codes "{\"line\":\"unparsed\"" ++ number_member (codes "place") place ++ codes ",\"part\":\"M" ++ decimal (part_number part) ++ codes "\""
+    ++ number_member (codes "offset") pos ++ codes "}\n"
+object_of (readings.Signature b) s place =
+    codes "{\"line\":\"signature\"" ++ number_member (codes "place") place ++ known_session_members s ++ group_members b.group
+    ++ number_member (codes "gbc") b.gbc ++ number_member (codes "first") b.first ++ number_member (codes "count") (length b.hashes) ++ codes "}\n"
+object_of (readings.Certificate b) s place =
+    codes "{\"line\":\"certificate\"" ++ number_member (codes "place") place ++ known_session_members s ++ group_members b.group
+    ++ number_member (codes "total") b.total ++ number_member (codes "index") b.index ++ number_member (codes "length") (length b.fragment) ++ codes "}\n"
+object_of (readings.Spoilt cause) s place = spoilt_object place cause
+
+abbrev pub reading_line : Notation → Reading → Option Session → ℕ → List ℕ
+reading_line Plain r s place = line_of r s place
+reading_line Json r s place = object_of r s place
+
+abbrev pub is_plain : Reading → Bool
+is_plain readings.Plain = true
+is_plain (readings.Unparsed part pos) = false
+is_plain (readings.Signature b) = false
+is_plain (readings.Certificate b) = false
+is_plain (readings.Spoilt cause) = false
+
+unfoldable pub message_line : ReportForm → ℕ → List ℕ → List ℕ
+message_line form place message =
+    if has_findings_alone form && is_plain (reading message) then [] else reading_line (notation_of form) (reading message) (session message) place
 
 -- the lines of messages of which the first has this place
-abbrev pub message_lines : ℕ → List (List ℕ) → List ℕ
-message_lines place [] = []
-message_lines place (m ∷ ms) = message_line place m ++ message_lines (place + 1) ms
+abbrev pub message_lines : ReportForm → ℕ → List (List ℕ) → List ℕ
+message_lines form place [] = []
+message_lines form place (m ∷ ms) = message_line form place m ++ message_lines form (place + 1) ms
 
 -- the whole text
-unfoldable pub inspection : List (List ℕ) → Tail → List ℕ
-inspection messages tail = message_lines 0 messages ++ end_lines tail (length messages)
+unfoldable pub inspection : ReportForm → List (List ℕ) → Tail → List ℕ
+inspection form messages tail = message_lines form 0 messages ++ end_lines (notation_of form) tail (length messages)

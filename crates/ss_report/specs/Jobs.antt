@@ -20,12 +20,14 @@ use Rattle.ss_report.specs.Counters.{counter_lines}
 use Rattle.ss_report.specs.Verdict.{end_verdict, report_verdict}
 use Rattle.ss_report.specs.Run.{Job, Runs}
 use Rattle.ss_report.specs.declared.forms.report_form.ReportForm.{ReportForm}
+use Rattle.ss_report.specs.declared.lines.detail.Detail.{Detail}
+use Rattle.ss_report.specs.declared.notation.Notation.{Notation}
 use Rattle.ss_report.specs.declared.verdict.Verdict.{Verdict}
 
--- a line a message
-abbrev pub inspecting : Job
-inspecting = record {
-  output = inspection;
+-- a line a message, in a form
+abbrev pub inspecting : ReportForm → Job
+inspecting form = record {
+  output = inspection form;
   verdict = λ messages tail. end_verdict tail;
   reviews = false;
 }
@@ -39,33 +41,33 @@ reviewing says = record {
 }
 
 -- the report in a form, with the verdict of the whole report
-abbrev pub reviewing_as : ReportForm → Answers → Job
-reviewing_as form says = record {
-  output = λ messages tail. report_as form (report says messages) tail;
+abbrev pub reviewing_as : ReportForm → Detail → Answers → Job
+reviewing_as form detail says = record {
+  output = λ messages tail. report_as form detail (report says messages) tail;
   verdict = λ messages tail. report_verdict (report says messages) tail;
   reviews = true;
 }
 
 -- the report in a form, with what is missing of each session's signature blocks, which is a finding
-abbrev pub reviewing_whole : ReportForm → Answers → Job
-reviewing_whole form says = record {
-  output = λ messages tail. flat_map (line_as form) (whole_lines says (blocks (notes messages)) (report says messages) tail);
+abbrev pub reviewing_whole : ReportForm → Detail → Answers → Job
+reviewing_whole form detail says = record {
+  output = λ messages tail. flat_map (line_as form) (whole_lines detail says (blocks (notes messages)) (report says messages) tail);
   verdict = λ messages tail. whole_verdict says (blocks (notes messages)) (report says messages) tail;
   reviews = true;
 }
 
 -- what a review asks of a signature scheme
-abbrev pub asking : Job
-asking = record {
-  output = λ messages tail. question_lines (questions (blocks (notes messages)));
+abbrev pub asking : Notation → Job
+asking notation = record {
+  output = λ messages tail. question_lines notation (questions (blocks (notes messages)));
   verdict = λ messages tail. end_verdict tail;
   reviews = true;
 }
 
 -- the counters of the joined sessions
-abbrev pub counting : Answers → Job
-counting says = record {
-  output = λ messages tail. counter_lines says (blocks (notes messages)) (report says messages);
+abbrev pub counting : Notation → Answers → Job
+counting notation says = record {
+  output = λ messages tail. counter_lines notation says (blocks (notes messages)) (report says messages);
   verdict = λ messages tail. end_verdict tail;
   reviews = true;
 }
@@ -84,12 +86,12 @@ pub record Reviews (says : Answers) (limits : Allowance) (before after : Source)
   pub listed : ListsWhatIsAnnounced says run.messages (report says run.messages)
 
 -- the same of a review in a form
-pub record ReviewsAs (form : ReportForm) (says : Answers) (limits : Allowance) (before after : Source) (was is : Sink) (verdict : Verdict) : Type 0 where
-  pub run : Runs (reviewing_as form says) limits before after was is verdict
+pub record ReviewsAs (form : ReportForm) (detail : Detail) (says : Answers) (limits : Allowance) (before after : Source) (was is : Sink) (verdict : Verdict) : Type 0 where
+  pub run : Runs (reviewing_as form detail says) limits before after was is verdict
   pub listed : ListsWhatIsAnnounced says run.messages (report says run.messages)
 
 -- the same of a review in a form with what is missing of the signature blocks, which is told of each session
-pub record ReviewsWhole (form : ReportForm) (says : Answers) (limits : Allowance) (before after : Source) (was is : Sink) (verdict : Verdict) : Type 0 where
-  pub run : Runs (reviewing_whole form says) limits before after was is verdict
+pub record ReviewsWhole (form : ReportForm) (detail : Detail) (says : Answers) (limits : Allowance) (before after : Source) (was is : Sink) (verdict : Verdict) : Type 0 where
+  pub run : Runs (reviewing_whole form detail says) limits before after was is verdict
   pub listed : ListsWhatIsAnnounced says run.messages (report says run.messages)
   pub missing : (s : Session) → TellsMissing says (blocks (notes run.messages)) s

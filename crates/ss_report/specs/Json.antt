@@ -6,9 +6,10 @@ use Rattle.ss_block.specs.declared.session.Session.{Session}
 use Rattle.ss_block.specs.declared.spoil.Spoil.{Spoil}
 use Rattle.ss_review.specs.declared.report.entry.Why.{Why}
 use Rattle.ss_review.specs.declared.report.session_report.SessionState.{SessionState}
+use Rattle.ss_report.specs.declared.lines.tally.Tally.{Tally}
 use Rattle.ss_report.specs.Words.{field_word, cause_number}
 use Rattle.ss_report.specs.ReportText.{state_word, why_word}
-use Rattle.ss_report.specs.Lines.{ReportLine, SessionLine, OkLine, GapLine, HoleLine, BlocksLine, UnlistedLine, RefusedLine, SpoiltLine, TornLine, EndLine}
+use Rattle.ss_report.specs.Lines.{ReportLine, SessionLine, OkLine, GapLine, HoleLine, BlocksLine, TallyLine, UnlistedLine, RefusedLine, SpoiltLine, UnlistedCountLine, RefusedCountLine, SpoiltCountLine, TornLine, EndLine}
 
 -- `"` and `\`
 abbrev pub is_escaped : ℕ → Bool
@@ -59,6 +60,12 @@ unfoldable pub blocks_object : Session → (first last : ℕ) → List ℕ
 blocks_object s first last =
     codes "{\"line\":\"blocks\"" ++ session_members s ++ number_member (codes "first") first ++ number_member (codes "last") last ++ codes "}\n"
 
+unfoldable pub tally_object : Session → Group → Tally → List ℕ
+tally_object s g t =
+    codes "{\"line\":\"tally\"" ++ session_members s ++ group_members g ++ number_member (codes "ok") t.listed ++ number_member (codes "lost") t.lost
+    ++ number_member (codes "disputed") t.disputed ++ number_member (codes "holes") t.holes ++ number_member (codes "first") t.first ++ number_member (codes "last") t.last
+    ++ codes "}\n"
+
 -- the line of a kind that says one number
 unfoldable pub number_object : (kind key : List ℕ) → ℕ → List ℕ
 number_object kind key number = codes "{\"line\":\"" ++ kind ++ codes "\"" ++ number_member key number ++ codes "}\n"
@@ -75,8 +82,12 @@ line_object (OkLine s g number place) = ok_object s g number place
 line_object (GapLine s g number why) = gap_object s g number why
 line_object (HoleLine s g first last) = hole_object s g first last
 line_object (BlocksLine s first last) = blocks_object s first last
+line_object (TallyLine s g t) = tally_object s g t
 line_object (UnlistedLine place) = number_object (codes "unlisted") (codes "place") place
 line_object (RefusedLine place) = number_object (codes "refused") (codes "place") place
 line_object (SpoiltLine place cause) = spoilt_object place cause
+line_object (UnlistedCountLine count) = number_object (codes "unlisted-count") (codes "count") count
+line_object (RefusedCountLine count) = number_object (codes "refused-count") (codes "count") count
+line_object (SpoiltCountLine count) = number_object (codes "spoilt-count") (codes "count") count
 line_object (TornLine offset) = number_object (codes "torn") (codes "offset") offset
 line_object (EndLine count) = number_object (codes "end") (codes "count") count

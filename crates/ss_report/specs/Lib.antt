@@ -1,13 +1,14 @@
 pub mod Log
 pub mod Next
 pub mod Words
-pub mod Ending
-pub mod Inspection
+pub mod Tally
 pub mod Lines
 pub mod ReportText
 pub mod Findings
 pub mod Json
 pub mod Forms
+pub mod Ending
+pub mod Inspection
 pub mod Listed
 pub mod QuestionText
 pub mod Counters

@@ -9,8 +9,10 @@ use Rattle.ss_review.specs.declared.report.entry.Why.TheVariants as whys
 use Rattle.ss_review.specs.declared.report.session_report.SessionState.{SessionState}
 use Rattle.ss_review.specs.declared.report.session_report.SessionState.TheVariants as states
 use Rattle.ss_review.specs.declared.report.report.Report.{Report}
+use Rattle.ss_report.specs.declared.lines.detail.Detail.TheVariants.{Each}
+use Rattle.ss_report.specs.declared.lines.tally.Tally.{Tally}
 use Rattle.ss_report.specs.Words.{spaced, session_words, group_words, number_line, spoilt_line}
-use Rattle.ss_report.specs.Lines.{ReportLine, SessionLine, OkLine, GapLine, HoleLine, BlocksLine, UnlistedLine, RefusedLine, SpoiltLine, TornLine, EndLine, lines}
+use Rattle.ss_report.specs.Lines.{ReportLine, SessionLine, OkLine, GapLine, HoleLine, BlocksLine, TallyLine, UnlistedLine, RefusedLine, SpoiltLine, UnlistedCountLine, RefusedCountLine, SpoiltCountLine, TornLine, EndLine, lines}
 
 abbrev pub state_word : SessionState → List ℕ
 state_word states.Joined = codes "joined"
@@ -44,6 +46,12 @@ hole_text s g first last = codes "hole" ++ session_words s ++ group_words g ++ s
 unfoldable pub blocks_text : Session → (first last : ℕ) → List ℕ
 blocks_text s first last = codes "blocks" ++ session_words s ++ spaced first ++ spaced last ++ codes "\n"
 
+-- tally HOST APP PROCID RSID SG SPRI OK LOST DISPUTED HOLES FIRST LAST
+unfoldable pub tally_text : Session → Group → Tally → List ℕ
+tally_text s g t =
+    codes "tally" ++ session_words s ++ group_words g ++ spaced t.listed ++ spaced t.lost ++ spaced t.disputed ++ spaced t.holes ++ spaced t.first ++ spaced t.last
+    ++ codes "\n"
+
 -- the text of a line
 abbrev pub line_text : ReportLine → List ℕ
 line_text (SessionLine s state) = session_text s state
@@ -51,12 +59,16 @@ line_text (OkLine s g number place) = ok_text s g number place
 line_text (GapLine s g number why) = gap_text s g number why
 line_text (HoleLine s g first last) = hole_text s g first last
 line_text (BlocksLine s first last) = blocks_text s first last
+line_text (TallyLine s g t) = tally_text s g t
 line_text (UnlistedLine place) = number_line (codes "unlisted") place
 line_text (RefusedLine place) = number_line (codes "refused") place
 line_text (SpoiltLine place cause) = spoilt_line place cause
+line_text (UnlistedCountLine count) = number_line (codes "unlisted-count") count
+line_text (RefusedCountLine count) = number_line (codes "refused-count") count
+line_text (SpoiltCountLine count) = number_line (codes "spoilt-count") count
 line_text (TornLine offset) = number_line (codes "torn") offset
 line_text (EndLine count) = number_line (codes "end") count
 
 -- the whole text
 abbrev pub report_lines : Report → Tail → List ℕ
-report_lines report tail = flat_map line_text (lines report tail)
+report_lines report tail = flat_map line_text (lines Each report tail)

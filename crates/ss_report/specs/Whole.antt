@@ -12,6 +12,7 @@ use Rattle.ss_review.specs.Verified.{Answers}
 use Rattle.ss_review.specs.Counted.{gbcs, next_after, missing_blocks}
 use Rattle.ss_review.specs.CountedLaws.{AreMissing, IsCounted}
 use Rattle.ss_review.specs.Verdict.{is_none}
+use Rattle.ss_report.specs.declared.lines.detail.Detail.{Detail}
 use Rattle.ss_report.specs.Lines.{ReportLine, BlocksLine, session_lines, other_lines}
 use Rattle.ss_report.specs.Verdict.{report_verdict}
 use Rattle.ss_report.specs.declared.verdict.Verdict.{Verdict}
@@ -30,15 +31,15 @@ abbrev pub missing_line : Session → MissingRun → ReportLine
 missing_line s r = BlocksLine s r.first r.last
 
 -- a session's lines, and those of its missing signature blocks behind its groups
-abbrev pub lines_and_missing : SessionReport → List MissingRun → List ReportLine
-lines_and_missing s runs = session_lines s ++ map (missing_line s.session) runs
+abbrev pub lines_and_missing : Detail → SessionReport → List MissingRun → List ReportLine
+lines_and_missing detail s runs = session_lines detail s ++ map (missing_line s.session) runs
 
-abbrev pub whole_session_lines : Answers → List BlockMessage → SessionReport → List ReportLine
-whole_session_lines says bs s = lines_and_missing s (missing_of says bs s.session)
+abbrev pub whole_session_lines : Detail → Answers → List BlockMessage → SessionReport → List ReportLine
+whole_session_lines detail says bs s = lines_and_missing detail s (missing_of says bs s.session)
 
 -- all lines of a report on a log with these blocks
-unfoldable pub whole_lines : Answers → List BlockMessage → Report → Tail → List ReportLine
-whole_lines says bs report tail = flat_map (whole_session_lines says bs) report.sessions ++ other_lines report tail
+unfoldable pub whole_lines : Detail → Answers → List BlockMessage → Report → Tail → List ReportLine
+whole_lines detail says bs report tail = flat_map (whole_session_lines detail says bs) report.sessions ++ other_lines detail report tail
 
 -- clean where the report is, at a clean end, and no signature block is missing
 unfoldable pub whole_verdict : Answers → List BlockMessage → Report → Tail → Verdict
@@ -47,11 +48,11 @@ whole_verdict says bs report tail =
 
 -- ---- the same by what was found to be missing of each session, in the order of the report
 
-abbrev pub lines_beside : SessionReport × List MissingRun → List ReportLine
-lines_beside p = lines_and_missing p.0 p.1
+abbrev pub lines_beside : Detail → SessionReport × List MissingRun → List ReportLine
+lines_beside detail p = lines_and_missing detail p.0 p.1
 
-unfoldable pub lines_with : Report → List (List MissingRun) → Tail → List ReportLine
-lines_with report missing tail = flat_map lines_beside (zip report.sessions missing) ++ other_lines report tail
+unfoldable pub lines_with : Detail → Report → List (List MissingRun) → Tail → List ReportLine
+lines_with detail report missing tail = flat_map (lines_beside detail) (zip report.sessions missing) ++ other_lines detail report tail
 
 abbrev pub verdict_with : Report → List (List MissingRun) → Tail → Verdict
 verdict_with report missing tail = if list_all is_none missing then report_verdict report tail else verdicts.Findings

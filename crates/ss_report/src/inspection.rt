@@ -1,121 +1,167 @@
 //! The line that says what a stored message is.
-ghost use Rattle.std.specs.Prelude.{◌≡◌, ◌++◌, None, length, OnOk};
+ghost use Rattle.std.specs.Prelude.{◌≡◌, ◌++◌, None, IfOk, OnOk};
+ghost use Rattle.ss_frame.specs.Watched.{sink_of};
+ghost use Rattle.ss_report.specs.Writing.{Writes};
 ghost use Rattle.ss_report.specs.Words.{spaced, group_words};
-ghost use Rattle.ss_report.specs.Inspection.{part_number, known_session_words, line_of, message_line};
+ghost use Rattle.ss_report.specs.Inspection.{part_number, known_session_words, line_of, reading_line, is_plain, message_line};
 
-use crate::words::{put_group, put_number_line, put_session, put_spaced, put_spoilt};
+use crate::forms::report_form::ReportForm;
+use crate::inspection_objects::write_reading_object;
+use crate::notation::Notation;
+use crate::output::{write_number, write_text};
+use crate::words::{write_group, write_number_line, write_session, write_spaced, write_spoilt};
 use ss_block::{CertBlock, Group, Reading, Session, SigBlock, classify_with_session};
-use ss_frame::put_number;
+use ss_frame::Watched;
 use ss_message::{NoMemory, Part};
-use std::alloc::{AllocError, Global};
+use std::alloc::Global;
+use std::io::Write;
 
-/// Puts the line of the message at this place, which counts the messages of the log from 0, behind the text.
-#[tactic(auto, unfolding(crate::specs::Inspection::message_line))]
+/// The text with the line of the message at this place behind it. Places count the messages of the log from 0.
 pub(crate) fn put_message(
     alloc: Global,
-    text: &mut Vec<u8>,
+    text: Vec<u8>,
     place: u64,
     message: &[u8],
+    form: ReportForm,
+) -> Result<Vec<u8>, NoMemory>
+    ensures { IfOk result (λ v. v.items ≡ text.items ++ message_line form place message.now) }
+{
+    let mut writer = Watched::new(text);
+    write_message(alloc, &mut writer, place, message, form)?;
+    if writer.failed() {
+        return Err(NoMemory);
+    }
+    Ok(writer.into_inner())
+}
+
+#[tactic(auto, unfolding(crate::specs::Inspection::message_line))]
+fn write_message<W: Write>(
+    alloc: Global,
+    writer: &mut Watched<W>,
+    place: u64,
+    message: &[u8],
+    form: ReportForm,
 ) -> Result<(), NoMemory>
-    ensures { OnOk result (text.new.items ≡ text.old.items ++ message_line place message.now) }
+    ensures { OnOk result (Writes (sink_of W.contents writer.old) (sink_of W.contents writer.new) (message_line form place message.now)) }
 {
     let (reading, session) = classify_with_session(alloc, message)?;
-    match reading {
-        Reading::Plain => put_number_line(text, b"plain", place)?,
-        Reading::Unparsed { part, pos } => put_unparsed(text, place, part, pos)?,
-        Reading::Signature(block) => put_signature(text, place, &session, &block)?,
-        Reading::Certificate(block) => put_certificate(text, place, &session, &block)?,
-        Reading::Spoilt(cause) => put_spoilt(text, place, cause)?,
+    if form.has_findings_alone() && is_plain(&reading) {
+        return Ok(());
     }
+    write_reading(writer, &reading, &session, place, form.notation());
     Ok(())
 }
 
-/// unparsed PLACE Mn POS
-fn put_unparsed(text: &mut Vec<u8>, place: u64, part: Part, pos: usize) -> Result<(), AllocError>
-    ensures { OnOk result (text.new.items ≡ text.old.items ++ line_of (Reading.Unparsed part pos) None place) }
+fn is_plain(reading: &Reading) -> bool
+    ensures { result ≡ is_plain reading.now }
 {
-    text.extend_from_slice(b"unparsed")?;
-    put_spaced(text, place)?;
-    text.extend_from_slice(b" M")?;
-    put_number(text, number_of_part(part))?;
-    put_spaced(text, pos as u64)?;
-    text.extend_from_slice(b"\n")
+    matches!(reading, Reading::Plain)
+}
+
+fn write_reading<W: Write>(
+    writer: &mut Watched<W>,
+    reading: &Reading,
+    session: &Option<Session>,
+    place: u64,
+    notation: Notation,
+)
+    ensures { Writes (sink_of W.contents writer.old) (sink_of W.contents writer.new) (reading_line notation reading.now session.now place) }
+{
+    match notation {
+        Notation::Plain => write_reading_text(writer, reading, session, place),
+        Notation::Json => write_reading_object(writer, reading, session, place),
+    }
+}
+
+fn write_reading_text<W: Write>(
+    writer: &mut Watched<W>,
+    reading: &Reading,
+    session: &Option<Session>,
+    place: u64,
+)
+    ensures { Writes (sink_of W.contents writer.old) (sink_of W.contents writer.new) (line_of reading.now session.now place) }
+{
+    match reading {
+        Reading::Plain => write_number_line(writer, b"plain", place),
+        Reading::Unparsed { part, pos } => write_unparsed(writer, place, *part, *pos),
+        Reading::Signature(block) => write_signature(writer, place, session, block),
+        Reading::Certificate(block) => write_certificate(writer, place, session, block),
+        Reading::Spoilt(cause) => write_spoilt(writer, place, *cause),
+    }
+}
+
+/// unparsed PLACE Mn POS
+fn write_unparsed<W: Write>(writer: &mut Watched<W>, place: u64, part: Part, pos: usize)
+    ensures { Writes (sink_of W.contents writer.old) (sink_of W.contents writer.new) (line_of (Reading.Unparsed part pos) None place) }
+{
+    write_text(writer, b"unparsed");
+    write_spaced(writer, place);
+    write_text(writer, b" M");
+    write_number(writer, number_of_part(part));
+    write_spaced(writer, pos as u64);
+    write_text(writer, b"\n");
 }
 
 /// signature PLACE HOST APP PROCID RSID SG SPRI GBC FMN CNT
-fn put_signature(
-    text: &mut Vec<u8>,
+fn write_signature<W: Write>(
+    writer: &mut Watched<W>,
     place: u64,
     session: &Option<Session>,
     block: &SigBlock,
-) -> Result<(), AllocError>
-    ensures { OnOk result (text.new.items ≡ text.old.items ++ line_of (Reading.Signature block.now) session.now place) }
+)
+    ensures { Writes (sink_of W.contents writer.old) (sink_of W.contents writer.new) (line_of (Reading.Signature block.now) session.now place) }
 {
-    put_head(text, b"signature", place, session, block.group())?;
-    put_numbers(text, block)?;
-    text.extend_from_slice(b"\n")
+    write_head(writer, b"signature", place, session, block.group());
+    write_spaced(writer, block.gbc());
+    write_spaced(writer, block.first());
+    write_spaced(writer, block.hashes().as_slice().len() as u64);
+    write_text(writer, b"\n");
 }
 
 /// certificate PLACE HOST APP PROCID RSID SG SPRI TPBL INDEX FLEN
-fn put_certificate(
-    text: &mut Vec<u8>,
+fn write_certificate<W: Write>(
+    writer: &mut Watched<W>,
     place: u64,
     session: &Option<Session>,
     block: &CertBlock,
-) -> Result<(), AllocError>
-    ensures { OnOk result (text.new.items ≡ text.old.items ++ line_of (Reading.Certificate block.now) session.now place) }
+)
+    ensures { Writes (sink_of W.contents writer.old) (sink_of W.contents writer.new) (line_of (Reading.Certificate block.now) session.now place) }
 {
-    put_head(text, b"certificate", place, session, block.group())?;
-    put_extent(text, block)?;
-    text.extend_from_slice(b"\n")
-}
-
-/// GBC FMN CNT, with the SP before each.
-fn put_numbers(text: &mut Vec<u8>, block: &SigBlock) -> Result<(), AllocError>
-    ensures { OnOk result (text.new.items ≡ text.old.items ++ (spaced block.now.gbc ++ spaced block.now.first ++ spaced (length block.now.hashes))) }
-{
-    put_spaced(text, block.gbc())?;
-    put_spaced(text, block.first())?;
-    put_spaced(text, block.hashes().as_slice().len() as u64)
-}
-
-/// TPBL INDEX FLEN, with the SP before each.
-fn put_extent(text: &mut Vec<u8>, block: &CertBlock) -> Result<(), AllocError>
-    ensures { OnOk result (text.new.items ≡ text.old.items ++ (spaced block.now.total ++ spaced block.now.index ++ spaced (length block.now.fragment))) }
-{
-    put_spaced(text, u64::from(block.total()))?;
-    put_spaced(text, u64::from(block.index()))?;
-    put_spaced(text, block.fragment().as_slice().len() as u64)
+    write_head(writer, b"certificate", place, session, block.group());
+    write_spaced(writer, u64::from(block.total()));
+    write_spaced(writer, u64::from(block.index()));
+    write_spaced(writer, block.fragment().as_slice().len() as u64);
+    write_text(writer, b"\n");
 }
 
 /// The kind, PLACE, and what a block of either kind says: HOST APP PROCID RSID SG SPRI.
-fn put_head(
-    text: &mut Vec<u8>,
+fn write_head<W: Write>(
+    writer: &mut Watched<W>,
     kind: &[u8],
     place: u64,
     session: &Option<Session>,
     group: Group,
-) -> Result<(), AllocError>
-    ensures { OnOk result (text.new.items ≡ text.old.items ++ (kind.now ++ spaced place ++ known_session_words session.now ++ group_words group)) }
+)
+    ensures { Writes (sink_of W.contents writer.old) (sink_of W.contents writer.new) (kind.now ++ spaced place ++ known_session_words session.now ++ group_words group) }
 {
-    text.extend_from_slice(kind)?;
-    put_spaced(text, place)?;
-    put_known_session(text, session)?;
-    put_group(text, group)
+    write_text(writer, kind);
+    write_spaced(writer, place);
+    write_known_session(writer, session);
+    write_group(writer, group);
 }
 
 /// HOST APP PROCID RSID, with the SP before each, where a session is known.
-fn put_known_session(text: &mut Vec<u8>, session: &Option<Session>) -> Result<(), AllocError>
-    ensures { OnOk result (text.new.items ≡ text.old.items ++ known_session_words session.now) }
+fn write_known_session<W: Write>(writer: &mut Watched<W>, session: &Option<Session>)
+    ensures { Writes (sink_of W.contents writer.old) (sink_of W.contents writer.new) (known_session_words session.now) }
 {
     match session {
-        None => Ok(()),
-        Some(session) => put_session(text, session),
+        None => {}
+        Some(session) => write_session(writer, session),
     }
 }
 
 /// The number of the part at fault, 1 to 12.
-fn number_of_part(part: Part) -> u64
+pub(crate) fn number_of_part(part: Part) -> u64
     ensures { result ≡ part_number part }
 {
     match part {

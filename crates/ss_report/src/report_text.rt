@@ -5,6 +5,7 @@ ghost use Rattle.ss_report.specs.Writing.{Writes};
 ghost use Rattle.ss_report.specs.ReportText.{report_lines};
 
 use crate::forms::text::Text;
+use crate::lines::detail::Detail;
 use crate::lines::walk::write_lines;
 use ss_frame::{Bytes, Tail, Watched};
 use ss_message::NoMemory;
@@ -32,5 +33,5 @@ pub fn report_text(alloc: Global, report: &Report, tail: Tail) -> Result<Bytes, 
 pub(crate) fn write_report<W: Write>(writer: &mut Watched<W>, report: &Report, tail: Tail)
     ensures { Writes (sink_of W.contents writer.old) (sink_of W.contents writer.new) (report_lines report.now tail) }
 {
-    write_lines(&Text, writer, report, tail);
+    write_lines(&Text, writer, report, tail, Detail::Each);
 }

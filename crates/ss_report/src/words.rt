@@ -1,83 +1,14 @@
 //! What the texts about a log say in one way.
-ghost use Rattle.std.specs.Prelude.{◌≡◌, ◌++◌, codes, OnOk};
+ghost use Rattle.std.specs.Prelude.{◌≡◌, ◌++◌, codes};
 ghost use Rattle.ss_frame.specs.Watched.{sink_of};
 ghost use Rattle.ss_report.specs.Writing.{Writes};
 ghost use Rattle.ss_report.specs.Words.{spaced, field_word, session_words, group_words, cause_number, number_line, spoilt_line};
 
-use crate::output::{write_number, write_text};
+use crate::output::{write_number, write_text, write_wide_number};
 use ss_block::{Group, Session, Spoil};
-use ss_frame::{Watched, put_number};
+use ss_frame::Watched;
 use ss_message::Field;
-use std::alloc::AllocError;
 use std::io::Write;
-
-/// A number and the SP before it.
-pub(crate) fn put_spaced(text: &mut Vec<u8>, number: u64) -> Result<(), AllocError>
-    ensures { OnOk result (text.new.items ≡ text.old.items ++ spaced number) }
-{
-    text.extend_from_slice(b" ")?;
-    put_number(text, number)
-}
-
-/// A word and the SP before it.
-pub(crate) fn put_word(text: &mut Vec<u8>, word: &[u8]) -> Result<(), AllocError>
-    ensures { OnOk result (text.new.items ≡ text.old.items ++ codes " " ++ word.now) }
-{
-    text.extend_from_slice(b" ")?;
-    text.extend_from_slice(word)
-}
-
-/// A header field and the SP before it; `-` for an absent one.
-fn put_field(text: &mut Vec<u8>, field: &Field) -> Result<(), AllocError>
-    ensures { OnOk result (text.new.items ≡ text.old.items ++ codes " " ++ field_word field.now) }
-{
-    match field {
-        Field::Nil => put_word(text, b"-"),
-        Field::Text(octets) => put_word(text, octets.as_slice()),
-    }
-}
-
-/// HOST APP PROCID RSID, with the SP before each.
-pub(crate) fn put_session(text: &mut Vec<u8>, session: &Session) -> Result<(), AllocError>
-    ensures { OnOk result (text.new.items ≡ text.old.items ++ session_words session.now) }
-{
-    put_field(text, &session.host)?;
-    put_field(text, &session.app)?;
-    put_field(text, &session.procid)?;
-    put_spaced(text, session.rsid)
-}
-
-/// SG SPRI, with the SP before each.
-pub(crate) fn put_group(text: &mut Vec<u8>, group: Group) -> Result<(), AllocError>
-    ensures { OnOk result (text.new.items ≡ text.old.items ++ group_words group) }
-{
-    put_spaced(text, u64::from(group.sg))?;
-    put_spaced(text, u64::from(group.spri))
-}
-
-/// A kind and a number.
-pub(crate) fn put_number_line(
-    text: &mut Vec<u8>,
-    kind: &[u8],
-    number: u64,
-) -> Result<(), AllocError>
-    ensures { OnOk result (text.new.items ≡ text.old.items ++ number_line kind.now number) }
-{
-    text.extend_from_slice(kind)?;
-    put_spaced(text, number)?;
-    text.extend_from_slice(b"\n")
-}
-
-/// spoilt PLACE Sn
-pub(crate) fn put_spoilt(text: &mut Vec<u8>, place: u64, cause: Spoil) -> Result<(), AllocError>
-    ensures { OnOk result (text.new.items ≡ text.old.items ++ spoilt_line place cause) }
-{
-    text.extend_from_slice(b"spoilt")?;
-    put_spaced(text, place)?;
-    text.extend_from_slice(b" S")?;
-    put_number(text, number_of_cause(cause))?;
-    text.extend_from_slice(b"\n")
-}
 
 /// Writes a number and the SP before it.
 pub(crate) fn write_spaced<W: Write>(writer: &mut Watched<W>, number: u64)
@@ -85,6 +16,14 @@ pub(crate) fn write_spaced<W: Write>(writer: &mut Watched<W>, number: u64)
 {
     write_text(writer, b" ");
     write_number(writer, number);
+}
+
+/// Writes a number of up to 128 bits and the SP before it.
+pub(crate) fn write_wide<W: Write>(writer: &mut Watched<W>, number: u128)
+    ensures { Writes (sink_of W.contents writer.old) (sink_of W.contents writer.new) (spaced number) }
+{
+    write_text(writer, b" ");
+    write_wide_number(writer, number);
 }
 
 /// Writes a word and the SP before it.

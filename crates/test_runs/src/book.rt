@@ -6,7 +6,7 @@ ghost use Rattle.ss_frame.specs.Watched.{has_failed};
 use crate::texts::{Text, signed_of};
 use ss_block::Scheme;
 use ss_frame::{Limits, Watched};
-use ss_report::{RunFault, Verdict, run_extract, run_questions, run_review};
+use ss_report::{Notation, RunFault, Verdict, run_extract, run_questions, run_review};
 use ss_review::{Judge, Verifier};
 use std::alloc::{AllocError, Global};
 use std::io::{Read, Write};
@@ -91,7 +91,7 @@ pub(crate) fn run_by<R: Read, W: Write>(
     let verifier = Verifier::new(book, trust, check);
     match job {
         Job::Review => run_review(alloc, reader, writer, &verifier, limits),
-        Job::Questions => run_questions(alloc, reader, writer, limits),
+        Job::Questions => run_questions(alloc, reader, writer, limits, Notation::Plain),
         Job::Extract => run_extract(alloc, reader, writer, &verifier, limits),
     }
 }

@@ -1,7 +1,7 @@
 //! Inspections of logs that cannot be read, over devices that fail, and where memory runs out: nothing is written then but
 //! by a write that failed.
 use ss_frame::{FrameFault, Limits, Watched};
-use ss_report::{RunFault, Verdict, run_inspect};
+use ss_report::{ReportForm, RunFault, Verdict, run_inspect};
 use std::io::ErrorKind;
 use std::process::Abort;
 use std::test::Fail;
@@ -48,7 +48,13 @@ fn stops_with_nothing_else_written(rt: HostRuntime) -> Result<(), Fail> {
         let limits = Limits::new(*max_len, *max_messages).ok_or("no limits")?;
         let mut reader = Watched::new(*log);
         let mut writer = Watched::new(Paper::new(1));
-        let said = run_inspect(rt.alloc(), &mut reader, &mut writer, limits);
+        let said = run_inspect(
+            rt.alloc(),
+            &mut reader,
+            &mut writer,
+            limits,
+            ReportForm::Text,
+        );
         assert_eq!(rt; said, Err(RunFault::Frame(*fault)));
         assert!(rt; !reader.failed() && !writer.failed(), "{fault:?}");
         assert_eq!(rt; writer.into_inner().writes, 0, "{fault:?}");
@@ -59,7 +65,13 @@ fn stops_with_nothing_else_written(rt: HostRuntime) -> Result<(), Fail> {
         for read in 1..375 {
             let mut reader = Watched::new(Pieces::failing(LOG, 1, read, kind));
             let mut writer = Watched::new(Paper::new(1));
-            let said = run_inspect(rt.alloc(), &mut reader, &mut writer, limits);
+            let said = run_inspect(
+                rt.alloc(),
+                &mut reader,
+                &mut writer,
+                limits,
+                ReportForm::Text,
+            );
             assert_eq!(rt; said, Err(RunFault::Frame(FrameFault::Read)), "at {read}");
             assert!(rt; reader.failed() && !writer.failed(), "at {read}");
             assert_eq!(rt; reader.into_inner().reads, read);
@@ -71,7 +83,13 @@ fn stops_with_nothing_else_written(rt: HostRuntime) -> Result<(), Fail> {
             let write = before as u64 + 1;
             let mut reader = Watched::new(LOG);
             let mut writer = Watched::new(Paper::refusing(1, write, refusal));
-            let said = run_inspect(rt.alloc(), &mut reader, &mut writer, limits);
+            let said = run_inspect(
+                rt.alloc(),
+                &mut reader,
+                &mut writer,
+                limits,
+                ReportForm::Text,
+            );
             assert_eq!(rt; said, Err(RunFault::Write), "at {write}");
             assert!(rt; writer.failed() && !reader.failed(), "at {write}");
             let paper = writer.into_inner();
@@ -81,7 +99,13 @@ fn stops_with_nothing_else_written(rt: HostRuntime) -> Result<(), Fail> {
     }
     let mut reader = Watched::new(LOG);
     let mut writer = Watched::new(Paper::failing_at_flush(1));
-    let said = run_inspect(rt.alloc(), &mut reader, &mut writer, limits);
+    let said = run_inspect(
+        rt.alloc(),
+        &mut reader,
+        &mut writer,
+        limits,
+        ReportForm::Text,
+    );
     assert_eq!(rt; said, Err(RunFault::Write));
     assert!(rt; writer.failed() && !reader.failed());
     assert_eq!(rt; writer.into_inner().text(), INSPECTION);
@@ -92,7 +116,13 @@ fn stops_with_nothing_else_written(rt: HostRuntime) -> Result<(), Fail> {
 fn inspect(rt: &(impl Abort + AllocGlobal)) -> Result<Verdict, RunFault> {
     let mut reader = Watched::new(Pieces::new(LOG, 1));
     let mut writer = Watched::new(Paper::new(1));
-    let said = run_inspect(rt.alloc(), &mut reader, &mut writer, Limits::standard());
+    let said = run_inspect(
+        rt.alloc(),
+        &mut reader,
+        &mut writer,
+        Limits::standard(),
+        ReportForm::Text,
+    );
     assert!(rt; !reader.failed() && !writer.failed(), "{said:?}");
     let paper = writer.into_inner();
     match said {

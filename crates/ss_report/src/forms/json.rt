@@ -2,14 +2,16 @@
 ghost use Rattle.ss_frame.specs.Watched.{sink_of};
 ghost use Rattle.ss_report.specs.Writing.{Writes};
 ghost use Rattle.ss_report.specs.Lines.{seen};
-ghost use Rattle.ss_report.specs.Json.{session_object, ok_object, gap_object, hole_object, blocks_object, number_object, spoilt_object, line_object};
+ghost use Rattle.ss_report.specs.Json.{session_object, ok_object, gap_object, hole_object, blocks_object, tally_object, number_object, spoilt_object, line_object};
 
 use crate::forms::members::{
-    write_group_members, write_number_member, write_session_members, write_word_member,
+    write_group_members, write_number_member, write_session_members, write_wide_member,
+    write_word_member,
 };
 use crate::forms::text::{word_of_state, word_of_why};
 use crate::lines::form::Form;
 use crate::lines::line::Line;
+use crate::lines::tally::Tally;
 use crate::output::{write_number, write_text};
 use crate::words::number_of_cause;
 use ss_block::{Group, Session, Spoil};
@@ -54,9 +56,17 @@ pub(crate) fn write_object<W: Write>(writer: &mut Watched<W>, line: Line<'_>)
             last,
         } => write_hole(writer, session, group, first, last),
         Line::Blocks { session, run } => write_blocks(writer, session, run),
+        Line::Tally {
+            session,
+            group,
+            tally,
+        } => write_tally(writer, session, group, tally),
         Line::Unlisted { place } => write_one(writer, b"unlisted", b"place", u64::from(place)),
         Line::Refused { place } => write_one(writer, b"refused", b"place", u64::from(place)),
         Line::Spoilt { place, cause } => write_spoilt(writer, u64::from(place), cause),
+        Line::UnlistedCount { count } => write_one(writer, b"unlisted-count", b"count", count),
+        Line::RefusedCount { count } => write_one(writer, b"refused-count", b"count", count),
+        Line::SpoiltCount { count } => write_one(writer, b"spoilt-count", b"count", count),
         Line::Torn { offset } => write_one(writer, b"torn", b"offset", offset),
         Line::End { count } => write_one(writer, b"end", b"count", u64::from(count)),
     }
@@ -137,9 +147,25 @@ fn write_blocks<W: Write>(writer: &mut Watched<W>, session: &Session, run: Missi
     write_text(writer, b"}\n");
 }
 
+#[tactic(auto, unfolding(crate::specs::Json::tally_object))]
+fn write_tally<W: Write>(writer: &mut Watched<W>, session: &Session, group: Group, tally: Tally)
+    ensures { Writes (sink_of W.contents writer.old) (sink_of W.contents writer.new) (tally_object session.now group tally) }
+{
+    write_text(writer, b"{\"line\":\"tally\"");
+    write_session_members(writer, session);
+    write_group_members(writer, group);
+    write_number_member(writer, b"ok", tally.listed);
+    write_number_member(writer, b"lost", tally.lost);
+    write_number_member(writer, b"disputed", tally.disputed);
+    write_wide_member(writer, b"holes", tally.holes);
+    write_number_member(writer, b"first", tally.first);
+    write_number_member(writer, b"last", tally.last);
+    write_text(writer, b"}\n");
+}
+
 /// Writes the object of a line that says one number.
 #[tactic(auto, unfolding(crate::specs::Json::number_object))]
-fn write_one<W: Write>(writer: &mut Watched<W>, kind: &[u8], key: &[u8], number: u64)
+pub(crate) fn write_one<W: Write>(writer: &mut Watched<W>, kind: &[u8], key: &[u8], number: u64)
     ensures { Writes (sink_of W.contents writer.old) (sink_of W.contents writer.new) (number_object kind.now key.now number) }
 {
     write_text(writer, b"{\"line\":\"");
@@ -150,7 +176,7 @@ fn write_one<W: Write>(writer: &mut Watched<W>, kind: &[u8], key: &[u8], number:
 }
 
 #[tactic(auto, unfolding(crate::specs::Json::spoilt_object))]
-fn write_spoilt<W: Write>(writer: &mut Watched<W>, place: u64, cause: Spoil)
+pub(crate) fn write_spoilt<W: Write>(writer: &mut Watched<W>, place: u64, cause: Spoil)
     ensures { Writes (sink_of W.contents writer.old) (sink_of W.contents writer.new) (spoilt_object place cause) }
 {
     write_text(writer, b"{\"line\":\"spoilt\"");

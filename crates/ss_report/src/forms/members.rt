@@ -6,7 +6,7 @@ ghost use Rattle.ss_report.specs.Writing.{Writes};
 ghost use Rattle.ss_report.specs.Words.{field_word};
 ghost use Rattle.ss_report.specs.Json.{is_escaped, escaped, number_member, word_member, text_member, session_members, group_members};
 
-use crate::output::{write_number, write_text};
+use crate::output::{write_number, write_text, write_wide_number};
 use ss_block::{Group, Session};
 use ss_frame::Watched;
 use ss_message::Field;
@@ -21,6 +21,17 @@ pub(crate) fn write_number_member<W: Write>(writer: &mut Watched<W>, key: &[u8],
     write_text(writer, key);
     write_text(writer, b"\":");
     write_number(writer, number);
+}
+
+/// Writes ,"KEY":NUMBER, where the number has up to 128 bits.
+#[tactic(auto, unfolding(crate::specs::Json::number_member))]
+pub(crate) fn write_wide_member<W: Write>(writer: &mut Watched<W>, key: &[u8], number: u128)
+    ensures { Writes (sink_of W.contents writer.old) (sink_of W.contents writer.new) (number_member key.now number) }
+{
+    write_text(writer, b",\"");
+    write_text(writer, key);
+    write_text(writer, b"\":");
+    write_wide_number(writer, number);
 }
 
 /// Writes ,"KEY":"WORD", where the word has no octet that is escaped.

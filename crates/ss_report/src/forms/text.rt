@@ -3,13 +3,15 @@ ghost use Rattle.std.specs.Prelude.{◌≡◌};
 ghost use Rattle.ss_frame.specs.Watched.{sink_of};
 ghost use Rattle.ss_report.specs.Writing.{Writes};
 ghost use Rattle.ss_report.specs.Lines.{seen};
-ghost use Rattle.ss_report.specs.ReportText.{state_word, why_word, session_text, ok_text, gap_text, hole_text, blocks_text, line_text};
+ghost use Rattle.ss_report.specs.ReportText.{state_word, why_word, session_text, ok_text, gap_text, hole_text, blocks_text, tally_text, line_text};
 
 use crate::lines::form::Form;
 use crate::lines::line::Line;
+use crate::lines::tally::Tally;
 use crate::output::write_text;
 use crate::words::{
-    write_group, write_number_line, write_session, write_spaced, write_spoilt, write_word,
+    write_group, write_number_line, write_session, write_spaced, write_spoilt, write_wide,
+    write_word,
 };
 use ss_block::{Group, Session};
 use ss_frame::Watched;
@@ -53,9 +55,17 @@ pub(crate) fn write_line<W: Write>(writer: &mut Watched<W>, line: Line<'_>)
             last,
         } => write_hole(writer, session, group, first, last),
         Line::Blocks { session, run } => write_blocks(writer, session, run),
+        Line::Tally {
+            session,
+            group,
+            tally,
+        } => write_tally(writer, session, group, tally),
         Line::Unlisted { place } => write_number_line(writer, b"unlisted", u64::from(place)),
         Line::Refused { place } => write_number_line(writer, b"refused", u64::from(place)),
         Line::Spoilt { place, cause } => write_spoilt(writer, u64::from(place), cause),
+        Line::UnlistedCount { count } => write_number_line(writer, b"unlisted-count", count),
+        Line::RefusedCount { count } => write_number_line(writer, b"refused-count", count),
+        Line::SpoiltCount { count } => write_number_line(writer, b"spoilt-count", count),
         Line::Torn { offset } => write_number_line(writer, b"torn", offset),
         Line::End { count } => write_number_line(writer, b"end", u64::from(count)),
     }
@@ -162,5 +172,22 @@ fn write_blocks<W: Write>(writer: &mut Watched<W>, session: &Session, run: Missi
     write_session(writer, session);
     write_spaced(writer, run.first);
     write_spaced(writer, run.last);
+    write_text(writer, b"\n");
+}
+
+/// tally HOST APP PROCID RSID SG SPRI OK LOST DISPUTED HOLES FIRST LAST
+#[tactic(auto, unfolding(crate::specs::ReportText::tally_text))]
+fn write_tally<W: Write>(writer: &mut Watched<W>, session: &Session, group: Group, tally: Tally)
+    ensures { Writes (sink_of W.contents writer.old) (sink_of W.contents writer.new) (tally_text session.now group tally) }
+{
+    write_text(writer, b"tally");
+    write_session(writer, session);
+    write_group(writer, group);
+    write_spaced(writer, tally.listed);
+    write_spaced(writer, tally.lost);
+    write_spaced(writer, tally.disputed);
+    write_wide(writer, tally.holes);
+    write_spaced(writer, tally.first);
+    write_spaced(writer, tally.last);
     write_text(writer, b"\n");
 }

@@ -1,4 +1,5 @@
 //! A line of a report.
+use crate::lines::tally::Tally;
 use ss_block::{Group, Session, Spoil};
 use ss_review::{MissingRun, SessionState, Why};
 
@@ -37,6 +38,12 @@ pub(crate) enum Line<'r> {
         session: &'r Session,
         run: MissingRun,
     },
+    /// What is said of the numbers of a group.
+    Tally {
+        session: &'r Session,
+        group: Group,
+        tally: Tally,
+    },
     /// A message without a block that is listed nowhere.
     Unlisted {
         place: u32,
@@ -49,6 +56,18 @@ pub(crate) enum Line<'r> {
     Spoilt {
         place: u32,
         cause: Spoil,
+    },
+    /// How many messages without a block are listed nowhere.
+    UnlistedCount {
+        count: u64,
+    },
+    /// How many blocks aren't verified.
+    RefusedCount {
+        count: u64,
+    },
+    /// How many messages have a block element that holds no block.
+    SpoiltCount {
+        count: u64,
     },
     /// The log breaks off in a frame or line, which begins at this octet.
     Torn {

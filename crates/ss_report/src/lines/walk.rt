@@ -2,10 +2,13 @@
 ghost use Rattle.std.specs.Prelude.{◌≡◌, ◌++◌, ◌∷◌, [], map, flat_map};
 ghost use Rattle.ss_frame.specs.Watched.{sink_of};
 ghost use Rattle.ss_report.specs.Writing.{Writes};
-ghost use Rattle.ss_report.specs.Lines.{UnlistedLine, RefusedLine, EndLine, entry_line, group_lines, session_lines, spoilt_place_line, tail_lines, other_lines, lines, seen};
+ghost use Rattle.ss_report.specs.Lines.{UnlistedLine, RefusedLine, EndLine};
+ghost use Rattle.ss_report.specs.Lines.{entry_line, group_lines, session_lines, spoilt_place_line, single_lines, tail_lines, other_lines, lines, seen};
 
+use crate::lines::detail::Detail;
 use crate::lines::form::Form;
 use crate::lines::line::Line;
+use crate::lines::tally::Tally;
 use ss_block::{Group, Session};
 use ss_frame::{Tail, Watched};
 use ss_review::{Entry, GroupReport, Report, SessionReport, SpoiltPlace};
@@ -18,11 +21,12 @@ pub(crate) fn write_lines<F: Form, W: Write>(
     writer: &mut Watched<W>,
     report: &Report,
     tail: Tail,
+    detail: Detail,
 )
-    ensures { Writes (sink_of W.contents writer.old) (sink_of W.contents writer.new) (flat_map (F.text form.now) (lines report.now tail)) }
+    ensures { Writes (sink_of W.contents writer.old) (sink_of W.contents writer.new) (flat_map (F.text form.now) (lines detail report.now tail)) }
 {
-    write_sessions(form, writer, report.sessions.as_slice());
-    write_others(form, writer, report, tail);
+    write_sessions(form, writer, report.sessions.as_slice(), detail);
+    write_others(form, writer, report, tail, detail);
 }
 
 /// The lines behind those of the sessions.
@@ -32,20 +36,62 @@ pub(crate) fn write_others<F: Form, W: Write>(
     writer: &mut Watched<W>,
     report: &Report,
     tail: Tail,
+    detail: Detail,
 )
-    ensures { Writes (sink_of W.contents writer.old) (sink_of W.contents writer.new) (flat_map (F.text form.now) (other_lines report.now tail)) }
+    ensures { Writes (sink_of W.contents writer.old) (sink_of W.contents writer.new) (flat_map (F.text form.now) (other_lines detail report.now tail)) }
+{
+    write_singles(form, writer, report, detail);
+    write_end(form, writer, tail, report.count);
+}
+
+/// What is said of single messages.
+fn write_singles<F: Form, W: Write>(
+    form: &F,
+    writer: &mut Watched<W>,
+    report: &Report,
+    detail: Detail,
+)
+    ensures { Writes (sink_of W.contents writer.old) (sink_of W.contents writer.new) (flat_map (F.text form.now) (single_lines detail report.now)) }
+{
+    match detail {
+        Detail::Each => write_each(form, writer, report),
+        Detail::Tally => write_counts(form, writer, report),
+    }
+}
+
+/// The lines of single messages.
+#[tactic(auto, unfolding(crate::specs::Lines::single_lines))]
+fn write_each<F: Form, W: Write>(form: &F, writer: &mut Watched<W>, report: &Report)
+    ensures { Writes (sink_of W.contents writer.old) (sink_of W.contents writer.new) (flat_map (F.text form.now) (single_lines Detail.Each report.now)) }
 {
     write_unlisted(form, writer, report.unlisted.as_slice());
     write_refused(form, writer, report.refused.as_slice());
     write_spoilts(form, writer, report.spoilt.as_slice());
-    write_end(form, writer, tail, report.count);
 }
 
-fn write_sessions<F: Form, W: Write>(form: &F, writer: &mut Watched<W>, sessions: &[SessionReport])
-    ensures { Writes (sink_of W.contents writer.old) (sink_of W.contents writer.new) (flat_map (F.text form.now) (flat_map session_lines sessions.now)) }
+/// How many single messages there are.
+#[tactic(auto, unfolding(crate::specs::Lines::single_lines))]
+fn write_counts<F: Form, W: Write>(form: &F, writer: &mut Watched<W>, report: &Report)
+    ensures { Writes (sink_of W.contents writer.old) (sink_of W.contents writer.new) (flat_map (F.text form.now) (single_lines Detail.Tally report.now)) }
+{
+    let unlisted = report.unlisted.as_slice().len() as u64;
+    let refused = report.refused.as_slice().len() as u64;
+    let spoilt = report.spoilt.as_slice().len() as u64;
+    form.write(writer, Line::UnlistedCount { count: unlisted });
+    form.write(writer, Line::RefusedCount { count: refused });
+    form.write(writer, Line::SpoiltCount { count: spoilt });
+}
+
+fn write_sessions<F: Form, W: Write>(
+    form: &F,
+    writer: &mut Watched<W>,
+    sessions: &[SessionReport],
+    detail: Detail,
+)
+    ensures { Writes (sink_of W.contents writer.old) (sink_of W.contents writer.new) (flat_map (F.text form.now) (flat_map (session_lines detail) sessions.now)) }
 {
     for session in sessions {
-        write_session(form, writer, session);
+        write_session(form, writer, session, detail);
     }
 }
 
@@ -54,13 +100,14 @@ pub(crate) fn write_session<F: Form, W: Write>(
     form: &F,
     writer: &mut Watched<W>,
     report: &SessionReport,
+    detail: Detail,
 )
-    ensures { Writes (sink_of W.contents writer.old) (sink_of W.contents writer.new) (flat_map (F.text form.now) (session_lines report.now)) }
+    ensures { Writes (sink_of W.contents writer.old) (sink_of W.contents writer.new) (flat_map (F.text form.now) (session_lines detail report.now)) }
 {
     let session = &report.session;
     let state = report.state;
     form.write(writer, Line::Session { session, state });
-    write_groups(form, writer, session, report.groups.as_slice());
+    write_groups(form, writer, session, report.groups.as_slice(), detail);
 }
 
 fn write_groups<F: Form, W: Write>(
@@ -68,12 +115,49 @@ fn write_groups<F: Form, W: Write>(
     writer: &mut Watched<W>,
     session: &Session,
     groups: &[GroupReport],
+    detail: Detail,
 )
-    ensures { Writes (sink_of W.contents writer.old) (sink_of W.contents writer.new) (flat_map (F.text form.now) (flat_map (group_lines session.now) groups.now)) }
+    ensures { Writes (sink_of W.contents writer.old) (sink_of W.contents writer.new) (flat_map (F.text form.now) (flat_map (group_lines detail session.now) groups.now)) }
 {
     for group in groups {
-        write_entries(form, writer, session, group);
+        write_group(form, writer, session, group, detail);
     }
+}
+
+/// What is said of a group.
+fn write_group<F: Form, W: Write>(
+    form: &F,
+    writer: &mut Watched<W>,
+    session: &Session,
+    report: &GroupReport,
+    detail: Detail,
+)
+    ensures { Writes (sink_of W.contents writer.old) (sink_of W.contents writer.new) (flat_map (F.text form.now) (group_lines detail session.now report.now)) }
+{
+    match detail {
+        Detail::Each => write_entries(form, writer, session, report),
+        Detail::Tally => write_tally(form, writer, session, report),
+    }
+}
+
+fn write_tally<F: Form, W: Write>(
+    form: &F,
+    writer: &mut Watched<W>,
+    session: &Session,
+    report: &GroupReport,
+)
+    ensures { Writes (sink_of W.contents writer.old) (sink_of W.contents writer.new) (flat_map (F.text form.now) (group_lines Detail.Tally session.now report.now)) }
+{
+    let group = report.group;
+    let tally = Tally::of(report.entries.as_slice());
+    form.write(
+        writer,
+        Line::Tally {
+            session,
+            group,
+            tally,
+        },
+    );
 }
 
 fn write_entries<F: Form, W: Write>(
@@ -82,7 +166,7 @@ fn write_entries<F: Form, W: Write>(
     session: &Session,
     report: &GroupReport,
 )
-    ensures { Writes (sink_of W.contents writer.old) (sink_of W.contents writer.new) (flat_map (F.text form.now) (group_lines session.now report.now)) }
+    ensures { Writes (sink_of W.contents writer.old) (sink_of W.contents writer.new) (flat_map (F.text form.now) (group_lines Detail.Each session.now report.now)) }
 {
     for entry in report.entries.as_slice() {
         form.write(writer, line_of_entry(session, report.group, *entry));

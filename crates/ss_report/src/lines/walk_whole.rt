@@ -5,6 +5,7 @@ ghost use Rattle.ss_frame.specs.Watched.{sink_of};
 ghost use Rattle.ss_report.specs.Writing.{Writes};
 ghost use Rattle.ss_report.specs.Whole.{missing_line, lines_and_missing, lines_beside, lines_with};
 
+use crate::lines::detail::Detail;
 use crate::lines::form::Form;
 use crate::lines::line::Line;
 use crate::lines::walk::{write_others, write_session};
@@ -22,11 +23,12 @@ pub(crate) fn write_lines_with<F: Form, W: Write>(
     report: &Report,
     missing: &[MissingRuns],
     tail: Tail,
+    detail: Detail,
 )
-    ensures { Writes (sink_of W.contents writer.old) (sink_of W.contents writer.new) (flat_map (F.text form.now) (lines_with report.now missing.now tail)) }
+    ensures { Writes (sink_of W.contents writer.old) (sink_of W.contents writer.new) (flat_map (F.text form.now) (lines_with detail report.now missing.now tail)) }
 {
-    write_sessions(form, writer, report.sessions.as_slice(), missing);
-    write_others(form, writer, report, tail);
+    write_sessions(form, writer, report.sessions.as_slice(), missing, detail);
+    write_others(form, writer, report, tail, detail);
 }
 
 fn write_sessions<F: Form, W: Write>(
@@ -34,11 +36,12 @@ fn write_sessions<F: Form, W: Write>(
     writer: &mut Watched<W>,
     sessions: &[SessionReport],
     missing: &[MissingRuns],
+    detail: Detail,
 )
-    ensures { Writes (sink_of W.contents writer.old) (sink_of W.contents writer.new) (flat_map (F.text form.now) (flat_map lines_beside (zip sessions.now missing.now))) }
+    ensures { Writes (sink_of W.contents writer.old) (sink_of W.contents writer.new) (flat_map (F.text form.now) (flat_map (lines_beside detail) (zip sessions.now missing.now))) }
 {
     for (session, runs) in sessions.iter().zip(missing) {
-        write_whole_session(form, writer, session, runs.as_slice());
+        write_whole_session(form, writer, session, runs.as_slice(), detail);
     }
 }
 
@@ -48,10 +51,11 @@ fn write_whole_session<F: Form, W: Write>(
     writer: &mut Watched<W>,
     report: &SessionReport,
     runs: &[MissingRun],
+    detail: Detail,
 )
-    ensures { Writes (sink_of W.contents writer.old) (sink_of W.contents writer.new) (flat_map (F.text form.now) (lines_and_missing report.now runs.now)) }
+    ensures { Writes (sink_of W.contents writer.old) (sink_of W.contents writer.new) (flat_map (F.text form.now) (lines_and_missing detail report.now runs.now)) }
 {
-    write_session(form, writer, report);
+    write_session(form, writer, report, detail);
     write_missing(form, writer, &report.session, runs);
 }
 

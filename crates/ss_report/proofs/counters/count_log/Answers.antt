@@ -15,12 +15,12 @@ returns g c =
     let counted = c.in_ok-report.report in
     let told : counted.report ≡ report says fed.messages = c.in_ok-report.ensures.report (notes fed.messages) fed.keeps in
     let found : counted.counted ≡ counted_sessions says (blocks (notes fed.messages)) = c.in_ok-report.ensures.counted (notes fed.messages) fed.keeps in (
-      record {
+      λ notation. record {
         messages = fed.messages;
         tail = c.in_ok-reviewer.field-0.tail;
         reading = fed.reading;
         no_read_failed = fed.no_read_failed;
-        output_is = (λ i. counter_lines_with (told i) (found i)) ∙ counters_are says fed.messages;
+        output_is = (λ i. counter_lines_with notation (told i) (found i)) ∙ counters_are notation says fed.messages;
         verdict_is = c.end_verdict-verdict.ensures;
       },
       report_in_range c.counted_are_in_range.ensures c.next_numbers_are_in_range.ensures says fed.messages counted.report counted.counted told found,

@@ -14,17 +14,17 @@ write_counters-requires g c =
 pub returns-clause-counted : goal.returns-clause-counted
 unfolding counter_lines_with
 returns-clause-counted g c =
-    let written = writes_same _ _ _ _ c.write_counters.ensures (λ i. flat_map counters_beside (zip (c.as_slice.ensures i) (c.as_slice-2.ensures i))) in
-    runs_if_ok _ _ _ _ _ _ _ (c.end_run.ensures _ _ _ _ _ _ c.in_ok-counted.ensures.0 written)
+    let written = writes_same _ _ _ _ c.write_counters.ensures (λ i. flat_map (counters_beside c.args.notation) (zip (c.as_slice.ensures i) (c.as_slice-2.ensures i))) in
+    runs_if_ok _ _ _ _ _ _ _ (c.end_run.ensures _ _ _ _ _ _ (c.in_ok-counted.ensures.0 c.args.notation) written)
 
 pub returns-clause-stopped : goal.returns-clause-stopped
 unfolding counter_lines_with
 returns-clause-stopped g c =
-    let written = writes_same _ _ _ _ c.write_counters.ensures (λ i. flat_map counters_beside (zip (c.as_slice.ensures i) (c.as_slice-2.ensures i))) in
-    stops_if_err _ _ _ _ _ _ _ (c.end_run.ensures _ _ _ _ _ _ c.in_ok-counted.ensures.0 written)
+    let written = writes_same _ _ _ _ c.write_counters.ensures (λ i. flat_map (counters_beside c.args.notation) (zip (c.as_slice.ensures i) (c.as_slice-2.ensures i))) in
+    stops_if_err _ _ _ _ _ _ _ (c.end_run.ensures _ _ _ _ _ _ (c.in_ok-counted.ensures.0 c.args.notation) written)
 
 pub returns-clause-untouched : goal.returns-clause-untouched
 unfolding counter_lines_with
 returns-clause-untouched g c =
-    let written = writes_same _ _ _ _ c.write_counters.ensures (λ i. flat_map counters_beside (zip (c.as_slice.ensures i) (c.as_slice-2.ensures i))) in
-    fails_by_write _ _ _ _ _ _ _ _ (c.end_run.ensures _ _ _ _ _ _ c.in_ok-counted.ensures.0 written)
+    let written = writes_same _ _ _ _ c.write_counters.ensures (λ i. flat_map (counters_beside c.args.notation) (zip (c.as_slice.ensures i) (c.as_slice-2.ensures i))) in
+    fails_by_write _ _ _ _ _ _ _ _ (c.end_run.ensures _ _ _ _ _ _ (c.in_ok-counted.ensures.0 c.args.notation) written)

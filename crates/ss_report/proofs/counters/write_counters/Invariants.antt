@@ -6,4 +6,4 @@ use Rattle.ss_report.specs.Counters.{counters_beside}
 use Rattle.ss_report.proofs.counters.write_counters.Given as goal
 
 abbrev pub invariant-loop-session : goal.invariant-loop-session
-invariant-loop-session g l = Writes (sink_of g.W.Write.contents l.initial.writer) (sink_of g.W.Write.contents l.writer) (flat_map counters_beside (take (length l.yielded) (zip l.sessions l.counted)))
+invariant-loop-session g l = Writes (sink_of g.W.Write.contents l.initial.writer) (sink_of g.W.Write.contents l.writer) (flat_map (counters_beside l.notation) (take (length l.yielded) (zip l.sessions l.counted)))

@@ -10,6 +10,7 @@ use Rattle.ss_report.proofs.counters.write_group_counters.Goals as goal
 pub loop-group-preserved : goal.loop-group-preserved
 loop-group-preserved g c =
     let session = c.args.session.now in
+    let notation = c.args.notation in
     let groups = c.args.groups.now in
     let i = c.loop-group.group-index in
     let group = c.group-item.result in
@@ -18,5 +19,5 @@ loop-group-preserved g c =
     = All-get_or (λ (r : GroupReport). next_number r ≤ past_last_number) groups i group c.loop-group-test.true c.requires in
     let same : next_number group ≡ next_number (get_or groups i group) = ap next_number at in
     let small : next_number group < 2 ^ 64 = omega (arith, within, same) in
-    writes_more (group_counter session) groups i group _ _ _ _ c.loop-group-test.true c.loop-group.invariant c.write_message_counter.ensures
-    (ap (message_counter session group.group) (c.next_number.ensures small) ∙ ap (group_counter session) at)
+    writes_more (group_counter notation session) groups i group _ _ _ _ c.loop-group-test.true c.loop-group.invariant c.write_message_counter.ensures
+    (ap (message_counter notation session group.group) (c.next_number.ensures small) ∙ ap (group_counter notation session) at)

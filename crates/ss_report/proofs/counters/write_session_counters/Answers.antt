@@ -14,10 +14,11 @@ write_group_counters-requires g c =
 pub returns : goal.returns
 returns g c =
     let s = c.args.session.now in
+    let notation = c.args.notation in
     let gbcs = c.as_slice.result.now in
     let same : gbcs ≡ c.args.counted.now.gbcs = c.as_slice.ensures in
     let next : next_after gbcs ≡ next_after c.args.counted.now.gbcs = ap next_after same in
     let small : next_after gbcs < 2 ^ 64 = omega (arith, next, c.requires.gbcs) in
     writes_same _ _ _ _ (writes_then _ _ _ _ _ c.write_block_counter.ensures c.write_group_counters.ensures)
-    (ap (λ n. block_counter s.session n ++ flat_map (group_counter s.session) c.as_slice-2.result.now) (c.next_gbc-gbc.ensures small ∙ next)
-    ∙ ap (λ (gs : List GroupReport). block_counter s.session (next_after c.args.counted.now.gbcs) ++ flat_map (group_counter s.session) gs) c.as_slice-2.ensures)
+    (ap (λ n. block_counter notation s.session n ++ flat_map (group_counter notation s.session) c.as_slice-2.result.now) (c.next_gbc-gbc.ensures small ∙ next)
+    ∙ ap (λ (gs : List GroupReport). block_counter notation s.session (next_after c.args.counted.now.gbcs) ++ flat_map (group_counter notation s.session) gs) c.as_slice-2.ensures)

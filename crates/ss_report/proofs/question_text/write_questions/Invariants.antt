@@ -5,4 +5,4 @@ use Rattle.ss_report.proofs.QuestionLines.{asked_lines}
 use Rattle.ss_report.proofs.question_text.write_questions.Given as goal
 
 abbrev pub invariant-loop-session : goal.invariant-loop-session
-invariant-loop-session g l = Writes (sink_of g.W.Write.contents l.initial.writer) (sink_of g.W.Write.contents l.writer) (flat_map asked_lines (take l.session-index l.sessions))
+invariant-loop-session g l = Writes (sink_of g.W.Write.contents l.initial.writer) (sink_of g.W.Write.contents l.writer) (flat_map (asked_lines l.notation) (take l.session-index l.sessions))

@@ -3,12 +3,12 @@ use Rattle.ss_report.proofs.questions.run_questions.Goals as goal
 
 pub returns-clause-asked : goal.returns-clause-asked
 returns-clause-asked g c =
-    runs_if_ok _ _ _ _ _ _ _ (c.end_run.ensures _ _ _ _ _ _ c.in_ok-asked.ensures (rw c.as_slice.ensures at c.write_questions.ensures))
+    runs_if_ok _ _ _ _ _ _ _ (c.end_run.ensures _ _ _ _ _ _ (c.in_ok-asked.ensures c.args.notation) (rw c.as_slice.ensures at c.write_questions.ensures))
 
 pub returns-clause-stopped : goal.returns-clause-stopped
 returns-clause-stopped g c =
-    stops_if_err _ _ _ _ _ _ _ (c.end_run.ensures _ _ _ _ _ _ c.in_ok-asked.ensures (rw c.as_slice.ensures at c.write_questions.ensures))
+    stops_if_err _ _ _ _ _ _ _ (c.end_run.ensures _ _ _ _ _ _ (c.in_ok-asked.ensures c.args.notation) (rw c.as_slice.ensures at c.write_questions.ensures))
 
 pub returns-clause-untouched : goal.returns-clause-untouched
 returns-clause-untouched g c =
-    fails_by_write _ _ _ _ _ _ _ _ (c.end_run.ensures _ _ _ _ _ _ c.in_ok-asked.ensures (rw c.as_slice.ensures at c.write_questions.ensures))
+    fails_by_write _ _ _ _ _ _ _ _ (c.end_run.ensures _ _ _ _ _ _ (c.in_ok-asked.ensures c.args.notation) (rw c.as_slice.ensures at c.write_questions.ensures))

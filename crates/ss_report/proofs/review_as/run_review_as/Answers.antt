@@ -6,6 +6,7 @@ use Rattle.ss_review.specs.Verified.{Answers}
 use Rattle.ss_review.specs.Laws.{ReportsListWhatIsAnnounced}
 use Rattle.ss_report.specs.declared.fault.RunFault.{RunFault}
 use Rattle.ss_report.specs.declared.forms.report_form.ReportForm.{ReportForm}
+use Rattle.ss_report.specs.declared.lines.detail.Detail.{Detail}
 use Rattle.ss_report.specs.declared.verdict.Verdict.{Verdict}
 use Rattle.ss_report.specs.Run.{Runs}
 use Rattle.ss_report.specs.Jobs.{ReviewsAs, reviewing_as}
@@ -13,20 +14,20 @@ use Rattle.ss_report.proofs.Answered.{runs_if_ok, stops_if_err, fails_by_write}
 use Rattle.ss_report.proofs.review_as.run_review_as.Goals as goal
 
 -- a review that succeeds lists what is announced, as each report does
-reviews_if_ok : (form : ReportForm) (says : Answers) (limits : Allowance) (before after : Source) (was is : Sink) (r : Result Verdict RunFault)
-    → ReportsListWhatIsAnnounced → IfOk r (Runs (reviewing_as form says) limits before after was is) → IfOk r (ReviewsAs form says limits before after was is)
-reviews_if_ok form says limits before after was is (Ok verdict) law ran = record { run = ran; listed = law says ran.messages }
-reviews_if_ok form says limits before after was is (Err fault) law ran = tt
+reviews_if_ok : (form : ReportForm) (detail : Detail) (says : Answers) (limits : Allowance) (before after : Source) (was is : Sink) (r : Result Verdict RunFault)
+    → ReportsListWhatIsAnnounced → IfOk r (Runs (reviewing_as form detail says) limits before after was is) → IfOk r (ReviewsAs form detail says limits before after was is)
+reviews_if_ok form detail says limits before after was is (Ok verdict) law ran = record { run = ran; listed = law says ran.messages }
+reviews_if_ok form detail says limits before after was is (Err fault) law ran = tt
 
 pub returns-clause-reviewed : goal.returns-clause-reviewed
 returns-clause-reviewed g c =
-    let told = c.end_run.ensures _ _ _ _ _ _ (c.in_ok-reviewed.ensures c.args.form) c.write_report_as.ensures in
-    reviews_if_ok c.args.form _ _ _ _ _ _ _ c.reports_list_what_is_announced.ensures (runs_if_ok _ _ _ _ _ _ _ told)
+    let told = c.end_run.ensures _ _ _ _ _ _ (c.in_ok-reviewed.ensures c.args.form c.args.detail) c.write_report_as.ensures in
+    reviews_if_ok c.args.form c.args.detail _ _ _ _ _ _ _ c.reports_list_what_is_announced.ensures (runs_if_ok _ _ _ _ _ _ _ told)
 
 pub returns-clause-stopped : goal.returns-clause-stopped
 returns-clause-stopped g c =
-    stops_if_err _ _ _ _ _ _ _ (c.end_run.ensures _ _ _ _ _ _ (c.in_ok-reviewed.ensures c.args.form) c.write_report_as.ensures)
+    stops_if_err _ _ _ _ _ _ _ (c.end_run.ensures _ _ _ _ _ _ (c.in_ok-reviewed.ensures c.args.form c.args.detail) c.write_report_as.ensures)
 
 pub returns-clause-untouched : goal.returns-clause-untouched
 returns-clause-untouched g c =
-    fails_by_write _ _ _ _ _ _ _ _ (c.end_run.ensures _ _ _ _ _ _ (c.in_ok-reviewed.ensures c.args.form) c.write_report_as.ensures)
+    fails_by_write _ _ _ _ _ _ _ _ (c.end_run.ensures _ _ _ _ _ _ (c.in_ok-reviewed.ensures c.args.form c.args.detail) c.write_report_as.ensures)

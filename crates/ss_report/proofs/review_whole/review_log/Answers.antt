@@ -19,4 +19,4 @@ returns g c =
     let runs = rw c.as_slice.ensures at c.in_ok-missing.ensures in
     let verdict = rw c.as_slice-2.ensures.value at c.verdict_with-verdict.ensures in
     let range = subst (All IsInRange) (sym counted) (c.counted_are_in_range.ensures says fed.messages) in
-    λ form. makes_whole form says _ _ _ fed.messages c.in_ok-reviewer.field-0.tail fed.reading fed.no_read_failed found.report found.counted _ _ told counted (runs range) verdict
+    λ form detail. makes_whole form detail says _ _ _ fed.messages c.in_ok-reviewer.field-0.tail fed.reading fed.no_read_failed found.report found.counted _ _ told counted (runs range) verdict

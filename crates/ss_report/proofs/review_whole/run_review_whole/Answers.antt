@@ -10,6 +10,7 @@ use Rattle.ss_review.specs.Counted.{gbcs, next_after}
 use Rattle.ss_review.specs.CountedLaws.{CountedOrMissing}
 use Rattle.ss_report.specs.declared.fault.RunFault.{RunFault}
 use Rattle.ss_report.specs.declared.forms.report_form.ReportForm.{ReportForm}
+use Rattle.ss_report.specs.declared.lines.detail.Detail.{Detail}
 use Rattle.ss_report.specs.declared.verdict.Verdict.{Verdict}
 use Rattle.ss_report.specs.Run.{Runs}
 use Rattle.ss_report.specs.Jobs.{ReviewsWhole, reviewing_whole}
@@ -17,24 +18,24 @@ use Rattle.ss_report.proofs.Answered.{runs_if_ok, stops_if_err, fails_by_write}
 use Rattle.ss_report.proofs.review_whole.run_review_whole.Goals as goal
 
 -- a review that succeeds lists what is announced, as each report does
-reviews_if_ok : (form : ReportForm) (says : Answers) (limits : Allowance) (before after : Source) (was is : Sink) (r : Result Verdict RunFault)
-    → ReportsListWhatIsAnnounced → CountedOrMissing → IfOk r (Runs (reviewing_whole form says) limits before after was is) → IfOk r (ReviewsWhole form says limits before after was is)
-reviews_if_ok form says limits before after was is (Ok verdict) law other ran = record {
+reviews_if_ok : (form : ReportForm) (detail : Detail) (says : Answers) (limits : Allowance) (before after : Source) (was is : Sink) (r : Result Verdict RunFault)
+    → ReportsListWhatIsAnnounced → CountedOrMissing → IfOk r (Runs (reviewing_whole form detail says) limits before after was is) → IfOk r (ReviewsWhole form detail says limits before after was is)
+reviews_if_ok form detail says limits before after was is (Ok verdict) law other ran = record {
   run = ran;
   listed = law says ran.messages;
   missing = λ s. other says ran.messages s (next_after (gbcs says (blocks (notes ran.messages)) s));
 }
-reviews_if_ok form says limits before after was is (Err fault) law other ran = tt
+reviews_if_ok form detail says limits before after was is (Err fault) law other ran = tt
 
 pub returns-clause-reviewed : goal.returns-clause-reviewed
 returns-clause-reviewed g c =
-    let told = c.end_run.ensures _ _ _ _ _ _ (c.in_ok-reviewed.ensures c.args.form) (rw c.as_slice-missing.ensures.value at c.write_whole_as.ensures) in
-    reviews_if_ok c.args.form _ _ _ _ _ _ _ c.reports_list_what_is_announced.ensures c.counted_or_missing.ensures (runs_if_ok _ _ _ _ _ _ _ told)
+    let told = c.end_run.ensures _ _ _ _ _ _ (c.in_ok-reviewed.ensures c.args.form c.args.detail) (rw c.as_slice-missing.ensures.value at c.write_whole_as.ensures) in
+    reviews_if_ok c.args.form c.args.detail _ _ _ _ _ _ _ c.reports_list_what_is_announced.ensures c.counted_or_missing.ensures (runs_if_ok _ _ _ _ _ _ _ told)
 
 pub returns-clause-stopped : goal.returns-clause-stopped
 returns-clause-stopped g c =
-    stops_if_err _ _ _ _ _ _ _ (c.end_run.ensures _ _ _ _ _ _ (c.in_ok-reviewed.ensures c.args.form) (rw c.as_slice-missing.ensures.value at c.write_whole_as.ensures))
+    stops_if_err _ _ _ _ _ _ _ (c.end_run.ensures _ _ _ _ _ _ (c.in_ok-reviewed.ensures c.args.form c.args.detail) (rw c.as_slice-missing.ensures.value at c.write_whole_as.ensures))
 
 pub returns-clause-untouched : goal.returns-clause-untouched
 returns-clause-untouched g c =
-    fails_by_write _ _ _ _ _ _ _ _ (c.end_run.ensures _ _ _ _ _ _ (c.in_ok-reviewed.ensures c.args.form) (rw c.as_slice-missing.ensures.value at c.write_whole_as.ensures))
+    fails_by_write _ _ _ _ _ _ _ _ (c.end_run.ensures _ _ _ _ _ _ (c.in_ok-reviewed.ensures c.args.form c.args.detail) (rw c.as_slice-missing.ensures.value at c.write_whole_as.ensures))

@@ -9,4 +9,4 @@ returns g c =
     let text = g.F.Form.text c.args.form.now in
     let report = c.args.report.now in
     let sessions = rw c.as_slice.ensures at c.write_sessions.ensures in
-    lines_then text _ _ _ (flat_map session_lines report.sessions) (other_lines report c.args.tail) sessions c.write_others.ensures
+    lines_then text _ _ _ (flat_map (session_lines c.args.detail) report.sessions) (other_lines c.args.detail report c.args.tail) sessions c.write_others.ensures

@@ -6,4 +6,4 @@ use Rattle.ss_report.proofs.LinesWritten.{octets_of}
 use Rattle.ss_report.proofs.lines.walk.write_sessions.Given as goal
 
 abbrev pub invariant-loop-session : goal.invariant-loop-session
-invariant-loop-session g l = Writes (sink_of g.W.Write.contents l.initial.writer) (sink_of g.W.Write.contents l.writer) (octets_of (g.F.Form.text l.form) session_lines (take l.session-index l.sessions))
+invariant-loop-session g l = Writes (sink_of g.W.Write.contents l.initial.writer) (sink_of g.W.Write.contents l.writer) (octets_of (g.F.Form.text l.form) (session_lines l.detail) (take l.session-index l.sessions))

@@ -7,4 +7,4 @@ use Rattle.ss_report.proofs.lines.walk_whole.write_whole_session.Goals as goal
 pub returns : goal.returns
 returns g c =
     let report = c.args.report.now in
-    lines_then (g.F.Form.text c.args.form.now) _ _ _ (session_lines report) (map (missing_line report.session) c.args.runs.now) c.write_session.ensures c.write_missing.ensures
+    lines_then (g.F.Form.text c.args.form.now) _ _ _ (session_lines c.args.detail report) (map (missing_line report.session) c.args.runs.now) c.write_session.ensures c.write_missing.ensures

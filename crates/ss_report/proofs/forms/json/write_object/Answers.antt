@@ -1,0 +1,10 @@
+use Rattle.ss_report.proofs.forms.json.write_object.Goals as goal
+
+pub returns-in-UnlistedCount : goal.returns-in-UnlistedCount
+returns-in-UnlistedCount g c = rw c.in-UnlistedCount.is c.write_one-in-UnlistedCount.ensures
+
+pub returns-in-RefusedCount : goal.returns-in-RefusedCount
+returns-in-RefusedCount g c = rw c.in-RefusedCount.is c.write_one-in-RefusedCount.ensures
+
+pub returns-in-SpoiltCount : goal.returns-in-SpoiltCount
+returns-in-SpoiltCount g c = rw c.in-SpoiltCount.is c.write_one-in-SpoiltCount.ensures

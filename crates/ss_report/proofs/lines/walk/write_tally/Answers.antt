@@ -1,0 +1,10 @@
+use Rattle.ss_report.specs.Lines.{TallyLine}
+use Rattle.ss_report.specs.Tally.{tally}
+use Rattle.ss_report.proofs.LinesWritten.{one_line}
+use Rattle.ss_report.proofs.lines.walk.write_tally.Goals as goal
+
+pub returns : goal.returns
+returns g c =
+    let report = c.args.report.now in
+    let line = TallyLine c.args.session.now report.group (tally report.entries) in
+    one_line (g.F.Form.text c.args.form.now) _ _ line (rw (c.of-tally.ensures, c.as_slice.ensures) at c.write.ensures)
