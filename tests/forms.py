@@ -1,6 +1,7 @@
 #!/usr/bin/env python3
-"""The forms of a review: each line of JSON, read by Python's `json` and spelled as docs/FORMATS.md has it, is the line of
-the plain report; the findings are the plain report without its `ok` lines; and the status is the same in every form.
+"""The forms of a review, an inspection, questions and counters: each line of JSON, read by Python's `json` and spelled as
+docs/FORMATS.md has it, is the plain line. The findings are the plain text without its `ok` or `plain` lines. And the
+status is the same in every form.
 
     forms.py PROGRAM
 
@@ -8,18 +9,22 @@ The logs are the shapes of cost_logs.py, sessions whose names have every charact
 break off. The last line is `forms: N passed, M failed`.
 """
 import inspect
+import itertools
 import os
 import subprocess
 import sys
 import tempfile
 
 import cost_logs as logs
-from report_objects import KEYS, fault_of, words_seen
+from report_objects import KEYS, OTHER_KEYS, fault_of, words_seen
 from review_runs import frame
 
 PROGRAM = sys.argv[1]
 ROOT = os.path.dirname(os.path.dirname(os.path.abspath(__file__)))
 SIZE = 6
+
+# how the lines begin that the findings of a command leave out
+LEFT_OUT = {"review": b"ok ", "inspect": b"plain "}
 
 passed = failed = 0
 
@@ -34,29 +39,46 @@ def tell(what, fault=""):
         passed += 1
 
 
-def review(log, *options):
-    """The status of a review, and what it wrote."""
-    ran = subprocess.run([PROGRAM, "review", *options], input=log, capture_output=True, check=False, timeout=60)
+def run(command, log, *options):
+    """The status of a command over a log, and what it wrote."""
+    ran = subprocess.run([PROGRAM, command, *options], input=log, capture_output=True, check=False, timeout=60)
     if ran.stderr:
         return ran.returncode, ran.stderr
     return ran.returncode, ran.stdout
 
 
-def check(what, log, *options):
-    """The checks of one log."""
-    status, plain = review(log, *options)
+def review(log, *options):
+    """The same of a review."""
+    return run("review", log, *options)
+
+
+def check_command(command, what, log, *options):
+    """The checks of one log with a command. The word of what its findings leave out is in `LEFT_OUT`, if it has any."""
+    status, plain = run(command, log, *options)
     if status not in (0, 1):
-        tell(f"{what}: a plain report", f"status {status}: {plain[:300]!r}")
+        tell(f"{what}: {command}", f"status {status}: {plain[:300]!r}")
         return
-    told = b"".join(it for it in plain.splitlines(keepends=True) if not it.startswith(b"ok "))
-    for words, wanted in ((["--findings"], told), (["--json"], plain), (["--json", "--findings"], told)):
-        other, made = review(log, *words, *options)
+    forms = [(["--json"], plain)]
+    if command in LEFT_OUT:
+        told = b"".join(it for it in plain.splitlines(keepends=True) if not it.startswith(LEFT_OUT[command]))
+        forms += [(["--findings"], told), (["--json", "--findings"], told)]
+    for words, wanted in forms:
+        other, made = run(command, log, *words, *options)
         fault = f"status {other}, and not {status}" if other != status else ""
         if not fault and "--json" in words:
             fault = fault_of(wanted, made)
         elif not fault and made != wanted:
             fault = f"{made[:300]!r}, and not {wanted[:300]!r}"
-        tell(f"{what}: {' '.join(words)}", fault)
+        tell(f"{what}: {command} {' '.join(words)}", fault)
+
+
+def check(what, log, *options):
+    """The checks of one log with each command. Inspections and questions take no answers."""
+    of_log = options[:options.index("--answers")] if "--answers" in options else options
+    for command in ("review", "counters"):
+        check_command(command, what, log, *options)
+    for command in ("inspect", "questions"):
+        check_command(command, what, log, *of_log)
 
 
 def answered(folder, answers):
@@ -87,6 +109,32 @@ def sign(folder, messages, *options):
     return signed.stdout, questions.stdout.splitlines()
 
 
+def objects_by_hand():
+    """The objects of inspections, questions and counters."""
+    with open(os.path.join(ROOT, "examples", "kinds.frames"), "rb") as file:
+        log = file.read()
+    inspected = (b'{"line":"plain","place":0}\n{"line":"unparsed","place":1,"part":"M1","offset":0}\n'
+                 b'{"line":"certificate","place":2,"host":"h","app":"s","procid":"-","rsid":1,"sg":0,"spri":0,"total":27,"index":1,"length":27}\n'
+                 b'{"line":"signature","place":3,"host":"h","app":"s","procid":"-","rsid":1,"sg":0,"spri":0,"gbc":0,"first":1,"count":2}\n'
+                 b'{"line":"spoilt","place":4,"cause":"S3"}\n{"line":"torn","offset":531}\n{"line":"end","count":5}\n')
+    for words, wanted in ((["--json"], inspected), (["--findings", "--json"], inspected.split(b"\n", 1)[1])):
+        said = run("inspect", log, *words)
+        tell(f"by hand: inspect {' '.join(words)}", "" if said == (1, wanted) else repr(said))
+    said = run("inspect", b"", "--json", "--findings")
+    tell("by hand: an empty log", "" if said == (0, b'{"line":"end","count":0}\n') else repr(said))
+    with open(os.path.join(ROOT, "examples", "four-messages.frames"), "rb") as file:
+        log = file.read()
+    status, made = run("questions", log, "--json")
+    payload = b"MjAwOS0wNS0wM1QxNDowMDozOVogSyBTMFZa"
+    wanted = [b'{"line":"trust","payload":"%s"}' % payload] + 2 * [b'{"line":"yes","payload":"%s","octets":"' % payload]
+    fits = len(made.splitlines()) == 3 and all(map(bytes.startswith, made.splitlines(), wanted))
+    tell("by hand: questions", "" if status == 0 and fits else repr(made))
+    names = b'"host":"h","app":"s","procid":"-","rsid":1'
+    wanted = b'{"line":"count",%s,"gbc":1}\n{"line":"count",%s,"sg":0,"spri":0,"number":3}\n' % (names, names)
+    said = run("counters", log, "--json", "--answers", os.path.join(ROOT, "examples", "four-messages.answers"))
+    tell("by hand: counters", "" if said == (0, wanted) else repr(said))
+
+
 def main():
     """Makes all checks."""
     visible = "".join(map(chr, range(33, 127)))
@@ -114,7 +162,7 @@ def main():
             guide = file.read()
         with open(os.path.join(ROOT, "examples", "four-messages.frames"), "rb") as file:
             log = file.read().replace(b"abc", b"abd", 1)
-        for words in (["--findings"], ["--findings", "--json"]):
+        for words in (["--findings"], ["--findings", "--json"], ["--tally"]):
             call = " ".join(["./ssign review", *words, "--answers", "examples/four-messages.answers"])
             status, made = review(log, *words, "--answers", os.path.join(ROOT, "examples", "four-messages.answers"))
             shown = b"| %s\n\nprints, with status %d,\n\n    %s\n\n" % (call.encode(), status, b"\n    ".join(made.splitlines()))
@@ -129,15 +177,23 @@ def main():
         for word, value in (("--json", "x"), ("--findings", "")):
             ran = subprocess.run([PROGRAM, "review", f"{word}={value}"], input=log, capture_output=True, check=False)
             tell(f"{word} with a value", "" if ran.returncode == 2 and ran.stderr and not ran.stdout else repr(ran))
-        for command in ("questions", "extract", "inspect"):
-            for word in ("--json", "--findings"):
-                ran = subprocess.run([PROGRAM, command, word], input=log, capture_output=True, check=False)
-                tell(f"{command} {word}", "" if ran.returncode == 2 and ran.stderr and not ran.stdout else repr(ran))
-        for words in (["--json"], ["--findings"], ["--json", "--findings"]):
-            status, made = review(b"x" + log, *words)
-            tell(f"a refusal with {' '.join(words)}", "" if (status, made) == (2, b"ssign: F1 0\n") else repr(made[:300]))
-        # the lines `blocks` are those of `--whole`: tests/whole.py
-        wanted = set(KEYS) - {"blocks"}
+        for words in (["extract", "--json"], ["extract", "--findings"], ["questions", "--findings"], ["counters", "--findings"],
+                      ["explain", "--json"], ["inspect", "--json", "--json"]):
+            ran = subprocess.run([PROGRAM, *words], input=log, capture_output=True, check=False)
+            tell(" ".join(words), "" if ran.returncode == 2 and ran.stderr and not ran.stdout else repr(ran))
+        objects_by_hand()
+        # messages of all kinds
+        kinds = subprocess.run([sys.executable, "-B", os.path.join(ROOT, "tests", "kinds.py"), "make", "5", "4000"],
+                               capture_output=True, check=True).stdout
+        check_command("inspect", "messages of all kinds", kinds)
+        for command, words in itertools.product(("review", "inspect"), (["--json"], ["--findings"], ["--json", "--findings"])):
+            said = run(command, b"x" + log, *words)
+            tell(f"a refusal of {command} {' '.join(words)}", "" if said == (2, b"ssign: F1 0\n") else repr(said))
+        for command in ("questions", "counters"):
+            said = run(command, b"x" + log, "--json")
+            tell(f"a refusal of {command}", "" if said == (2, b"ssign: F1 0\n") else repr(said))
+        # the lines `blocks` are those of `--whole`, and counts those of `--tally`: tests/whole.py and tally.py
+        wanted = {*KEYS, *OTHER_KEYS} - {"blocks", "tally", "unlisted-count", "refused-count", "spoilt-count"}
         tell("each kind of line was seen", "" if words_seen == wanted else f"{wanted ^ words_seen}")
     print(f"forms: {passed} passed, {failed} failed")
     return 1 if failed else 0

@@ -277,10 +277,9 @@ def long_outputs():
     """Runs whose output is longer than a buffer, and begins to be written before its end is known."""
     made = logs.signed(5000)
     log, text = b"".join(map(frame, made.messages)), b"".join(it + b"\n" for it in made.answers)
-    for command in ("review", "extract", "questions", "inspect"):
-        asks = command in ("review", "extract")
-        words = [command, "--whole"] if command == "review" else [command]
-        yield Case("%s of a long log" % command, words, log, 0, text if asks else None, True)
+    for words in (["review", "--whole"], ["extract"], ["questions"], ["inspect"], ["questions", "--json"], ["inspect", "--json"]):
+        asks = words[0] in ("review", "extract")
+        yield Case("%s of a long log" % " ".join(words), words, log, 0, text if asks else None, True)
     log = b"".join(map(frame, logs.sent(800).messages))
     plan = modelled("plan", [*PAYLOAD, "--count", "2"], log)
     yield Case("plan: a long log", ["plan", *PAYLOAD, "--count", "2"], log, Said(0, plan, b""), None, True)

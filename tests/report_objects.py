@@ -1,4 +1,4 @@
-"""The objects of `ssign review --json`, read by Python's `json`, and the lines of the plain report that they are.
+"""The objects that `--json` of `ssign` writes, read by Python's `json`, and the plain lines that they are.
 
 `fault_of(plain, made)` says what is wrong with JSON that was made for a plain text.
 """
@@ -7,7 +7,7 @@ import json
 
 SESSION = ["host", "app", "procid", "rsid"]
 GROUP = [*SESSION, "sg", "spri"]
-# the keys of each line, in their order, as docs/FORMATS.md has them
+# the keys of each line of a report, in their order, as docs/FORMATS.md has them
 KEYS = {
     "session": [*SESSION, "state"],
     "ok": [*GROUP, "number", "place"],
@@ -20,7 +20,21 @@ KEYS = {
     "torn": ["offset"],
     "end": ["count"],
 }
-TEXTS = {"line", "host", "app", "procid", "state", "why", "cause"}
+# those of the other lines; two kinds have one word
+OTHER_KEYS = {
+    "tally": [[*GROUP, "ok", "lost", "disputed", "holes", "first", "last"]],
+    "unlisted-count": [["count"]],
+    "refused-count": [["count"]],
+    "spoilt-count": [["count"]],
+    "trust": [["payload"]],
+    "yes": [["payload", "octets", "signature"]],
+    "count": [[*SESSION, "gbc"], [*GROUP, "number"]],
+    "plain": [["place"]],
+    "unparsed": [["place", "part", "offset"]],
+    "signature": [["place", *GROUP, "gbc", "first", "count"]],
+    "certificate": [["place", *GROUP, "total", "index", "length"]],
+}
+TEXTS = {"line", "host", "app", "procid", "state", "why", "cause", "part", "payload", "octets", "signature"}
 
 # the words of the lines that were read
 words_seen = set()
@@ -28,17 +42,17 @@ words_seen = set()
 
 def no_such_number(text):
     """Refuses what RFC 8259 has no word for, and numbers that aren't whole."""
-    raise ValueError(f"{text} is no number of a report")
+    raise ValueError(f"{text} is no number of a line")
 
 
 def plain_of(line):
-    """The line of the plain report that this object is, and what is wrong with it."""
+    """The plain line that this object is, and what is wrong with it."""
     if not line.isascii() or any(octet < 32 for octet in line):
         return b"", "an octet that isn't printable ASCII"
     pairs = json.loads(line, object_pairs_hook=list, parse_float=no_such_number, parse_constant=no_such_number)
     word = pairs[0][1]
     words_seen.add(word)
-    if [key for key, _ in pairs] != ["line", *KEYS[word]]:
+    if [key for key, _ in pairs] not in [["line", *keys] for keys in OTHER_KEYS.get(word) or [KEYS[word]]]:
         return b"", f"the keys {[key for key, _ in pairs]}"
     for key, value in pairs:
         if type(value) is not (str if key in TEXTS else int):

@@ -23,6 +23,8 @@ use Rattle.ss_signing.specs.declared.fault.SignFault.{SignFault}
 use Rattle.ss_report.specs.declared.fault.RunFault.{RunFault}
 use Rattle.ss_report.specs.declared.forms.report_form.ReportForm.{ReportForm}
 use Rattle.ss_report.specs.declared.forms.report_form.ReportForm.TheVariants as forms
+use Rattle.ss_report.specs.declared.lines.detail.Detail.{Detail}
+use Rattle.ss_report.specs.declared.lines.detail.Detail.TheVariants as details
 use Rattle.ss_report.specs.declared.verdict.Verdict.{Verdict}
 use Rattle.ss_report.specs.declared.verdict.Verdict.TheVariants.{Clean, Findings}
 
@@ -56,9 +58,14 @@ report_form true false = forms.Findings
 report_form false true = forms.Json
 report_form true true = forms.JsonFindings
 
--- how a review is reported, with or without these flags and `--whole`
-abbrev pub reporting : (findings json whole : Bool) → Reporting
-reporting findings json whole = record { form = report_form findings json; whole = whole }
+-- whether a report says each thing or tallies, without or with `--tally`
+abbrev pub detail_of : Bool → Detail
+detail_of true = details.Tally
+detail_of false = details.Each
+
+-- how a log is reported, with or without these flags, `--whole` and `--tally`
+abbrev pub reporting : (findings json whole tally : Bool) → Reporting
+reporting findings json whole tally = record { form = report_form findings json; whole = whole; detail = detail_of tally }
 
 -- the limits of a command with these numbers, and with or without `--lines`
 abbrev pub limits_with : (max_len max_messages : ℕ) (lines : Bool) → Allowance
@@ -81,6 +88,9 @@ json_rule = flag_rule (codes "json")
 
 abbrev pub whole_rule : Rule
 whole_rule = flag_rule (codes "whole")
+
+abbrev pub tally_rule : Rule
+tally_rule = flag_rule (codes "tally")
 
 abbrev pub lines_rule : Rule
 lines_rule = flag_rule (codes "lines")
@@ -105,16 +115,17 @@ abbrev pub with_limits : App → App
 with_limits a = with_rule (with_rule (with_rule a lines_rule) max_len_rule) max_messages_rule
 
 abbrev pub review_app : App
-review_app = with_limits (with_rule (with_rule (with_rule (with_rule (new_app (codes "review")) answers_rule) findings_rule) json_rule) whole_rule)
+review_app =
+    with_limits (with_rule (with_rule (with_rule (with_rule (with_rule (new_app (codes "review")) answers_rule) findings_rule) json_rule) whole_rule) tally_rule)
 
 abbrev pub questions_app : App
-questions_app = with_limits (new_app (codes "questions"))
+questions_app = with_limits (with_rule (new_app (codes "questions")) json_rule)
 
 abbrev pub extract_app : App
 extract_app = with_limits (with_rule (new_app (codes "extract")) answers_rule)
 
 abbrev pub inspect_app : App
-inspect_app = with_limits (new_app (codes "inspect"))
+inspect_app = with_limits (with_rule (with_rule (new_app (codes "inspect")) findings_rule) json_rule)
 
 abbrev pub plan_app : Kept → App
 plan_app versions = with_limits (with_signing_options versions (new_app (codes "plan")))
@@ -123,7 +134,7 @@ abbrev pub sign_app : Kept → App
 sign_app versions = with_limits (with_signing_options versions (with_rule (new_app (codes "sign")) answers_rule))
 
 abbrev pub counters_app : App
-counters_app = with_limits (with_rule (new_app (codes "counters")) answers_rule)
+counters_app = with_limits (with_rule (with_rule (new_app (codes "counters")) answers_rule) json_rule)
 
 abbrev pub explain_app : App
 explain_app = with_rule (new_app (codes "explain")) code_rule

@@ -3,11 +3,11 @@ ghost use Rattle.std.specs.Prelude.{◌≡◌, ◌<◌, ◌^◌, ◌∷◌, [], 
 ghost use Rattle.std.specs.Option.{SomeIff};
 ghost use Rattle.clap.specs.Words.{App, app_of, first_value, found_of, matched_of, new_app, raw_values, rule_of};
 ghost use Rattle.ss_frame.specs.Limits.{InRange};
-ghost use Rattle.ssign.specs.CommandLine.{answers_rule, code_rule, findings_rule, json_rule, lines_rule, max_len_rule, max_messages_rule, whole_rule};
+ghost use Rattle.ssign.specs.CommandLine.{answers_rule, code_rule, findings_rule, json_rule, lines_rule, max_len_rule, max_messages_rule, tally_rule, whole_rule};
 ghost use Rattle.ssign.specs.CommandLine.{bare_app, counters_app, explain_app, extract_app, inspect_app, plan_app, questions_app, review_app, sign_app, ssign_app};
 ghost use Rattle.ssign.specs.Explanation.{asked_of};
 ghost use Rattle.ssign.specs.SigningOptions.{AreVersions, Kept};
-ghost use Rattle.ssign.specs.CommandLine.{FlagIs, HasNumber, IsLocalApp, IsNoCommand, limits_with, name_of, report_form, reporting, text_of};
+ghost use Rattle.ssign.specs.CommandLine.{FlagIs, HasNumber, IsLocalApp, IsNoCommand, limits_with, detail_of, name_of, report_form, reporting, text_of};
 ghost use Rattle.ssign.specs.CommandLine.{with_commands, with_limits};
 
 use crate::asked::asked_of;
@@ -16,7 +16,7 @@ use crate::signing_options::{versions, with_signing_options};
 use crate::task::{Reporting, Task};
 use clap::{Arg, ArgAction, ArgMatches, Command};
 use ss_frame::{LONGEST_MESSAGE, Limits, MOST_MESSAGES};
-use ss_report::ReportForm;
+use ss_report::{Detail, ReportForm};
 use std::alloc::{AllocError, Global};
 
 /// The version of the program.
@@ -27,6 +27,10 @@ const CHECKED: &str =
 /// How an answers file helps to sign.
 const SEALED: &str =
     "The file with a line seal OCTETS SIGNATURE for each line of the plan; without it nothing is signed";
+/// What the findings of a review leave out.
+const LISTED: &str = "Leaves out the ok lines; the status stays as it is";
+/// What the findings of an inspection leave out.
+const PLAIN: &str = "Leaves out the plain lines; the status stays as it is";
 /// How a code is asked about.
 const EXAMPLES: &str = "Examples:
   ssign explain F1
@@ -178,8 +182,8 @@ fn review<'a>(alloc: Global) -> Result<Command<'a>, AllocError>
         "Reports which messages of the log on standard input are exactly those that their sender signed";
     let usage = "ssign review [OPTIONS] < FILE";
     let review = over_log(alloc, "review", about, usage).arg(answers(alloc, CHECKED))?;
-    let review = review.arg(findings(alloc))?.arg(json(alloc))?;
-    limited(alloc, review.arg(whole(alloc))?)
+    let review = review.arg(findings(alloc, LISTED))?.arg(json(alloc))?;
+    limited(alloc, review.arg(whole(alloc))?.arg(tally(alloc))?)
 }
 
 fn questions<'a>(alloc: Global) -> Result<Command<'a>, AllocError>
@@ -189,7 +193,8 @@ fn questions<'a>(alloc: Global) -> Result<Command<'a>, AllocError>
         "Writes lines that are questions: used as answers unchecked, they make any forged log pass. \
         A signature checker leaves out each line that it can't confirm; the rest are answers";
     let usage = "ssign questions [OPTIONS] < FILE";
-    limited(alloc, over_log(alloc, "questions", about, usage))
+    let questions = over_log(alloc, "questions", about, usage);
+    limited(alloc, questions.arg(json(alloc))?)
 }
 
 fn extract<'a>(alloc: Global) -> Result<Command<'a>, AllocError>
@@ -206,7 +211,8 @@ fn inspect<'a>(alloc: Global) -> Result<Command<'a>, AllocError>
 {
     let about = "Writes what each message of the log is: plain, a block, or unparsed, and why";
     let usage = "ssign inspect [OPTIONS] < FILE";
-    limited(alloc, over_log(alloc, "inspect", about, usage))
+    let inspect = over_log(alloc, "inspect", about, usage).arg(findings(alloc, PLAIN))?;
+    limited(alloc, inspect.arg(json(alloc))?)
 }
 
 fn plan<'a>(alloc: Global, versions: &'a [&'a str]) -> Result<Command<'a>, AllocError>
@@ -236,8 +242,8 @@ fn counters<'a>(alloc: Global) -> Result<Command<'a>, AllocError>
         "Writes how far the signature blocks of the log reach: the next GBC of each joined session, \
         and the next number of each of its groups";
     let usage = "ssign counters [OPTIONS] < FILE";
-    let counters = over_log(alloc, "counters", about, usage);
-    limited(alloc, counters.arg(answers(alloc, CHECKED))?)
+    let counters = over_log(alloc, "counters", about, usage).arg(answers(alloc, CHECKED))?;
+    limited(alloc, counters.arg(json(alloc))?)
 }
 
 fn explain<'a>(alloc: Global) -> Result<Command<'a>, AllocError>
@@ -294,14 +300,15 @@ fn answers<'a>(alloc: Global, help: &'a str) -> Arg<'a>
         .help(help)
 }
 
-fn findings<'a>(alloc: Global) -> Arg<'a>
+/// The option that leaves out what is no finding.
+fn findings<'a>(alloc: Global, help: &'a str) -> Arg<'a>
     ensures rule { rule_of result ≡ findings_rule }
     ensures local { result.global ≡ false }
 {
     Arg::new(alloc, "findings")
         .long("findings")
         .action(ArgAction::SetTrue)
-        .help("Leaves out the ok lines; the status stays as it is")
+        .help(help)
 }
 
 fn json<'a>(alloc: Global) -> Arg<'a>
@@ -311,7 +318,7 @@ fn json<'a>(alloc: Global) -> Arg<'a>
     Arg::new(alloc, "json")
         .long("json")
         .action(ArgAction::SetTrue)
-        .help("Writes a JSON object (RFC 8259) for each line of the report")
+        .help("Writes a JSON object (RFC 8259) for each line")
 }
 
 fn whole<'a>(alloc: Global) -> Arg<'a>
@@ -324,6 +331,19 @@ fn whole<'a>(alloc: Global) -> Arg<'a>
         .help(
             "Also reports which signature blocks of each session are missing, by their counter GBC; each such line is \
                 a finding",
+        )
+}
+
+fn tally<'a>(alloc: Global) -> Arg<'a>
+    ensures rule { rule_of result ≡ tally_rule }
+    ensures local { result.global ≡ false }
+{
+    Arg::new(alloc, "tally")
+        .long("tally")
+        .action(ArgAction::SetTrue)
+        .help(
+            "Writes one line a group with its counts, and how many messages are unlisted, refused and spoilt; the \
+                status stays as it is",
         )
 }
 
@@ -415,15 +435,27 @@ fn form_of_report(matches: &ArgMatches<'_>) -> ReportForm
     }
 }
 
-/// How a review is to be reported. A command without these flags has plain text alone.
+/// Whether the flag asks for tallies. A command without it says each thing.
+fn detail_of_report(matches: &ArgMatches<'_>) -> Detail
+    ensures { (tally : Bool) → FlagIs matches.now (codes "tally") tally → result ≡ detail_of tally }
+{
+    if matches.get_flag("tally") {
+        Detail::Tally
+    } else {
+        Detail::Each
+    }
+}
+
+/// How a log is to be reported. A command without these flags has plain text alone.
 pub fn reporting_of(matches: &ArgMatches<'_>) -> Reporting
-    ensures { (findings json whole : Bool) → FlagIs matches.now (codes "findings") findings
+    ensures { (findings json whole tally : Bool) → FlagIs matches.now (codes "findings") findings
         → FlagIs matches.now (codes "json") json → FlagIs matches.now (codes "whole") whole
-        → result ≡ reporting findings json whole }
+        → FlagIs matches.now (codes "tally") tally → result ≡ reporting findings json whole tally }
 {
     Reporting {
         form: form_of_report(matches),
         whole: matches.get_flag("whole"),
+        detail: detail_of_report(matches),
     }
 }
 

@@ -7,8 +7,8 @@ ghost use Rattle.ssign.specs.Task.{review_of, job_of};
 
 use ss_frame::{Limits, Watched};
 use ss_report::{
-    ReportForm, RunFault, Verdict, run_counters, run_extract_with, run_inspect, run_questions,
-    run_review_as, run_review_whole,
+    Detail, ReportForm, RunFault, Verdict, run_counters, run_extract_with, run_inspect,
+    run_questions, run_review_as, run_review_whole,
 };
 use ss_review::Judge;
 use std::alloc::Global;
@@ -29,17 +29,19 @@ pub enum Task {
     Counters,
 }
 
-/// How a review is reported.
+/// How what is asked of a log is reported.
 #[derive(Clone, Copy, Debug, PartialEq, Eq)]
 pub struct Reporting {
     /// In which form.
     pub form: ReportForm,
-    /// Whether it says which signature blocks of each session are missing, below the greatest GBC that is there.
+    /// Whether a review says which signature blocks of each session are missing, below the greatest GBC that is there.
     pub whole: bool,
+    /// Whether a review says each thing, or tallies.
+    pub detail: Detail,
 }
 
-/// Reads a log to its end, and writes what is asked of it: of a review, the report as it is wanted. Questions and
-/// inspections ask the judge nothing. The judge is let go once it is known which blocks are verified.
+/// Reads a log to its end, and writes what is asked of it as it is to be reported. Questions and inspections ask the
+/// judge nothing. The judge is let go once it is known which blocks are verified.
 ///
 /// Nothing is written before the log is read and all that it leads to stands. `RunFault::Write` exactly where a call of the writer failed; what
 /// was written then is a prefix of the output. After any other fault nothing was written: `RunFault::Frame` where the
@@ -64,12 +66,13 @@ pub fn run_task<R: Read, W: Write, J: Judge + Drop>(
         (sink_of W.contents writer.old) (sink_of W.contents writer.new)) }
     ensures untouched { IfErr result (λ fault. fault ≢ RunFault.Write → writer.new ≡ writer.old) }
 {
+    let notation = reporting.form.notation();
     match task {
         Task::Review => run_reported(alloc, reader, writer, reporting, judge, limits),
-        Task::Questions => run_questions(alloc, reader, writer, limits),
+        Task::Questions => run_questions(alloc, reader, writer, limits, notation),
         Task::Extract => run_extract_with(alloc, reader, writer, judge, limits),
-        Task::Inspect => run_inspect(alloc, reader, writer, limits),
-        Task::Counters => run_counters(alloc, reader, writer, judge, limits),
+        Task::Inspect => run_inspect(alloc, reader, writer, limits, reporting.form),
+        Task::Counters => run_counters(alloc, reader, writer, judge, limits, notation),
     }
 }
 
@@ -93,9 +96,14 @@ fn run_reported<R: Read, W: Write, J: Judge + Drop>(
         (sink_of W.contents writer.old) (sink_of W.contents writer.new)) }
     ensures untouched { IfErr result (λ fault. fault ≢ RunFault.Write → writer.new ≡ writer.old) }
 {
-    if reporting.whole {
-        run_review_whole(alloc, reader, writer, judge, limits, reporting.form)
+    let Reporting {
+        form,
+        whole,
+        detail,
+    } = reporting;
+    if whole {
+        run_review_whole(alloc, reader, writer, judge, limits, form, detail)
     } else {
-        run_review_as(alloc, reader, writer, judge, limits, reporting.form)
+        run_review_as(alloc, reader, writer, judge, limits, form, detail)
     }
 }

@@ -3,7 +3,7 @@
 use super::Explanation;
 
 /// Lines of a report, states of a session, lines of an inspection, and lines of answers, plans and questions.
-pub static WORDS: [Explanation; 26] = [
+pub static WORDS: [Explanation; 30] = [
     Explanation {
         code: "session",
         text: "A session is one run of a sender: its blocks share HOSTNAME, APP-NAME, PROCID and a number, the RSID. \
@@ -44,6 +44,14 @@ pub static WORDS: [Explanation; 26] = [
             in those of other collectors.",
     },
     Explanation {
+        code: "tally",
+        text: "Only ssign review --tally writes this line, one for each group, in place of its ok, gap and hole lines. \
+            Behind the group, SG and SPRI, stand six numbers. The first counts the ok lines. The next two count the \
+            gap lines: those that are lost, and those that are disputed. The fourth is how many numbers lie in holes. \
+            The last two are the first and the last announced number. If the second, the third or the fourth isn't 0, \
+            run ssign review --findings.",
+    },
+    Explanation {
         code: "unlisted",
         text: "No number lists this stored message. There are four cases. It was never signed, or its block comes only \
             after the end of this log: no other line shows this. Its block was lost, or doesn't count: a hole, a \
@@ -63,6 +71,21 @@ pub static WORDS: [Explanation; 26] = [
         text: "This message has an element ssign or ssign-cert, but isn't a block. The line ends with the first cause, \
             S1 to S9. The message announces nothing, and can't be listed. It was changed, or its sender writes blocks \
             in another way than RFC 5848: compare it with what the sender sends.",
+    },
+    Explanation {
+        code: "unlisted-count",
+        text: "Only ssign review --tally writes this line: how many stored messages no number lists. If it isn't 0, \
+            run ssign review --findings. It has an unlisted line for each of them.",
+    },
+    Explanation {
+        code: "refused-count",
+        text: "Only ssign review --tally writes this line: how many blocks don't count. If it isn't 0, run ssign \
+            review --findings. It has a refused line for each of them.",
+    },
+    Explanation {
+        code: "spoilt-count",
+        text: "Only ssign review --tally writes this line: how many messages have a block element and are no block. If \
+            it isn't 0, run ssign review --findings. It has a spoilt line for each of them.",
     },
     Explanation {
         code: "torn",

@@ -1,0 +1,7 @@
+#!/usr/bin/env bash
+# `review --tally`, alone and with the other forms: tests/tally.py.
+# shellcheck source=tests/lib.sh
+. "$(dirname -- "$0")/lib.sh"
+need_program
+
+exec python3 -B "$root/tests/tally.py" "$program"
