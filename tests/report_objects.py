@@ -13,6 +13,7 @@ KEYS = {
     "ok": [*GROUP, "number", "place"],
     "gap": [*GROUP, "number", "why"],
     "hole": [*GROUP, "first", "last"],
+    "tail": [*GROUP, "first", "last"],
     "blocks": [*SESSION, "first", "last"],
     "unlisted": ["place"],
     "refused": ["place"],

@@ -1,6 +1,7 @@
 -- The findings of a report: what it says without its `ok` lines.
 use Rattle.std.specs.Prelude.{ℕ, Bool, true, false, List, [], if◌then◌else◌}
-use Rattle.ss_report.specs.Lines.{ReportLine, SessionLine, OkLine, GapLine, HoleLine, BlocksLine, TallyLine, UnlistedLine, RefusedLine, SpoiltLine, UnlistedCountLine, RefusedCountLine, SpoiltCountLine, TornLine, EndLine}
+use Rattle.ss_report.specs.Lines.{ReportLine, SessionLine, OkLine, GapLine, HoleLine, TailLine, BlocksLine, AbsentLine, TallyLine}
+use Rattle.ss_report.specs.Lines.{UnlistedLine, RefusedLine, SpoiltLine, UnlistedCountLine, RefusedCountLine, SpoiltCountLine, TornLine, EndLine}
 use Rattle.ss_report.specs.ReportText.{line_text}
 use Rattle.ss_report.specs.Json.{line_object}
 
@@ -9,7 +10,9 @@ is_ok (OkLine s g number place) = true
 is_ok (SessionLine s state) = false
 is_ok (GapLine s g number why) = false
 is_ok (HoleLine s g first last) = false
+is_ok (TailLine s g first last) = false
 is_ok (BlocksLine s first last) = false
+is_ok (AbsentLine s) = false
 is_ok (TallyLine s g t) = false
 is_ok (UnlistedLine place) = false
 is_ok (RefusedLine place) = false

@@ -1,5 +1,5 @@
 -- The runs over a log: what each writes of its messages and its tail, and its verdict.
-use Rattle.std.specs.Prelude.{true, false, flat_map}
+use Rattle.std.specs.Prelude.{true, false, ℕ, List, flat_map}
 use Rattle.ss_frame.specs.Frame.{frames}
 use Rattle.ss_frame.specs.Limits.{Allowance}
 use Rattle.ss_frame.specs.Watched.{Source, Sink}
@@ -10,11 +10,14 @@ use Rattle.ss_review.specs.Report.{report}
 use Rattle.ss_review.specs.Questions.{questions}
 use Rattle.ss_review.specs.Extract.{extract}
 use Rattle.ss_review.specs.Laws.{ListsWhatIsAnnounced}
+use Rattle.ss_review.specs.Announced.{Key}
+use Rattle.ss_review.specs.KeptLaws.{NumberIsTold, BlockIsTold}
 use Rattle.ss_report.specs.Inspection.{inspection}
 use Rattle.ss_report.specs.ReportText.{report_lines}
 use Rattle.ss_report.specs.Forms.{line_as, report_as}
 use Rattle.ss_block.specs.declared.session.Session.{Session}
 use Rattle.ss_report.specs.Whole.{TellsMissing, whole_lines, whole_verdict}
+use Rattle.ss_review.specs.declared.counted.counter.Counter.{Counter}
 use Rattle.ss_report.specs.QuestionText.{question_lines}
 use Rattle.ss_report.specs.Counters.{counter_lines}
 use Rattle.ss_report.specs.Verdict.{end_verdict, report_verdict}
@@ -48,11 +51,11 @@ reviewing_as form detail says = record {
   reviews = true;
 }
 
--- the report in a form, with what is missing of each session's signature blocks, which is a finding
-abbrev pub reviewing_whole : ReportForm → Detail → Answers → Job
-reviewing_whole form detail says = record {
-  output = λ messages tail. flat_map (line_as form) (whole_lines detail says (blocks (notes messages)) (report says messages) tail);
-  verdict = λ messages tail. whole_verdict says (blocks (notes messages)) (report says messages) tail;
+-- the report in a form, with what is missing of each session's signature blocks, and of all up to these counters
+abbrev pub reviewing_whole : ReportForm → Detail → List Counter → Answers → Job
+reviewing_whole form detail counters says = record {
+  output = λ messages tail. flat_map (line_as form) (whole_lines detail says counters messages tail);
+  verdict = λ messages tail. whole_verdict says counters messages tail;
   reviews = true;
 }
 
@@ -90,8 +93,10 @@ pub record ReviewsAs (form : ReportForm) (detail : Detail) (says : Answers) (lim
   pub run : Runs (reviewing_as form detail says) limits before after was is verdict
   pub listed : ListsWhatIsAnnounced says run.messages (report says run.messages)
 
--- the same of a review in a form with what is missing of the signature blocks, which is told of each session
-pub record ReviewsWhole (form : ReportForm) (detail : Detail) (says : Answers) (limits : Allowance) (before after : Source) (was is : Sink) (verdict : Verdict) : Type 0 where
-  pub run : Runs (reviewing_whole form detail says) limits before after was is verdict
+-- the same of a review in a form with what is missing of each session's signature blocks, and of all up to these counters
+pub record ReviewsWhole (form : ReportForm) (detail : Detail) (counters : List Counter) (says : Answers) (limits : Allowance) (before after : Source) (was is : Sink) (verdict : Verdict) : Type 0 where
+  pub run : Runs (reviewing_whole form detail counters says) limits before after was is verdict
   pub listed : ListsWhatIsAnnounced says run.messages (report says run.messages)
-  pub missing : (s : Session) → TellsMissing says (blocks (notes run.messages)) s
+  pub missing : (s : Session) → TellsMissing says counters (blocks (notes run.messages)) s
+  pub numbers_told : (k : Key) → NumberIsTold says run.messages counters k
+  pub blocks_told : (s : Session) (gbc : ℕ) → BlockIsTold says run.messages counters s gbc

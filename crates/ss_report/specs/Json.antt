@@ -9,7 +9,8 @@ use Rattle.ss_review.specs.declared.report.session_report.SessionState.{SessionS
 use Rattle.ss_report.specs.declared.lines.tally.Tally.{Tally}
 use Rattle.ss_report.specs.Words.{field_word, cause_number}
 use Rattle.ss_report.specs.ReportText.{state_word, why_word}
-use Rattle.ss_report.specs.Lines.{ReportLine, SessionLine, OkLine, GapLine, HoleLine, BlocksLine, TallyLine, UnlistedLine, RefusedLine, SpoiltLine, UnlistedCountLine, RefusedCountLine, SpoiltCountLine, TornLine, EndLine}
+use Rattle.ss_report.specs.Lines.{ReportLine, SessionLine, OkLine, GapLine, HoleLine, TailLine, BlocksLine, AbsentLine, TallyLine}
+use Rattle.ss_report.specs.Lines.{UnlistedLine, RefusedLine, SpoiltLine, UnlistedCountLine, RefusedCountLine, SpoiltCountLine, TornLine, EndLine}
 
 -- `"` and `\`
 abbrev pub is_escaped : ℕ → Bool
@@ -60,6 +61,13 @@ unfoldable pub blocks_object : Session → (first last : ℕ) → List ℕ
 blocks_object s first last =
     codes "{\"line\":\"blocks\"" ++ session_members s ++ number_member (codes "first") first ++ number_member (codes "last") last ++ codes "}\n"
 
+unfoldable pub tail_object : Session → Group → (first last : ℕ) → List ℕ
+tail_object s g first last =
+    codes "{\"line\":\"tail\"" ++ session_members s ++ group_members g ++ number_member (codes "first") first ++ number_member (codes "last") last ++ codes "}\n"
+
+unfoldable pub absent_object : Session → List ℕ
+absent_object s = codes "{\"line\":\"session\"" ++ session_members s ++ word_member (codes "state") (codes "absent") ++ codes "}\n"
+
 unfoldable pub tally_object : Session → Group → Tally → List ℕ
 tally_object s g t =
     codes "{\"line\":\"tally\"" ++ session_members s ++ group_members g ++ number_member (codes "ok") t.listed ++ number_member (codes "lost") t.lost
@@ -81,7 +89,9 @@ line_object (SessionLine s state) = session_object s state
 line_object (OkLine s g number place) = ok_object s g number place
 line_object (GapLine s g number why) = gap_object s g number why
 line_object (HoleLine s g first last) = hole_object s g first last
+line_object (TailLine s g first last) = tail_object s g first last
 line_object (BlocksLine s first last) = blocks_object s first last
+line_object (AbsentLine s) = absent_object s
 line_object (TallyLine s g t) = tally_object s g t
 line_object (UnlistedLine place) = number_object (codes "unlisted") (codes "place") place
 line_object (RefusedLine place) = number_object (codes "refused") (codes "place") place

@@ -12,7 +12,8 @@ use Rattle.ss_review.specs.declared.report.report.Report.{Report}
 use Rattle.ss_report.specs.declared.lines.detail.Detail.TheVariants.{Each}
 use Rattle.ss_report.specs.declared.lines.tally.Tally.{Tally}
 use Rattle.ss_report.specs.Words.{spaced, session_words, group_words, number_line, spoilt_line}
-use Rattle.ss_report.specs.Lines.{ReportLine, SessionLine, OkLine, GapLine, HoleLine, BlocksLine, TallyLine, UnlistedLine, RefusedLine, SpoiltLine, UnlistedCountLine, RefusedCountLine, SpoiltCountLine, TornLine, EndLine, lines}
+use Rattle.ss_report.specs.Lines.{ReportLine, SessionLine, OkLine, GapLine, HoleLine, TailLine, BlocksLine, AbsentLine, TallyLine}
+use Rattle.ss_report.specs.Lines.{UnlistedLine, RefusedLine, SpoiltLine, UnlistedCountLine, RefusedCountLine, SpoiltCountLine, TornLine, EndLine, lines}
 
 abbrev pub state_word : SessionState → List ℕ
 state_word states.Joined = codes "joined"
@@ -46,6 +47,14 @@ hole_text s g first last = codes "hole" ++ session_words s ++ group_words g ++ s
 unfoldable pub blocks_text : Session → (first last : ℕ) → List ℕ
 blocks_text s first last = codes "blocks" ++ session_words s ++ spaced first ++ spaced last ++ codes "\n"
 
+-- tail HOST APP PROCID RSID SG SPRI FIRST LAST
+unfoldable pub tail_text : Session → Group → (first last : ℕ) → List ℕ
+tail_text s g first last = codes "tail" ++ session_words s ++ group_words g ++ spaced first ++ spaced last ++ codes "\n"
+
+-- session HOST APP PROCID RSID absent
+unfoldable pub absent_text : Session → List ℕ
+absent_text s = codes "session" ++ session_words s ++ codes " absent\n"
+
 -- tally HOST APP PROCID RSID SG SPRI OK LOST DISPUTED HOLES FIRST LAST
 unfoldable pub tally_text : Session → Group → Tally → List ℕ
 tally_text s g t =
@@ -58,7 +67,9 @@ line_text (SessionLine s state) = session_text s state
 line_text (OkLine s g number place) = ok_text s g number place
 line_text (GapLine s g number why) = gap_text s g number why
 line_text (HoleLine s g first last) = hole_text s g first last
+line_text (TailLine s g first last) = tail_text s g first last
 line_text (BlocksLine s first last) = blocks_text s first last
+line_text (AbsentLine s) = absent_text s
 line_text (TallyLine s g t) = tally_text s g t
 line_text (UnlistedLine place) = number_line (codes "unlisted") place
 line_text (RefusedLine place) = number_line (codes "refused") place

@@ -15,7 +15,6 @@ mod inspection;
 mod inspection_objects;
 mod lines;
 mod log;
-mod missing;
 mod next;
 mod notation;
 mod outcome;
@@ -26,6 +25,7 @@ pub mod report_text;
 mod review;
 mod review_as;
 mod review_whole;
+mod shortage;
 mod verdict;
 mod words;
 

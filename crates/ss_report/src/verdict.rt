@@ -4,15 +4,15 @@ ghost use Rattle.ss_report.specs.Verdict.{end_verdict, report_verdict};
 ghost use Rattle.ss_report.specs.Whole.{verdict_with};
 
 use crate::cleanness::is_clean;
-use crate::missing::is_nothing_missing;
+use crate::shortage::is_nothing_short;
 use ss_frame::Tail;
-use ss_review::{MissingRuns, Report};
+use ss_review::{LogShortfalls, Report};
 
 /// Whether a log leaves anything to look into.
 #[derive(Clone, Copy, Debug, PartialEq, Eq)]
 pub enum Verdict {
     /// Of a review: each announced message is listed, each stored message is listed or a verified block, each session
-    /// is joined, and the log has a clean end. Of a review that says which signature blocks are missing: besides, none
+    /// is joined, and the log has a clean end. Of a review that says what is missing beside the report: besides, nothing
     /// is. Of an inspection, of questions and of counters: the log has a clean end.
     Clean,
     /// Something of that isn't so.
@@ -40,12 +40,11 @@ pub(crate) fn report_verdict(report: &Report, tail: Tail) -> Verdict
     }
 }
 
-/// Whether the report leaves nothing to look into, nothing is missing of any session's signature blocks, and the log
-/// has a clean end.
-pub(crate) fn verdict_with(report: &Report, missing: &[MissingRuns], tail: Tail) -> Verdict
-    ensures { result ≡ verdict_with report.now missing.now tail }
+/// Whether the report leaves nothing to look into, nothing is missing beside it, and the log has a clean end.
+pub(crate) fn verdict_with(report: &Report, short: &LogShortfalls, tail: Tail) -> Verdict
+    ensures { result ≡ verdict_with report.now short.now tail }
 {
-    if is_nothing_missing(missing) {
+    if is_nothing_short(short) {
         report_verdict(report, tail)
     } else {
         Verdict::Findings

@@ -63,7 +63,7 @@ abbrev pub detail_of : Bool → Detail
 detail_of true = details.Tally
 detail_of false = details.Each
 
--- how a log is reported, with or without these flags, `--whole` and `--tally`
+-- how a log is reported, with or without these flags, `--whole`, which counters ask for too, and `--tally`
 abbrev pub reporting : (findings json whole tally : Bool) → Reporting
 reporting findings json whole tally = record { form = report_form findings json; whole = whole; detail = detail_of tally }
 
@@ -92,6 +92,9 @@ whole_rule = flag_rule (codes "whole")
 abbrev pub tally_rule : Rule
 tally_rule = flag_rule (codes "tally")
 
+abbrev pub kept_rule : Rule
+kept_rule = text_rule (codes "counters")
+
 abbrev pub lines_rule : Rule
 lines_rule = flag_rule (codes "lines")
 
@@ -116,7 +119,8 @@ with_limits a = with_rule (with_rule (with_rule a lines_rule) max_len_rule) max_
 
 abbrev pub review_app : App
 review_app =
-    with_limits (with_rule (with_rule (with_rule (with_rule (with_rule (new_app (codes "review")) answers_rule) findings_rule) json_rule) whole_rule) tally_rule)
+    with_limits
+    (with_rule (with_rule (with_rule (with_rule (with_rule (with_rule (new_app (codes "review")) answers_rule) findings_rule) json_rule) whole_rule) tally_rule) kept_rule)
 
 abbrev pub questions_app : App
 questions_app = with_limits (with_rule (new_app (codes "questions")) json_rule)

@@ -1,9 +1,9 @@
 //! The command line.
-ghost use Rattle.std.specs.Prelude.{◌≡◌, ◌<◌, ◌^◌, ◌∷◌, [], ℕ, Bool, false, Some, codes, decimal, IfOk, IfSome, MatchOption, option_and_then, option_map};
-ghost use Rattle.std.specs.Option.{SomeIff};
+ghost use Rattle.std.specs.Prelude.{◌≡◌, ◌<◌, ◌^◌, ◌||◌, ◌∷◌, [], ℕ, Bool, false, Some, codes, decimal, IfOk, IfSome, MatchOption, option_and_then, option_map};
+ghost use Rattle.std.specs.Option.{SomeIff, is_some};
 ghost use Rattle.clap.specs.Words.{App, app_of, first_value, found_of, matched_of, new_app, raw_values, rule_of};
 ghost use Rattle.ss_frame.specs.Limits.{InRange};
-ghost use Rattle.ssign.specs.CommandLine.{answers_rule, code_rule, findings_rule, json_rule, lines_rule, max_len_rule, max_messages_rule, tally_rule, whole_rule};
+ghost use Rattle.ssign.specs.CommandLine.{answers_rule, code_rule, findings_rule, json_rule, kept_rule, lines_rule, max_len_rule, max_messages_rule, tally_rule, whole_rule};
 ghost use Rattle.ssign.specs.CommandLine.{bare_app, counters_app, explain_app, extract_app, inspect_app, plan_app, questions_app, review_app, sign_app, ssign_app};
 ghost use Rattle.ssign.specs.Explanation.{asked_of};
 ghost use Rattle.ssign.specs.SigningOptions.{AreVersions, Kept};
@@ -183,7 +183,8 @@ fn review<'a>(alloc: Global) -> Result<Command<'a>, AllocError>
     let usage = "ssign review [OPTIONS] < FILE";
     let review = over_log(alloc, "review", about, usage).arg(answers(alloc, CHECKED))?;
     let review = review.arg(findings(alloc, LISTED))?.arg(json(alloc))?;
-    limited(alloc, review.arg(whole(alloc))?.arg(tally(alloc))?)
+    let review = review.arg(whole(alloc))?.arg(tally(alloc))?;
+    limited(alloc, review.arg(kept(alloc))?)
 }
 
 fn questions<'a>(alloc: Global) -> Result<Command<'a>, AllocError>
@@ -347,6 +348,21 @@ fn tally<'a>(alloc: Global) -> Arg<'a>
         )
 }
 
+/// The option of a counters file.
+fn kept<'a>(alloc: Global) -> Arg<'a>
+    ensures rule { rule_of result ≡ kept_rule }
+    ensures local { result.global ≡ false }
+{
+    Arg::new(alloc, "counters")
+        .long("counters")
+        .value_name("FILE")
+        .action(ArgAction::Set)
+        .help(
+            "Also reports what is missing up to the counters of FILE, as ssign counters wrote them, and does what --whole \
+                does; each such line is a finding",
+        )
+}
+
 fn lines<'a>(alloc: Global) -> Arg<'a>
     ensures rule { rule_of result ≡ lines_rule }
     ensures local { result.global ≡ false }
@@ -417,6 +433,13 @@ pub fn answers_file<'a>(matches: &ArgMatches<'a>) -> Option<&'a str>
     matches.get_str("answers")
 }
 
+/// The counters file, if one was given.
+pub fn counters_file<'a>(matches: &ArgMatches<'a>) -> Option<&'a str>
+    ensures { option_map (λ s. s.now) result ≡ first_value (found_of matches.now) (codes "counters") }
+{
+    matches.get_str("counters")
+}
+
 /// The form of a report that the flags ask for. A command without these flags has plain text.
 fn form_of_report(matches: &ArgMatches<'_>) -> ReportForm
     ensures { (findings json : Bool) → FlagIs matches.now (codes "findings") findings
@@ -446,15 +469,17 @@ fn detail_of_report(matches: &ArgMatches<'_>) -> Detail
     }
 }
 
-/// How a log is to be reported. A command without these flags has plain text alone.
+/// How a log is to be reported: a review with what is missing beside it where `--whole` or `--counters` is given. A
+/// command without these flags has plain text alone.
 pub fn reporting_of(matches: &ArgMatches<'_>) -> Reporting
     ensures { (findings json whole tally : Bool) → FlagIs matches.now (codes "findings") findings
         → FlagIs matches.now (codes "json") json → FlagIs matches.now (codes "whole") whole
-        → FlagIs matches.now (codes "tally") tally → result ≡ reporting findings json whole tally }
+        → FlagIs matches.now (codes "tally") tally
+        → result ≡ reporting findings json (whole || is_some (first_value (found_of matches.now) (codes "counters"))) tally }
 {
     Reporting {
         form: form_of_report(matches),
-        whole: matches.get_flag("whole"),
+        whole: matches.get_flag("whole") || counters_file(matches).is_some(),
         detail: detail_of_report(matches),
     }
 }

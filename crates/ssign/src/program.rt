@@ -5,7 +5,7 @@ ghost use Rattle.ssign.specs.CommandLine.{AreMistaken, signing_status, status_of
 ghost use Rattle.ssign.specs.Explanation.{has_code};
 
 use crate::command_line::{
-    Order, answers_file, asked_code, command, limits_of, order_of, reporting_of,
+    Order, answers_file, asked_code, command, counters_file, limits_of, order_of, reporting_of,
 };
 use crate::explain::explanation_of;
 use crate::explanations::{Explanation, FAULTS, REFUSALS, UNPRINTED, WORDS};
@@ -22,9 +22,10 @@ use crate::streams::{explain_on_output, run_streams, sign_streams};
 use crate::task::Task;
 use clap::ArgMatches;
 use clap::error::ErrorKind;
-use ss_answers::open_answers;
-use ss_frame::Form;
+use ss_answers::{open_answers, open_counters};
+use ss_frame::{Form, Limits};
 use ss_report::{RunFault, Verdict};
+use ss_review::{Counter, Counters};
 use ss_signing::SignFault;
 use std::alloc::AllocError;
 use std::rt::{Env, Files};
@@ -99,7 +100,7 @@ fn run_command<R: Input + Print + Eprint + Screen + Files + AllocGlobal>(
     }
 }
 
-/// Makes a run over standard input. The answers file is read before.
+/// Makes a run over standard input. The counters file is read before, and then the answers file.
 fn run_log<R: Input + Print + Eprint + Screen + Files + AllocGlobal>(
     rt: &R,
     task: Task,
@@ -110,12 +111,32 @@ fn run_log<R: Input + Print + Eprint + Screen + Files + AllocGlobal>(
     let Some(limits) = limits_of(options) else {
         return REFUSED;
     };
+    let counters = match counters_file(options) {
+        None => Counters::from_vec(Vec::new(rt.alloc())),
+        Some(file) => match open_counters(rt, file) {
+            Ok(counters) => counters,
+            Err(fault) => return refuse(rt, &fault, Remark::CountersFile(file)),
+        },
+    };
+    run_counted(rt, task, counters.as_slice(), options, limits)
+}
+
+/// Makes a run over standard input, up to these counters. The answers file is read before.
+fn run_counted<R: Input + Print + Eprint + Screen + Files + AllocGlobal>(
+    rt: &R,
+    task: Task,
+    counters: &[Counter],
+    options: &ArgMatches<'_>,
+    limits: Limits,
+) -> u8
+    ensures { result ≤ 2 }
+{
     let reporting = reporting_of(options);
     let mut input = Opening::new(rt.reader());
     let ended = match answers_file(options) {
-        None => run_streams(rt, &mut input, task, reporting, Nobody, limits),
+        None => run_streams(rt, &mut input, task, reporting, counters, Nobody, limits),
         Some(file) => match open_answers(rt, file) {
-            Ok(answers) => run_streams(rt, &mut input, task, reporting, answers, limits),
+            Ok(answers) => run_streams(rt, &mut input, task, reporting, counters, answers, limits),
             Err(fault) => return refuse(rt, &fault, Remark::AnswersFile(file)),
         },
     };

@@ -10,7 +10,7 @@ use crate::task::{Reporting, Task, run_task};
 use ss_answers::Answers;
 use ss_frame::{Buffered, Limits, Watched};
 use ss_report::{RunFault, Verdict};
-use ss_review::Judge;
+use ss_review::{Counter, Judge};
 use ss_signing::SignFault;
 use std::alloc::Global;
 use std::io;
@@ -25,6 +25,7 @@ pub fn run_streams<R: Print + AllocGlobal, I: Read + Drop, J: Judge + Drop>(
     input: I,
     task: Task,
     reporting: Reporting,
+    counters: &[Counter],
     judge: J,
     limits: Limits,
 ) -> Result<Verdict, RunFault>
@@ -38,6 +39,7 @@ pub fn run_streams<R: Print + AllocGlobal, I: Read + Drop, J: Judge + Drop>(
         &mut writer,
         task,
         reporting,
+        counters,
         judge,
         limits,
     )

@@ -10,7 +10,7 @@ use ss_report::{
     Detail, ReportForm, RunFault, Verdict, run_counters, run_extract_with, run_inspect,
     run_questions, run_review_as, run_review_whole,
 };
-use ss_review::Judge;
+use ss_review::{Counter, Judge};
 use std::alloc::Global;
 use std::io::{Read, Write};
 
@@ -34,41 +34,45 @@ pub enum Task {
 pub struct Reporting {
     /// In which form.
     pub form: ReportForm,
-    /// Whether a review says which signature blocks of each session are missing, below the greatest GBC that is there.
+    /// Whether a review says what is missing beside the report: signature blocks below the greatest GBC of a session
+    /// that is there, and all up to the counters that were kept.
     pub whole: bool,
     /// Whether a review says each thing, or tallies.
     pub detail: Detail,
 }
 
-/// Reads a log to its end, and writes what is asked of it as it is to be reported. Questions and inspections ask the
-/// judge nothing. The judge is let go once it is known which blocks are verified.
+/// Reads a log to its end, and writes what is asked of it as it is to be reported: of a review that is to be whole, up to
+/// these counters. Questions and inspections ask the judge nothing. The judge is let go once it is known which blocks are
+/// verified.
 ///
-/// Nothing is written before the log is read and all that it leads to stands. `RunFault::Write` exactly where a call of the writer failed; what
-/// was written then is a prefix of the output. After any other fault nothing was written: `RunFault::Frame` where the
-/// log can't be read to its end, `RunFault::Review` (V1) and `RunFault::Memory` for want of memory.
+/// Nothing is written before the log is read and all that it leads to stands. `RunFault::Write` exactly where a call of the
+/// writer failed; what was written then is a prefix of the output. After any other fault nothing was written:
+/// `RunFault::Frame` where the log can't be read to its end, `RunFault::Review` (V1) and `RunFault::Memory` for want of
+/// memory.
 pub fn run_task<R: Read, W: Write, J: Judge + Drop>(
     alloc: Global,
     reader: &mut Watched<R>,
     writer: &mut Watched<W>,
     task: Task,
     reporting: Reporting,
+    counters: &[Counter],
     judge: J,
     limits: Limits,
 ) -> Result<Verdict, RunFault>
     requires reader { has_failed reader.old ≡ false }
     requires writer { has_failed writer.old ≡ false }
     requires sound { J.sound judge }
-    ensures done { IfOk result (Runs (job_of (answers J.trusted J.valid judge) reporting task) limits
+    ensures done { IfOk result (Runs (job_of (answers J.trusted J.valid judge) reporting counters.now task) limits
         (source_of R.remaining reader.old) (source_of R.remaining reader.new)
         (sink_of W.contents writer.old) (sink_of W.contents writer.new)) }
-    ensures stopped { IfErr result (Stops (job_of (answers J.trusted J.valid judge) reporting task) limits
+    ensures stopped { IfErr result (Stops (job_of (answers J.trusted J.valid judge) reporting counters.now task) limits
         (source_of R.remaining reader.old) (source_of R.remaining reader.new)
         (sink_of W.contents writer.old) (sink_of W.contents writer.new)) }
     ensures untouched { IfErr result (λ fault. fault ≢ RunFault.Write → writer.new ≡ writer.old) }
 {
     let notation = reporting.form.notation();
     match task {
-        Task::Review => run_reported(alloc, reader, writer, reporting, judge, limits),
+        Task::Review => run_reported(alloc, reader, writer, reporting, counters, judge, limits),
         Task::Questions => run_questions(alloc, reader, writer, limits, notation),
         Task::Extract => run_extract_with(alloc, reader, writer, judge, limits),
         Task::Inspect => run_inspect(alloc, reader, writer, limits, reporting.form),
@@ -82,16 +86,17 @@ fn run_reported<R: Read, W: Write, J: Judge + Drop>(
     reader: &mut Watched<R>,
     writer: &mut Watched<W>,
     reporting: Reporting,
+    counters: &[Counter],
     judge: J,
     limits: Limits,
 ) -> Result<Verdict, RunFault>
     requires reader { has_failed reader.old ≡ false }
     requires writer { has_failed writer.old ≡ false }
     requires sound { J.sound judge }
-    ensures done { IfOk result (Runs (review_of (answers J.trusted J.valid judge) reporting) limits
+    ensures done { IfOk result (Runs (review_of (answers J.trusted J.valid judge) reporting counters.now) limits
         (source_of R.remaining reader.old) (source_of R.remaining reader.new)
         (sink_of W.contents writer.old) (sink_of W.contents writer.new)) }
-    ensures stopped { IfErr result (Stops (review_of (answers J.trusted J.valid judge) reporting) limits
+    ensures stopped { IfErr result (Stops (review_of (answers J.trusted J.valid judge) reporting counters.now) limits
         (source_of R.remaining reader.old) (source_of R.remaining reader.new)
         (sink_of W.contents writer.old) (sink_of W.contents writer.new)) }
     ensures untouched { IfErr result (λ fault. fault ≢ RunFault.Write → writer.new ≡ writer.old) }
@@ -102,7 +107,9 @@ fn run_reported<R: Read, W: Write, J: Judge + Drop>(
         detail,
     } = reporting;
     if whole {
-        run_review_whole(alloc, reader, writer, judge, limits, form, detail)
+        run_review_whole(
+            alloc, reader, writer, judge, limits, form, detail, counters,
+        )
     } else {
         run_review_as(alloc, reader, writer, judge, limits, form, detail)
     }

@@ -2,7 +2,8 @@
 ghost use Rattle.ss_frame.specs.Watched.{sink_of};
 ghost use Rattle.ss_report.specs.Writing.{Writes};
 ghost use Rattle.ss_report.specs.Lines.{seen};
-ghost use Rattle.ss_report.specs.Json.{session_object, ok_object, gap_object, hole_object, blocks_object, tally_object, number_object, spoilt_object, line_object};
+ghost use Rattle.ss_report.specs.Json.{session_object, ok_object, gap_object, hole_object, tail_object, blocks_object, absent_object, tally_object};
+ghost use Rattle.ss_report.specs.Json.{number_object, spoilt_object, line_object};
 
 use crate::forms::members::{
     write_group_members, write_number_member, write_session_members, write_wide_member,
@@ -16,7 +17,7 @@ use crate::output::{write_number, write_text};
 use crate::words::number_of_cause;
 use ss_block::{Group, Session, Spoil};
 use ss_frame::Watched;
-use ss_review::{MissingRun, SessionState, Why};
+use ss_review::{GroupTail, MissingRun, SessionState, Why};
 use std::io::Write;
 
 /// A JSON object for each line, ended by LF, in ASCII.
@@ -55,7 +56,9 @@ pub(crate) fn write_object<W: Write>(writer: &mut Watched<W>, line: Line<'_>)
             first,
             last,
         } => write_hole(writer, session, group, first, last),
+        Line::Tail { session, tail } => write_tail(writer, session, tail),
         Line::Blocks { session, run } => write_blocks(writer, session, run),
+        Line::Absent { session } => write_absent(writer, session),
         Line::Tally {
             session,
             group,
@@ -133,6 +136,28 @@ fn write_hole<W: Write>(
     write_group_members(writer, group);
     write_number_member(writer, b"first", first);
     write_number_member(writer, b"last", last);
+    write_text(writer, b"}\n");
+}
+
+#[tactic(auto, unfolding(crate::specs::Json::tail_object))]
+fn write_tail<W: Write>(writer: &mut Watched<W>, session: &Session, tail: GroupTail)
+    ensures { Writes (sink_of W.contents writer.old) (sink_of W.contents writer.new) (tail_object session.now tail.group tail.first tail.last) }
+{
+    write_text(writer, b"{\"line\":\"tail\"");
+    write_session_members(writer, session);
+    write_group_members(writer, tail.group);
+    write_number_member(writer, b"first", tail.first);
+    write_number_member(writer, b"last", tail.last);
+    write_text(writer, b"}\n");
+}
+
+#[tactic(auto, unfolding(crate::specs::Json::absent_object))]
+fn write_absent<W: Write>(writer: &mut Watched<W>, session: &Session)
+    ensures { Writes (sink_of W.contents writer.old) (sink_of W.contents writer.new) (absent_object session.now) }
+{
+    write_text(writer, b"{\"line\":\"session\"");
+    write_session_members(writer, session);
+    write_word_member(writer, b"state", b"absent");
     write_text(writer, b"}\n");
 }
 

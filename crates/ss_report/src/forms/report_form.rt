@@ -13,7 +13,7 @@ use crate::lines::walk::write_lines;
 use crate::lines::walk_whole::write_lines_with;
 use crate::notation::Notation;
 use ss_frame::{Tail, Watched};
-use ss_review::{MissingRuns, Report};
+use ss_review::{LogShortfalls, Report};
 use std::io::Write;
 
 /// In which form a review writes its report, and an inspection its lines.
@@ -69,29 +69,23 @@ pub(crate) fn write_report_as<W: Write>(
     }
 }
 
-/// Writes a report on a log with this end, in a form and a detail, with what is missing of each session's signature
-/// blocks. Nothing is allocated.
+/// Writes a report on a log with this end, in a form and a detail, with what is missing beside it. Nothing is allocated.
 pub(crate) fn write_whole_as<W: Write>(
     writer: &mut Watched<W>,
     report: &Report,
-    missing: &[MissingRuns],
+    short: &LogShortfalls,
     tail: Tail,
     form: ReportForm,
     detail: Detail,
 )
-    ensures { Writes (sink_of W.contents writer.old) (sink_of W.contents writer.new) (flat_map (line_as form) (lines_with detail report.now missing.now tail)) }
+    ensures { Writes (sink_of W.contents writer.old) (sink_of W.contents writer.new) (flat_map (line_as form) (lines_with detail report.now short.now tail)) }
 {
     match form {
-        ReportForm::Text => write_lines_with(&Text, writer, report, missing, tail, detail),
-        ReportForm::Findings => write_lines_with(&Findings, writer, report, missing, tail, detail),
-        ReportForm::Json => write_lines_with(&Json, writer, report, missing, tail, detail),
-        ReportForm::JsonFindings => write_lines_with(
-            &JsonFindings,
-            writer,
-            report,
-            missing,
-            tail,
-            detail,
-        ),
+        ReportForm::Text => write_lines_with(&Text, writer, report, short, tail, detail),
+        ReportForm::Findings => write_lines_with(&Findings, writer, report, short, tail, detail),
+        ReportForm::Json => write_lines_with(&Json, writer, report, short, tail, detail),
+        ReportForm::JsonFindings => {
+            write_lines_with(&JsonFindings, writer, report, short, tail, detail)
+        }
     }
 }

@@ -3,7 +3,8 @@ ghost use Rattle.std.specs.Prelude.{◌≡◌};
 ghost use Rattle.ss_frame.specs.Watched.{sink_of};
 ghost use Rattle.ss_report.specs.Writing.{Writes};
 ghost use Rattle.ss_report.specs.Lines.{seen};
-ghost use Rattle.ss_report.specs.ReportText.{state_word, why_word, session_text, ok_text, gap_text, hole_text, blocks_text, tally_text, line_text};
+ghost use Rattle.ss_report.specs.ReportText.{state_word, why_word, session_text, ok_text, gap_text, hole_text, tail_text, blocks_text, absent_text};
+ghost use Rattle.ss_report.specs.ReportText.{tally_text, line_text};
 
 use crate::lines::form::Form;
 use crate::lines::line::Line;
@@ -15,7 +16,7 @@ use crate::words::{
 };
 use ss_block::{Group, Session};
 use ss_frame::Watched;
-use ss_review::{MissingRun, SessionState, Why};
+use ss_review::{GroupTail, MissingRun, SessionState, Why};
 use std::io::Write;
 
 /// The plain text: each line ended by LF, with one SP between two fields.
@@ -54,7 +55,9 @@ pub(crate) fn write_line<W: Write>(writer: &mut Watched<W>, line: Line<'_>)
             first,
             last,
         } => write_hole(writer, session, group, first, last),
+        Line::Tail { session, tail } => write_tail(writer, session, tail),
         Line::Blocks { session, run } => write_blocks(writer, session, run),
+        Line::Absent { session } => write_absent(writer, session),
         Line::Tally {
             session,
             group,
@@ -161,6 +164,29 @@ fn write_hole<W: Write>(
     write_spaced(writer, first);
     write_spaced(writer, last);
     write_text(writer, b"\n");
+}
+
+/// tail HOST APP PROCID RSID SG SPRI FIRST LAST
+#[tactic(auto, unfolding(crate::specs::ReportText::tail_text))]
+fn write_tail<W: Write>(writer: &mut Watched<W>, session: &Session, tail: GroupTail)
+    ensures { Writes (sink_of W.contents writer.old) (sink_of W.contents writer.new) (tail_text session.now tail.group tail.first tail.last) }
+{
+    write_text(writer, b"tail");
+    write_session(writer, session);
+    write_group(writer, tail.group);
+    write_spaced(writer, tail.first);
+    write_spaced(writer, tail.last);
+    write_text(writer, b"\n");
+}
+
+/// session HOST APP PROCID RSID absent
+#[tactic(auto, unfolding(crate::specs::ReportText::absent_text))]
+fn write_absent<W: Write>(writer: &mut Watched<W>, session: &Session)
+    ensures { Writes (sink_of W.contents writer.old) (sink_of W.contents writer.new) (absent_text session.now) }
+{
+    write_text(writer, b"session");
+    write_session(writer, session);
+    write_text(writer, b" absent\n");
 }
 
 /// blocks HOST APP PROCID RSID FIRST LAST

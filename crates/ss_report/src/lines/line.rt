@@ -1,7 +1,7 @@
 //! A line of a report.
 use crate::lines::tally::Tally;
 use ss_block::{Group, Session, Spoil};
-use ss_review::{MissingRun, SessionState, Why};
+use ss_review::{GroupTail, MissingRun, SessionState, Why};
 
 /// A thing that a report says. Places count the messages of the log from 0; numbers are 1 to 9,999,999,999.
 #[derive(Clone, Copy)]
@@ -32,11 +32,21 @@ pub(crate) enum Line<'r> {
         first: u64,
         last: u64,
     },
+    /// None of these numbers of a group is announced, and they come behind all that are, though they were sent before
+    /// its counter was noted.
+    Tail {
+        session: &'r Session,
+        tail: GroupTail,
+    },
     /// No verified signature block of the session has a GBC (RFC 5848, section 4.2.4) of this run, though one has a
-    /// greater. The GBC count from 0.
+    /// greater, or its counter is greater. The GBC count from 0.
     Blocks {
         session: &'r Session,
         run: MissingRun,
+    },
+    /// A session that has a counter, and of which the log has no block.
+    Absent {
+        session: &'r Session,
     },
     /// What is said of the numbers of a group.
     Tally {

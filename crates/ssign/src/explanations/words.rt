@@ -3,12 +3,13 @@
 use super::Explanation;
 
 /// Lines of a report, states of a session, lines of an inspection, and lines of answers, plans and questions.
-pub static WORDS: [Explanation; 30] = [
+pub static WORDS: [Explanation; 32] = [
     Explanation {
         code: "session",
         text: "A session is one run of a sender: its blocks share HOSTNAME, APP-NAME, PROCID and a number, the RSID. \
-            The line ends with its state: joined, disputed, incomplete, malformed, untrusted or unaccepted. Only in a \
-            joined session do blocks count. The session's ok, gap and hole lines follow.",
+            The line ends with its state: joined, disputed, incomplete, malformed, untrusted or unaccepted, and with \
+            --counters also absent. Only in a joined session do blocks count. The session's ok, gap and hole lines \
+            follow, and then its tail and blocks lines.",
     },
     Explanation {
         code: "ok",
@@ -37,11 +38,19 @@ pub static WORDS: [Explanation; 30] = [
     },
     Explanation {
         code: "blocks",
-        text: "Only ssign review --whole writes this line. It ends with the first and the last of some values of GBC, \
-            which counts the signature blocks of a session from 0. No signature block that counts has one of these \
-            values, but one has a greater value. So blocks were lost, or don't count, and their messages may be lost \
-            with them. Look for refused and spoilt lines, and for the blocks in the logs before and after this one, or \
-            in those of other collectors.",
+        text: "Only ssign review --whole writes this line, and --counters. It ends with the first and the last of some \
+            values of GBC, which counts the signature blocks of a session from 0. No signature block that counts has \
+            one of these values, but one has a greater value, or the counters file says that more were sent. So \
+            blocks were lost, or don't count, and their messages may be lost with them. Look for refused and spoilt \
+            lines, and for the blocks in the logs before and after this one, or in those of other collectors.",
+    },
+    Explanation {
+        code: "tail",
+        text: "Only ssign review --counters writes this line. It ends with the first and the last of some numbers. The \
+            counters file says that messages with these numbers were signed. No signature block that counts \
+            announces one of them, or a later one. So the end of the group was cut off, its blocks were lost, or they \
+            don't count. Look for refused lines, for the state of the session, and for the blocks in the logs after \
+            this one. The messages of these numbers, if stored, are unlisted.",
     },
     Explanation {
         code: "tally",
@@ -136,6 +145,12 @@ pub static WORDS: [Explanation; 30] = [
             answers file lacks their yes lines.",
     },
     Explanation {
+        code: "absent",
+        text: "Only ssign review --counters writes this state. The counters file names the session, but no block of \
+            it is in the log. Its messages, if stored, are unlisted. Look for the session in the logs before and after \
+            this one. If its log was reviewed by itself, leave its lines out of the counters for this one.",
+    },
+    Explanation {
         code: "plain",
         text: "A message of RFC 5424 without an element ssign or ssign-cert. It can be signed and listed. There is \
             nothing to do.",
@@ -164,8 +179,8 @@ pub static WORDS: [Explanation; 30] = [
         text: "A line of ssign counters, for a joined session. One number behind the RSID is the GBC of the session's \
             next signature block. Three numbers there are a group, SG and SPRI, and the number of the group's next \
             message. 10000000000 means that a counter is used up. Keep these lines elsewhere, where nobody who can \
-            change the log can change them. If a later run over the same log gives a smaller number, or leaves a line \
-            out, signature blocks are missing or no longer count.",
+            change the log can change them. Give them to a later ssign review with --counters: it reports what is \
+            missing up to them.",
     },
     Explanation {
         code: "want",

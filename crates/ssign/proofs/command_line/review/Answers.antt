@@ -1,6 +1,6 @@
 use Rattle.std.proofs.Common.{codes}
 use Rattle.clap.specs.Words.{new_app, with_rule}
-use Rattle.ssign.specs.CommandLine.{answers_rule, findings_rule, json_rule, tally_rule, whole_rule}
+use Rattle.ssign.specs.CommandLine.{answers_rule, findings_rule, json_rule, kept_rule, tally_rule, whole_rule}
 use Rattle.ssign.proofs.Commands.{with_argument}
 use Rattle.ssign.proofs.command_line.review.Goals as goal
 
@@ -10,5 +10,7 @@ returns c =
     let two = with_argument c.in_ok-arg.ensures one c.findings.ensures.rule c.findings.ensures.local in
     let three = with_argument c.in_ok-review-2.ensures two c.json.ensures.rule c.json.ensures.local in
     let four = with_argument c.in_ok-arg-2.ensures three c.whole.ensures.rule c.whole.ensures.local in
-    let five = with_argument c.in_ok-arg-3.ensures four c.tally.ensures.rule c.tally.ensures.local in
-    c.limited.ensures (with_rule (with_rule (with_rule (with_rule (with_rule (new_app (codes "review")) answers_rule) findings_rule) json_rule) whole_rule) tally_rule) five
+    let five = with_argument c.in_ok-review-3.ensures four c.tally.ensures.rule c.tally.ensures.local in
+    let six = with_argument c.in_ok-arg-3.ensures five c.kept.ensures.rule c.kept.ensures.local in
+    c.limited.ensures
+    (with_rule (with_rule (with_rule (with_rule (with_rule (with_rule (new_app (codes "review")) answers_rule) findings_rule) json_rule) whole_rule) tally_rule) kept_rule) six

@@ -6,17 +6,17 @@ use Rattle.ss_report.proofs.lines.walk_whole.write_sessions.Goals as goal
 pub loop-session-preserved : goal.loop-session-preserved
 loop-session-preserved g c =
     let ss = c.args.sessions.now in
-    let ms = c.args.missing.now in
+    let ms = c.args.known.now in
     let s = c.in-Some.session in
-    let runs = c.in-Some.runs in
+    let short = c.in-Some.short in
     let n = length c.loop-session.yielded in
-    let turn = zip_turn ss ms c.loop-session.yielded c.into_iter-session-iterator.result c.loop-session.session-iterator c.next.new.self c.next.result (search rules) (search rules) c.loop-session.yielded_by (s, runs) c.in-Some.is c.next.ensures.steps in
-    sessions_more c.args.detail (g.F.Form.text c.args.form.now) ss ms _ _ _ n (length (c.loop-session.yielded ++ (s, runs) ∷ [])) s.now runs.now turn.0 turn.1 (turn.2 s.now) (turn.3 runs.now)
-    (length-append c.loop-session.yielded ((s, runs) ∷ [])) c.loop-session.invariant (rw c.as_slice.ensures at c.write_whole_session.ensures)
+    let turn = zip_turn ss ms c.loop-session.yielded c.into_iter-session-iterator.result c.loop-session.session-iterator c.next.new.self c.next.result (search rules) (search rules) c.loop-session.yielded_by (s, short) c.in-Some.is c.next.ensures.steps in
+    sessions_more c.args.detail (g.F.Form.text c.args.form.now) ss ms _ _ _ n (length (c.loop-session.yielded ++ (s, short) ∷ [])) s.now short.now turn.0 turn.1 (turn.2 s.now) (turn.3 short.now)
+    (length-append c.loop-session.yielded ((s, short) ∷ [])) c.loop-session.invariant c.write_whole_session.ensures
 
 pub returns : goal.returns
 returns g c =
     let ss = c.args.sessions.now in
-    let ms = c.args.missing.now in
+    let ms = c.args.known.now in
     let all = zip_end ss ms c.loop-session.yielded c.into_iter-session-iterator.result c.loop-session.session-iterator c.next.new.self c.next.result (search rules) (search rules) c.loop-session.yielded_by c.in-None.is c.next.ensures.steps in
     all_sessions c.args.detail (g.F.Form.text c.args.form.now) ss ms _ _ (length c.loop-session.yielded) all c.loop-session.invariant

@@ -7,4 +7,4 @@ use Rattle.ss_report.proofs.LinesWritten.{octets_of}
 use Rattle.ss_report.proofs.lines.walk_whole.write_sessions.Given as goal
 
 abbrev pub invariant-loop-session : goal.invariant-loop-session
-invariant-loop-session g l = Writes (sink_of g.W.Write.contents l.initial.writer) (sink_of g.W.Write.contents l.writer) (octets_of (g.F.Form.text l.form) (lines_beside l.detail) (take (length l.yielded) (zip l.sessions l.missing)))
+invariant-loop-session g l = Writes (sink_of g.W.Write.contents l.initial.writer) (sink_of g.W.Write.contents l.writer) (octets_of (g.F.Form.text l.form) (lines_beside l.detail) (take (length l.yielded) (zip l.sessions l.known)))

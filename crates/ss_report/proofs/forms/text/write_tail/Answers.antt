@@ -1,0 +1,10 @@
+use Rattle.ss_report.specs.ReportText.{tail_text}
+use Rattle.ss_report.proofs.Writings.{writes_then}
+use Rattle.ss_report.proofs.forms.text.write_tail.Goals as goal
+
+pub returns : goal.returns
+unfolding tail_text
+returns g c =
+    let grouped = writes_then _ _ _ _ _ (writes_then _ _ _ _ _ c.write_text.ensures c.write_session.ensures) c.write_group.ensures in
+    let ranged = writes_then _ _ _ _ _ (writes_then _ _ _ _ _ grouped c.write_spaced.ensures) c.write_spaced-2.ensures in
+    writes_then _ _ _ _ _ ranged c.write_text-2.ensures

@@ -1,0 +1,11 @@
+use Rattle.std.proofs.Common.{map}
+use Rattle.ss_report.specs.Whole.{tail_line, missing_line}
+use Rattle.ss_report.proofs.LinesWritten.{lines_then}
+use Rattle.ss_report.proofs.lines.walk_whole.write_shortfall.Goals as goal
+
+pub returns : goal.returns
+returns g c =
+    let short = c.args.short.now in
+    let tails = rw c.as_slice.ensures at c.write_tails.ensures in
+    let missing = rw c.as_slice-2.ensures at c.write_missing.ensures in
+    lines_then (g.F.Form.text c.args.form.now) _ _ _ (map (tail_line short.session) short.tails) (map (missing_line short.session) short.blocks) tails missing
