@@ -1,5 +1,6 @@
 #!/usr/bin/env bash
-# `extract`: the messages that a review lists, in the order of its report, as frames, and the status of that review.
+# `extract`: the messages that a review lists, in the order of its report, as frames, and the status of that review; with
+# `--unlisted` and `--place` others, and with `--lines-out` as lines.
 # shellcheck source=tests/lib.sh
 . "$(dirname -- "$0")/lib.sh"
 need_program
@@ -46,6 +47,35 @@ gives 'lines' 0 "$both" --lines --answers "$answers" \
 gives 'lines, the last one without its LF' 1 '' --lines --answers "$answers" \
     < <(printf 'abc\n%s\n' "$long" && blocks | sed 's/^142 //; s/\]159 /]\n/')
 
+# The messages that nobody signed
+unsigned=$scratch/unsigned
+{ frame abd && head -c 64 -- "$log" && frame $'two\nlines' && blocks && frame x; } >"$unsigned"
+gives 'unlisted messages' 1 $'3 abd9 two\nlines1 x' --answers "$answers" --unlisted <"$unsigned"
+gives 'the listed ones of the same log' 1 "$both" --answers "$answers" <"$unsigned"
+gives 'no unlisted message' 0 '' --answers "$answers" --unlisted <"$log"
+gives 'without answers each ordinary message is unlisted' 1 "$both" --unlisted <"$log"
+gives 'an unlisted message of a torn log' 1 '3 abd' --answers "$answers" --unlisted \
+    < <(frame abd && cat -- "$log" && printf 12)
+
+# The messages at places
+gives 'the first message' 0 '3 abd' --place 0 <"$unsigned"
+gives 'a message with a line feed' 0 $'9 two\nlines' --place=3 <"$unsigned"
+gives 'a block' 0 "$(blocks | head -c 146)" --place 2 <"$log"
+gives 'places in any order, some twice' 0 '3 abd3 abc1 x' --place 6 --place 1 --place 0 --place 6 --place 1 <"$unsigned"
+gives 'a place with a needless zero and a sign' 0 '3 abc' --place 001 --place +1 <"$unsigned"
+gives 'answers are not asked' 0 '3 abd' --answers "$answers" --place 0 <"$unsigned"
+gives 'a place of a torn log' 1 '3 abc' --place 0 < <(frame abc && printf 12)
+gives 'a place of lines' 0 '1 b' --lines --place 1 < <(printf 'a\nb\nc\n')
+
+# As lines
+gives 'listed messages as lines' 0 "abc"$'\n'"$long"$'\n' --answers "$answers" --lines-out <"$log"
+gives 'unlisted messages as lines' 1 $'abd\n' --answers "$answers" --unlisted --lines-out < <(frame abd && cat -- "$log")
+gives 'places as lines' 0 $'abd\nx\n' --place 6 --place 0 --lines-out <"$unsigned"
+gives 'lines from lines' 0 $'a\nc\r\n' --lines --lines-out --place 0 --place 2 < <(printf 'a\nb\nc\r\n')
+gives 'no message as lines' 0 '' --lines-out </dev/null
+
+holds 'logs by a seed' python3 -B "$root/tests/extracts.py" "$program"
+
 # Refusals
 refused() {
     local what=$1 complaint=$2
@@ -57,6 +87,27 @@ refused 'no digit behind a frame' 'ssign: F1 373' --answers "$answers" < <(cat -
 refused 'a block over --max-len' 'ssign: F2 212' --answers "$answers" --max-len 158 <"$log"
 refused 'a block past --max-messages' 'ssign: F5 210' --answers "$answers" --max-messages 3 <"$log"
 refused 'an empty line' 'ssign: F9 0' --lines < <(echo)
+refused 'a place behind the last' 'ssign: E1 7' --place 7 <"$unsigned"
+refused 'the lowest of such places' 'ssign: E1 7' --place 9999999 --place 0 --place 8 --place 7 --place 1 <"$unsigned"
+refused 'a place of an empty log' 'ssign: E1 0' --place 0 </dev/null
+refused 'a place that the whole part of a torn log has not' 'ssign: E1 1' --place 1 < <(frame abc && printf '3 a')
+refused 'a bad log before a place' 'ssign: F1 4' --place 7 < <(printf '1 a1xx')
+refused 'a place that is missing before a line that is none' 'ssign: E1 7' --place 3 --place 7 --lines-out <"$unsigned"
+refused 'a message of two lines' 'ssign: E2 3' --place 6 --place 3 --lines-out <"$unsigned"
+refused 'an unlisted message of two lines' 'ssign: E2 3' --answers "$answers" --unlisted --lines-out <"$unsigned"
+refused 'a message that is a line feed' 'ssign: E2 0' --place 0 --lines-out < <(printf '1 \n')
+for place in 10000000 4294967296 '' x 1.5; do
+    run extract --place="$place" <"$log"
+    expect "the place '$place'" 2 '' 'SOME TEXT'
+done
+run extract --unlisted --place 0 <"$log"
+expect 'unlisted messages and a place' 2 '' "error: the argument '--unlisted' cannot be used with '--place <N>'"$'\n\n'"Usage: ssign extract [OPTIONS] < FILE"$'\n\n'"For more information, try '--help'."
+for command in review questions inspect counters; do
+    for option in --unlisted --place=0 --lines-out; do
+        run "$command" "$option" <"$log"
+        expect "$command $option" 2 '' 'SOME TEXT'
+    done
+done
 refused 'a folder as standard input' 'ssign: F3' <"$root"
 refused 'no such file of answers, told before the log' 'ssign: A2' --answers "$scratch/no such file" < <(printf x)
 refused 'a bad line of answers, told before the log' 'ssign: A1 1' --answers <(echo) < <(printf x)

@@ -23,6 +23,7 @@ for command in review questions extract inspect counters; do
     out_of_range --max-len 1..=1048576 "$command"
     out_of_range --max-messages 1..=10000000 "$command"
 done
+out_of_range --place 0..=9999999 extract
 for command in plan sign; do
     out_of_range --max-len 1..=1048576 "$command" --payload "$payload" --rsid 1
     out_of_range --max-messages 1..=10000000 "$command" --payload "$payload" --rsid 1

@@ -6,7 +6,8 @@ use Rattle.ss_frame.specs.Watched.{Source, Sink}
 use Rattle.ss_report.specs.declared.fault.RunFault.{RunFault}
 use Rattle.ss_report.specs.declared.fault.RunFault.TheVariants as run
 use Rattle.ss_report.specs.declared.verdict.Verdict.{Verdict}
-use Rattle.ss_report.specs.Run.{Job, Runs, FailsToWrite, Stops}
+use Rattle.ss_report.specs.Log.{StopsRun}
+use Rattle.ss_report.specs.Run.{Job, Runs, FailsToWrite, Stops, StopsBefore}
 
 -- the run succeeded, or its output couldn't be written
 abbrev pub RunsOrFails : Job → Allowance → (before after : Source) → (was is : Sink) → Result Verdict RunFault → Type 0
@@ -27,3 +28,11 @@ pub fails_by_write : (job : Job) (limits : Allowance) (before after : Source) (w
     → RunsOrFails job limits before after was is r → IfErr r (λ fault. fault ≢ run.Write → P)
 fails_by_write job limits before after was is (Ok verdict) P told = tt
 fails_by_write job limits before after was is (Err fault) P told = λ other. absurd (other told.0)
+
+-- nothing was made of the messages, and nothing was refused of them
+pub stops_before : (job : Job) (limits : Allowance) (before after : Source) (fault : RunFault) → StopsRun job.reviews limits before after fault → StopsBefore job limits before after fault
+stops_before job limits before after (run.Frame fault) stops = stops
+stops_before job limits before after (run.Review fault) stops = stops
+stops_before job limits before after run.Memory stops = stops
+stops_before job limits before after run.Write stops = stops
+stops_before job limits before after (run.Extract fault) stops = absurd stops

@@ -7,8 +7,9 @@ pub mod Answered
 pub mod EncodedSoFar
 pub mod QuestionLines
 pub mod EscapedText
-pub mod ListedText
 pub mod WholeLines
 pub mod MissingWritten
 pub mod CountersWritten
 pub mod Tallies
+pub mod UnitsAt
+pub mod Gathered

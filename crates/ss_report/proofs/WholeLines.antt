@@ -1,5 +1,5 @@
 -- The lines and the verdict that are made of a report, and of what was found to be missing beside it.
-use Rattle.std.proofs.Common.{◌≡◌, false, List, ℕ, flat_map, ap, ◌∙◌}
+use Rattle.std.proofs.Common.{◌≡◌, false, List, ℕ, flat_map, refl, ap, ◌∙◌}
 use Rattle.ss_frame.specs.Limits.{Allowance}
 use Rattle.ss_frame.specs.Watched.{Source}
 use Rattle.ss_frame.specs.declared.step.Tail.{Tail}
@@ -36,6 +36,7 @@ makes_whole form detail counters says limits before after messages tail reading 
       tail = tail;
       reading = reading;
       no_read_failed = no_read_failed;
+      unrefused = refl;
       output_is = ap (flat_map (line_as form)) (ap (λ x. lines_with detail x short tail) told ∙ ap (λ x. lines_with detail (report says messages) x tail) of_log);
       verdict_is = judged ∙ (ap (λ x. verdict_with x short tail) told ∙ ap (λ x. verdict_with (report says messages) x tail) of_log);
     }

@@ -1,6 +1,6 @@
 -- The runs over a log: what each writes of its messages and its tail, and its verdict.
 use Rattle.std.specs.Prelude.{true, false, ℕ, List, flat_map}
-use Rattle.ss_frame.specs.Frame.{frames}
+use Rattle.ss_frame.specs.Frame.{frames, units_in}
 use Rattle.ss_frame.specs.Limits.{Allowance}
 use Rattle.ss_frame.specs.Watched.{Source, Sink}
 use Rattle.ss_review.specs.Notes.{notes}
@@ -21,7 +21,9 @@ use Rattle.ss_review.specs.declared.counted.counter.Counter.{Counter}
 use Rattle.ss_report.specs.QuestionText.{question_lines}
 use Rattle.ss_report.specs.Counters.{counter_lines}
 use Rattle.ss_report.specs.Verdict.{end_verdict, report_verdict}
-use Rattle.ss_report.specs.Run.{Job, Runs}
+use Rattle.ss_report.specs.Extraction.{is_reviewed, messages_at, refusal, selected, selected_verdict}
+use Rattle.ss_report.specs.Run.{Job, Runs, nothing}
+use Rattle.ss_report.specs.declared.extraction.Extraction.{Extraction}
 use Rattle.ss_report.specs.declared.forms.report_form.ReportForm.{ReportForm}
 use Rattle.ss_report.specs.declared.lines.detail.Detail.{Detail}
 use Rattle.ss_report.specs.declared.notation.Notation.{Notation}
@@ -33,6 +35,7 @@ inspecting form = record {
   output = inspection form;
   verdict = λ messages tail. end_verdict tail;
   reviews = false;
+  refusal = nothing;
 }
 
 -- the text of the report
@@ -41,6 +44,7 @@ reviewing says = record {
   output = λ messages tail. report_lines (report says messages) tail;
   verdict = λ messages tail. report_verdict (report says messages) tail;
   reviews = true;
+  refusal = nothing;
 }
 
 -- the report in a form, with the verdict of the whole report
@@ -49,6 +53,7 @@ reviewing_as form detail says = record {
   output = λ messages tail. report_as form detail (report says messages) tail;
   verdict = λ messages tail. report_verdict (report says messages) tail;
   reviews = true;
+  refusal = nothing;
 }
 
 -- the report in a form, with what is missing of each session's signature blocks, and of all up to these counters
@@ -57,6 +62,7 @@ reviewing_whole form detail counters says = record {
   output = λ messages tail. flat_map (line_as form) (whole_lines detail says counters messages tail);
   verdict = λ messages tail. whole_verdict says counters messages tail;
   reviews = true;
+  refusal = nothing;
 }
 
 -- what a review asks of a signature scheme
@@ -65,6 +71,7 @@ asking notation = record {
   output = λ messages tail. question_lines notation (questions (blocks (notes messages)));
   verdict = λ messages tail. end_verdict tail;
   reviews = true;
+  refusal = nothing;
 }
 
 -- the counters of the joined sessions
@@ -73,14 +80,26 @@ counting notation says = record {
   output = λ messages tail. counter_lines notation says (blocks (notes messages)) (report says messages);
   verdict = λ messages tail. end_verdict tail;
   reviews = true;
+  refusal = nothing;
 }
 
--- the messages that the report lists, in its order, as octet-counted frames whatever the form of the log
+-- the messages that are selected, in a form, whatever the form of the log; what the log hasn't is refused, and what is no
+-- line of it
+abbrev pub extracting_as : Extraction → Answers → Job
+extracting_as e says = record {
+  output = λ messages tail. units_in e.form (messages_at messages (selected e.selection says messages));
+  verdict = λ messages tail. selected_verdict e.selection says messages tail;
+  reviews = is_reviewed e.selection;
+  refusal = refusal e says;
+}
+
+-- the messages that the report lists, in its order, as octet-counted frames
 abbrev pub extracting : Answers → Job
 extracting says = record {
   output = λ messages tail. frames (extract messages (report says messages));
   verdict = λ messages tail. report_verdict (report says messages) tail;
   reviews = true;
+  refusal = nothing;
 }
 
 -- a review that succeeds, and its report lists what is announced

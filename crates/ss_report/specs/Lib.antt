@@ -9,7 +9,7 @@ pub mod Json
 pub mod Forms
 pub mod Ending
 pub mod Inspection
-pub mod Listed
+pub mod Extraction
 pub mod QuestionText
 pub mod Counters
 pub mod Verdict

@@ -1,7 +1,8 @@
 //! Why a run over a log gave no output.
 ghost use Rattle.std.specs.Prelude.{◌≡◌};
-ghost use Rattle.ss_report.specs.declared.fault.RunFault.TheVariants.{Frame, Memory, Review};
+ghost use Rattle.ss_report.specs.declared.fault.RunFault.TheVariants.{Extract, Frame, Memory, Review};
 
+use crate::extraction::ExtractFault;
 use ss_frame::FrameFault;
 use ss_message::NoMemory;
 use ss_review::ReviewFault;
@@ -18,6 +19,9 @@ pub enum RunFault {
     /// before a message too many is reviewed.
     #[error("{0}")]
     Review(ReviewFault),
+    /// The messages couldn't be extracted: E1 or E2.
+    #[error("{0}")]
+    Extract(ExtractFault),
     /// W1: a write failed. What was written is a prefix of the output.
     #[error("W1")]
     Write,
@@ -39,6 +43,14 @@ impl From<ReviewFault> for RunFault {
 
     fn from(fault: ReviewFault) -> RunFault {
         RunFault::Review(fault)
+    }
+}
+
+impl From<ExtractFault> for RunFault {
+    ghost from_gives = { λ f e. e ≡ Extract f };
+
+    fn from(fault: ExtractFault) -> RunFault {
+        RunFault::Extract(fault)
     }
 }
 

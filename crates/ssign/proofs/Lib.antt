@@ -5,3 +5,4 @@ mod Commas
 mod Spaces
 mod ReadBounds
 mod Openings
+mod SpelledNumbers

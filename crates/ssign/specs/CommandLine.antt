@@ -5,7 +5,7 @@ use Rattle.clap.specs.Words.{App, IsAmong, Kinds, Rule, app_of, fault_of, found_
 use Rattle.clap.specs.Lexer.{usize_max}
 use Rattle.clap.specs.declared.builder.command.Command.{Command}
 use Rattle.clap.specs.declared.builder.command.Command.TheViews.{out-Command}
-use Rattle.clap.specs.declared.builder.ArgAction.TheVariants.{Set, SetTrue}
+use Rattle.clap.specs.declared.builder.ArgAction.TheVariants.{Append, Set, SetTrue}
 use Rattle.clap.specs.declared.error.kind.ErrorKind.TheVariants.{DisplayHelp, DisplayVersion}
 use Rattle.clap.specs.declared.parser.matches.ArgMatches.{ArgMatches}
 use Rattle.ss_frame.specs.Limits.{Allowance, longest_message, most_messages}
@@ -95,6 +95,16 @@ tally_rule = flag_rule (codes "tally")
 abbrev pub kept_rule : Rule
 kept_rule = text_rule (codes "counters")
 
+abbrev pub unlisted_rule : Rule
+unlisted_rule = flag_rule (codes "unlisted")
+
+-- it may be given often, and is each time one place of a log of as many messages as are allowed
+abbrev pub place_rule : Rule
+place_rule = record (number_rule (codes "place") (pos 0) (pos 9999999)) { action = Some Append }
+
+abbrev pub lines_out_rule : Rule
+lines_out_rule = flag_rule (codes "lines-out")
+
 abbrev pub lines_rule : Rule
 lines_rule = flag_rule (codes "lines")
 
@@ -126,7 +136,7 @@ abbrev pub questions_app : App
 questions_app = with_limits (with_rule (new_app (codes "questions")) json_rule)
 
 abbrev pub extract_app : App
-extract_app = with_limits (with_rule (new_app (codes "extract")) answers_rule)
+extract_app = with_limits (with_rule (with_rule (with_rule (with_rule (new_app (codes "extract")) answers_rule) unlisted_rule) place_rule) lines_out_rule)
 
 abbrev pub inspect_app : App
 inspect_app = with_limits (with_rule (with_rule (new_app (codes "inspect")) findings_rule) json_rule)

@@ -5,6 +5,7 @@ pub mod Settings
 pub mod Task
 pub mod Signing
 pub mod Explanation
+pub mod Extraction
 pub mod Opening
 pub mod LikelyCause
 pub mod Remark

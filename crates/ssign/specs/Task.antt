@@ -4,7 +4,8 @@ use Rattle.ss_review.specs.Verified.{Answers}
 use Rattle.ss_review.specs.declared.counted.counter.Counter.{Counter}
 use Rattle.ss_report.specs.Forms.{notation_of}
 use Rattle.ss_report.specs.Run.{Job}
-use Rattle.ss_report.specs.Jobs.{asking, counting, extracting, inspecting, reviewing_as, reviewing_whole}
+use Rattle.ss_report.specs.Jobs.{asking, counting, extracting_as, inspecting, reviewing_as, reviewing_whole}
+use Rattle.ss_report.specs.declared.extraction.Extraction.{Extraction}
 use Rattle.ssign.specs.declared.task.Reporting.{Reporting}
 use Rattle.ssign.specs.declared.task.Task.{Task}
 use Rattle.ssign.specs.declared.task.Task.TheVariants.{Review, Questions, Extract, Inspect, Counters}
@@ -13,10 +14,11 @@ use Rattle.ssign.specs.declared.task.Task.TheVariants.{Review, Questions, Extrac
 abbrev pub review_of : Answers → Reporting → List Counter → Job
 review_of says r counters = if r.whole then reviewing_whole r.form r.detail counters says else reviewing_as r.form r.detail says
 
--- what a run makes of a log: under these answers, or without any, and as it is to be reported
-abbrev pub job_of : Answers → Reporting → List Counter → Task → Job
-job_of says r counters Review = review_of says r counters
-job_of says r counters Questions = asking (notation_of r.form)
-job_of says r counters Extract = extracting says
-job_of says r counters Inspect = inspecting r.form
-job_of says r counters Counters = counting (notation_of r.form) says
+-- what a run makes of a log: under these answers, or without any, and as it is to be reported; of a review that is to be
+-- whole, up to these counters, and of an extract what is to be written
+abbrev pub job_of : Answers → Reporting → List Counter → Extraction → Task → Job
+job_of says r counters e Review = review_of says r counters
+job_of says r counters e Questions = asking (notation_of r.form)
+job_of says r counters e Extract = extracting_as e says
+job_of says r counters e Inspect = inspecting r.form
+job_of says r counters e Counters = counting (notation_of r.form) says

@@ -1,9 +1,10 @@
 //! The command line.
 ghost use Rattle.std.specs.Prelude.{◌≡◌, ◌<◌, ◌^◌, ◌||◌, ◌∷◌, [], ℕ, Bool, false, Some, codes, decimal, IfOk, IfSome, MatchOption, option_and_then, option_map};
 ghost use Rattle.std.specs.Option.{SomeIff, is_some};
-ghost use Rattle.clap.specs.Words.{App, app_of, first_value, found_of, matched_of, new_app, raw_values, rule_of};
+ghost use Rattle.clap.specs.Words.{App, app_of, first_value, found_of, kind_of, matched_of, new_app, raw_values, rule_of};
 ghost use Rattle.ss_frame.specs.Limits.{InRange};
 ghost use Rattle.ssign.specs.CommandLine.{answers_rule, code_rule, findings_rule, json_rule, kept_rule, lines_rule, max_len_rule, max_messages_rule, tally_rule, whole_rule};
+ghost use Rattle.ssign.specs.CommandLine.{lines_out_rule, place_rule, unlisted_rule};
 ghost use Rattle.ssign.specs.CommandLine.{bare_app, counters_app, explain_app, extract_app, inspect_app, plan_app, questions_app, review_app, sign_app, ssign_app};
 ghost use Rattle.ssign.specs.Explanation.{asked_of};
 ghost use Rattle.ssign.specs.SigningOptions.{AreVersions, Kept};
@@ -14,7 +15,9 @@ use crate::asked::asked_of;
 use crate::signing::Signing;
 use crate::signing_options::{versions, with_signing_options};
 use crate::task::{Reporting, Task};
-use clap::{Arg, ArgAction, ArgMatches, Command};
+use clap::builder::ValueParser;
+use clap::error::ErrorKind;
+use clap::{Arg, ArgAction, ArgMatches, Command, Error};
 use ss_frame::{LONGEST_MESSAGE, Limits, MOST_MESSAGES};
 use ss_report::{Detail, ReportForm};
 use std::alloc::{AllocError, Global};
@@ -39,9 +42,10 @@ const EXAMPLES: &str = "Examples:
   ssign explain m8";
 
 /// The options of a number.
-const NUMBERS: [&str; 7] = [
+const NUMBERS: [&str; 8] = [
     "max-len",
     "max-messages",
+    "place",
     "rsid",
     "pri",
     "count",
@@ -201,10 +205,12 @@ fn questions<'a>(alloc: Global) -> Result<Command<'a>, AllocError>
 fn extract<'a>(alloc: Global) -> Result<Command<'a>, AllocError>
     ensures { IfOk result (λ c. IsLocalApp c extract_app) }
 {
-    let about = "Writes the messages that a review of the log lists, as octet-counted frames";
+    let about =
+        "Writes messages of the log as octet-counted frames: those that a review lists, or others";
     let usage = "ssign extract [OPTIONS] < FILE";
-    let extract = over_log(alloc, "extract", about, usage);
-    limited(alloc, extract.arg(answers(alloc, CHECKED))?)
+    let extract = over_log(alloc, "extract", about, usage).arg(answers(alloc, CHECKED))?;
+    let extract = extract.arg(unlisted(alloc))?.arg(place(alloc))?;
+    limited(alloc, extract.arg(lines_out(alloc))?)
 }
 
 fn inspect<'a>(alloc: Global) -> Result<Command<'a>, AllocError>
@@ -363,6 +369,43 @@ fn kept<'a>(alloc: Global) -> Arg<'a>
         )
 }
 
+fn unlisted<'a>(alloc: Global) -> Arg<'a>
+    ensures rule { rule_of result ≡ unlisted_rule }
+    ensures local { result.global ≡ false }
+{
+    Arg::new(alloc, "unlisted")
+        .long("unlisted")
+        .action(ArgAction::SetTrue)
+        .help("Writes the messages that the review leaves unlisted instead, by rising place")
+}
+
+fn place<'a>(alloc: Global) -> Arg<'a>
+    ensures rule { rule_of result ≡ place_rule }
+    ensures local { result.global ≡ false }
+{
+    Arg::new(alloc, "place")
+        .long("place")
+        .value_name("N")
+        .action(ArgAction::Append)
+        .value_parser(ValueParser::signed(0, (MOST_MESSAGES - 1) as i64))
+        .help(
+            "Writes the message at place N instead, 0 to 9999999, of any kind and without a review; it may be given \
+                often",
+        )
+}
+
+fn lines_out<'a>(alloc: Global) -> Arg<'a>
+    ensures rule { rule_of result ≡ lines_out_rule }
+    ensures local { result.global ≡ false }
+{
+    Arg::new(alloc, "lines-out")
+        .long("lines-out")
+        .action(ArgAction::SetTrue)
+        .help(
+            "Writes one message a line, each ended by LF; without it octet-counted frames are written",
+        )
+}
+
 fn lines<'a>(alloc: Global) -> Arg<'a>
     ensures rule { rule_of result ≡ lines_rule }
     ensures local { result.global ≡ false }
@@ -399,6 +442,16 @@ fn max_messages<'a>(alloc: Global) -> Arg<'a>
         .value_parser(clap::value_parser!(u32).range(1..=MOST_MESSAGES as i64))
         .help("Refuses a log of more than N messages, 1 to 10000000")
         .default_value("10000000")
+}
+
+/// The mistake of an extract that is to write the unlisted messages and those at given places.
+pub fn extract_conflict(alloc: Global) -> Result<Error, AllocError>
+    ensures { IfOk result (λ e. kind_of e ≡ ErrorKind.ArgumentConflict) }
+{
+    extract(alloc)?.error(
+        ErrorKind::ArgumentConflict,
+        "the argument '--unlisted' cannot be used with '--place <N>'",
+    )
 }
 
 /// What the command of this name asks for. `None` exactly where no command has it.

@@ -5,10 +5,12 @@ ghost use Rattle.ssign.specs.CommandLine.{AreMistaken, signing_status, status_of
 ghost use Rattle.ssign.specs.Explanation.{has_code};
 
 use crate::command_line::{
-    Order, answers_file, asked_code, command, counters_file, limits_of, order_of, reporting_of,
+    Order, answers_file, asked_code, command, counters_file, extract_conflict, limits_of, order_of,
+    reporting_of,
 };
 use crate::explain::explanation_of;
 use crate::explanations::{Explanation, FAULTS, REFUSALS, UNPRINTED, WORDS};
+use crate::extraction::{ExtractionFault, extraction_of};
 use crate::likely_cause::{run_cause, signing_cause};
 use crate::negatives::tells_negative;
 use crate::nobody::Nobody;
@@ -24,7 +26,7 @@ use clap::ArgMatches;
 use clap::error::ErrorKind;
 use ss_answers::{open_answers, open_counters};
 use ss_frame::{Form, Limits};
-use ss_report::{RunFault, Verdict};
+use ss_report::{Extraction, RunFault, Verdict};
 use ss_review::{Counter, Counters};
 use ss_signing::SignFault;
 use std::alloc::AllocError;
@@ -111,6 +113,10 @@ fn run_log<R: Input + Print + Eprint + Screen + Files + AllocGlobal>(
     let Some(limits) = limits_of(options) else {
         return REFUSED;
     };
+    let extraction = match extraction_of(rt.alloc(), options) {
+        Ok(extraction) => extraction,
+        Err(fault) => return refuse_extraction(rt, fault),
+    };
     let counters = match counters_file(options) {
         None => Counters::from_vec(Vec::new(rt.alloc())),
         Some(file) => match open_counters(rt, file) {
@@ -118,7 +124,7 @@ fn run_log<R: Input + Print + Eprint + Screen + Files + AllocGlobal>(
             Err(fault) => return refuse(rt, &fault, Remark::CountersFile(file)),
         },
     };
-    run_counted(rt, task, counters.as_slice(), options, limits)
+    run_counted(rt, task, counters.as_slice(), extraction, options, limits)
 }
 
 /// Makes a run over standard input, up to these counters. The answers file is read before.
@@ -126,6 +132,7 @@ fn run_counted<R: Input + Print + Eprint + Screen + Files + AllocGlobal>(
     rt: &R,
     task: Task,
     counters: &[Counter],
+    extraction: Extraction,
     options: &ArgMatches<'_>,
     limits: Limits,
 ) -> u8
@@ -134,13 +141,41 @@ fn run_counted<R: Input + Print + Eprint + Screen + Files + AllocGlobal>(
     let reporting = reporting_of(options);
     let mut input = Opening::new(rt.reader());
     let ended = match answers_file(options) {
-        None => run_streams(rt, &mut input, task, reporting, counters, Nobody, limits),
+        None => run_streams(
+            rt, &mut input, task, reporting, counters, extraction, Nobody, limits,
+        ),
         Some(file) => match open_answers(rt, file) {
-            Ok(answers) => run_streams(rt, &mut input, task, reporting, counters, answers, limits),
+            Ok(answers) => run_streams(
+                rt, &mut input, task, reporting, counters, extraction, answers, limits,
+            ),
             Err(fault) => return refuse(rt, &fault, Remark::AnswersFile(file)),
         },
     };
     end(rt, ended, limits.form(), input.kept())
+}
+
+/// Says why options give no extract.
+fn refuse_extraction<R: Print + Eprint + Screen + AllocGlobal>(rt: &R, fault: ExtractionFault) -> u8
+    ensures { result ≤ 2 }
+{
+    match fault {
+        ExtractionFault::Both => tell_conflict(rt),
+        ExtractionFault::NoNumber => REFUSED,
+        ExtractionFault::Memory => refuse(rt, &RunFault::Memory, Remark::Nothing),
+    }
+}
+
+/// Says that `--unlisted` and `--place` exclude each other, as other mistakes of the command line are told.
+fn tell_conflict<R: Print + Eprint + Screen + AllocGlobal>(rt: &R) -> u8
+    ensures { result ≤ 2 }
+{
+    let Ok(fault) = extract_conflict(rt.alloc()) else {
+        return refuse(rt, &RunFault::Memory, Remark::Nothing);
+    };
+    if fault.print(rt).is_err() {
+        return refuse(rt, &RunFault::Write, Remark::Nothing);
+    }
+    REFUSED
 }
 
 /// Makes a run that signs over standard input. The texts of the options are looked at first, and then the answers file

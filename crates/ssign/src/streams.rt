@@ -9,7 +9,7 @@ use crate::signing::{Signing, run_signing};
 use crate::task::{Reporting, Task, run_task};
 use ss_answers::Answers;
 use ss_frame::{Buffered, Limits, Watched};
-use ss_report::{RunFault, Verdict};
+use ss_report::{Extraction, RunFault, Verdict};
 use ss_review::{Counter, Judge};
 use ss_signing::SignFault;
 use std::alloc::Global;
@@ -26,6 +26,7 @@ pub fn run_streams<R: Print + AllocGlobal, I: Read + Drop, J: Judge + Drop>(
     task: Task,
     reporting: Reporting,
     counters: &[Counter],
+    extraction: Extraction,
     judge: J,
     limits: Limits,
 ) -> Result<Verdict, RunFault>
@@ -40,6 +41,7 @@ pub fn run_streams<R: Print + AllocGlobal, I: Read + Drop, J: Judge + Drop>(
         task,
         reporting,
         counters,
+        extraction,
         judge,
         limits,
     )

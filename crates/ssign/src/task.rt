@@ -7,7 +7,7 @@ ghost use Rattle.ssign.specs.Task.{review_of, job_of};
 
 use ss_frame::{Limits, Watched};
 use ss_report::{
-    Detail, ReportForm, RunFault, Verdict, run_counters, run_extract_with, run_inspect,
+    Detail, Extraction, ReportForm, RunFault, Verdict, run_counters, run_extract_as, run_inspect,
     run_questions, run_review_as, run_review_whole,
 };
 use ss_review::{Counter, Judge};
@@ -21,7 +21,7 @@ pub enum Task {
     Review,
     /// The questions of a review to a signature scheme.
     Questions,
-    /// The messages that a review lists.
+    /// Messages as they stand.
     Extract,
     /// What each message is.
     Inspect,
@@ -42,13 +42,13 @@ pub struct Reporting {
 }
 
 /// Reads a log to its end, and writes what is asked of it as it is to be reported: of a review that is to be whole, up to
-/// these counters. Questions and inspections ask the judge nothing. The judge is let go once it is known which blocks are
-/// verified.
+/// these counters, and of an extract, the messages that are wanted. Questions, inspections and extracts of given places
+/// ask the judge nothing. The judge is let go once it is known which blocks are verified.
 ///
 /// Nothing is written before the log is read and all that it leads to stands. `RunFault::Write` exactly where a call of the
 /// writer failed; what was written then is a prefix of the output. After any other fault nothing was written:
-/// `RunFault::Frame` where the log can't be read to its end, `RunFault::Review` (V1) and `RunFault::Memory` for want of
-/// memory.
+/// `RunFault::Frame` where the log can't be read to its end, `RunFault::Extract` (E1, E2) where the log hasn't what is to be
+/// extracted, or not as lines, `RunFault::Review` (V1) and `RunFault::Memory` for want of memory.
 pub fn run_task<R: Read, W: Write, J: Judge + Drop>(
     alloc: Global,
     reader: &mut Watched<R>,
@@ -56,16 +56,17 @@ pub fn run_task<R: Read, W: Write, J: Judge + Drop>(
     task: Task,
     reporting: Reporting,
     counters: &[Counter],
+    extraction: Extraction,
     judge: J,
     limits: Limits,
 ) -> Result<Verdict, RunFault>
     requires reader { has_failed reader.old ≡ false }
     requires writer { has_failed writer.old ≡ false }
     requires sound { J.sound judge }
-    ensures done { IfOk result (Runs (job_of (answers J.trusted J.valid judge) reporting counters.now task) limits
+    ensures done { IfOk result (Runs (job_of (answers J.trusted J.valid judge) reporting counters.now extraction task) limits
         (source_of R.remaining reader.old) (source_of R.remaining reader.new)
         (sink_of W.contents writer.old) (sink_of W.contents writer.new)) }
-    ensures stopped { IfErr result (Stops (job_of (answers J.trusted J.valid judge) reporting counters.now task) limits
+    ensures stopped { IfErr result (Stops (job_of (answers J.trusted J.valid judge) reporting counters.now extraction task) limits
         (source_of R.remaining reader.old) (source_of R.remaining reader.new)
         (sink_of W.contents writer.old) (sink_of W.contents writer.new)) }
     ensures untouched { IfErr result (λ fault. fault ≢ RunFault.Write → writer.new ≡ writer.old) }
@@ -74,7 +75,7 @@ pub fn run_task<R: Read, W: Write, J: Judge + Drop>(
     match task {
         Task::Review => run_reported(alloc, reader, writer, reporting, counters, judge, limits),
         Task::Questions => run_questions(alloc, reader, writer, limits, notation),
-        Task::Extract => run_extract_with(alloc, reader, writer, judge, limits),
+        Task::Extract => run_extract_as(alloc, reader, writer, judge, limits, extraction),
         Task::Inspect => run_inspect(alloc, reader, writer, limits, reporting.form),
         Task::Counters => run_counters(alloc, reader, writer, judge, limits, notation),
     }
@@ -107,9 +108,7 @@ fn run_reported<R: Read, W: Write, J: Judge + Drop>(
         detail,
     } = reporting;
     if whole {
-        run_review_whole(
-            alloc, reader, writer, judge, limits, form, detail, counters,
-        )
+        run_review_whole(alloc, reader, writer, judge, limits, form, detail, counters)
     } else {
         run_review_as(alloc, reader, writer, judge, limits, form, detail)
     }

@@ -5,7 +5,7 @@ use crate::rows::{EXTRACT, QUESTIONS, REPORT};
 use crate::run::{Done, limits_of, run};
 use crate::texts::{Text, log_of};
 use ss_frame::{Buffered, Form, FrameFault, Limits};
-use ss_report::{RunFault, Verdict};
+use ss_report::{ExtractFault, RunFault, Verdict};
 use ss_review::ReviewFault;
 use std::alloc::{AllocError, Global};
 use std::io::ErrorKind;
@@ -30,7 +30,7 @@ const REFUSALS: [Refusal; 3] = [
 ];
 
 /// How each fault of a run is printed.
-const PRINTED: [(RunFault, &str); 11] = [
+const PRINTED: [(RunFault, &str); 13] = [
     (RunFault::Frame(FrameFault::BadLength { pos: 7 }), "F1 7"),
     (RunFault::Frame(FrameFault::TooLong { pos: 7 }), "F2 7"),
     (RunFault::Frame(FrameFault::Read), "F3"),
@@ -43,6 +43,11 @@ const PRINTED: [(RunFault, &str); 11] = [
     (RunFault::Frame(FrameFault::EmptyLine { pos: 7 }), "F9 7"),
     (RunFault::Review(ReviewFault::Memory), "V1"),
     (RunFault::Review(ReviewFault::TooManyMessages), "V2"),
+    (RunFault::Extract(ExtractFault::Absent { place: 7 }), "E1 7"),
+    (
+        RunFault::Extract(ExtractFault::HoldsLf { place: 7 }),
+        "E2 7",
+    ),
     (RunFault::Write, "W1"),
     (RunFault::Memory, "W2"),
 ];

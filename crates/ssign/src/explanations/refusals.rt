@@ -2,7 +2,7 @@
 use super::Explanation;
 
 /// The numbers that a refusal prints.
-pub static REFUSALS: [Explanation; 25] = [
+pub static REFUSALS: [Explanation; 27] = [
     Explanation {
         code: "F1",
         text: "F1 OFFSET: the octet there can't stand in the length of a frame. A length begins with 1 to 9, goes on \
@@ -86,6 +86,18 @@ pub static REFUSALS: [Explanation; 25] = [
         text: "There wasn't enough memory to review the log. Give the program more memory, or cut the log into parts. \
             Each part needs the certificate blocks of its session and the signature blocks that announce its messages. \
             If the session began before the part, a hole stands for the numbers before its own.",
+    },
+    Explanation {
+        code: "E1",
+        text: "E1 PLACE: --place asks for the message at this place, and the log ends before it. Places count the \
+            messages of the log from 0. Of several such places the lowest is named. See that the log is the one that \
+            the place is from; ssign inspect numbers its messages.",
+    },
+    Explanation {
+        code: "E2",
+        text: "E2 PLACE: the message at this place holds a line feed, so it can't be written as one line. Of several \
+            such messages the one that would be written first is named. Leave --lines-out out: frames hold any \
+            message.",
     },
     Explanation {
         code: "W1",

@@ -1,4 +1,4 @@
-use Rattle.std.proofs.Common.{◌≡◌, ◌∙◌}
+use Rattle.std.proofs.Common.{◌≡◌, ◌∙◌, refl}
 use Rattle.ss_review.specs.Notes.{notes}
 use Rattle.ss_review.specs.Contents.{blocks}
 use Rattle.ss_review.specs.Verified.{answers}
@@ -20,6 +20,7 @@ returns g c =
         tail = c.in_ok-reviewer.field-0.tail;
         reading = fed.reading;
         no_read_failed = fed.no_read_failed;
+        unrefused = refl;
         output_is = (λ i. counter_lines_with notation (told i) (found i)) ∙ counters_are notation says fed.messages;
         verdict_is = c.end_verdict-verdict.ensures;
       },

@@ -1,0 +1,41 @@
+//! What an extract writes.
+use ss_frame::Form;
+use ss_review::Places;
+use thiserror::Error;
+
+/// Which messages of a log an extract writes.
+#[derive(Debug, Drop)]
+pub enum Selection {
+    /// Those that the report lists, in its order.
+    Listed,
+    /// The ordinary messages that the report doesn't list, by rising place.
+    Unlisted,
+    /// Those at these places, of any kind and in this order. No review is made.
+    At(Places),
+}
+
+/// Which messages of a log an extract writes, and in which form.
+#[derive(Debug, Drop)]
+pub struct Extraction {
+    /// Which messages.
+    pub selection: Selection,
+    /// As octet-counted frames (RFC 6587, section 3.4.1), or one message a line, each ended by LF.
+    pub form: Form,
+}
+
+/// What of a log keeps an extract from being written. Places count its messages from 0.
+#[derive(Clone, Copy, Debug, PartialEq, Eq, Error)]
+pub enum ExtractFault {
+    /// E1: the first of the given places that the log hasn't.
+    #[error("E1 {place}")]
+    Absent {
+        /// That place.
+        place: u32,
+    },
+    /// E2: the first message to be written as a line that holds LF.
+    #[error("E2 {place}")]
+    HoldsLf {
+        /// Its place.
+        place: u32,
+    },
+}

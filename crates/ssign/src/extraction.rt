@@ -1,0 +1,113 @@
+//! What the options of an extract ask for.
+ghost use Rattle.std.specs.Prelude.{◌≡◌, ◌≢◌, ◌<◌, ◌^◌, ◌↔◌, ℕ, Bool, List, Contains, map, option_map, codes, None, Ok, IfOk, IfErr, IsErrOf};
+ghost use Rattle.std.specs.List.{AllByRecursion};
+ghost use Rattle.std.specs.List.Sorted.{IsStrictlyIncreasing};
+ghost use Rattle.ssign.specs.CommandLine.{FlagIs, form_of};
+ghost use Rattle.ssign.specs.Extraction.{AreInOrder, GivesExtraction, Selects, SpellNumbers, texts_given};
+ghost use Rattle.ssign.specs.declared.extraction.ExtractionFault.TheVariants.{Both, Memory, NoNumber};
+
+use clap::ArgMatches;
+use ss_frame::Form;
+use ss_report::{Extraction, Selection};
+use ss_review::Places;
+use std::alloc::{AllocError, AllocFailed, Global};
+
+/// Why options say of nothing that it is extracted.
+#[derive(Clone, Copy, Debug, PartialEq, Eq)]
+pub enum ExtractionFault {
+    /// Places are given, and the unlisted messages are asked for too.
+    Both,
+    /// A place isn't a number below 2^32, which a parse by `command` doesn't let through.
+    NoNumber,
+    /// Want of memory.
+    Memory,
+}
+
+impl<T: Drop> From<AllocFailed<T>> for ExtractionFault {
+    ghost from_gives = { λ _ e. e ≡ Memory };
+
+    fn from(_e: AllocFailed<T>) -> ExtractionFault {
+        ExtractionFault::Memory
+    }
+}
+
+/// What the options say is to be extracted. A command without them has the listed messages as frames.
+pub fn extraction_of(alloc: Global, matches: &ArgMatches<'_>) -> Result<Extraction, ExtractionFault>
+    ensures { (unlisted lines : Bool) → FlagIs matches.now (codes "unlisted") unlisted
+        → FlagIs matches.now (codes "lines-out") lines
+        → GivesExtraction unlisted (texts_given matches.now (codes "place")) lines result }
+{
+    let selection = selection_of(
+        alloc,
+        matches.get_strs("place"),
+        matches.get_flag("unlisted"),
+    )?;
+    let form = form_out(matches);
+    Ok(Extraction { selection, form })
+}
+
+/// The form in which messages are to be written.
+fn form_out(matches: &ArgMatches<'_>) -> Form
+    ensures { (lines : Bool) → FlagIs matches.now (codes "lines-out") lines → result ≡ form_of lines }
+{
+    if matches.get_flag("lines-out") {
+        Form::Lines
+    } else {
+        Form::Frames
+    }
+}
+
+/// Which messages are asked for, by the texts of places and by whether the unlisted ones are.
+fn selection_of(
+    alloc: Global,
+    texts: Option<&[&str]>,
+    unlisted: bool,
+) -> Result<Selection, ExtractionFault>
+    ensures { Selects unlisted (option_map (λ t. map (λ s. s.now) t.now) texts.entry) result }
+{
+    let Some(texts) = texts else {
+        return Ok(listed_or_not(unlisted));
+    };
+    if unlisted {
+        return Err(ExtractionFault::Both);
+    }
+    let places = in_order(numbers_of(alloc, texts)?);
+    Ok(Selection::At(Places::from_vec(places)))
+}
+
+fn listed_or_not(unlisted: bool) -> Selection
+    ensures { Selects unlisted None (Ok result) }
+{
+    if unlisted {
+        Selection::Unlisted
+    } else {
+        Selection::Listed
+    }
+}
+
+/// The numbers that texts spell.
+fn numbers_of(alloc: Global, texts: &[&str]) -> Result<Vec<u32>, ExtractionFault>
+    ensures found { IfOk result (λ numbers. SpellNumbers (map (λ s. s.now) texts.now) numbers.items) }
+    ensures kinds { IfErr result (λ fault. fault ≢ Both) }
+    ensures none { IsErrOf result NoNumber → (ns : List ℕ) → SpellNumbers (map (λ s. s.now) texts.now) ns
+        → ¬ AllByRecursion (λ n. n < 2 ^ 32) ns }
+{
+    let mut numbers = Vec::new(alloc);
+    for text in texts {
+        let Ok(number) = text.parse::<u32>() else {
+            return Err(ExtractionFault::NoNumber);
+        };
+        numbers.push(number)?;
+    }
+    Ok(numbers)
+}
+
+/// The same numbers, each once, rising.
+fn in_order(numbers: Vec<u32>) -> Vec<u32>
+    ensures { AreInOrder numbers.items result.items }
+{
+    let mut numbers = numbers;
+    numbers.sort_unstable();
+    numbers.dedup();
+    numbers
+}
