@@ -253,7 +253,7 @@ def refusals(program):
         tell("a full device", "" if (done.returncode, done.stderr) == (2, b"ssign: W1\n") else f"{done}")
     check(program, "the limits that are just met", log, [*options, "--max-len", "159", "--max-messages", "4"],
           ["count h s - 1 1", "count h s - 1 0 0 3"])
-    mistakes = [["counters", word] for word in ("--whole", "--json", "--findings", "--payload", "x", "-1", "--answers", "--lines=x")]
+    mistakes = [["counters", word] for word in ("--whole", "--findings", "--payload", "x", "-1", "--answers", "--lines=x")]
     mistakes += [["counter"], ["counters", "--max-len", "0"], ["counters", "--max-messages", "-1"], ["counters", "--rsid", "1"]]
     for words in mistakes:
         status, out, err = program.run(words, log)
