@@ -9,3 +9,4 @@ pub mod Extraction
 pub mod Opening
 pub mod LikelyCause
 pub mod Remark
+pub mod Progress

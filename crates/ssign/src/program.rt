@@ -15,6 +15,7 @@ use crate::likely_cause::{run_cause, signing_cause};
 use crate::negatives::tells_negative;
 use crate::nobody::Nobody;
 use crate::opening::Opening;
+use crate::progress::Progress;
 use crate::refusing::{
     REFUSED, Remark, Screen, cause_remark, refuse, refuse_code, refuse_words, settings_remark,
 };
@@ -30,7 +31,7 @@ use ss_report::{Extraction, RunFault, Verdict};
 use ss_review::{Counter, Counters};
 use ss_signing::SignFault;
 use std::alloc::AllocError;
-use std::rt::{Env, Files};
+use std::rt::{Clock, Env, Files};
 use std::{env, io};
 
 /// No finding, or a log that was planned or signed.
@@ -39,7 +40,7 @@ const CLEAN: u8 = 0;
 const FINDINGS: u8 = 1;
 
 /// Runs the program, and gives its exit status.
-pub fn run<R: Input + Print + Eprint + Screen + Env + Files + AllocGlobal>(rt: &R) -> u8
+pub fn run<R: Input + Print + Eprint + Screen + Env + Files + Clock + AllocGlobal>(rt: &R) -> u8
     ensures { result ≤ 2 }
 {
     match words(rt) {
@@ -58,7 +59,7 @@ fn words<R: Env + AllocGlobal>(rt: &R) -> io::Result<Vec<String>> {
     Ok(words)
 }
 
-fn run_words<R: Input + Print + Eprint + Screen + Files + AllocGlobal>(
+fn run_words<R: Input + Print + Eprint + Screen + Files + Clock + AllocGlobal>(
     rt: &R,
     words: &[String],
 ) -> u8
@@ -85,7 +86,7 @@ fn run_words<R: Input + Print + Eprint + Screen + Files + AllocGlobal>(
     }
 }
 
-fn run_command<R: Input + Print + Eprint + Screen + Files + AllocGlobal>(
+fn run_command<R: Input + Print + Eprint + Screen + Files + Clock + AllocGlobal>(
     rt: &R,
     matches: &ArgMatches<'_>,
 ) -> u8
@@ -103,7 +104,7 @@ fn run_command<R: Input + Print + Eprint + Screen + Files + AllocGlobal>(
 }
 
 /// Makes a run over standard input. The counters file is read before, and then the answers file.
-fn run_log<R: Input + Print + Eprint + Screen + Files + AllocGlobal>(
+fn run_log<R: Input + Print + Eprint + Screen + Files + Clock + AllocGlobal>(
     rt: &R,
     task: Task,
     options: &ArgMatches<'_>,
@@ -128,7 +129,7 @@ fn run_log<R: Input + Print + Eprint + Screen + Files + AllocGlobal>(
 }
 
 /// Makes a run over standard input, up to these counters. The answers file is read before.
-fn run_counted<R: Input + Print + Eprint + Screen + Files + AllocGlobal>(
+fn run_counted<R: Input + Print + Eprint + Screen + Files + Clock + AllocGlobal>(
     rt: &R,
     task: Task,
     counters: &[Counter],
@@ -139,7 +140,7 @@ fn run_counted<R: Input + Print + Eprint + Screen + Files + AllocGlobal>(
     ensures { result ≤ 2 }
 {
     let reporting = reporting_of(options);
-    let mut input = Opening::new(rt.reader());
+    let mut input = Progress::new(rt, Opening::new(rt.reader()), limits.form());
     let ended = match answers_file(options) {
         None => run_streams(
             rt, &mut input, task, reporting, counters, extraction, Nobody, limits,
@@ -151,7 +152,8 @@ fn run_counted<R: Input + Print + Eprint + Screen + Files + AllocGlobal>(
             Err(fault) => return refuse(rt, &fault, Remark::AnswersFile(file)),
         },
     };
-    end(rt, ended, limits.form(), input.kept())
+    input.hide();
+    end(rt, ended, limits.form(), input.inner().kept())
 }
 
 /// Says why options give no extract.
@@ -180,7 +182,7 @@ fn tell_conflict<R: Print + Eprint + Screen + AllocGlobal>(rt: &R) -> u8
 
 /// Makes a run that signs over standard input. The texts of the options are looked at first, and then the answers file
 /// is read, before the log.
-fn run_sent<R: Input + Print + Eprint + Screen + Files + AllocGlobal>(
+fn run_sent<R: Input + Print + Eprint + Screen + Files + Clock + AllocGlobal>(
     rt: &R,
     signing: Signing,
     options: &ArgMatches<'_>,
@@ -202,9 +204,10 @@ fn run_sent<R: Input + Print + Eprint + Screen + Files + AllocGlobal>(
             Err(fault) => return refuse(rt, &fault, Remark::AnswersFile(file)),
         },
     };
-    let mut input = Opening::new(rt.reader());
+    let mut input = Progress::new(rt, Opening::new(rt.reader()), limits.form());
     let ended = sign_streams(rt, &mut input, signing, settings, answers, limits);
-    end_signing(rt, ended, limits.form(), input.kept())
+    input.hide();
+    end_signing(rt, ended, limits.form(), input.inner().kept())
 }
 
 /// Explains the code that is asked about.
