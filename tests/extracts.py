@@ -66,8 +66,8 @@ def compare(program, seed):
     messages = list(messages) + chance.choice([[], [b"a\nb"], [b"\n", b"c\r"], [b"x"], [b"<13>1 - - - - - - \n"]])
     chance.shuffle(messages)
     of_lines = chance.random() < 0.3
-    if of_lines:
-        messages = [it for it in messages if b"\n" not in it]
+    # a frame has an octet, and a line has no LF in it
+    messages = [it for it in messages if it and not (of_lines and b"\n" in it)]
     octets = b"".join(map(line if of_lines else frame, messages))
     torn = chance.random() < 0.2
     octets += (b"y" if of_lines else b"12") if torn else b""

@@ -76,17 +76,12 @@ class Kept:
         return text + [f"blocks {names} {first} {last}" for first, last in runs]
 
 
-def order_of(session):
-    """Sessions stand by HOSTNAME, APP-NAME, PROCID, an absent one first, and RSID."""
-    return [(field != b"-", field) for field in session[:3]], session[3]
-
-
 def kept_text(log, trusted, valid, counters, torn=None):
     """The lines of the report with what is missing up to the counters."""
     kept, text, waiting = Kept(counters), [], []
     sessions = iter(log.sessions)
     absent = []
-    for session in sorted(kept.sessions - set(log.sessions), key=order_of):
+    for session in sorted(kept.sessions - set(log.sessions)):
         absent += [f"session {names_of(session)} absent", *kept.beside(session, {}, [])]
     is_told = False
     for it in report_text(review(log, trusted, valid), torn):

@@ -119,7 +119,7 @@ def main():
          and LINE.sub(b"", said).startswith(CLEARED + b"ssign: F1 ") else f"{status} {said[-300:]!r}")
 
     # a log that is to be signed shows it too
-    words = [program, "plan", "--payload", "- N", "--rsid", "1"]
+    words = [program, "plan", "--payload=- N", "--rsid", "1"]
     quiet = run(words, parts, 0, False)
     loud = run(words, parts, 2.5 / len(parts), True)
     tell("plan", "" if quiet[:2] == loud[:2] and quiet[2] == b"" and LINE.findall(loud[2]) and LINE.sub(b"", loud[2]) == CLEARED
