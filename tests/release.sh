@@ -1,9 +1,9 @@
 #!/usr/bin/env bash
 # The recorded build of release/: its text is whole, it is of the sources at hand, it was built by the toolchain that
-# docs/PROOFS.md names, and it has the SHA-256 that the text gives. Where the toolchain here is the recorded one, the
-# program that was built here has to be the same, octet for octet: where CI is set another one fails, and elsewhere it is
-# warned of, since what was proved here is the one here. With another toolchain nothing can be compared, so there too CI
-# fails: what is published has been compared.
+# docs/PROOFS.md names, and it has the SHA-256 that the text gives. The program that was built here has to be the same,
+# octet for octet, whichever toolchain built it: where CI is set another one fails, since what is published has been
+# compared. Elsewhere another one is warned of where the toolchain is the recorded one, since what was proved here is the
+# one here; another toolchain may well make another program, so there it is only said that they differ.
 # shellcheck source=tests/lib.sh
 . "$(dirname -- "$0")/lib.sh"
 need_program
@@ -41,17 +41,16 @@ holds "docs/PROOFS.md names the toolchain of the recorded build, $toolchain" gre
 
 # what rt complains of beside its version is no part of it
 here=$(rt version </dev/null 2>"$scratch/fault") || here='a toolchain without the command rt in PATH'
+built=$(sum_of "$program")
 if [[ $sources != "$(fact sources)" ]]; then
     : # told above
-elif [[ $here != "$toolchain" && ${CI-} ]]; then
-    tell 'the program built here is the recorded one' "$(differ toolchain "$here" "$toolchain")"
-elif [[ $here != "$toolchain" ]]; then
-    echo "$name: the program built here isn't compared with the recorded one, which another toolchain made: $toolchain, and here $here"
-elif [[ $(sum_of "$program") == "$(fact program)" || ${CI-} ]]; then
-    fault=$(differ 'SHA-256 of the program' "$(sum_of "$program")" "$(fact program)")
+elif [[ $built == "$(fact program)" || ${CI-} ]]; then
+    fault=$(differ "SHA-256 of the program that $here built" "$built" "$(fact program)")
     tell 'the program built here is the recorded one' "$fault"
+elif [[ $here != "$toolchain" ]]; then
+    echo "$name: the program built here isn't the recorded one, which another toolchain made: $toolchain, and here $here"
 else
-    echo "$name: warning: the program built here differs from the recorded one, with the same sources and toolchain: SHA-256 $(sum_of "$program") here, and $(fact program) is recorded. The one here is the one that was proved here."
+    echo "$name: warning: the program built here differs from the recorded one, with the same sources and toolchain: SHA-256 $built here, and $(fact program) is recorded. The one here is the one that was proved here."
 fi
 
 finish

@@ -673,13 +673,18 @@ gate
 gate_says 'the gate over another toolchain, elsewhere' 1 "another toolchain made: another, and here $toolchain"
 gate_says 'the gate over a toolchain that no page names' 1 'docs/PROOFS.md names the toolchain'
 gate CI=true
-gate_says 'the gate over another toolchain, where CI is set' 1 "toolchain: $toolchain here, and another is recorded"
+gate_says 'the gate over another toolchain, where CI is set' 1 "SHA-256 of the program that $toolchain built: $both"
 # shellcheck disable=SC2016 # backquotes of a page
 echo 'It was proved with `another`.' >"$copy/docs/PROOFS.md"
 gate
 gate_says 'the gate over another toolchain that the page names' 0 "another toolchain made: another, and here $toolchain"
 gate CI=true
-gate_says 'the same, where CI is set' 1 "toolchain: $toolchain here, and another is recorded"
+gate_says 'the same, where CI is set' 1 "SHA-256 of the program that $toolchain built: $both"
+cp -- "$program" "$recorded"
+write_text "$copy"
+sed -i 's/^toolchain .*/toolchain another/' "$recorded.txt"
+gate CI=true
+gate_says 'the gate over another toolchain that made this program' 0 '7 passed, 0 failed'
 with_record
 rt "[[ \$1 != version ]] || echo 'a complaint' >&2
 $marks"
