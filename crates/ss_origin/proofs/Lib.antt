@@ -10,6 +10,8 @@ pub mod Covered
 pub mod RowsTold
 pub mod Sent
 pub mod Members
+pub mod SentRuns
+pub mod SignedMessages
 pub mod PlainMessages
 pub mod Announced
 pub mod Beginning

@@ -1,6 +1,6 @@
 -- Members of lists.
 use Rattle.std.proofs.Common.{◌≡◌, ◌⊎◌, inl, inr, ℕ, zero, suc, ◌+◌, ◌<◌, ◌≤◌, List, [], ◌∷◌, ◌++◌, length, get_or, map, replicate, refl, ap, subst, arith}
-use Rattle.std.specs.List.{Contains, AllZip, flat_map, enumerate_from}
+use Rattle.std.specs.List.{AllByRecursion, Contains, AllZip, flat_map, enumerate_from}
 
 abbrev pub Has : {X : Type 0} → List X → X → Type 0
 Has [] x = ⊥
@@ -52,3 +52,56 @@ pub has-copies : {X : Type 0} (n : ℕ) (xs : List X) (x : X) → 1 ≤ n → Ha
 has-copies n [] x some h = absurd h
 has-copies n (y ∷ ys) x some (inl e) = has-append_left (replicate n y) (flat_map (λ z. replicate n z) ys) x (subst (Has (replicate n y)) e (first_copy n y some))
 has-copies n (y ∷ ys) x some (inr h) = has-append_right (replicate n y) (flat_map (λ z. replicate n z) ys) x (has-copies n ys x some h)
+
+-- ---- what has a member
+
+pub has-append_cases : {X : Type 0} (xs ys : List X) (x : X) → Has (xs ++ ys) x → Has xs x ⊎ Has ys x
+has-append_cases [] ys x h = inr h
+has-append_cases (z ∷ xs) ys x (inl e) = inl (inl e)
+has-append_cases (z ∷ xs) ys x (inr h) = elim (has-append_cases xs ys x h) [ inl l ↦ inl (inr l) | inr r ↦ inr r ]
+
+pub from_has-map : {X Y : Type 0} (f : X → Y) (xs : List X) (y : Y) → Has (map f xs) y → (x : X) × Has xs x × (f x ≡ y)
+from_has-map f [] y h = absurd h
+from_has-map f (z ∷ xs) y (inl e) = (z, inl refl, e)
+from_has-map f (z ∷ xs) y (inr h) =
+    let r : (x : _) × Has xs x × (f x ≡ y) = from_has-map f xs y h in
+    (r.0, inr r.1, r.2)
+
+pub from_has-flat_map : {X Y : Type 0} (f : X → List Y) (xs : List X) (y : Y) → Has (flat_map f xs) y → (x : X) × Has xs x × Has (f x) y
+from_has-flat_map f [] y h = absurd h
+from_has-flat_map {X} f (z ∷ xs) y h =
+    elim (has-append_cases (f z) (flat_map f xs) y h) [
+      | inl l ↦ (z, inl refl, l)
+      | inr r ↦ (let w : (x : X) × Has xs x × Has (f x) y = from_has-flat_map f xs y r in (w.0, inr w.1, w.2))
+    ]
+
+from_has-replicate : {X : Type 0} (n : ℕ) (x y : X) → Has (replicate n x) y → x ≡ y
+from_has-replicate zero x y h = absurd h
+from_has-replicate (suc n) x y (inl e) = e
+from_has-replicate (suc n) x y (inr h) = from_has-replicate n x y h
+
+-- a copy is one of the items
+pub from_has-copies : {X : Type 0} (n : ℕ) (xs : List X) (y : X) → Has (flat_map (λ x. replicate n x) xs) y → Has xs y
+from_has-copies {X} n xs y h =
+    let w = from_has-flat_map (λ (x : X). replicate n x) xs y h in
+    subst (Has xs) (from_has-replicate n w.0 y w.2) w.1
+
+-- the item that a member of the second list stands beside
+pub from_has-zipped : {A B : Type 0} (R : A → B → Type 0) (xs : List A) (ys : List B) (y : B) → AllZip R xs ys → Has ys y → (x : A) × Has xs x × R x y
+from_has-zipped R [] [] y zip h = absurd h
+from_has-zipped R [] (b ∷ ys) y zip h = absurd zip
+from_has-zipped R (a ∷ xs) [] y zip h = absurd h
+from_has-zipped R (a ∷ xs) (b ∷ ys) y zip (inl e) = (a, inl refl, subst (R a) e zip.0)
+from_has-zipped R (a ∷ xs) (b ∷ ys) y zip (inr h) = let w = from_has-zipped R xs ys y zip.1 h in (w.0, inr w.1, w.2)
+
+-- a list that has a member, cut there
+pub has_split : {X : Type 0} (xs : List X) (x : X) → Has xs x → (front : List X) × (behind : List X) × (xs ≡ front ++ x ∷ behind)
+has_split [] x h = absurd h
+has_split (y ∷ ys) x (inl e) = ([], ys, ap (λ z. z ∷ ys) e)
+has_split (y ∷ ys) x (inr h) = let w = has_split ys x h in (y ∷ w.0, w.1, ap (λ zs. y ∷ zs) w.2)
+
+-- what holds of all holds of a member
+pub all-has : {X : Type 0} (P : X → Type 0) (xs : List X) (x : X) → AllByRecursion P xs → Has xs x → P x
+all-has P [] x all h = absurd h
+all-has P (y ∷ ys) x all (inl e) = subst P e all.0
+all-has P (y ∷ ys) x all (inr h) = all-has P ys x all.1 h

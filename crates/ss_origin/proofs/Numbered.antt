@@ -25,7 +25,7 @@ messages_behind grouping spri (Submit message stamp ∷ later) earlier =
 messages_behind grouping spri (Flush stamp ∷ later) earlier = messages_behind grouping spri later earlier
 
 -- what later originators were given for it
-given_behind : (c : Config) (spri : ℕ) (newer older : List (List Turn)) → (more : List (List ℕ)) × (given_to c spri (newer ++ older) ≡ given_to c spri older ++ more)
+pub given_behind : (c : Config) (spri : ℕ) (newer older : List (List Turn)) → (more : List (List ℕ)) × (given_to c spri (newer ++ older) ≡ given_to c spri older ++ more)
 given_behind c spri [] older = ([], sym (append-nil (given_to c spri older)))
 given_behind c spri (turns ∷ newer) older =
     let w = given_behind c spri newer older in

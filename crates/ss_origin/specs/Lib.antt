@@ -23,3 +23,4 @@ pub mod CoverLaws
 pub mod Rows
 pub mod RangeRows
 pub mod SentLaws
+pub mod SignedLaws

@@ -2,6 +2,7 @@
 ghost use Rattle.ss_origin.specs.BlockLaws.{RunsAreNumbered};
 ghost use Rattle.ss_origin.specs.ChainLaws.{NumbersGoOn, CountersStayInRange, ChainsCanBeResumed, BeginsFirst};
 ghost use Rattle.ss_origin.specs.SentLaws.{SentBlocksAreNumbered, OthersAreSent};
+ghost use Rattle.ss_origin.specs.SignedLaws.{MessagesAreSigned};
 
 use ss_message::laws::faults_are_of_no_message;
 
@@ -43,6 +44,14 @@ pub fn sent_blocks_are_numbered()
 pub fn others_are_sent()
     ensures { OthersAreSent }
 {}
+
+/// Each message that an originator of a chain was given, and that isn't pending at its end, is signed: a block that was sent
+/// has its hash under its number, in the chain's session and with a valid signature.
+pub fn messages_are_signed()
+    ensures { MessagesAreSigned }
+{
+    faults_are_of_no_message();
+}
 
 /// `begin` is accepted as the first call of the first originator alone.
 pub fn begins_first()
