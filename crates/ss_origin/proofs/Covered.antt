@@ -122,7 +122,7 @@ contains-if_full size spri hs e =
     let run : Run = record { spri = spri; hashes = hs } in
     subst (λ b. Contains (if b then run ∷ [] else []) run) (sym (eq-eqb (length hs) size e)) (0, omega arith, refl)
 
-front_length : (c : Config) (spri : ℕ) (calls : List Call) → length (in_blocks c spri calls) + length (pending_of c spri calls) ≡ length (messages_of c.grouping spri calls)
+pub front_length : (c : Config) (spri : ℕ) (calls : List Call) → length (in_blocks c spri calls) + length (pending_of c spri calls) ≡ length (messages_of c.grouping spri calls)
 front_length c spri calls = sym (ap length (split_at_pending c spri calls) ∙ length-append (in_blocks c spri calls) (pending_of c spri calls))
 
 module _ (c : Config) (calls : List Call) (j : ℕ) where

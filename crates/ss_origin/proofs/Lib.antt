@@ -12,6 +12,8 @@ pub mod Sent
 pub mod Members
 pub mod SentRuns
 pub mod SignedMessages
+pub mod Frontiers
+pub mod ChainsAhead
 pub mod PlainMessages
 pub mod Announced
 pub mod Beginning

@@ -67,7 +67,7 @@ all_from : {Y : Type 0} (P : Y → Type 0) (f : ℕ → List Y) (n a : ℕ) → 
 all_from P f zero a each = tt
 all_from P f (suc n) a each = all-append P (f a) (flat_map f (range_with_len (a + 1) n)) (each a (omega arith)) (all_from P f n (a + 1) (λ k below. each k (omega arith)))
 
-all-if_full : (P : Run → Type 0) (size spri : ℕ) (hs : List Hash) → (length hs ≡ size → P (record { spri = spri; hashes = hs })) → AllByRecursion P (run_if_full size spri hs)
+pub all-if_full : (P : Run → Type 0) (size spri : ℕ) (hs : List Hash) → (length hs ≡ size → P (record { spri = spri; hashes = hs })) → AllByRecursion P (run_if_full size spri hs)
 all-if_full P size spri hs f = by (length hs == size) refl
   where
     by : (b : Bool) → (length hs == size) ≡ b → AllByRecursion P (if b then record { spri = spri; hashes = hs } ∷ [] else [])
@@ -78,7 +78,7 @@ all-if_any : (P : Run → Type 0) (spri : ℕ) (hs : List Hash) → (1 ≤ lengt
 all-if_any P spri [] f = tt
 all-if_any P spri (h ∷ hs) f = (f (omega arith), tt)
 
-all_flushed : (P : Run → Type 0) (pending : ℕ → List Hash)
+pub all_flushed : (P : Run → Type 0) (pending : ℕ → List Hash)
     → ((spri : ℕ) → spri < 192 → 1 ≤ length (pending spri) → P (record { spri = spri; hashes = pending spri }))
     → AllByRecursion P (flat_map (λ spri. run_if_any spri (pending spri)) spris)
 all_flushed P pending each = all_from P (λ spri. run_if_any spri (pending spri)) 192 0 (λ spri small. all-if_any P spri (pending spri) (each spri (omega arith)))

@@ -69,7 +69,7 @@ module _ (s : Setting) (old : State) (m : List ℕ) (b : block.Signature) (read 
   of_due (Flush stamp) due are d h sealed = of_blocks (Flush stamp) due are d h sealed
 
   -- it is one of the messages of the blocks that are due
-  sealed_message : (call : Call) (emitted : List (List ℕ)) → fault_of s.config old call ≡ None → (e : EmitsFrom s old call emitted) → Has emitted m → Has e.sent.messages m
+  pub sealed_message : (call : Call) (emitted : List (List ℕ)) → fault_of s.config old call ≡ None → (e : EmitsFrom s old call emitted) → Has emitted m → Has e.sent.messages m
   sealed_message call emitted accepted e h =
       let copies = flat_map (λ x. replicate s.config.copies x) e.sent.messages in
       elim (has-append_cases (sent_first call) copies m (subst (λ l. Has l m) e.sent.sent_are h)) [

@@ -24,3 +24,6 @@ pub mod Rows
 pub mod RangeRows
 pub mod SentLaws
 pub mod SignedLaws
+pub mod Ahead
+pub mod AheadLaws
+pub mod OneBlockLaws

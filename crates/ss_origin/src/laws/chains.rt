@@ -1,6 +1,7 @@
 //! The originators of a session that follow one another.
 ghost use Rattle.ss_origin.specs.BlockLaws.{RunsAreNumbered};
 ghost use Rattle.ss_origin.specs.ChainLaws.{NumbersGoOn, CountersStayInRange, ChainsCanBeResumed, BeginsFirst};
+ghost use Rattle.ss_origin.specs.OneBlockLaws.{NumbersAreInOneBlock};
 ghost use Rattle.ss_origin.specs.SentLaws.{SentBlocksAreNumbered, OthersAreSent};
 ghost use Rattle.ss_origin.specs.SignedLaws.{MessagesAreSigned};
 
@@ -49,6 +50,13 @@ pub fn others_are_sent()
 /// has its hash under its number, in the chain's session and with a valid signature.
 pub fn messages_are_signed()
     ensures { MessagesAreSigned }
+{
+    faults_are_of_no_message();
+}
+
+/// Two signature blocks that a chain sent, and that have a hash for one number of a group or one GBC, are copies of one.
+pub fn numbers_are_in_one_block()
+    ensures { NumbersAreInOneBlock }
 {
     faults_are_of_no_message();
 }

@@ -1,0 +1,5 @@
+use Rattle.ss_origin.proofs.ChainsAhead.{numbers_ahead_are_in_one_block}
+use Rattle.ss_origin.proofs.laws.ahead.numbers_are_in_one_block.Goals as goal
+
+pub returns : goal.returns
+returns c = numbers_ahead_are_in_one_block c.faults_are_of_no_message.ensures

@@ -1,0 +1,18 @@
+//! The originators of a session, where counters may have been saved ahead of what was sent.
+ghost use Rattle.ss_origin.specs.AheadLaws.{ChainsGoOnAhead};
+ghost use Rattle.ss_origin.specs.OneBlockLaws.{NumbersAheadAreInOneBlock};
+
+use ss_message::laws::faults_are_of_no_message;
+
+/// A chain whose originators go on from exactly the last counters is one that goes on ahead.
+pub fn chains_go_on_ahead()
+    ensures { ChainsGoOnAhead }
+{}
+
+/// Two signature blocks that such a chain sent, and that have a hash for one number of a group or one GBC, are copies of
+/// one.
+pub fn numbers_are_in_one_block()
+    ensures { NumbersAheadAreInOneBlock }
+{
+    faults_are_of_no_message();
+}
