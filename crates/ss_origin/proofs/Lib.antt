@@ -14,6 +14,7 @@ pub mod SentRuns
 pub mod SignedMessages
 pub mod Frontiers
 pub mod ChainsAhead
+pub mod PendingNumbers
 pub mod PlainMessages
 pub mod Announced
 pub mod Beginning

@@ -27,3 +27,4 @@ pub mod SignedLaws
 pub mod Ahead
 pub mod AheadLaws
 pub mod OneBlockLaws
+pub mod NoBlockLaws

@@ -1,6 +1,7 @@
 //! The originators of a session that follow one another.
 ghost use Rattle.ss_origin.specs.BlockLaws.{RunsAreNumbered};
 ghost use Rattle.ss_origin.specs.ChainLaws.{NumbersGoOn, CountersStayInRange, ChainsCanBeResumed, BeginsFirst};
+ghost use Rattle.ss_origin.specs.NoBlockLaws.{PendingMessagesAreInNoBlock};
 ghost use Rattle.ss_origin.specs.OneBlockLaws.{NumbersAreInOneBlock};
 ghost use Rattle.ss_origin.specs.SentLaws.{SentBlocksAreNumbered, OthersAreSent};
 ghost use Rattle.ss_origin.specs.SignedLaws.{MessagesAreSigned};
@@ -50,6 +51,13 @@ pub fn others_are_sent()
 /// has its hash under its number, in the chain's session and with a valid signature.
 pub fn messages_are_signed()
     ensures { MessagesAreSigned }
+{
+    faults_are_of_no_message();
+}
+
+/// The number of a message that is pending at the end of its originator is in no block that the chain sent.
+pub fn pending_messages_are_in_no_block()
+    ensures { PendingMessagesAreInNoBlock }
 {
     faults_are_of_no_message();
 }
