@@ -15,6 +15,7 @@ pub mod SignedMessages
 pub mod Frontiers
 pub mod ChainsAhead
 pub mod PendingNumbers
+pub mod Counted
 pub mod PlainMessages
 pub mod Announced
 pub mod Beginning

@@ -63,7 +63,7 @@ all-replicate : {X : Type 0} (P : X → Type 0) (n : ℕ) (x : X) → P x → Al
 all-replicate P zero x p = tt
 all-replicate P (suc n) x p = (p, all-replicate P n x p)
 
-all-copies : {X : Type 0} (P : X → Type 0) (n : ℕ) (xs : List X) → AllByRecursion P xs → AllByRecursion P (flat_map (λ x. replicate n x) xs)
+pub all-copies : {X : Type 0} (P : X → Type 0) (n : ℕ) (xs : List X) → AllByRecursion P xs → AllByRecursion P (flat_map (λ x. replicate n x) xs)
 all-copies P n [] all = tt
 all-copies P n (x ∷ xs) all = all-append P (replicate n x) (flat_map (λ y. replicate n y) xs) (all-replicate P n x all.0) (all-copies P n xs all.1)
 

@@ -31,7 +31,7 @@ pub record IsSentRun (s : Setting) (old : State) (call : Call) (m : List ℕ) : 
 
 -- ---- what stands in front
 
-plain_first : (c : Config) (old : State) (call : Call) (m : List ℕ) → fault_of c old call ≡ None → Has (sent_first call) m → is_plain (reading m) ≡ true
+pub plain_first : (c : Config) (old : State) (call : Call) (m : List ℕ) → fault_of c old call ≡ None → Has (sent_first call) m → is_plain (reading m) ≡ true
 plain_first c old (Begin stamp) m e h = absurd h
 plain_first c old (Submit message stamp) m e (inl i) =
     let begun = none_first (not old.begun) NotBegun _ e in

@@ -28,3 +28,4 @@ pub mod Ahead
 pub mod AheadLaws
 pub mod OneBlockLaws
 pub mod NoBlockLaws
+pub mod CountedLaws

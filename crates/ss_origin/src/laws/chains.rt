@@ -1,6 +1,7 @@
 //! The originators of a session that follow one another.
 ghost use Rattle.ss_origin.specs.BlockLaws.{RunsAreNumbered};
 ghost use Rattle.ss_origin.specs.ChainLaws.{NumbersGoOn, CountersStayInRange, ChainsCanBeResumed, BeginsFirst};
+ghost use Rattle.ss_origin.specs.CountedLaws.{SentBlocksAreCounted};
 ghost use Rattle.ss_origin.specs.NoBlockLaws.{PendingMessagesAreInNoBlock};
 ghost use Rattle.ss_origin.specs.OneBlockLaws.{NumbersAreInOneBlock};
 ghost use Rattle.ss_origin.specs.SentLaws.{SentBlocksAreNumbered, OthersAreSent};
@@ -47,8 +48,8 @@ pub fn others_are_sent()
     ensures { OthersAreSent }
 {}
 
-/// Each message that an originator of a chain was given, and that isn't pending at its end, is signed: a block that was sent
-/// has its hash under its number, in the chain's session and with a valid signature.
+/// Each message that an originator of a chain was given, and that isn't pending at its end, is signed: a block that was
+/// sent has its hash under its number, in the chain's session and with a valid signature.
 pub fn messages_are_signed()
     ensures { MessagesAreSigned }
 {
@@ -62,12 +63,18 @@ pub fn pending_messages_are_in_no_block()
     faults_are_of_no_message();
 }
 
-/// Two signature blocks that a chain sent, and that have a hash for one number of a group or one GBC, are copies of one.
+/// Two signature blocks that a chain sent, and that have a hash for one number of a group or one GBC, are copies of
+/// one.
 pub fn numbers_are_in_one_block()
     ensures { NumbersAreInOneBlock }
 {
     faults_are_of_no_message();
 }
+
+/// The signature blocks of a chain, in order and each counted once, have the GBC 0, 1, 2 and so on.
+pub fn sent_blocks_are_counted()
+    ensures { SentBlocksAreCounted }
+{}
 
 /// `begin` is accepted as the first call of the first originator alone.
 pub fn begins_first()
