@@ -67,10 +67,10 @@ module _ (read : FaultsAreOfNoMessage) (s : Setting) (is : is_config s.config �
   ended l = frontier_of (state s.config l.start (calls_of l.turns))
 
   -- an originator ends no further than what it was given
-  ends_before : (l : Life) (before : List Life) → IsAtMost (ended l) (behind_all s.config (l ∷ before))
+  pub ends_before : (l : Life) (before : List Life) → IsAtMost (ended l) (behind_all s.config (l ∷ before))
   ends_before l before = record { gbc = omega arith; first = λ spri small. omega arith }
 
-  begins_after : (lives : List Life) (start : Start) → BeginsBehind s.config lives start → IsAtMost (behind_all s.config lives) (frontier_at start)
+  pub begins_after : (lives : List Life) (start : Start) → BeginsBehind s.config lives start → IsAtMost (behind_all s.config lives) (frontier_at start)
   begins_after [] start e = record { gbc = omega arith; first = λ spri small. omega arith }
   begins_after (l ∷ before) start b =
       subst (λ x. IsAtMost (behind_all s.config (l ∷ before)) (frontier_at x)) (sym b.1) (record {
@@ -128,11 +128,11 @@ module _ (read : FaultsAreOfNoMessage) (s : Setting) (is : is_config s.config �
 
   -- ---- numbers in no block
 
-  older_of : (newer rest : List Life) → GoOnAhead s (newer ++ rest) → GoOnAhead s rest
+  pub older_of : (newer rest : List Life) → GoOnAhead s (newer ++ rest) → GoOnAhead s rest
   older_of [] rest are = are
   older_of (l ∷ newer) rest are = older_of newer rest are.0
 
-  reach : (newer rest : List Life) → GoOnAhead s (newer ++ rest) → IsAtMost (behind_all s.config rest) (behind_all s.config (newer ++ rest))
+  pub reach : (newer rest : List Life) → GoOnAhead s (newer ++ rest) → IsAtMost (behind_all s.config rest) (behind_all s.config (newer ++ rest))
   reach [] rest are = at_most_itself (behind_all s.config rest)
   reach (l ∷ newer) rest are =
       at_most_both (behind_all s.config rest) (behind_all s.config (newer ++ rest)) (behind_all s.config (l ∷ (newer ++ rest))) (reach newer rest are.0) (reaches l (newer ++ rest) are)
@@ -163,7 +163,7 @@ module _ (read : FaultsAreOfNoMessage) (s : Setting) (is : is_config s.config �
         omega (arith, last, most, covers.below)
 
     -- nor does one from a frontier behind it on
-    above_number : (low high : Frontier) (b : block.Signature) → IsBetween s.config.grouping low high b → number < low.first spri → Covers b (group_of s.config.grouping spri) number → ⊥
+    pub above_number : (low high : Frontier) (b : block.Signature) → IsBetween s.config.grouping low high b → number < low.first spri → Covers b (group_of s.config.grouping spri) number → ⊥
     above_number low high b is_between least covers =
         let own : is_between.spri ≡ spri = same_spri s.config.grouping is_between.spri spri (sym is_between.group ∙ covers.own) in
         let first : low.first spri ≤ b.first = subst (λ k. low.first k ≤ b.first) own is_between.first_low in

@@ -16,6 +16,7 @@ pub mod Frontiers
 pub mod ChainsAhead
 pub mod PendingNumbers
 pub mod Counted
+pub mod GivenNumbers
 pub mod PlainMessages
 pub mod Announced
 pub mod Beginning

@@ -1,9 +1,41 @@
 -- What holds of chains that go on ahead.
-use Rattle.std.specs.Prelude.{List}
+use Rattle.std.specs.Prelude.{◌≡◌, ℕ, ◌+◌, List, ◌∷◌, ◌++◌, length, Option}
+use Rattle.ss_message.specs.Stamp.{Moment}
+use Rattle.ss_origin.specs.declared.config.Config.{Config}
+use Rattle.ss_origin.specs.Counting.{number_in}
+use Rattle.ss_origin.specs.Calls.{Submit, spri_in, messages_of}
 use Rattle.ss_origin.specs.Setting.{Setting}
-use Rattle.ss_origin.specs.Chain.{Turn, IsChain}
-use Rattle.ss_origin.specs.Ahead.{IsChainAhead, lives_of}
+use Rattle.ss_origin.specs.Chain.{Turn, calls_of, IsChain}
+use Rattle.ss_origin.specs.Ahead.{Life, IsChainAhead, lives_of}
 
 -- A chain whose originators go on from exactly the last counters is one that goes on ahead.
 abbrev pub ChainsGoOnAhead : Type 0
 ChainsGoOnAhead = (s : Setting) (chain : List (List Turn)) → IsChain s chain → IsChainAhead s (lives_of s.config chain)
+
+-- ---- numbers that are given
+
+-- One of the originators accepted the message, behind those before it and behind its own earlier turns.
+pub record IsGiven (lives : List Life) (message : List ℕ) : Type 0 where
+  pub newer : List Life
+  pub life : Life
+  pub older : List Life
+  pub lives_are : lives ≡ newer ++ life ∷ older
+  pub later : List Turn
+  pub turn : Turn
+  pub earlier : List Turn
+  pub turns_are : life.turns ≡ later ++ turn ∷ earlier
+  pub stamp : Option Moment
+  pub call : turn.call ≡ Submit message stamp
+
+-- The number that it got in its group: the first one with which its originator began, and one more for each message of the
+-- group that came before it.
+abbrev pub number_given : {lives : List Life} {message : List ℕ} → Config → IsGiven lives message → ℕ
+number_given {message = message} c g =
+    let spri = spri_in c.grouping message in number_in g.life.start.counters.groups spri + length (messages_of c.grouping spri (calls_of g.earlier))
+
+-- No number of a group is given twice: two messages that got one number are one, and were accepted in the same call, which
+-- has as many originators behind it, and as many of its own originator's turns.
+abbrev pub NumbersAreGivenOnce : Type 0
+NumbersAreGivenOnce = (s : Setting) (lives : List Life) → IsChainAhead s lives → (m n : List ℕ) (g : IsGiven lives m) (h : IsGiven lives n)
+    → spri_in s.config.grouping m ≡ spri_in s.config.grouping n → number_given s.config g ≡ number_given s.config h
+    → (m ≡ n) × (length g.older ≡ length h.older) × (length g.earlier ≡ length h.earlier)

@@ -25,7 +25,7 @@ pub mod RangeRows
 pub mod SentLaws
 pub mod SignedLaws
 pub mod Ahead
-pub mod AheadLaws
 pub mod OneBlockLaws
 pub mod NoBlockLaws
+pub mod AheadLaws
 pub mod CountedLaws

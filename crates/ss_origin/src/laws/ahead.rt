@@ -1,5 +1,5 @@
 //! The originators of a session, where counters may have been saved ahead of what was sent.
-ghost use Rattle.ss_origin.specs.AheadLaws.{ChainsGoOnAhead};
+ghost use Rattle.ss_origin.specs.AheadLaws.{ChainsGoOnAhead, NumbersAreGivenOnce};
 ghost use Rattle.ss_origin.specs.OneBlockLaws.{NumbersAheadAreInOneBlock};
 
 use ss_message::laws::faults_are_of_no_message;
@@ -13,6 +13,13 @@ pub fn chains_go_on_ahead()
 /// one.
 pub fn numbers_are_in_one_block()
     ensures { NumbersAheadAreInOneBlock }
+{
+    faults_are_of_no_message();
+}
+
+/// Two messages that got one number of a group in such a chain are one, accepted in one call.
+pub fn numbers_are_given_once()
+    ensures { NumbersAreGivenOnce }
 {
     faults_are_of_no_message();
 }
