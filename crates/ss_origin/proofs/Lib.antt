@@ -17,6 +17,7 @@ pub mod ChainsAhead
 pub mod PendingNumbers
 pub mod Counted
 pub mod GivenNumbers
+pub mod SkippedNumbers
 pub mod PlainMessages
 pub mod Announced
 pub mod Beginning

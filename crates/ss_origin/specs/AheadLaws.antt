@@ -1,12 +1,14 @@
 -- What holds of chains that go on ahead.
-use Rattle.std.specs.Prelude.{◌≡◌, ℕ, ◌+◌, List, ◌∷◌, ◌++◌, length, Option}
+use Rattle.std.specs.Prelude.{◌≡◌, ℕ, ◌+◌, ◌<◌, ◌≤◌, List, ◌∷◌, ◌++◌, length, Option}
 use Rattle.ss_message.specs.Stamp.{Moment}
 use Rattle.ss_origin.specs.declared.config.Config.{Config}
+use Rattle.ss_origin.specs.Groups.{group_of}
 use Rattle.ss_origin.specs.Counting.{number_in}
 use Rattle.ss_origin.specs.Calls.{Submit, spri_in, messages_of}
 use Rattle.ss_origin.specs.Setting.{Setting}
 use Rattle.ss_origin.specs.Chain.{Turn, calls_of, IsChain}
-use Rattle.ss_origin.specs.Ahead.{Life, IsChainAhead, lives_of}
+use Rattle.ss_origin.specs.Ahead.{Life, ended_with, IsChainAhead, sent_by, lives_of}
+use Rattle.ss_origin.specs.NoBlockLaws.{HaveNoBlock}
 
 -- A chain whose originators go on from exactly the last counters is one that goes on ahead.
 abbrev pub ChainsGoOnAhead : Type 0
@@ -39,3 +41,11 @@ abbrev pub NumbersAreGivenOnce : Type 0
 NumbersAreGivenOnce = (s : Setting) (lives : List Life) → IsChainAhead s lives → (m n : List ℕ) (g : IsGiven lives m) (h : IsGiven lives n)
     → spri_in s.config.grouping m ≡ spri_in s.config.grouping n → number_given s.config g ≡ number_given s.config h
     → (m ≡ n) × (length g.older ≡ length h.older) × (length g.earlier ≡ length h.earlier)
+
+-- The numbers that are left out between the last counters of an originator and those with which the next one began are in
+-- no block.
+abbrev pub SkippedNumbersAreInNoBlock : Type 0
+SkippedNumbersAreInNoBlock = (s : Setting) (newer older : List Life) (next last : Life) (spri number : ℕ)
+    → IsChainAhead s (newer ++ next ∷ last ∷ older) → spri < 192
+    → number_in (ended_with s.config last).groups spri ≤ number → number < number_in next.start.counters.groups spri
+    → HaveNoBlock (sent_by (newer ++ next ∷ last ∷ older)) (group_of s.config.grouping spri) number

@@ -1,5 +1,5 @@
 //! The originators of a session, where counters may have been saved ahead of what was sent.
-ghost use Rattle.ss_origin.specs.AheadLaws.{ChainsGoOnAhead, NumbersAreGivenOnce};
+ghost use Rattle.ss_origin.specs.AheadLaws.{ChainsGoOnAhead, NumbersAreGivenOnce, SkippedNumbersAreInNoBlock};
 ghost use Rattle.ss_origin.specs.OneBlockLaws.{NumbersAheadAreInOneBlock};
 
 use ss_message::laws::faults_are_of_no_message;
@@ -20,6 +20,14 @@ pub fn numbers_are_in_one_block()
 /// Two messages that got one number of a group in such a chain are one, accepted in one call.
 pub fn numbers_are_given_once()
     ensures { NumbersAreGivenOnce }
+{
+    faults_are_of_no_message();
+}
+
+/// The numbers that are left out between the last counters of an originator and the first ones of the next are in no
+/// block.
+pub fn skipped_numbers_are_in_no_block()
+    ensures { SkippedNumbersAreInNoBlock }
 {
     faults_are_of_no_message();
 }
