@@ -6,7 +6,7 @@ use Rattle.ss_block.specs.Hashes.{hash_of}
 use Rattle.ss_origin.specs.declared.unsigned.Unsigned.{Unsigned}
 use Rattle.ss_origin.specs.Groups.{group_of}
 use Rattle.ss_origin.specs.Configs.{is_config}
-use Rattle.ss_origin.specs.Counting.{Start}
+use Rattle.ss_origin.specs.Counting.{Start, number_in}
 use Rattle.ss_origin.specs.Calls.{Call, Begin, Submit, Flush, Run, stamp_of, messages_of, pending_of, pending_hashes}
 use Rattle.ss_origin.specs.State.{State, state, pending_in, first_pending, runs_closed}
 use Rattle.ss_origin.specs.Setting.{Setting}
@@ -90,11 +90,10 @@ sent_run s start turns t later earlier run spri number some turns_are emits clos
       below = omega (arith, first, below);
     }
 
-in_turns : (s : Setting) (older : List (List Turn)) (turns : List Turn) (spri j : ℕ) → is_config s.config ≡ true → AreTurns s (start_behind s.config older) turns → spri < 192
-    → IsInRun s.config (calls_of turns) spri j → HasSentBlock s turns spri (1 + length (given_to s.config spri older) + j)
-in_turns s older turns spri j is turned small r =
+pub in_turns : (s : Setting) (start : Start) (turns : List Turn) (spri j : ℕ) → is_config s.config ≡ true → AreTurns s start turns
+    → IsInRun s.config (calls_of turns) spri j → HasSentBlock s turns spri (number_in start.counters.groups spri + j)
+in_turns s start turns spri j is turned r =
     let w = turn_in turns r.later r.call r.earlier r.calls_are in
-    let start = start_behind s.config older in
     let old = state s.config start (calls_of w.before) in
     let turn = turn_of s start w.later w.before w.turn (subst (AreTurns s start) w.turns_are turned) in
     let closed : Contains (runs_closed s.config (pending_hashes s.config (calls_of w.before)) w.turn.call) r.run
@@ -102,15 +101,16 @@ in_turns s older turns spri j is turned small r =
     (subst (λ l. Contains (runs_closed s.config (pending_hashes s.config l) r.call) r.run) (sym w.earlier_are) r.closed) in
     let before : r.front + length (pending_of s.config spri (calls_of w.before)) ≡ length (messages_of s.config.grouping spri (calls_of w.before))
     = subst (λ l. r.front + length (pending_of s.config spri l) ≡ length (messages_of s.config.grouping spri l)) (sym w.earlier_are) r.before in
-    let goes_on = numbers_go_on s.config older spri small in
     let hashes = length-map (pending_of s.config spri (calls_of w.before)) (hash_of s.config.alg) in
     let low = r.low in
     let high = r.high in
-    sent_run s start turns w.turn w.later w.before r.run spri (1 + length (given_to s.config spri older) + j) (has_ranges s.config is).some_copy w.turns_are turn.1 closed r.group
-    (omega (arith, goes_on, hashes, before, low)) (omega (arith, goes_on, hashes, before, high))
+    sent_run s start turns w.turn w.later w.before r.run spri (number_in start.counters.groups spri + j) (has_ranges s.config is).some_copy w.turns_are turn.1 closed r.group
+    (omega (arith, hashes, before, low)) (omega (arith, hashes, before, high))
 
 pub others_are_sent : OthersAreSent
 others_are_sent s newer older turns is spri j small others =
     let config = is.setting.fit.config in
-    in_turns s older turns spri j config (turns_of s newer older turns is.chained) small
-    (others_are_in_runs s.config (calls_of turns) spri j (has_ranges s.config config).some small others)
+    let goes_on : number_in (start_behind s.config older).counters.groups spri ≡ 1 + length (given_to s.config spri older) = numbers_go_on s.config older spri small in
+    subst (λ n. HasSentBlock s turns spri (n + j)) goes_on
+    (in_turns s (start_behind s.config older) turns spri j config (turns_of s newer older turns is.chained)
+    (others_are_in_runs s.config (calls_of turns) spri j (has_ranges s.config config).some small others))

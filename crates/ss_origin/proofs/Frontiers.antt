@@ -162,7 +162,7 @@ module _ (c : Config) (old : State) (fits : (spri : ℕ) → length (pending_in 
 
 -- ---- the places of runs
 
-from_has-enumerated : {X : Type 0} (n : ℕ) (xs : List X) (k : ℕ) (x : X) → Has (enumerate_from n xs) (k, x) → (n ≤ k) × (k < n + length xs) × Has xs x
+pub from_has-enumerated : {X : Type 0} (n : ℕ) (xs : List X) (k : ℕ) (x : X) → Has (enumerate_from n xs) (k, x) → (n ≤ k) × (k < n + length xs) × Has xs x
 from_has-enumerated n [] k x h = absurd h
 from_has-enumerated n (y ∷ ys) k x (inl e) = (let k_is : n ≡ k = ap (λ (p : ℕ × _). p.0) e in (omega arith, omega arith, inl (ap (λ (p : ℕ × _). p.1) e)))
 from_has-enumerated n (y ∷ ys) k x (inr h) = let w = from_has-enumerated (n + 1) ys k x h in (omega (arith, w.0), omega (arith, w.1), inr w.2)
@@ -219,13 +219,13 @@ same_place n a (x ∷ runs) k l q r rise (inr h) (inr i) e = same_place (n + 1) 
 
 module _ (s : Setting) (old : State) where
   -- what a message says that is the sealed block of a run
-  record Says (gbc : ℕ) (run : Run) (b : block.Signature) : Type 0 where
-    group : b.group ≡ group_of s.config.grouping run.spri
-    gbc_is : b.gbc ≡ gbc
-    first : b.first ≡ first_pending old run.spri
-    hashes : b.hashes ≡ run.hashes
+  pub record Says (gbc : ℕ) (run : Run) (b : block.Signature) : Type 0 where
+    pub group : b.group ≡ group_of s.config.grouping run.spri
+    pub gbc_is : b.gbc ≡ gbc
+    pub first : b.first ≡ first_pending old run.spri
+    pub hashes : b.hashes ≡ run.hashes
 
-  says : (stamp : Option Moment) (gbc : ℕ) (run : Run) (m : List ℕ) (b : block.Signature) → IsSealed s stamp (block_of s.config old (gbc, run)) m → reading m ≡ readings.Signature b → Says gbc run b
+  pub says : (stamp : Option Moment) (gbc : ℕ) (run : Run) (m : List ℕ) (b : block.Signature) → IsSealed s stamp (block_of s.config old (gbc, run)) m → reading m ≡ readings.Signature b → Says gbc run b
   says stamp gbc run m b sealed read =
       let own : readings.Signature (record (signature_in s.config run.spri gbc (first_pending old run.spri) run.hashes) { signature = sealed.signature }) ≡ readings.Signature b
       = sym sealed.read.read ∙ read in

@@ -18,6 +18,7 @@ pub mod PendingNumbers
 pub mod Counted
 pub mod GivenNumbers
 pub mod SkippedNumbers
+pub mod SignedAhead
 pub mod PlainMessages
 pub mod Announced
 pub mod Beginning

@@ -35,7 +35,7 @@ use Rattle.ss_origin.proofs.SentRuns.{IsSentRun, sent_run_of}
 -- ---- lists
 
 -- a run of a list that has the place of an item holds the item there
-in_run : {X : Type 0} (front run behind before after : List X) (x : X) → front ++ (run ++ behind) ≡ before ++ x ∷ after
+pub in_run : {X : Type 0} (front run behind before after : List X) (x : X) → front ++ (run ++ behind) ≡ before ++ x ∷ after
     → length front ≤ length before → length before < length front + length run
     → (least : List X) × (rest : List X) × (run ≡ least ++ x ∷ rest) × (length front + length least ≡ length before)
 in_run [] [] behind before after x e low high = absurd (omega arith)
@@ -51,7 +51,7 @@ in_run (f ∷ front) run behind (p ∷ before) after x e low high =
     let w = in_run front run behind before after x tail (omega arith) (omega arith) in
     (w.0, w.1, w.2, omega (arith, w.3))
 
-map_cut : {X Y : Type 0} (f : X → Y) (run least rest : List X) (x : X) → run ≡ least ++ x ∷ rest → map f run ≡ map f least ++ f x ∷ map f rest
+pub map_cut : {X Y : Type 0} (f : X → Y) (run least rest : List X) (x : X) → run ≡ least ++ x ∷ rest → map f run ≡ map f least ++ f x ∷ map f rest
 map_cut f run least rest x e = ap (map f) e ∙ map-append f least (x ∷ rest)
 
 -- ---- messages
@@ -94,7 +94,7 @@ module _ (c : Config) (later earlier : List Turn) (t : Turn) (message : List ℕ
       regrouped : (given front back others : List (List ℕ)) → (given ++ (front ++ message ∷ back)) ++ others ≡ (given ++ front) ++ message ∷ (back ++ others)
       regrouped given front back others = simp append_assoc
 
-  few_pending : ¬ IsPending c later t earlier message → length (of_calls earlier) + length (pending_of c own (calls_of (later ++ t ∷ earlier))) < length (of_calls (later ++ t ∷ earlier))
+  pub few_pending : ¬ IsPending c later t earlier message → length (of_calls earlier) + length (pending_of c own (calls_of (later ++ t ∷ earlier))) < length (of_calls (later ++ t ∷ earlier))
   few_pending not_pending =
       let all = ap length among_own ∙ length-append (of_calls earlier) (message ∷ of_calls later) in
       elim (cases_lt (length (of_calls later)) (length (pending_of c own (calls_of (later ++ t ∷ earlier))))) [

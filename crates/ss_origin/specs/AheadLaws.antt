@@ -8,6 +8,7 @@ use Rattle.ss_origin.specs.Calls.{Submit, spri_in, messages_of}
 use Rattle.ss_origin.specs.Setting.{Setting}
 use Rattle.ss_origin.specs.Chain.{Turn, calls_of, IsChain}
 use Rattle.ss_origin.specs.Ahead.{Life, ended_with, IsChainAhead, sent_by, lives_of}
+use Rattle.ss_origin.specs.SignedLaws.{IsPending, IsSigned}
 use Rattle.ss_origin.specs.NoBlockLaws.{HaveNoBlock}
 
 -- A chain whose originators go on from exactly the last counters is one that goes on ahead.
@@ -34,6 +35,12 @@ pub record IsGiven (lives : List Life) (message : List ℕ) : Type 0 where
 abbrev pub number_given : {lives : List Life} {message : List ℕ} → Config → IsGiven lives message → ℕ
 number_given {message = message} c g =
     let spri = spri_in c.grouping message in number_in g.life.start.counters.groups spri + length (messages_of c.grouping spri (calls_of g.earlier))
+
+-- Each message that an originator of such a chain was given, and that isn't pending at its end, is signed under the
+-- number that it got.
+abbrev pub MessagesAheadAreSigned : Type 0
+MessagesAheadAreSigned = (s : Setting) (lives : List Life) → IsChainAhead s lives → (message : List ℕ) (g : IsGiven lives message)
+    → ¬ IsPending s.config g.later g.turn g.earlier message → IsSigned s g.life.turns message (number_given s.config g)
 
 -- No number of a group is given twice: two messages that got one number are one, and were accepted in the same call, which
 -- has as many originators behind it, and as many of its own originator's turns.

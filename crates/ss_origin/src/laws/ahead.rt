@@ -1,5 +1,5 @@
 //! The originators of a session, where counters may have been saved ahead of what was sent.
-ghost use Rattle.ss_origin.specs.AheadLaws.{ChainsGoOnAhead, NumbersAreGivenOnce, SkippedNumbersAreInNoBlock};
+ghost use Rattle.ss_origin.specs.AheadLaws.{ChainsGoOnAhead, MessagesAheadAreSigned, NumbersAreGivenOnce, SkippedNumbersAreInNoBlock};
 ghost use Rattle.ss_origin.specs.OneBlockLaws.{NumbersAheadAreInOneBlock};
 
 use ss_message::laws::faults_are_of_no_message;
@@ -28,6 +28,14 @@ pub fn numbers_are_given_once()
 /// block.
 pub fn skipped_numbers_are_in_no_block()
     ensures { SkippedNumbersAreInNoBlock }
+{
+    faults_are_of_no_message();
+}
+
+/// Each message that an originator of such a chain was given, and that isn't pending at its end, is signed under the
+/// number that it got.
+pub fn messages_are_signed()
+    ensures { MessagesAheadAreSigned }
 {
     faults_are_of_no_message();
 }
