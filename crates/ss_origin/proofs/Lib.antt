@@ -19,6 +19,7 @@ pub mod Counted
 pub mod GivenNumbers
 pub mod SkippedNumbers
 pub mod SignedAhead
+pub mod Flushed
 pub mod PlainMessages
 pub mod Announced
 pub mod Beginning

@@ -13,7 +13,7 @@ use Rattle.ss_block.specs.Signed.{signed}
 use Rattle.ss_block.specs.Writing.{head_session}
 use Rattle.ss_origin.specs.declared.config.Config.{Config}
 use Rattle.ss_origin.specs.Groups.{group_of}
-use Rattle.ss_origin.specs.Calls.{Submit, spri_in, messages_of, pending_of}
+use Rattle.ss_origin.specs.Calls.{Submit, Flush, spri_in, messages_of, pending_of}
 use Rattle.ss_origin.specs.Setting.{Setting}
 use Rattle.ss_origin.specs.Chain.{Turn, calls_of, IsChain, given_to}
 
@@ -56,3 +56,8 @@ abbrev pub MessagesAreSigned : Type 0
 MessagesAreSigned = (s : Setting) (newer older : List (List Turn)) (later earlier : List Turn) (t : Turn) (message : List ℕ) (stamp : Option Moment)
     → IsChain s (newer ++ (later ++ t ∷ earlier) ∷ older) → t.call ≡ Submit message stamp → ¬ IsPending s.config later t earlier message
     → IsSigned s (later ++ t ∷ earlier) message (number_behind s.config older earlier message)
+
+-- A message behind which a flush was accepted isn't pending, whatever came behind the flush.
+abbrev pub FlushedMessagesAreNotPending : Type 0
+FlushedMessagesAreNotPending = (c : Config) (newer between earlier : List Turn) (flush t : Turn) (message : List ℕ) (stamp : Option Moment)
+    → flush.call ≡ Flush stamp → ¬ IsPending c (newer ++ flush ∷ between) t earlier message

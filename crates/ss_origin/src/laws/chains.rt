@@ -5,7 +5,7 @@ ghost use Rattle.ss_origin.specs.CountedLaws.{SentBlocksAreCounted};
 ghost use Rattle.ss_origin.specs.NoBlockLaws.{PendingMessagesAreInNoBlock};
 ghost use Rattle.ss_origin.specs.OneBlockLaws.{NumbersAreInOneBlock};
 ghost use Rattle.ss_origin.specs.SentLaws.{SentBlocksAreNumbered, OthersAreSent};
-ghost use Rattle.ss_origin.specs.SignedLaws.{MessagesAreSigned};
+ghost use Rattle.ss_origin.specs.SignedLaws.{FlushedMessagesAreNotPending, MessagesAreSigned};
 
 use ss_message::laws::faults_are_of_no_message;
 
@@ -55,6 +55,11 @@ pub fn messages_are_signed()
 {
     faults_are_of_no_message();
 }
+
+/// A message behind which a flush was accepted isn't pending.
+pub fn flushed_messages_are_not_pending()
+    ensures { FlushedMessagesAreNotPending }
+{}
 
 /// The number of a message that is pending at the end of its originator is in no block that the chain sent.
 pub fn pending_messages_are_in_no_block()
