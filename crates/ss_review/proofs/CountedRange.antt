@@ -28,7 +28,7 @@ use Rattle.ss_review.proofs.Members.{from_has-map}
 use Rattle.ss_review.proofs.Witnesses.{stored_block, said_signature}
 
 -- what a stored signature block says is in range
-said_in_range : BlocksAreInRange → (log : List (List ℕ)) (b : BlockMessage) (said : block.Signature) → Contains (blocks (notes log)) b → b.said ≡ Hashes said → block.IsSignature said
+pub said_in_range : BlocksAreInRange → (log : List (List ℕ)) (b : BlockMessage) (said : block.Signature) → Contains (blocks (notes log)) b → b.said ≡ Hashes said → block.IsSignature said
 said_in_range range log b said stored says_so =
     let s = stored_block log b (has_from_contains (blocks (notes log)) b stored) in
     range.0 s.0 said (said_signature (reading s.0) said (s.2.said_is ∙ ap (λ (x : Said). Some x) says_so))

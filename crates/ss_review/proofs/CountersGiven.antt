@@ -16,6 +16,7 @@ use Rattle.ss_review.specs.declared.keep.message.BlockMessage.{BlockMessage}
 use Rattle.ss_review.specs.declared.report.group_report.GroupReport.{GroupReport}
 use Rattle.ss_review.specs.declared.report.session_report.SessionReport.{SessionReport}
 use Rattle.ss_review.specs.Notes.{notes}
+use Rattle.ss_review.specs.Ordered.{in_order}
 use Rattle.ss_review.specs.Contents.{blocks}
 use Rattle.ss_review.specs.Sessions.{same_session, sessions}
 use Rattle.ss_review.specs.Verdict.{is_joined}
@@ -23,7 +24,7 @@ use Rattle.ss_review.specs.Verified.{Answers}
 use Rattle.ss_review.specs.Counted.{gbcs, counted_session, counted_sessions, next_after, next_number, missing, missing_blocks}
 use Rattle.ss_review.specs.Entries.{same_group}
 use Rattle.ss_review.specs.Kept.{counters_of, kept_sessions, blocks_said, number_said, gbc_in, number_in, groups_in, number_behind, tail_between, tails_in}
-use Rattle.ss_review.specs.KeptLaws.{group_given, session_given, given_beside, counters_given, CountersGivenBack}
+use Rattle.ss_review.specs.KeptLaws.{group_given, session_given, given_beside, counters_given, CountersGivenBack, LogCountersAddNothing}
 use Rattle.ss_origin.proofs.Members.{Has, has-map}
 use Rattle.ss_review.proofs.EntriesMeant.{greatest_of}
 use Rattle.ss_review.proofs.EntriesRise.{fold_max-member}
@@ -45,16 +46,16 @@ no_tail : (g : Group) (first end : ℕ) → end ≤ first → tail_between g fir
 no_tail g first end le = ap (λ (b : Bool). if b then record { group = g; first = first; last = end - 1 } ∷ [] else []) (le-ltb first end le)
 
 module _ (says : Answers) (log : List (List ℕ)) where
-  abbrev stored : List BlockMessage
+  abbrev pub stored : List BlockMessage
   stored = blocks (notes log)
 
-  abbrev given : List Counter
+  abbrev pub given : List Counter
   given = counters_given (its_report says log).sessions (counted_sessions says stored)
 
-  abbrev beside : Session → SessionReport × CountedSession
+  abbrev pub beside : Session → SessionReport × CountedSession
   beside s = (report_of_session says log s, counted_session says stored s)
 
-  given_are : given ≡ flat_map (λ s. given_beside (beside s)) (sessions stored)
+  pub given_are : given ≡ flat_map (λ s. given_beside (beside s)) (sessions stored)
   unfolding counters_given
   given_are =
       ap (λ rs. flat_map given_beside (zip rs (counted_sessions says stored))) (reports_are says log)
@@ -62,7 +63,7 @@ module _ (says : Answers) (log : List (List ℕ)) where
       ∙ flat_map-map given_beside beside (sessions stored)
 
   -- what a session gives
-  abbrev IsGiven : Session → Counter → Type 0
+  abbrev pub IsGiven : Session → Counter → Type 0
   IsGiven s c =
       (c ≡ record { session = s; counts = counts.Blocks; next = next_after (gbcs says stored s) })
       ⊎ ((r : GroupReport) × Has (report_of_session says log s).groups r × (c ≡ group_given s r))
@@ -74,7 +75,7 @@ module _ (says : Answers) (log : List (List ℕ)) where
       inr (w.0, w.1, sym w.2)
   given_if false s c h = absurd h
 
-  given_by : (c : Counter) → Has given c → (s : Session) × Has (sessions stored) s × IsGiven s c
+  pub given_by : (c : Counter) → Has given c → (s : Session) × Has (sessions stored) s × IsGiven s c
   given_by c h =
       let w = from_has-flat_map (λ s. given_beside (beside s)) (sessions stored) c (subst (λ cs. Has cs c) given_are h) in
       (w.0, w.1, given_if (is_joined (report_of_session says log w.0).state) w.0 c w.2)
@@ -165,6 +166,28 @@ module _ (says : Answers) (log : List (List ℕ)) where
       let at : s ≡ v.0 = sym w.2 ∙ session_of v.0 w.0 v.2 in
       ap not (member_any (same_session s) (sessions stored) v.0 v.1 (same_is s v.0 at))
 
+  -- ---- and without a counter as little is missing
+
+  unsaid_tails : (s : Session) → (known_of says log [] s).tails ≡ []
+  unfolding tails_in groups_in in_order
+  unsaid_tails s = refl
+
+  unsaid_blocks : (s : Session) → (known_of says log [] s).blocks ≡ missing_blocks (values s)
+  unfolding gbc_in
+  unsaid_blocks s =
+      let end : max (next_after (values s)) 0 ≡ next_after (values s) = omega arith in
+      ap (missing (values s)) end
+
+  unsaid_absent : (all_told says log []).absent ≡ []
+  unfolding kept_sessions in_order
+  unsaid_absent = absent_are says log []
+
+  same_known : (s : Session) → known_of says log given s ≡ known_of says log [] s
+  same_known s =
+      let tails : (known_of says log given s).tails ≡ (known_of says log [] s).tails = tails_none s ∙ sym (unsaid_tails s) in
+      let blocks : (known_of says log given s).blocks ≡ (known_of says log [] s).blocks = blocks_same s ∙ sym (unsaid_blocks s) in
+      λ i. record { session = s; tails = tails i; blocks = blocks i }
+
 pub counters_given_back : CountersGivenBack
 counters_given_back says log =
     let cs = given says log in
@@ -183,3 +206,12 @@ counters_given_back says log =
           ∙ map_agree (λ s. (known_of says log cs s).blocks) (λ s. missing_blocks (values says log s)) ss (λ s h. blocks_same says log s)
           ∙ sym (map-map (λ (c : CountedSession). missing_blocks c.gbcs) (counted_session says (stored says log)) ss);
     }
+
+pub log_counters_add_nothing : LogCountersAddNothing
+log_counters_add_nothing says log =
+    let cs = given says log in
+    let ss = sessions (stored says log) in
+    let known : (all_told says log cs).known ≡ (all_told says log []).known
+    = known_are says log cs ∙ map_agree (known_of says log cs) (known_of says log []) ss (λ s h. same_known says log s) ∙ sym (known_are says log []) in
+    let absent : (all_told says log cs).absent ≡ (all_told says log []).absent = (counters_given_back says log).sessions ∙ sym (unsaid_absent says log) in
+    λ i. record { known = known i; absent = absent i }

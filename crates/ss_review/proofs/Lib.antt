@@ -96,4 +96,5 @@ pub mod HoleAt
 pub mod Fates
 pub mod CleanUpTo
 pub mod CountersGiven
+pub mod CountersInRange
 pub mod LostTold

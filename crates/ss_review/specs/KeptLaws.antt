@@ -29,6 +29,7 @@ use Rattle.ss_review.specs.Meaning.{Tells, IsListed, IsGap}
 use Rattle.ss_review.specs.Report.{report}
 use Rattle.ss_review.specs.Counted.{counted_sessions, next_after, next_number, missing_blocks}
 use Rattle.ss_review.specs.CountedLaws.{IsCounted, IsInRun}
+use Rattle.ss_review.specs.CounterRange.{IsCounter}
 use Rattle.ss_review.specs.Delivery.{own_session, is_normal}
 use Rattle.ss_review.specs.Delivered.{own_number}
 use Rattle.ss_review.specs.DeliveryLaws.{Case, IsCase, says, report_in}
@@ -158,11 +159,23 @@ pub record AddNothing (counted : List CountedSession) (all : LogShortfalls) : Ty
   pub sessions : all.absent ≡ []
   pub blocks : map (λ f. f.blocks) all.known ≡ map (λ c. missing_blocks c.gbcs) counted
 
+-- the counters of a log
+abbrev pub log_counters : Answers → List (List ℕ) → List Counter
+log_counters says log = counters_given (report says log).sessions (counted_sessions says (blocks (notes log)))
+
 abbrev pub CountersGivenBack : Type 0
 CountersGivenBack =
     (says : Answers) (log : List (List ℕ))
-    → let counted = counted_sessions says (blocks (notes log)) in
-    AddNothing counted (shortfalls_of says log (counters_given (report says log).sessions counted))
+    → AddNothing (counted_sessions says (blocks (notes log))) (shortfalls_of says log (log_counters says log))
+
+-- What is missing of a log up to its own counters is what is missing of it without any.
+abbrev pub LogCountersAddNothing : Type 0
+LogCountersAddNothing =
+    (says : Answers) (log : List (List ℕ)) → shortfalls_of says log (log_counters says log) ≡ shortfalls_of says log []
+
+-- the counters of a log are in range, so each has a line
+abbrev pub LogCountersAreInRange : Type 0
+LogCountersAreInRange = (says : Answers) (log : List (List ℕ)) → All IsCounter (log_counters says log)
 
 -- ---- the counters of originators that follow one another
 

@@ -42,3 +42,4 @@ pub mod DeliveryLaws
 pub mod Delivered
 pub mod Whole
 pub mod CounterText
+pub mod CounterRange

@@ -4,6 +4,8 @@ ghost use Rattle.ss_review.specs.KeptLaws.{
   CountersGivenBack,
   EveryBlockIsTold,
   EveryNumberIsTold,
+  LogCountersAddNothing,
+  LogCountersAreInRange,
   LogsAreReviewed,
   LostAreTold,
   OwnCountersReachTheEnd,
@@ -19,6 +21,8 @@ use crate::laws::reports::{
     announced_are_told, gaps_are_unassigned, keys_are_announced, listed_are_assigned, one_report,
     reports_are_in_order,
 };
+use ss_block::laws::readings::blocks_are_in_range;
+use ss_message::laws::faults_are_of_no_message;
 use ss_origin::laws::chains::numbers_go_on;
 
 /// Of every log, what a review says and the GBC of the verified signature blocks rise and are in range. That is all
@@ -69,6 +73,23 @@ pub fn clean_up_to_counters()
 pub fn counters_given_back()
     ensures { CountersGivenBack }
 {}
+
+/// What is missing of a log up to the counters that it itself gives is what is missing of it without counters.
+pub fn log_counters_add_nothing()
+    ensures { LogCountersAddNothing }
+{}
+
+/// The counters that a log itself gives have sessions, groups and numbers in their ranges. So each has a line.
+pub fn log_counters_are_in_range()
+    ensures { LogCountersAreInRange }
+{
+    faults_are_of_no_message();
+    blocks_are_in_range();
+    keys_are_announced();
+    counted_are_in_range();
+    next_numbers_are_in_range();
+    next_numbers_follow();
+}
 
 /// The counters that the newest of the originators ended with go past the last message of each group.
 pub fn own_counters_reach_the_end()
