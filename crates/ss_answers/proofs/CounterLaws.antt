@@ -1,6 +1,7 @@
 -- A line is the text of one counter, and a text of counters is read in one way.
-use Rattle.std.proofs.Common.{◌≡◌, ℕ, ◌≤◌, codes, List, [], ◌++◌, sym, refl, ap, ◌∙◌, arith, append_assoc}
+use Rattle.std.proofs.Common.{◌≡◌, inl, ℕ, ◌≤◌, codes, List, [], ◌++◌, sym, refl, ap, ◌∙◌, arith, append_assoc}
 use Rattle.std.specs.Fmt.{decimal}
+use Rattle.std.proofs.lemmas.List.Elements.{recursion_from_All}
 use Rattle.ss_frame.specs.Ascii.{lf}
 use Rattle.ss_message.specs.declared.draft.Field.{Field}
 use Rattle.ss_payload.proofs.Base64Text.{Clear, Clear-append}
@@ -8,8 +9,9 @@ use Rattle.ss_block.specs.declared.session.Session.{Session}
 use Rattle.ss_review.specs.declared.counted.counter.Counter.{Counter}
 use Rattle.ss_review.specs.declared.counted.counter.Counts.{Counts}
 use Rattle.ss_review.specs.declared.counted.counter.Counts.TheVariants.{Blocks, Messages}
-use Rattle.ss_review.specs.CounterText.{counter_line, counter_text, field_word, session_words}
-use Rattle.ss_answers.specs.CounterLine.{BadCounterIsDetermined, BeginsWithNoSession, BeginsWithSession, CountersAreDetermined, IsCounter, IsName, IsNext, IsNoCounter, IsSession, NoCountersAreGoodAndBad, SpellsCounter, SpellsNext, SpellsNoNext, next_text, session_text}
+use Rattle.ss_review.specs.CounterRange.{IsCounter, IsName, IsNext, IsSession}
+use Rattle.ss_review.specs.CounterText.{counter_line, counter_text, lines_of_counters, field_word, session_words}
+use Rattle.ss_answers.specs.CounterLine.{BadCounterIsDetermined, BeginsWithNoSession, BeginsWithSession, CountersAreDetermined, HasCounters, IsNoCounter, LinesHaveTheirCounters, NoCountersAreGoodAndBad, SpellsCounter, SpellsNext, SpellsNoNext, next_text, session_text}
 use Rattle.ss_answers.proofs.CounterWords.{Clear-decimal, Clear-text, is_text-word, next_once, session_once}
 use Rattle.ss_answers.proofs.LineLaws as laws
 use Rattle.ss_answers.proofs.LineLaws.{AreSpelt}
@@ -118,3 +120,13 @@ counters_are_determined = laws.lines_are_determined IsCounter counter_line are_s
 
 pub bad_counter_is_determined : BadCounterIsDetermined
 bad_counter_is_determined = laws.bad_is_determined IsCounter counter_line are_spelt
+
+pub lines_have_their_counters : LinesHaveTheirCounters
+lines_have_their_counters counters good =
+    let text = lines_of_counters counters in
+    let has : HasCounters text counters = record { fields = recursion_from_All IsCounter counters good; spelt = inl refl } in
+    record {
+      has = has;
+      no_others = λ others h. counters_are_determined text others counters h has;
+      none_bad = λ number bad. no_counters_are_good_and_bad text counters number has bad;
+    }

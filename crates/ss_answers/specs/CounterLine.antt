@@ -1,43 +1,20 @@
--- Files of counters: which counters have a line, how a text spells them, and what a line is cut into as it is read.
-use Rattle.std.specs.Prelude.{◌≡◌, ℕ, ◌≤◌, true, List, ◌∷◌, ◌++◌, decimal}
+-- Files of counters: how a text spells them, and what a line is cut into as it is read.
+use Rattle.std.specs.Prelude.{◌≡◌, ℕ, ◌≤◌, true, List, ◌∷◌, ◌++◌, decimal, All}
 use Rattle.ss_frame.specs.Ascii.{sp}
 use Rattle.ss_message.specs.declared.draft.Field.{Field}
-use Rattle.ss_message.specs.Draft.{drafted_field}
 use Rattle.ss_message.specs.Layout.{field_of}
-use Rattle.ss_message.specs.Message.{is_field}
 use Rattle.ss_message.specs.Octets.{is_text}
 use Rattle.ss_block.specs.declared.block.Group.{Group}
 use Rattle.ss_block.specs.declared.session.Session.{Session}
-use Rattle.ss_block.specs.Block.{IsGroup}
-use Rattle.ss_block.specs.Ranges.{last_number, past_last_number}
 use Rattle.ss_block.specs.Session.{field_from}
 use Rattle.ss_review.specs.declared.counted.counter.Counter.{Counter}
 use Rattle.ss_review.specs.declared.counted.counter.Counts.{Counts}
 use Rattle.ss_review.specs.declared.counted.counter.Counts.TheVariants.{Blocks, Messages}
-use Rattle.ss_review.specs.CounterText.{counter_line, field_word}
+use Rattle.ss_review.specs.CounterRange.{IsSession, IsNext, IsCounter}
+use Rattle.ss_review.specs.CounterText.{counter_line, lines_of_counters, field_word}
 use Rattle.ss_answers.specs.declared.counters.words.CounterWords.{CounterWords}
 use Rattle.ss_answers.specs.declared.counters.words.SessionWords.{SessionWords}
 use Rattle.ss_answers.specs.Lines.{AreLines, IsFirstBad, SpellsNone}
-
--- a header field: absent, or so many octets of printable US-ASCII that aren't `-` (RFC 5424, section 6)
-abbrev pub IsName : (limit : ℕ) → Field → Type 0
-IsName limit f = is_field limit (drafted_field f) ≡ true
-
--- HOSTNAME, APP-NAME and PROCID (RFC 5424, section 6.2), and RSID of at most ten digits (RFC 5848, section 4.2.2)
-pub record IsSession (s : Session) : Type 0 where
-  pub host : IsName 255 s.host
-  pub app : IsName 48 s.app
-  pub procid : IsName 128 s.procid
-  pub rsid : s.rsid ≤ last_number
-
--- the GBC or the number of what comes next, which may be the one behind the last
-abbrev pub IsNext : Counts → ℕ → Type 0
-IsNext Blocks next = next ≤ past_last_number
-IsNext (Messages g) next = IsGroup g × (1 ≤ next) × (next ≤ past_last_number)
-
-pub record IsCounter (c : Counter) : Type 0 where
-  pub session : IsSession c.session
-  pub next : IsNext c.counts c.next
 
 -- a text has these counters; its first line that is none has this number
 abbrev pub HasCounters : List ℕ → List Counter → Type 0
@@ -49,6 +26,12 @@ HasFirstBadCounter text number = IsFirstBad IsCounter counter_line text number
 -- a text is the spelling of no counter
 abbrev pub IsNoCounter : List ℕ → Type 0
 IsNoCounter text = SpellsNone IsCounter counter_line text
+
+-- a text has these counters and no others, and no line of it is bad
+pub record HasOnly (text : List ℕ) (counters : List Counter) : Type 0 where
+  pub has : HasCounters text counters
+  pub no_others : (others : List Counter) → HasCounters text others → others ≡ counters
+  pub none_bad : (number : ℕ) → HasFirstBadCounter text number → ⊥
 
 -- ---- laws
 
@@ -65,6 +48,11 @@ CountersAreDetermined = (text : List ℕ) (counters others : List Counter)
 -- a text has one first line that is no counter
 abbrev pub BadCounterIsDetermined : Type 0
 BadCounterIsDetermined = (text : List ℕ) (m n : ℕ) → HasFirstBadCounter text m → HasFirstBadCounter text n → m ≡ n
+
+-- the lines of counters that are in range are a text that has these counters and no others
+abbrev pub LinesHaveTheirCounters : Type 0
+LinesHaveTheirCounters =
+    (counters : List Counter) → All IsCounter counters → HasOnly (lines_of_counters counters) counters
 
 -- ---- parts of the reading
 

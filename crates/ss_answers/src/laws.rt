@@ -1,6 +1,7 @@
 //! What holds of every text of answers, and of every text of counters.
 ghost use Rattle.ss_answers.specs.Answers.{BadLineIsDetermined, LinesAreDetermined, NoTextIsGoodAndBad};
-ghost use Rattle.ss_answers.specs.CounterLine.{BadCounterIsDetermined, CountersAreDetermined, NoCountersAreGoodAndBad};
+ghost use Rattle.ss_answers.specs.CounterLine.{BadCounterIsDetermined, CountersAreDetermined};
+ghost use Rattle.ss_answers.specs.CounterLine.{LinesHaveTheirCounters, NoCountersAreGoodAndBad};
 
 /// A text of answers has no bad line, so that a fault of a line comes only where there are no answers.
 pub fn no_text_is_good_and_bad()
@@ -30,4 +31,10 @@ pub fn counters_are_determined()
 /// A text has at most one first line that is no counter.
 pub fn bad_counter_is_determined()
     ensures { BadCounterIsDetermined }
+{}
+
+/// The lines of counters that are in range, each ended by a line feed, are a text that has these counters and no others.
+/// None of its lines is bad.
+pub fn lines_have_their_counters()
+    ensures { LinesHaveTheirCounters }
 {}

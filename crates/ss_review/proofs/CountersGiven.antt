@@ -52,10 +52,10 @@ module _ (says : Answers) (log : List (List ℕ)) where
   abbrev pub given : List Counter
   given = counters_given (its_report says log).sessions (counted_sessions says stored)
 
-  abbrev pub beside : Session → SessionReport × CountedSession
+  abbrev beside : Session → SessionReport × CountedSession
   beside s = (report_of_session says log s, counted_session says stored s)
 
-  pub given_are : given ≡ flat_map (λ s. given_beside (beside s)) (sessions stored)
+  given_are : given ≡ flat_map (λ s. given_beside (beside s)) (sessions stored)
   unfolding counters_given
   given_are =
       ap (λ rs. flat_map given_beside (zip rs (counted_sessions says stored))) (reports_are says log)

@@ -1,5 +1,6 @@
--- How a counter is spelt: one line, told without its line feed.
-use Rattle.std.specs.Prelude.{ℕ, List, ◌++◌, codes, decimal}
+-- How a counter is spelt: one line, told without its line feed; and the lines of several.
+use Rattle.std.specs.Prelude.{ℕ, List, [], ◌∷◌, ◌++◌, flat_map, codes, decimal}
+use Rattle.ss_frame.specs.Ascii.{lf}
 use Rattle.ss_message.specs.declared.draft.Field.{Field}
 use Rattle.ss_message.specs.declared.draft.Field.TheVariants as fields
 use Rattle.ss_block.specs.declared.block.Group.{Group}
@@ -37,3 +38,7 @@ counter_text s (Messages g) next = codes "count" ++ session_words s ++ group_wor
 
 abbrev pub counter_line : Counter → List ℕ
 counter_line c = counter_text c.session c.counts c.next
+
+-- the lines of counters, each ended by LF
+abbrev pub lines_of_counters : List Counter → List ℕ
+lines_of_counters counters = flat_map (λ c. counter_line c ++ lf ∷ []) counters
