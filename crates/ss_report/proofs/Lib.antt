@@ -10,6 +10,7 @@ pub mod EscapedText
 pub mod WholeLines
 pub mod MissingWritten
 pub mod CountersWritten
+pub mod LogCounters
 pub mod Tallies
 pub mod UnitsAt
 pub mod Gathered

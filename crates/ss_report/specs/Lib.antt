@@ -18,3 +18,4 @@ pub mod Fed
 pub mod Writing
 pub mod Run
 pub mod Jobs
+pub mod CounterLaws

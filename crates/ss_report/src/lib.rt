@@ -14,6 +14,7 @@ mod forms;
 mod inspect;
 mod inspection;
 mod inspection_objects;
+pub mod laws;
 mod lines;
 mod log;
 mod next;

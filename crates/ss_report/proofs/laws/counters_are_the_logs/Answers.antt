@@ -1,0 +1,5 @@
+use Rattle.ss_report.proofs.LogCounters as laws
+use Rattle.ss_report.proofs.laws.counters_are_the_logs.Goals as goal
+
+pub returns : goal.returns
+returns c = laws.counters_are_the_logs
