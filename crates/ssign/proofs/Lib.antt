@@ -6,3 +6,4 @@ mod Spaces
 mod ReadBounds
 mod Openings
 mod SpelledNumbers
+mod ReadBack

@@ -10,3 +10,4 @@ pub mod Opening
 pub mod LikelyCause
 pub mod Remark
 pub mod Progress
+pub mod ReadBack

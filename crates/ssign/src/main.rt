@@ -8,6 +8,7 @@ mod explain;
 mod explanations;
 mod extraction;
 mod groups_text;
+pub mod laws;
 mod likely_cause;
 mod message_count;
 mod negatives;

@@ -1,0 +1,33 @@
+-- The text of a log's counters has these counters, and they add nothing to its review.
+use Rattle.std.proofs.Common.{ℕ, List, sym, ap, flat_map, subst}
+use Rattle.ss_review.specs.KeptLaws.{CountersGivenBack, LogCountersAddNothing, LogCountersAreInRange, log_counters}
+use Rattle.ss_review.specs.Report.{report}
+use Rattle.ss_review.specs.Verified.{Answers}
+use Rattle.ss_report.specs.CounterLaws.{CountersAreTheLogs}
+use Rattle.ss_report.specs.Forms.{line_as}
+use Rattle.ss_report.specs.Jobs.{counting}
+use Rattle.ss_report.specs.Whole.{lines_with, verdict_with}
+use Rattle.ss_report.specs.declared.notation.Notation.TheVariants.{Plain}
+use Rattle.ss_answers.specs.CounterLine.{HasOnly, LinesHaveTheirCounters}
+use Rattle.ssign.specs.ReadBack.{ChangeNothing, CountersAreReadBack}
+
+changes_nothing : LogCountersAddNothing → CountersGivenBack
+    → (says : Answers) (log : List (List ℕ)) → ChangeNothing says log (log_counters says log)
+changes_nothing nothing given_back says log = record {
+  output = λ form detail tail.
+      ap (λ short. flat_map (line_as form) (lines_with detail (report says log) short tail)) (nothing says log);
+  verdict = λ form detail tail. ap (λ short. verdict_with (report says log) short tail) (nothing says log);
+  missing = given_back says log;
+}
+
+pub read_back : LinesHaveTheirCounters → CountersAreTheLogs → LogCountersAreInRange
+    → LogCountersAddNothing → CountersGivenBack → CountersAreReadBack
+read_back lines written in_range nothing given_back says log tail =
+    let own = log_counters says log in
+    let read : HasOnly ((counting Plain says).output log tail) own
+    = subst (λ text. HasOnly text own) (sym (written says log tail)) (lines own (in_range says log)) in
+    record {
+      read = read;
+      given_back = λ counters has.
+          subst (ChangeNothing says log) (sym (read.no_others counters has)) (changes_nothing nothing given_back says log);
+    }

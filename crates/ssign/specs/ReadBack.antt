@@ -1,0 +1,35 @@
+-- What comes of the text of `ssign counters` where a review of the same log reads it: `ssign review --counters`.
+use Rattle.std.specs.Prelude.{◌≡◌, ℕ, List, []}
+use Rattle.ss_frame.specs.declared.step.Tail.{Tail}
+use Rattle.ss_review.specs.declared.counted.counter.Counter.{Counter}
+use Rattle.ss_review.specs.Notes.{notes}
+use Rattle.ss_review.specs.Contents.{blocks}
+use Rattle.ss_review.specs.Verified.{Answers}
+use Rattle.ss_review.specs.Counted.{counted_sessions}
+use Rattle.ss_review.specs.KeptLaws.{AddNothing, log_counters, shortfalls_of}
+use Rattle.ss_report.specs.Jobs.{counting, reviewing_whole}
+use Rattle.ss_report.specs.declared.forms.report_form.ReportForm.{ReportForm}
+use Rattle.ss_report.specs.declared.lines.detail.Detail.{Detail}
+use Rattle.ss_report.specs.declared.notation.Notation.TheVariants.{Plain}
+use Rattle.ss_answers.specs.CounterLine.{HasCounters, HasOnly}
+
+-- A whole review up to these counters writes what one without counters writes, in each form, and has its verdict. It has
+-- no tail and no absent session, and the missing blocks are those that the log shows by itself.
+pub record ChangeNothing (says : Answers) (log : List (List ℕ)) (counters : List Counter) : Type 0 where
+  pub output : (form : ReportForm) (detail : Detail) (tail : Tail)
+      → (reviewing_whole form detail counters says).output log tail
+      ≡ (reviewing_whole form detail [] says).output log tail
+  pub verdict : (form : ReportForm) (detail : Detail) (tail : Tail)
+      → (reviewing_whole form detail counters says).verdict log tail
+      ≡ (reviewing_whole form detail [] says).verdict log tail
+  pub missing : AddNothing (counted_sessions says (blocks (notes log))) (shortfalls_of says log counters)
+
+-- A text is read as the counters of a log and as no others. Whatever is read of it changes nothing in the log's review.
+pub record IsReadBack (says : Answers) (log : List (List ℕ)) (text : List ℕ) : Type 0 where
+  pub read : HasOnly text (log_counters says log)
+  pub given_back : (counters : List Counter) → HasCounters text counters → ChangeNothing says log counters
+
+-- so is the plain text of a log's counters
+abbrev pub CountersAreReadBack : Type 0
+CountersAreReadBack =
+    (says : Answers) (log : List (List ℕ)) (tail : Tail) → IsReadBack says log ((counting Plain says).output log tail)
