@@ -11,6 +11,7 @@ pub mod Entries
 pub mod Report
 pub mod Verdict
 pub mod Questions
+pub mod Shortened
 pub mod Extract
 pub mod Announcing
 pub mod States

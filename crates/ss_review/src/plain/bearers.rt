@@ -103,6 +103,7 @@ fn nothing_found(alloc: Global, announced: &[Hash]) -> Result<Vec<Option<NormalM
 fn distinct(alloc: Global, hashes: &[Option<Hash>]) -> Result<Vec<Hash>, NoMemory>
     ensures rising { IfOk result (λ v. IsStrictlySortedBy hash_cmp v.items) }
     ensures all { (h : Hash) → Contains hashes.now (Some h) → IfOk result (λ v. Contains v.items h) }
+    ensures only { (h : Hash) → IfOk result (λ v. Contains v.items h → Contains hashes.now (Some h)) }
 {
     let mut announced = Vec::with_capacity(alloc, hashes.len())?;
     for hash in hashes {

@@ -1,7 +1,8 @@
 //! What of a block the questions about it need.
-ghost use Rattle.std.specs.Prelude.{◌≡◌, IfOk};
+ghost use Rattle.std.specs.Prelude.{◌≡◌, ◌≤◌, length, IfOk};
 ghost use Rattle.ss_review.specs.Payloads.{certificate_of};
 ghost use Rattle.ss_review.specs.Questions.{needed};
+ghost use Rattle.ss_review.specs.Shortened.{hash_count};
 ghost use Rattle.ss_review.specs.Verified.{signature_of};
 
 use crate::keep::message::{BlockMessage, Said};
@@ -13,7 +14,8 @@ use std::alloc::Global;
 /// The block without its hashes but the first. A signature block has one at least, and no signature scheme is asked
 /// about a hash.
 fn with_one_hash(alloc: Global, block: SigBlock) -> Result<SigBlock, NoMemory>
-    ensures { IfOk result (λ b. b.signature ≡ block.signature) }
+    ensures signature { IfOk result (λ b. b.signature ≡ block.signature) }
+    ensures one { IfOk result (λ b. length b.hashes ≡ 1) }
 {
     block.in_range();
     let hashes = Hashes::from_vec(Vec::from_slice(alloc, &block.hashes().as_slice()[..1])?);
@@ -37,6 +39,7 @@ fn with_one_hash(alloc: Global, block: SigBlock) -> Result<SigBlock, NoMemory>
 fn needed_of(alloc: Global, said: Said) -> Result<Said, NoMemory>
     ensures signature { IfOk result (λ s. signature_of s ≡ signature_of said) }
     ensures certificate { IfOk result (λ s. certificate_of s ≡ certificate_of said) }
+    ensures few { IfOk result (λ s. hash_count s ≤ 1) }
 {
     match said {
         Said::Hashes(block) => Ok(Said::Hashes(with_one_hash(alloc, block)?)),
@@ -46,7 +49,8 @@ fn needed_of(alloc: Global, said: Said) -> Result<Said, NoMemory>
 
 /// The block, without what no signature scheme is asked about.
 pub(crate) fn needed_block(alloc: Global, block: BlockMessage) -> Result<BlockMessage, NoMemory>
-    ensures { IfOk result (λ b. needed b ≡ needed block) }
+    ensures same { IfOk result (λ b. needed b ≡ needed block) }
+    ensures few { IfOk result (λ b. hash_count b.said ≤ 1) }
 {
     let BlockMessage {
         place,

@@ -1,5 +1,5 @@
 use Rattle.std.proofs.Common.{◌≡◌, ◌++◌, ◌∷◌, [], get_or, take, refl, sym, ap, ◌∙◌, subst}
-use Rattle.std.specs.Prelude.{filter_map, Some, None, Contains}
+use Rattle.std.specs.Prelude.{Option, filter_map, Some, None, Contains}
 use Rattle.std.specs.declared.cmp.Ordering.{Ordering}
 use Rattle.std.specs.List.{cons_option}
 use Rattle.std.specs.List.Sorted.{IsStrictlySortedBy}
@@ -8,7 +8,7 @@ use Rattle.std.proofs.lemmas.List.Elements.{filter_map-append}
 use Rattle.ss_block.specs.declared.hash.Hash.{Hash}
 use Rattle.ss_block.specs.OrderLaws.{hash_cmp_exact}
 use Rattle.ss_origin.proofs.Members.{Has, has_from_contains, contains_from_has}
-use Rattle.ss_review.proofs.Members.{has-filter_map}
+use Rattle.ss_review.proofs.Members.{has-filter_map, from_has-filter_map}
 use Rattle.ss_review.proofs.plain.bearers.distinct.Goals as goal
 
 pub loop-hash-preserved : goal.loop-hash-preserved
@@ -32,3 +32,12 @@ returns-clause-all c = λ h here.
     let w = c.put_in_order.ensures.keeps h member in
     let same : w.1 ≡ h = sym (hash_cmp_exact h w.1 (sym (c.hashes_rise_by_algorithm.ensures h w.1) ∙ w.4)) in
     (w.0, w.2, subst (λ x. get_or c.put_in_order.new.items.items w.0 x ≡ x) same w.3)
+
+pub returns-clause-only : goal.returns-clause-only
+returns-clause-only c = λ h here.
+    let hs = c.args.hashes.now in
+    let all = c.loop-hash.announced.items in
+    let told : all ≡ filter_map (λ g. g) hs = c.loop-hash.invariant ∙ ap (filter_map (λ g. g)) (take_all c.loop-hash.hash-index hs c.loop-hash-test.false) in
+    let member : Has (filter_map (λ g. g) hs) h = subst (λ xs. Has xs h) told (has_from_contains all h (c.put_in_order.ensures.adds_none h here)) in
+    let w : (o : Option Hash) × Has hs o × (o ≡ Some h) = from_has-filter_map (λ g. g) hs h member in
+    contains_from_has hs (Some h) (subst (λ o. Has hs o) w.2 w.1)
