@@ -1,4 +1,4 @@
-"""What valid blocks vouch for besides hashes: whose key signed them, and how many signature blocks their sender counted.
+"""What valid blocks vouch for besides hashes: whose key signed them, and how far the counter GBC of each group went.
 
 A report names neither. Both are kept while the questions of a review are answered, a session after the other, and are
 read again beside the report, in which the sessions stand in the same order.
@@ -9,7 +9,7 @@ import base64
 import json
 import re
 from dataclasses import dataclass, field
-from typing import BinaryIO, Dict, Iterable, Iterator, List, Optional, Set, Tuple
+from typing import BinaryIO, Dict, Iterable, Iterator, List, Optional, Tuple
 
 from .answer import Answered
 from .blocks import FIRST_ELEMENT, HEADER, LATER_ELEMENT, LONGEST_HEADER, Session
@@ -23,11 +23,10 @@ GroupName = Tuple[int, int]
 
 @dataclass
 class Vouched:
-    """Of one session: the file of its key, the greatest GBC of each group, and how many values of GBC its blocks have."""
+    """Of one session: the file of its key, and the greatest GBC of each group."""
 
     key: str
     greatest: Dict[GroupName, int] = field(default_factory=dict)
-    values: int = 0
 
 
 def counters_of(octets: bytes) -> Optional[Tuple[GroupName, int]]:
@@ -43,54 +42,30 @@ def counters_of(octets: bytes) -> Optional[Tuple[GroupName, int]]:
     return (int(counters[1]), int(counters[2])), int(counters[3])
 
 
-class Counted:
-    """A set of numbers that mostly rise one by one, kept as one run and the few that don't belong to it."""
-
-    def __init__(self) -> None:
-        self._first = 0
-        self._behind = 0
-        self._others: Set[int] = set()
-
-    def add(self, number: int) -> None:
-        """Adds a number, which may be there already."""
-        if self._first == self._behind:
-            self._first, self._behind = number, number + 1
-        elif number == self._behind:
-            self._behind += 1
-        elif not self._first <= number < self._behind:
-            self._others.add(number)
-
-    def __len__(self) -> int:
-        """How many numbers were added."""
-        return self._behind - self._first + sum(not self._first <= it < self._behind for it in self._others)
-
-
 def noted(answered: Iterable[Answered], notes: BinaryIO) -> Iterator[Answered]:
     """Gives on what was answered, and keeps what its blocks vouch for."""
     session: Optional[Session] = None
     vouched = Vouched("")
-    values = Counted()
     for it in answered:
         if not it.is_payload and it.session is not None:
             if it.session != session:
                 if session is not None:
-                    put_note(notes, session, vouched, values)
-                session, vouched, values = it.session, Vouched(it.key), Counted()
+                    put_note(notes, session, vouched)
+                session, vouched = it.session, Vouched(it.key)
             counters = counters_of(base64.b64decode(it.line.split(b" ", 3)[2]))
             if counters is not None:
                 group, gbc = counters
                 vouched.greatest[group] = max(gbc, vouched.greatest.get(group, 0))
-                values.add(gbc)
         yield it
     if session is not None:
-        put_note(notes, session, vouched, values)
+        put_note(notes, session, vouched)
 
 
-def put_note(notes: BinaryIO, session: Session, vouched: Vouched, values: Counted) -> None:
+def put_note(notes: BinaryIO, session: Session, vouched: Vouched) -> None:
     """Keeps a line of JSON."""
     groups = [[*group, gbc] for group, gbc in vouched.greatest.items()]
     names = [it.decode("latin-1") for it in session]
-    put(notes, json.dumps([names, vouched.key, groups, len(values)]).encode("ascii") + b"\n")
+    put(notes, json.dumps([names, vouched.key, groups]).encode("ascii") + b"\n")
 
 
 class Notes:
@@ -113,7 +88,7 @@ class Notes:
         line = self._notes.readline()
         if not line:
             return None
-        names, key, groups, values = json.loads(line)
+        names, key, groups = json.loads(line)
         host, app, procid, rsid = (str(it).encode("latin-1") for it in names)
         rows: List[List[int]] = groups
-        return Session(host, app, procid, rsid), Vouched(key, {(sg, spri): gbc for sg, spri, gbc in rows}, values)
+        return Session(host, app, procid, rsid), Vouched(key, {(sg, spri): gbc for sg, spri, gbc in rows})
