@@ -1,7 +1,8 @@
 #!/usr/bin/env python3
 """Helps tests/verify.sh: cuts and damages logs, and compares JSON with the report that it stands for.
 
-    verdicts.py json REPORT JSON LOG STATUS [--lines]   the JSON has each line of the report, and the verdict
+    verdicts.py json REPORT JSON LOG STATUS OPTION..    the JSON has each line of the report, and the verdict, under these
+                                                        options of verify
     verdicts.py plain LOG | lines LOG                   the messages without a block, or all, as lines
     verdicts.py split LOG N FIRST SECOND                a log of N messages, and one of the others
     verdicts.py last LOG | count LOG                    where the torn frame begins; how many messages there are
@@ -44,9 +45,9 @@ def wanted(line: str, stored: List[bytes], log: str) -> Dict[str, object]:
     """The object for a line of a report, but for the name of a key."""
     word, *fields = line.split(" ")
     names: Dict[str, object] = {"line": word}
-    if word in ("session", "ok", "gap", "hole", "blocks"):
+    if word in ("session", "ok", "gap", "hole", "tail", "blocks"):
         names.update(host=fields[0], app=fields[1], procid=fields[2], rsid=int(fields[3]))
-    if word in ("ok", "gap", "hole"):
+    if word in ("ok", "gap", "hole", "tail"):
         names.update(sg=int(fields[4]), spri=int(fields[5]))
     if word == "session":
         names.update(state=fields[4])
@@ -54,7 +55,7 @@ def wanted(line: str, stored: List[bytes], log: str) -> Dict[str, object]:
         names.update(number=int(fields[6]), place=int(fields[7]))
     elif word == "gap":
         names.update(number=int(fields[6]), why=fields[7])
-    elif word == "hole":
+    elif word in ("hole", "tail"):
         names.update(first=int(fields[6]), last=int(fields[7]))
     elif word == "blocks":
         names.update(first=int(fields[4]), last=int(fields[5]))
@@ -88,11 +89,50 @@ def check_json(report: str, path: str, log: str, status: str, *options: str) -> 
         assert verdict[count] == words.count(word), count
     assert verdict["lost"] + verdict["disputed"] == words.count("gap")
     assert sum(verdict["sessions"].values()) == words.count("session")
-    runs = [[int(field) for field in it.split(" ")[5:]] for it in lines if it.startswith("blocks ")]
-    missing = {"missing_blocks": sum(last - first + 1 for first, last in runs)} if "--whole" in options else {}
-    assert {key: verdict[key] for key in verdict if "blocks" in key} == missing, (verdict, missing)
+    missing = {"missing_numbers": in_runs(lines, "tail")} if "--counters" in options else {}
+    if missing or "--whole" in options:
+        missing["missing_blocks"] = in_runs(lines, "blocks")
+    assert {key: verdict[key] for key in verdict if "missing" in key} == missing, (verdict, missing)
     assert list(verdict) == ["line", "status", "verdict", "sessions", "listed", "lost", "disputed", "unannounced", *missing,
                              "unlisted", "refused", "spoilt", "torn", "groups"], list(verdict)
+    counters = options[options.index("--counters") + 1] if "--counters" in options else None
+    found = [{key: it[key] for key in it if key not in ("gbc", "fallen", "first_fallen")} for it in verdict["groups"]]
+    assert found == groups(lines, counters), (found, groups(lines, counters))
+    keys = ["host", "app", "procid", "rsid", "sg", "spri", "last", "gbc", *(["next", "next_gbc"] if counters else []),
+            "fallen", "first_fallen"]
+    assert all(list(it) == keys for it in verdict["groups"]), verdict["groups"]
+
+
+def in_runs(lines: List[str], word: str) -> int:
+    """How many numbers stand in the lines of a word, which end with the first and the last of a run."""
+    runs = [[int(field) for field in it.split(" ")[-2:]] for it in lines if it.startswith(f"{word} ")]
+    return sum(last - first + 1 for first, last in runs)
+
+
+def groups(lines: List[str], counters: Optional[str]) -> List[Dict[str, object]]:
+    """The groups of a report, but for what it doesn't say of their blocks and their order."""
+    sessions = [it.split(" ")[1:5] for it in lines if it.startswith("session ")]
+    last: Dict[Tuple[int, int, int], int] = {}
+    for word, *fields in (it.split(" ") for it in lines):
+        if word in ("ok", "gap", "hole", "tail"):
+            group = sessions.index(fields[:4]), int(fields[4]), int(fields[5])
+            reached = int(fields[7 if word == "hole" else 6]) if word != "tail" else 0
+            last[group] = max(last.get(group, 0), reached)
+    counted: Dict[str, int] = {}
+    if counters:
+        with open(counters, encoding="ascii") as file:
+            for name, number in (it.rstrip("\n").rsplit(" ", 1) for it in file):
+                counted[name] = max(counted.get(name, 0), int(number))
+    rows = []
+    for (session, sg, spri), number in sorted(last.items()):
+        host, app, procid, rsid = sessions[session]
+        row: Dict[str, object] = {"host": host, "app": app, "procid": procid, "rsid": int(rsid), "sg": sg, "spri": spri}
+        row["last"] = number
+        if counters:
+            name = f"count {host} {app} {procid} {rsid}"
+            row.update(next=counted.get(f"{name} {sg} {spri}"), next_gbc=counted.get(name))
+        rows.append(row)
+    return rows
 
 
 def is_block(text: bytes) -> bool:

@@ -36,7 +36,7 @@ says() {
 refuses() {
     expect "$1" 2 '' "$2"
 }
-# as_reviewed WHAT OPTION.. < LOG: --raw of the log is octet for octet what `ssign review` says under the kept answers,
+# as_reviewed WHAT LOG OPTION..: --raw of the log is octet for octet what `ssign review` says under the kept answers,
 # with its status, and the JSON has the lines of it, and the verdict.
 as_reviewed() {
     local what=$1 log=$2
@@ -342,6 +342,249 @@ refuses 'a refusal is no want of --whole' 'ssign: F4'
 printf '#!/bin/sh\nkill -9 $$\n' >older
 keys verify --key keys/public-key.pem --whole --ssign ./older stored
 refuses 'a program that dies is no want of --whole' 'ssign-keys: ssign review was ended by the signal SIGKILL, as where memory runs out'
+
+# ---- counters that were kept: what is missing up to them
+# kept LINE..: a counters file of these lines, each of which follows `count gate signer - `
+kept() {
+    printf 'count gate signer - %s\n' "$@" >counters
+}
+# count FILE: the lines that the program writes of a log under its key
+count() {
+    rm -f answers
+    keys verify --key keys/public-key.pem --raw --answers-out answers "$1"
+    timeout "$patience" "$program" counters --answers answers <"$1"
+}
+# the front of the line that says how far a group is known
+known='  session gate signer - 1, SG 0, SPRI 0: known up to the message with number'
+nothing_of_it='no block that is believed announces a message of it'
+both_said='The verdict says nothing of what was sent both behind the counters and behind the last block that is here:'
+both_end='Whether anything came behind these, and is missing, nobody can tell from this log and these counters.'
+log_said='The verdict says nothing of what was sent behind the last block that is here:'
+log_end='Whether anything came behind these, and is missing, nobody can tell from this log.'
+keys sign "${words[@]}" --rsid 1 --count 4 --lines "$ten"
+cp out signed
+kept '1 3' '1 0 0 11'
+holds 'the counters that are kept' cmp counters <(count signed)
+keys verify --key keys/public-key.pem --counters counters signed
+says 'up to counters: all is there' 0 "$all_there Nothing is missing up to the counters." "$both_said" \
+    "$known 10, and to the signature block that GBC counts as 2; the counters go as far, to number 10, and to GBC 2" "$both_end"
+cp out with
+holds 'up to counters: no other word for the last block' test "$(grep -cFx -e "$log_said" -e "$log_end" out)" = 0
+keys verify --key keys/public-key.pem --whole --counters counters signed
+says 'up to counters, with --whole' 0 "$all_there Nothing is missing up to the counters."
+holds 'up to counters, with --whole: the same' cmp out with
+keys verify --key keys/public-key.pem signed
+says 'without counters' 0 "$all_there" "$log_said" "$known 10, and to the signature block that GBC counts as 2" "$log_end"
+holds 'without counters: no word of them' test "$(grep -ci 'counters' out)" = 0
+as_reviewed 'up to counters: all is there' signed --counters counters
+keys verify --key keys/public-key.pem --json --counters counters signed
+holds 'up to counters: its groups' grep -Fq '"last":10,"gbc":2,"next":11,"next_gbc":3,"fallen":0,' out
+keys verify --key keys/public-key.pem --json signed
+holds 'without counters: no key of them' test "$(grep -c 'missing\|next' out)" = 0
+keys verify --key keys/public-key.pem --counters <(cat counters) - <signed
+says 'up to counters from a pipe' 0 "$all_there Nothing is missing up to the counters."
+
+# the log goes on behind the counters
+part='Nothing is missing up to the counters, which cover only a part of this log.'
+kept '1 2' '1 0 0 9'
+keys verify --key keys/public-key.pem --counters counters signed
+says 'older counters' 0 "$all_there $part" "$known 10, and to the signature block that GBC counts as 2; the counters cover only the front, up to number 8, and to GBC 1"
+as_reviewed 'older counters' signed --counters counters
+kept '1 3' '1 0 0 10'
+keys verify --key keys/public-key.pem --counters counters signed
+says 'counters older by a number' 0 "$all_there $part"
+kept '1 2' '1 0 0 11'
+keys verify --key keys/public-key.pem --counters counters signed
+says 'counters older by a block' 0 "$all_there $part"
+kept '1 3'
+keys verify --key keys/public-key.pem --counters counters signed
+says 'counters of blocks alone' 0 "$all_there $part" \
+    "$known 10, and to the signature block that GBC counts as 2; the counters don't name this group"
+as_reviewed 'counters of blocks alone' signed --counters counters
+kept '1 0 0 11'
+keys verify --key keys/public-key.pem --counters counters signed
+says 'counters of messages alone' 0 "$all_there $part"
+kept '1 0' '1 0 0 1'
+keys verify --key keys/public-key.pem --counters counters signed
+says 'counters of nothing' 0 "$all_there $part" \
+    "$known 10, and to the signature block that GBC counts as 2; the counters cover no message of this group"
+keys verify --key keys/public-key.pem --counters /dev/null signed
+says 'counters without a line' 0 "$all_there The counters file has no line, so it shows nothing."
+as_reviewed 'counters without a line' signed --counters /dev/null
+
+# something is cut off
+kept '1 3' '1 0 0 11'
+damage tail
+says 'the tail cut off, without counters' 0 'Verdict: All 8 announced messages are there, unchanged, and nothing else is.'
+keys verify --key keys/public-key.pem --counters counters stored
+tail_line='  missing or unlisted, by the counters: SG 0, SPRI 0 (all messages), numbers 9 to 10 (2 messages); no block that is believed goes beyond number 8'
+says 'the tail cut off' 1 "$tail_line" "  missing signature blocks: GBC 2; $unseen_block" \
+    'Verdict: FINDINGS: of 8 announced messages 8 are there, unchanged; 2 messages up to the counters are missing; 1 signature block is missing or isn'\''t believed, so messages may be missing unseen.' \
+    "$known 8, and to the signature block that GBC counts as 1; the counters go on to number 10, and to GBC 2"
+as_reviewed 'the tail cut off' stored --counters counters
+as_reviewed 'the tail cut off, with --whole too' stored --counters counters --whole
+keys verify --key keys/public-key.pem --json --counters counters stored
+holds 'the tail cut off: its object' grep -Fqx \
+    '{"line":"tail","host":"gate","app":"signer","procid":"-","rsid":1,"sg":0,"spri":0,"first":9,"last":10}' out
+holds 'the tail cut off: how many' grep -Fq '"unannounced":0,"missing_numbers":2,"missing_blocks":1,"unlisted":0,' out
+kept '1 2' '1 0 0 10'
+keys verify --key keys/public-key.pem --counters counters stored
+says 'one message cut off' 1 'Verdict: FINDINGS: of 8 announced messages 8 are there, unchanged; 1 message up to the counters is missing.' \
+    '  missing or unlisted, by the counters: SG 0, SPRI 0 (all messages), number 9; no block that is believed goes beyond number 8'
+kept '1 3' '1 0 0 11'
+head -c -3 signed >stored
+keys verify --key keys/public-key.pem --counters counters stored
+says 'a torn end up to counters' 1 "$tail_line" \
+    'Verdict: FINDINGS: of 8 announced messages 8 are there, unchanged; 2 messages up to the counters are missing or unlisted; 1 signature block is missing or isn'\''t believed, so messages may be missing unseen; 2 stored messages are unlisted; the log breaks off.'
+as_reviewed 'a torn end up to counters' stored --counters counters
+edit 's/83 <37>1 2026-01-15T09:16:30Z.*became root//'
+keys verify --key keys/public-key.pem --counters counters stored
+says 'a message taken out, up to counters' 1 'Verdict: FINDINGS: of 10 announced messages 9 are there, unchanged, and 1 is missing or changed. Nothing else is missing up to the counters.'
+damage put-in
+keys verify --key keys/public-key.pem --counters counters stored
+says 'a message put in, up to counters' 1 'Verdict: FINDINGS: of 10 announced messages 10 are there, unchanged; 1 stored message is unlisted. Nothing is missing up to the counters.'
+damage order
+keys verify --key keys/public-key.pem --counters counters stored
+says 'another order, up to counters' 0 "$all_there But they don't stand in the order in which they were signed. Nothing is missing up to the counters."
+damage block
+keys verify --key keys/public-key.pem --counters counters stored
+says 'a block changed, up to counters' 1 'Verdict: FINDINGS: of 6 announced messages 6 are there, unchanged; 4 numbers aren'\''t announced; 1 signature block is missing or isn'\''t believed, so messages may be missing unseen; 4 stored messages are unlisted; 1 block isn'\''t believed.'
+as_reviewed 'a block changed, up to counters' stored --counters counters
+
+# groups by PRI, of which each block has one message. GBC: 0 has PRI 34, 1 has 38, 2 has 86, 3 has 78, 4 has 85, 5 has
+# the second of 86, 6 has 37, 7 has 165, 8 has the third of 86, 9 has 46
+keys sign "${words[@]}" --rsid 1 --groups pri --count 1 --lines "$ten"
+cp out grouped
+kept '1 10' '1 1 34 2' '1 1 37 2' '1 1 38 2' '1 1 46 2' '1 1 78 2' '1 1 85 2' '1 1 86 4' '1 1 165 2'
+holds 'the counters of groups' cmp counters <(count grouped)
+keys verify --key keys/public-key.pem --counters counters grouped
+says 'groups up to counters' 0 "$all_there Nothing is missing up to the counters."
+lose 8
+keys verify --key keys/public-key.pem --counters counters stored
+says 'the last block of a group' 1 "  missing signature blocks: GBC 8; $unseen_block" \
+    '  missing or unlisted, by the counters: SG 1, SPRI 86 (messages of PRI 86), number 3; no block that is believed goes beyond number 2' \
+    '  session gate signer - 1, SG 1, SPRI 86: known up to the message with number 2, and to the signature block that GBC counts as 5; the counters go on to number 3, and to GBC 9' \
+    'Verdict: FINDINGS: of 9 announced messages 9 are there, unchanged; 1 message up to the counters is missing; 1 signature block is missing or isn'\''t believed, so messages may be missing unseen.'
+as_reviewed 'the last block of a group' stored --counters counters
+lose 1
+keys verify --key keys/public-key.pem --counters counters stored
+says 'a group gone' 1 "  missing signature blocks: GBC 1; $unseen_block" \
+    '  missing or unlisted, by the counters: SG 1, SPRI 38 (messages of PRI 38), number 1; no block that is believed announces a message of this group' \
+    'Verdict: FINDINGS: of 9 announced messages 9 are there, unchanged; 1 message up to the counters is missing; 1 signature block is missing or isn'\''t believed, so messages may be missing unseen.'
+holds 'a group gone: it stands where it belongs' cmp <(sed -n 's/^  session gate signer - 1, //p' out | sed -n 2,4p) <(printf '%s\n' \
+    'SG 1, SPRI 37: known up to the message with number 1, and to the signature block that GBC counts as 6; the counters go as far, to number 1, and to GBC 9' \
+    "SG 1, SPRI 38: $nothing_of_it; the counters go on to number 1, and to GBC 9" \
+    'SG 1, SPRI 46: known up to the message with number 1, and to the signature block that GBC counts as 9; the counters go as far, to number 1, and to GBC 9')
+as_reviewed 'a group gone' stored --counters counters
+lose 9
+keys verify --key keys/public-key.pem --counters counters stored
+says 'the last block of all' 1 "  missing signature blocks: GBC 9; $unseen_block" \
+    '  missing or unlisted, by the counters: SG 1, SPRI 46 (messages of PRI 46), number 1; no block that is believed announces a message of this group'
+as_reviewed 'the last block of all' stored --counters counters
+python3 -B "$root/tests/verdicts.py" lines stored >stored.lines
+keys verify --key keys/public-key.pem --counters counters --lines stored.lines
+says 'the last block of all, as lines' 1 "  missing signature blocks: GBC 9; $unseen_block"
+
+# two sessions, whose files are put one behind the other; a session that isn't here; and a session without a counter
+keys sign "${words[@]}" --rsid 2 --count 4 --lines "$ten"
+cp out second
+cat signed second >both
+kept '1 3' '1 0 0 11' && mv counters counters.1
+kept '2 3' '2 0 0 11' && mv counters counters.2
+kept '2 1' '2 0 0 5' && mv counters counters.old
+twenty_there='Verdict: All 20 announced messages are there, unchanged, and nothing else is.'
+for order in '1 2' '2 1' 'old 1 2' '2 old 1'; do
+    # shellcheck disable=SC2086
+    cat $(printf 'counters.%s ' $order) >counters
+    keys verify --key keys/public-key.pem --counters counters both
+    says "several files of counters: $order" 0 "$twenty_there Nothing is missing up to the counters."
+    as_reviewed "several files of counters: $order" both --counters counters
+done
+keys verify --key keys/public-key.pem --counters counters.1 both
+says 'a session without a counter' 0 "$twenty_there $part" \
+    "$known 10, and to the signature block that GBC counts as 2; the counters go as far, to number 10, and to GBC 2" \
+    "${known/- 1/- 2} 10, and to the signature block that GBC counts as 2; the counters don't name this group"
+keys verify --key keys/public-key.pem --counters counters signed
+says 'a session that is not here' 1 'Session: HOSTNAME gate, APP-NAME signer, PROCID -, RSID 2' \
+    '  state: absent; the counters name it, and no block of it is here' \
+    '  missing or unlisted, by the counters: SG 0, SPRI 0 (all messages), numbers 1 to 10 (10 messages); no block that is believed announces a message of this group' \
+    "  missing signature blocks: GBC 0 to 2 (3 blocks); $unseen_blocks" \
+    'Verdict: FINDINGS: of 10 announced messages 10 are there, unchanged; 10 messages up to the counters are missing; 3 signature blocks are missing or aren'\''t believed, so messages may be missing unseen; 1 session that the counters name isn'\''t here.' \
+    "  session gate signer - 2, SG 0, SPRI 0: $nothing_of_it; the counters go on to number 10, and to GBC 2"
+as_reviewed 'a session that is not here' signed --counters counters
+keys verify --key keys/public-key.pem --json --counters counters signed
+holds 'a session that is not here: its object' grep -Fqx \
+    '{"line":"session","host":"gate","app":"signer","procid":"-","rsid":2,"state":"absent","key":null}' out
+holds 'a session that is not here: how many' grep -Fq '"sessions":{"absent":1,"joined":1},' out
+kept '1 3' '1 0 0 11' '2 0'
+keys verify --key keys/public-key.pem --counters counters signed
+says 'a session that sent nothing, and is not here' 1 '  state: absent; the counters name it, and no block of it is here' \
+    'Verdict: FINDINGS: of 10 announced messages 10 are there, unchanged; 1 session that the counters name isn'\''t here.'
+keys verify --key keys/public-key.pem --session-key 'gate signer - 2' keys/public-key.pem --counters counters signed
+holds 'a session that only the counters name: it is said' \
+    grep -qFx "ssign-keys: the log has no session 'gate signer - 2', for which --session-key gives a key" err
+
+# a session that isn't joined, a log without a block, and an empty one
+kept '1 3' '1 0 0 11'
+keys verify --key others/public-key.pem --counters counters signed
+says 'another key, up to counters' 1 '  state: untrusted; its key is none that you trust, so nothing of it counts' \
+    '  missing or unlisted, by the counters: SG 0, SPRI 0 (all messages), numbers 1 to 10 (10 messages); no block that is believed announces a message of this group' \
+    "${nothing%.}; 10 messages up to the counters are missing or unlisted; 3 signature blocks are missing or aren't believed." \
+    "  session gate signer - 1, SG 0, SPRI 0: $nothing_of_it; the counters go on to number 10, and to GBC 2"
+keys verify --key others/public-key.pem --counters /dev/null signed
+says 'another key, and counters without a line' 1 "$nothing The counters file has no line, so it shows nothing."
+keys verify --key keys/public-key.pem --counters counters --lines "$ten"
+says 'the blocks taken out' 1 'Verdict: FINDINGS: the log holds no block, so nobody can say of its 10 messages what was sent; 10 messages up to the counters are missing or unlisted; 3 signature blocks are missing or aren'\''t believed; 1 session that the counters name isn'\''t here.'
+as_reviewed 'the blocks taken out' "$ten" --counters counters --lines
+printf '' >empty
+keys verify --key keys/public-key.pem --counters counters empty
+says 'an empty log, up to counters' 1 'Verdict: FINDINGS: the log is empty; 10 messages up to the counters are missing; 3 signature blocks are missing or aren'\''t believed; 1 session that the counters name isn'\''t here.'
+as_reviewed 'an empty log, up to counters' empty --counters counters
+head -c 20 signed >stored
+keys verify --key keys/public-key.pem --counters counters stored
+says 'a torn first message, up to counters' 1 'Verdict: FINDINGS: the log breaks off in its first message; 10 messages up to the counters are missing; 3 signature blocks are missing or aren'\''t believed; 1 session that the counters name isn'\''t here.'
+keys verify --key keys/public-key.pem --counters /dev/null empty
+says 'an empty log, and counters without a line' 0 'Verdict: NOTHING WAS SIGNED: the log is empty, so nothing in it is changed, and nobody can say what is missing. The counters file has no line, so it shows nothing.'
+
+# counters that are refused, before the log is read
+for form in '' --json --raw; do
+    kept '1 3' '1 0 0 11' '1 0 0 0'
+    keys verify --key keys/public-key.pem --counters counters ${form:+"$form"} --answers-out unkept signed
+    refuses "a bad line of counters $form" 'ssign: C1 3
+ssign-keys: this is the line 3 of the counters file counters'
+    keys verify --key keys/public-key.pem --counters none ${form:+"$form"} --answers-out unkept signed
+    refuses "no counters file $form" "ssign-keys: the counters file none can't be read: No such file or directory"
+done
+holds 'bad counters: no answers are kept' test ! -e unkept
+kept '1 3' && printf '\n' >>counters
+keys verify --key keys/public-key.pem --counters counters none
+refuses 'an empty line of counters' 'ssign: C1 2
+ssign-keys: this is the line 2 of the counters file counters'
+kept $'1 3\r'
+keys verify --key keys/public-key.pem --counters counters signed
+refuses 'counters with CR' 'ssign: C1 1
+ssign-keys: this is the line 1 of the counters file counters'
+keys verify --key keys/public-key.pem --counters "$TMPDIR" signed
+refuses 'a folder of counters' "ssign-keys: the counters file $TMPDIR can't be read: Is a directory"
+keys verify --key keys/public-key.pem --counters counters.1 --counters counters.2 both
+refuses 'two files of counters' "ssign-keys: --counters can be given only once: put the files one behind the other (\`cat\`)"
+kept 'x'
+python3 -B "$root/tests/verdicts.py" terminal "$keys_program" verify --key keys/public-key.pem --counters counters signed >out 2>err
+holds 'a bad line of counters on a terminal: the sentence of ssign explain' grep -qFx "$("$program" explain C1)" out
+# shellcheck disable=SC2016
+printf '#!/bin/sh\necho "$*" >>called\nfor it in "$@"; do\n    case $it in --counters=*) echo "error: unexpected argument" >&2; exit 2 ;; esac\ndone\nexec %q "$@"\n' "$program" >older
+rm -f called
+for form in '' --json --whole; do
+    keys verify --key keys/public-key.pem --counters counters.1 ${form:+"$form"} --ssign ./older signed
+    refuses "an older ssign with --counters $form" "error: unexpected argument
+ssign-keys: the program ./older has no \`review --counters\`, so it can't say what is missing up to counters: name a newer one with --ssign, or leave --counters out"
+done
+holds 'an older ssign with --counters: nothing is asked' test "$(grep -vc '^review \(--whole \)\?--counters=[^ ]*$' called)" = 0
+rm called
+keys verify --key keys/public-key.pem --counters counters.1 --max-len 9999 --ssign ./recording signed
+says 'a newer ssign with --counters' 0 "$all_there Nothing is missing up to the counters."
+holds 'a newer ssign with --counters: its words' cmp <(sed 's#=/[^ ]*/\(answers\|counters\)#=\1#g' called) \
+    <(printf '%s\n' 'review --counters=counters' 'questions --max-len=9999' 'review --answers=answers --counters=counters --max-len=9999')
 
 # ---- what no block signed, and hostile texts
 for it in logger rsyslog syslog-ng; do

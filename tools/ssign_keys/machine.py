@@ -2,10 +2,12 @@
 from __future__ import annotations
 
 import json
-from typing import BinaryIO, Dict, List, Optional, Sequence, Union
+from typing import BinaryIO, Dict, Optional, Sequence, Union
 
 from .blocks import Session
+from .kept import Counters
 from .logs import Log
+from .reach import Reached
 from .report import Group, Teller
 from .strays import Finder
 from .verdict import sentence
@@ -25,15 +27,15 @@ def names_of(session: Session) -> Fields:
 class Machine(Teller):
     """Writes JSON into a passing file, as the report is read."""
 
-    def __init__(self, out: BinaryIO, log: Log, finder: Finder, notes: Notes, is_whole: bool) -> None:
-        super().__init__(is_whole)
+    def __init__(self, out: BinaryIO, log: Log, finder: Finder, notes: Notes, is_whole: bool,
+                 counters: Optional[Counters]) -> None:
+        super().__init__(is_whole, counters)
         self._out = out
         self._log = log
         self._finder = finder
         self._notes = notes
         self._vouched: Optional[Vouched] = None
         self._front = ""
-        self._reach: List[Fields] = []
 
     def _put(self, fields: object) -> None:
         put(self._out, json.dumps(fields, separators=(",", ":")).encode("ascii") + b"\n")
@@ -63,8 +65,11 @@ class Machine(Teller):
 
     def end_group(self, group: Group) -> None:
         greatest = None if self._vouched is None else self._vouched.greatest.get((group.sg, group.spri))
-        self._reach.append({**names_of(group.session), "sg": group.sg, "spri": group.spri, "last": group.last, "gbc": greatest,
-                            "fallen": group.fallen, "first_fallen": group.first_fallen if group.fallen else None})
+        self.reach.add(group.session, group.sg, group.spri, group.last, greatest, group.fallen,
+                       group.first_fallen if group.fallen else None)
+
+    def tail(self, session: Session, sg: int, spri: int, first: int, last: int) -> None:
+        self._put({"line": "tail", **names_of(session), "sg": sg, "spri": spri, "first": first, "last": last})
 
     def missing_blocks(self, session: Session, first: int, last: int) -> None:
         self._put({"line": "blocks", **names_of(session), "first": first, "last": last})
@@ -84,10 +89,18 @@ class Machine(Teller):
     def verdict(self, status: int) -> None:
         """Tells the verdict, with all counts, and how far it reaches."""
         totals = self.totals
-        missing: Fields = {} if self.missing is None else {"missing_blocks": self.missing}
+        missing: Fields = {} if self.counters is None else {"missing_numbers": totals.tails}
+        missing.update({} if self.missing is None else {"missing_blocks": self.missing})
+        said = sentence(status, totals, self.states, self.missing or 0, self.reach.coverage())
         self._put({
-            "line": "verdict", "status": status, "verdict": sentence(status, totals, self.states, self.missing or 0),
+            "line": "verdict", "status": status, "verdict": said,
             "sessions": dict(sorted(self.states.items())), "listed": totals.listed, "lost": totals.lost,
             "disputed": totals.disputed, "unannounced": totals.unannounced, **missing, "unlisted": totals.unlisted,
-            "refused": totals.refused, "spoilt": totals.spoilt, "torn": totals.torn is not None, "groups": self._reach,
+            "refused": totals.refused, "spoilt": totals.spoilt, "torn": totals.torn is not None,
+            "groups": [self._group(it) for it in self.reach],
         })
+
+    def _group(self, it: Reached) -> Fields:
+        counted: Fields = {} if self.counters is None else {"next": it.next_number, "next_gbc": it.next_gbc}
+        return {**names_of(it.session), "sg": it.sg, "spri": it.spri, "last": it.last, "gbc": it.gbc, **counted,
+                "fallen": it.fallen, "first_fallen": it.first_fallen}

@@ -1,10 +1,12 @@
 """Tells a person of a report: sessions and groups in a few lines each, then what is wrong, then the verdict."""
 from __future__ import annotations
 
-from typing import BinaryIO, List, Optional, Sequence, Tuple
+from typing import BinaryIO, Optional, Sequence, Tuple
 
 from .blocks import Session
+from .kept import Counters
 from .logs import Log
+from .reach import Reached
 from .report import Group, Teller
 from .strays import SHOWN, Finder
 from .verdict import sentence
@@ -20,6 +22,7 @@ STATES = {
     "untrusted": "its key is none that you trust, so nothing of it counts",
     "unaccepted": "its payload is trusted, but its certificate blocks aren't all validly signed by a key that you trust for "
                   "it, so nothing of it counts",
+    "absent": "the counters name it, and no block of it is here",
 }
 HEADINGS = {
     "unlisted": "Stored messages that no block announces, or copies too many (unlisted):",
@@ -55,18 +58,40 @@ def blocks_words(first: int, last: int) -> str:
             "announced may be missing unseen")
 
 
+def reach_words(group: Reached) -> str:
+    """How far the log goes in a group."""
+    if group.last == 0:
+        return "no block that is believed announces a message of it"
+    counter = "" if group.gbc is None else f", and to the signature block that GBC counts as {group.gbc}"
+    return f"known up to the message with number {group.last}{counter}"
+
+
+def counters_words(group: Reached) -> str:
+    """How far the counters go in a group, as compared with the log."""
+    if group.next_number is None:
+        return "the counters don't name this group"
+    gbc = f", and to GBC {group.next_gbc - 1}" if group.next_gbc else ""
+    if group.next_number == 1:
+        return "the counters cover no message of this group"
+    last = group.next_number - 1
+    if last > group.last:
+        return f"the counters go on to number {last}{gbc}"
+    if group.is_covered:
+        return f"the counters go as far, to number {last}{gbc}"
+    return f"the counters cover only the front, up to number {last}{gbc}"
+
+
 class Person(Teller):
     """Writes for a person, into a passing file, as the report is read."""
 
-    def __init__(self, out: BinaryIO, log: Log, finder: Finder, notes: Notes, is_whole: bool) -> None:
-        super().__init__(is_whole)
+    def __init__(self, out: BinaryIO, log: Log, finder: Finder, notes: Notes, is_whole: bool,
+                 counters: Optional[Counters]) -> None:
+        super().__init__(is_whole, counters)
         self._out = out
         self._log = log
         self._finder = finder
         self._notes = notes
         self._vouched: Optional[Vouched] = None
-        # the joined sessions and their groups, with the last number and the greatest GBC
-        self._reach: List[Tuple[Group, Optional[int]]] = []
         self._lost: Optional[Tuple[int, int]] = None
         self._heading = ""
 
@@ -118,7 +143,12 @@ class Person(Teller):
         elif group.listed > 1:
             self._put("    order: the places of the listed messages rise with their numbers")
         greatest = None if self._vouched is None else self._vouched.greatest.get((group.sg, group.spri))
-        self._reach.append((group, greatest))
+        self.reach.add(group.session, group.sg, group.spri, group.last, greatest)
+
+    def tail(self, session: Session, sg: int, spri: int, first: int, last: int) -> None:
+        known = f"goes beyond number {first - 1}" if first > 1 else "announces a message of this group"
+        self._put(f"  missing or unlisted, by the counters: {group_words(sg, spri)}, {numbers_words(first, last)}; no "
+                  f"block that is believed {known}")
 
     def missing_blocks(self, session: Session, first: int, last: int) -> None:
         self._put(f"  missing signature blocks: {blocks_words(first, last)}")
@@ -147,13 +177,14 @@ class Person(Teller):
 
     def verdict(self, status: int) -> None:
         """Tells the verdict, and what it says nothing of."""
-        self._put(f"Verdict: {sentence(status, self.totals, self.states, self.missing or 0)}")
-        if not self._reach:
+        self._put(f"Verdict: {sentence(status, self.totals, self.states, self.missing or 0, self.reach.coverage())}")
+        if not self.reach:
             return
-        self._put("The verdict says nothing of what was sent behind the last block that is here:")
-        for group, greatest in self._reach:
-            host, app, procid, rsid = map(shown, group.session)
-            counter = "" if greatest is None else f", and to the signature block that GBC counts as {greatest}"
-            self._put(f"  session {host} {app} {procid} {rsid}, SG {group.sg}, SPRI {group.spri}: known up to the message "
-                      f"with number {group.last}{counter}")
-        self._put("Whether anything came behind these, and is missing, nobody can tell from this log.")
+        both = "" if self.counters is None else "both behind the counters and "
+        self._put(f"The verdict says nothing of what was sent {both}behind the last block that is here:")
+        for it in self.reach:
+            host, app, procid, rsid = map(shown, it.session)
+            counted = "" if self.counters is None else f"; {counters_words(it)}"
+            self._put(f"  session {host} {app} {procid} {rsid}, SG {it.sg}, SPRI {it.spri}: {reach_words(it)}{counted}")
+        both = "" if self.counters is None else " and these counters"
+        self._put(f"Whether anything came behind these, and is missing, nobody can tell from this log{both}.")

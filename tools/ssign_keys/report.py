@@ -11,7 +11,9 @@ from typing import BinaryIO, Dict, Iterator, List, Optional, Sequence
 
 from .blocks import Session
 from .faults import Fault
+from .kept import Counters
 from .progress import Progress
+from .reach import Reach
 
 # lines are read by so many octets, so that a long stretch of `ok` lines is taken at once
 PIECE = 1 << 16
@@ -60,6 +62,8 @@ class Totals:
     lost: int = 0
     disputed: int = 0
     unannounced: int = 0
+    # numbers of `tail` lines, which only counters bring about
+    tails: int = 0
     fallen: int = 0
     unlisted: int = 0
     refused: int = 0
@@ -79,12 +83,18 @@ class Totals:
 class Teller(ABC):
     """Tells of the lines of a report, one after the other. What is counted stands in `totals` and `states`."""
 
-    def __init__(self, is_whole: bool = False) -> None:
-        """A whole report, of `ssign review --whole`, also has lines about missing signature blocks."""
+    def __init__(self, is_whole: bool = False, counters: Optional[Counters] = None) -> None:
+        """A whole report, of `ssign review --whole`, also has lines about missing signature blocks.
+
+        So has one with counters, of `--counters`, which also tells what is missing up to them.
+        """
         self.totals = Totals()
         self.states: Dict[str, int] = {}
+        self.counters = counters
+        # the groups of joined sessions, and those of `tail` lines
+        self.reach = Reach(counters)
         # how many signature blocks are missing; None where the report doesn't speak of them
-        self.missing: Optional[int] = 0 if is_whole else None
+        self.missing: Optional[int] = 0 if is_whole or counters is not None else None
 
     @abstractmethod
     def session(self, session: Session, state: str) -> None:
@@ -109,6 +119,9 @@ class Teller(ABC):
     @abstractmethod
     def end_group(self, group: Group) -> None:
         """Tells of a group of which all lines were told."""
+
+    def tail(self, session: Session, sg: int, spri: int, first: int, last: int) -> None:
+        """Tells of numbers behind the last announced one, up to a counter. Only counters bring such a line about."""
 
     def missing_blocks(self, session: Session, first: int, last: int) -> None:
         """Tells of values of GBC that no verified signature block has. Only a whole report has such a line."""
@@ -180,6 +193,8 @@ class Reading:
             state = fields[4].decode("ascii")
             teller.states[state] = teller.states.get(state, 0) + 1
             teller.session(self._session, state)
+        elif word == b"tail" and teller.counters is not None:
+            self._take_tail(*map(int, fields[4:8]))
         elif word == b"blocks" and teller.missing is not None:
             first, last = int(fields[4]), int(fields[5])
             teller.missing += last - first + 1
@@ -197,6 +212,13 @@ class Reading:
             teller.end(totals.messages)
         else:
             raise Fault(f"the report of ssign review has a line of another kind: {line[:40]!r}")
+
+    def _take_tail(self, sg: int, spri: int, first: int, last: int) -> None:
+        self._teller.totals.tails += last - first + 1
+        if first == 1:
+            # nothing of this group is announced, so no other line has it
+            self._teller.reach.add(self._session, sg, spri, 0, None)
+        self._teller.tail(self._session, sg, spri, first, last)
 
     def _take_number(self, word: bytes, fields: List[bytes]) -> None:
         sg, spri = int(fields[4]), int(fields[5])

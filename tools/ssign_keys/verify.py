@@ -6,12 +6,13 @@ import os
 import shutil
 import subprocess
 import tempfile
-from typing import BinaryIO, Callable, Iterator, List, Optional, Type, Union
+from typing import BinaryIO, Callable, Iterator, List, NamedTuple, Optional, Type, Union
 
 from . import trust as trust_options
 from .answer import answers
 from .blocks import Session
 from .faults import Fault
+from .kept import Counters, copy_counters, read_counters
 from .logs import Log, open_log
 from .machine import Machine
 from .person import Person
@@ -34,6 +35,9 @@ def add_arguments(parser: argparse.ArgumentParser) -> None:
     add_log_arguments(parser)
     parser.add_argument("--whole", action="store_true", help="also say which signature blocks of each session are missing, "
                         "by their counter GBC; that is a finding")
+    parser.add_argument("--counters", action="append", metavar="FILE", help="also say what is missing up to the "
+                        "counters of FILE, as `ssign counters` wrote them, and do what --whole does; each loss is a "
+                        "finding")
     parser.add_argument("--jobs", type=positive, default=1, metavar="N", help="check signatures by so many processes "
                         "(default: 1)")
     form = parser.add_mutually_exclusive_group()
@@ -62,11 +66,11 @@ def run(arguments: argparse.Namespace) -> int:
     try:
         with Workplace() as workplace:
             refuse_to_overwrite(arguments.answers_out)
+            refuse_two_counters(arguments.counters)
             trust = Trust.from_arguments(arguments)
-            if arguments.whole:
-                refuse_without_whole(program, workplace, progress)
+            missing = find_missing(program, arguments, workplace, progress)
             log = open_log(arguments.logs, arguments.lines, workplace, progress)
-            verifier = Verifier(program, log_words(arguments), arguments.whole, log, workplace, progress)
+            verifier = Verifier(program, log_words(arguments), missing, log, workplace, progress)
             notes = verifier.answer(trust, arguments.jobs)
             status = verifier.review()
             verifier.tell_unused(trust)
@@ -83,20 +87,30 @@ def run(arguments: argparse.Namespace) -> int:
     except Refused as refused:
         progress.clear()
         tell_file(refused, log)
+        tell_counters_file(refused, arguments.counters)
         explain(program, refused.code)
         return 2
     finally:
         progress.clear()
 
 
+class Missing(NamedTuple):
+    """How a review is asked what is missing."""
+
+    words: List[str]
+    """The options of `ssign review`, or none."""
+    counters: Optional[Counters]
+    """The counters that were given."""
+
+
 class Verifier:
     """The runs of ssign over a log, with what is kept of them."""
 
-    def __init__(self, program: str, words: List[str], is_whole: bool, log: Log, workplace: Workplace,
+    def __init__(self, program: str, words: List[str], missing: Missing, log: Log, workplace: Workplace,
                  progress: Progress) -> None:
         self._program = program
         self._words = words
-        self._is_whole = is_whole
+        self._missing = missing
         self._log = log
         self._workplace = workplace
         self._progress = progress
@@ -148,7 +162,7 @@ class Verifier:
 
     def review(self) -> int:
         """Has ssign review the log under the answers that were kept, and gives its status."""
-        return self._review([f"--answers={self.answers_path}", *(["--whole"] if self._is_whole else [])])
+        return self._review([f"--answers={self.answers_path}", *self._missing.words])
 
     def _review(self, words: List[str]) -> int:
         """Has ssign review the log, with these words besides."""
@@ -168,7 +182,7 @@ class Verifier:
             return
         self.report.seek(0)
         for line in self.report:
-            if line.startswith(b"session "):
+            if line.startswith(b"session ") and not line.endswith(b" absent\n"):
                 session = Session(*line.split(b" ")[1:5])
                 unused = [it for it in unused if not it.is_for(session)]
         for it in unused:
@@ -177,7 +191,8 @@ class Verifier:
 
     def tell(self, form: Union[Type[Machine], Type[Person]], out: BinaryIO, notes: Notes, status: int) -> None:
         """Tells the report and the verdict in one of the two forms."""
-        teller = form(out, self._log, Finder(self._log, self._progress), notes, self._is_whole)
+        finder = Finder(self._log, self._progress)
+        teller = form(out, self._log, finder, notes, bool(self._missing.words), self._missing.counters)
         Reading(teller).read(self.report, self._progress)
         teller.verdict(status)
         finish(out)
@@ -186,15 +201,35 @@ class Verifier:
         return lambda: self._progress.show(phase, self._log.position(), self._log.size, "octets")
 
 
-def refuse_without_whole(program: str, workplace: Workplace, progress: Progress) -> None:
-    """Refuses an older ssign, which doesn't know --whole, before the log is read. An empty log shows it."""
+def refuse_two_counters(paths: Optional[List[str]]) -> None:
+    """Refuses a second counters file, before anything is done."""
+    if paths is not None and len(paths) > 1:
+        raise Fault("--counters can be given only once: put the files one behind the other (`cat`)")
+
+
+def find_missing(program: str, arguments: argparse.Namespace, workplace: Workplace, progress: Progress) -> Missing:
+    """Refuses what can't be asked, before the log is read: by an older ssign, or up to a bad counters file."""
+    words = ["--whole"] if arguments.whole else []
+    if not arguments.counters:
+        if words:
+            refuse_without(program, words, "--whole", "which signature blocks are missing", workplace, progress)
+        return Missing(words, None)
+    path = copy_counters(arguments.counters[0], workplace)
+    words.append(f"--counters={path}")
+    refuse_without(program, words, "--counters", "what is missing up to counters", workplace, progress)
+    return Missing(words, read_counters(path))
+
+
+def refuse_without(program: str, words: List[str], option: str, what: str, workplace: Workplace,
+                   progress: Progress) -> None:
+    """Refuses an ssign that doesn't know an option, which is the last of these words. An empty log shows it."""
     try:
-        Run(program, ["review", "--whole"], workplace, progress, subprocess.DEVNULL, subprocess.DEVNULL).end(lambda: None)
+        Run(program, ["review", *words], workplace, progress, subprocess.DEVNULL, subprocess.DEVNULL).end(lambda: None)
     except Refused as refused:
         if refused.code is not None:
             raise
-        raise Fault(f"the program {shown_name(program)} has no `review --whole`, so it can't say which signature blocks are "
-                    "missing: name a newer one with --ssign, or leave --whole out") from refused
+        raise Fault(f"the program {shown_name(program)} has no `review {option}`, so it can't say {what}: name a newer "
+                    f"one with --ssign, or leave {option} out") from refused
 
 
 def refuse_to_overwrite(path: Optional[str]) -> None:
@@ -229,3 +264,11 @@ def tell_file(refused: Refused, log: Optional[Log]) -> None:
         return
     part = log.part_of_offset(refused.where)
     say(f"ssign-keys: this is the octet {refused.where - part.offset} of the log {shown_name(part.name)}")
+
+
+def tell_counters_file(refused: Refused, paths: Optional[List[str]]) -> None:
+    """Says which counters file a refusal is about, since ssign read a copy of it."""
+    if paths is None or (refused.code or "")[:1] != "C":
+        return
+    what = "this is about" if refused.where is None else f"this is the line {refused.where} of"
+    say(f"ssign-keys: {what} the counters file {shown_name(paths[0])}")

@@ -1,0 +1,80 @@
+"""Counters that somebody kept: the file that `ssign review --counters` reads (docs/FORMATS.md, "A counters file").
+
+What is missing up to them, ssign reports. They are read here too, since a report doesn't say how far they go.
+"""
+from __future__ import annotations
+
+from typing import BinaryIO, Dict, Optional, Tuple
+
+from .blocks import Session
+from .faults import Fault
+from .files import reason
+from .words import shown_name
+from .workplace import Workplace, finish, put
+
+# ssign refuses a longer file
+LONGEST = (1 << 32) - 1
+PIECE = 1 << 20
+
+
+class Counters:
+    """How far sessions and their groups went, as the next GBC and the next numbers. The greatest counter counts."""
+
+    def __init__(self) -> None:
+        """No counter yet."""
+        self._blocks: Dict[Session, int] = {}
+        self._groups: Dict[Tuple[Session, int, int], int] = {}
+
+    def add(self, line: bytes) -> None:
+        """Takes a line of a file that ssign didn't refuse."""
+        fields = line.rstrip(b"\n").split(b" ")
+        session, numbers = Session(*fields[1:5]), [int(it) for it in fields[5:]]
+        if len(numbers) == 1:
+            self._blocks[session] = max(numbers[0], self._blocks.get(session, 0))
+        else:
+            group = session, numbers[0], numbers[1]
+            self._groups[group] = max(numbers[2], self._groups.get(group, 0))
+
+    def is_empty(self) -> bool:
+        """Whether there is no counter."""
+        return not self._blocks and not self._groups
+
+    def next_gbc(self, session: Session) -> Optional[int]:
+        """The GBC of the next signature block of a session, or None where no counter says it."""
+        return self._blocks.get(session)
+
+    def next_number(self, session: Session, sg: int, spri: int) -> Optional[int]:
+        """The number of the next message of a group, or None where no counter says it."""
+        return self._groups.get((session, sg, spri))
+
+
+def copy_counters(path: str, workplace: Workplace) -> str:
+    """Copies a counters file to a passing one, and gives its path. It is read more than once, and may be a pipe."""
+    with workplace.new_file("counters") as copy:
+        try:
+            with open(path, "rb") as source:
+                copy_octets(source, copy)
+        except (OSError, ValueError) as fault:
+            raise Fault(f"the counters file {shown_name(path)} can't be read: {reason(fault)}") from fault
+        finish(copy)
+    return workplace.path("counters")
+
+
+def copy_octets(source: BinaryIO, copy: BinaryIO) -> None:
+    """Copies what ssign would read, and an octet more, so that ssign refuses a file that is too long."""
+    left = LONGEST + 1
+    while left:
+        piece = source.read(min(PIECE, left))
+        if not piece:
+            break
+        put(copy, piece)
+        left -= len(piece)
+
+
+def read_counters(path: str) -> Counters:
+    """The counters of a file that ssign didn't refuse."""
+    counters = Counters()
+    with open(path, "rb") as file:
+        for line in file:
+            counters.add(line)
+    return counters
