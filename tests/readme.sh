@@ -1,5 +1,5 @@
 #!/usr/bin/env bash
-# The examples of README.md and docs/guide.md: a block that is one line with `./ssign`, or with `./tools/ssign-keys` over a
+# The examples of README.md and docs/guide.md: a block that is one line with `./ssign`, or with `./tools/ssign-keys` and a
 # file of examples/, is a command, the block behind it is what the program prints, and between the two stands `status N`.
 # Where the command has `./ssign` twice, the last one prints.
 # shellcheck source=tests/lib.sh
@@ -17,7 +17,7 @@ example() {
         return
     fi
     local wanted=${BASH_REMATCH[1]}
-    if [[ $command == ./tools/ssign-keys\ * ]]; then
+    if [[ $command == *./tools/ssign-keys\ * ]]; then
         if ! python3 -c 'import cryptography' 2>"$scratch/err"; then
             echo "$name: $file: $command: skipped, since the Python module cryptography is missing"
             return
@@ -34,7 +34,7 @@ example() {
 
 # is_command BLOCK: whether a block is the command of an example.
 is_command() {
-    [[ $1 != *$'\n'* && ($1 == *./ssign\ * || $1 == ./tools/ssign-keys\ *examples/*) ]]
+    [[ $1 != *$'\n'* && ($1 == *./ssign\ * || $1 == *./tools/ssign-keys\ *examples/*) ]]
 }
 
 # examples FILE: one check for each of its examples.
