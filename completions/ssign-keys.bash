@@ -50,6 +50,7 @@ _ssign_keys() {
     'verify --cert') _ssign_keys_offer files ;;
     'verify --max-len') _ssign_keys_offer text ;;
     'verify --max-messages') _ssign_keys_offer text ;;
+    'verify --counters') _ssign_keys_offer files ;;
     'verify --jobs') _ssign_keys_offer text ;;
     'verify --answers-out') _ssign_keys_offer files ;;
     'verify --ssign') _ssign_keys_offer files ;;
@@ -84,7 +85,7 @@ _ssign_keys_words() {
     case $1 in
     verify)
         if [[ $2 == -* ]]; then
-            _ssign_keys_offer words '--help --key --session-key --ca --cert --lines --max-len --max-messages --whole --jobs --raw --json --answers-out --ssign'
+            _ssign_keys_offer words '--help --key --session-key --ca --cert --lines --max-len --max-messages --whole --counters --jobs --raw --json --answers-out --ssign'
         else
             _ssign_keys_offer files
         fi

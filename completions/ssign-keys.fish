@@ -22,6 +22,7 @@ complete -c ssign-keys -n '__ssign_keys_command verify' -l lines -d 'the log is 
 complete -c ssign-keys -n '__ssign_keys_command verify' -l max-len -x -d 'the longest message, in octets'
 complete -c ssign-keys -n '__ssign_keys_command verify' -l max-messages -x -d 'the most messages'
 complete -c ssign-keys -n '__ssign_keys_command verify' -l whole -d 'also say which signature blocks of each session are missing, by their counter GBC'
+complete -c ssign-keys -n '__ssign_keys_command verify' -l counters -r -F -d 'also say what is missing up to the counters of FILE, as `ssign counters` wrote them, and do what --whole does'
 complete -c ssign-keys -n '__ssign_keys_command verify' -l jobs -x -d 'check signatures by so many processes (default'
 complete -c ssign-keys -n '__ssign_keys_command verify' -l raw -d 'print the report of `ssign review` as it stands'
 complete -c ssign-keys -n '__ssign_keys_command verify' -l json -d 'print a JSON object for each line of the report, and one for the verdict'
