@@ -126,6 +126,33 @@ holds 'options that ssign refuses' grep -q '^ssign-archive: ssign refuses these 
 archive prepare archive/gate-1 --results by-hand
 refuses 'the results of another archive' "$scratch/by-hand has the results of another archive, $scratch/archive"
 
+# ---- missing signature blocks: the only block of a group was taken out, with its message
+mkdir -p lost/h
+cp "$root/examples/lost-block.frames" lost/h/log
+lost=(lost --results lost-results --answers "$root/examples/lost-block.answers")
+archive prepare "${lost[@]}"
+archive part lost-results h
+archive table lost-results
+says 'a block taken out, without --whole' 0 'h 1 5 2 0 0 0 0 0 joined 1 clean'
+archive prepare "${lost[@]}" --whole
+says 'a report without --whole is none with it' 0 '1 parts, of which 1 are to be reviewed'
+archive part lost-results h
+archive table lost-results
+says 'a block taken out' 1 'in h: blocks h s - 1 1 1' 'h 1 5 2 0 0 0 0 0 joined 1 1 finding'
+"$program" review --whole --answers "$root/examples/lost-block.answers" <lost/h/log >reviewed
+holds 'a block taken out: its report is that of ssign review --whole' cmp reviewed lost-results/reports/h/report
+archive prepare archive --results whole --answers answers --whole
+archive part whole gate-2
+archive table whole
+says 'no block is missing' 2 "${rows[1]}"
+# shellcheck disable=SC2016
+printf '#!/bin/sh\nfor it in "$@"; do\n    [ "$it" != --whole ] || exit 2\ndone\nexec %q "$@"\n' "$program" >older
+chmod +x older
+archive prepare "${lost[@]}" --ssign ./older
+says 'an older ssign without --whole' 0 '1 parts, of which 1 are to be reviewed'
+archive prepare "${lost[@]}" --whole --ssign ./older
+refuses 'an older ssign with --whole' 'ssign refuses these options, or the answers: it ended with status 2'
+
 # ---- the recipe for Slurm in docs/scale.md
 sed -n 's/^    //; /^#!\/bin\/bash$/,/^exec /p' "$root/docs/scale.md" | sed -e "s:/srv/results:$scratch/slurm:" -e "s:/srv/suhvatek:$root:" >part.sbatch
 holds 'the recipe for Slurm is a script' bash -n part.sbatch

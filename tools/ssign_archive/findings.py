@@ -31,8 +31,8 @@ class Places:
 class Locator(Teller):
     """Writes a line for each finding, and one for each session and group, with files and places."""
 
-    def __init__(self, part: str, places: Places, findings: BinaryIO, sessions: BinaryIO) -> None:
-        super().__init__()
+    def __init__(self, part: str, places: Places, findings: BinaryIO, sessions: BinaryIO, is_whole: bool) -> None:
+        super().__init__(is_whole)
         self._part = shown_name(part)
         self._places = places
         self._findings = findings
@@ -99,6 +99,10 @@ class Locator(Teller):
         if self._first is not None and self._last is not None:
             line += f" from {self._places.at(self._first)} to {self._places.at(self._last)}"
         self._sessions.write(f"{line}\n".encode("utf-8", "surrogateescape"))
+
+    def missing_blocks(self, session: Session, first: int, last: int) -> None:
+        """Tells of signature blocks, which can be missing anywhere in the part."""
+        self.write(f"in {self._part}", f"blocks {session} {first} {last}")
 
     def stray(self, kind: str, place: int, cause: str) -> None:
         """Tells of a message."""

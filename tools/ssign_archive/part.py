@@ -97,7 +97,7 @@ class PartReview:
 
     def _locate(self, files: List[Read], report: BinaryIO, findings: BinaryIO, sessions: BinaryIO, status: int) -> Record:
         """Goes over the report, and makes the record."""
-        locator = Locator(self._part, Places(self._part, files), findings, sessions)
+        locator = Locator(self._part, Places(self._part, files), findings, sessions, self._settings.is_whole)
         for where, what in file_findings(self._part, files):
             locator.write(where, what)
         Reading(locator).read(report, Progress())

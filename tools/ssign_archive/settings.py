@@ -35,6 +35,11 @@ class Settings:
         return "--lines" in self.words
 
     @property
+    def is_whole(self) -> bool:
+        """Whether the reports have lines about missing signature blocks."""
+        return "--whole" in self.words
+
+    @property
     def longest(self) -> int:
         """The longest message that is read, in octets."""
         given = [it.partition("=")[2] for it in self.words if it.startswith("--max-len=")]
@@ -62,6 +67,8 @@ def add_arguments(parser: argparse.ArgumentParser) -> None:
     parser.add_argument("--answers", metavar="FILE", help="the answers of a signature checker, for all parts; of a folder, "
                         "the file PART.answers in it is for the part PART (default: every answer is no)")
     add_log_arguments(parser)
+    parser.add_argument("--whole", action="store_true", help="also find signature blocks of each session that are missing, "
+                        "by their counter GBC")
     add_program_argument(parser)
 
 
@@ -79,7 +86,7 @@ def make(arguments: argparse.Namespace) -> Settings:
     archive = os.path.realpath(arguments.archive)
     program = os.path.abspath(find_program(arguments))
     answers = os.path.realpath(arguments.answers) if arguments.answers is not None else None
-    words = log_words(arguments)
+    words = [*log_words(arguments), *(["--whole"] if arguments.whole else [])]
     asked = [f"--answers={answers}"] if answers is not None and not os.path.isdir(answers) else []
     try_words(program, [*asked, *words])
     seen = [sum_of(program)] + [look_of(it.partition("=")[2]) for it in asked]
