@@ -66,14 +66,14 @@ _ssign_archive_words() {
     case $1 in
     review)
         if [[ $2 == -* ]]; then
-            _ssign_archive_offer words '--help --results --answers --lines --max-len --max-messages --ssign --jobs --sshlogin --findings --sessions'
+            _ssign_archive_offer words '--help --results --answers --lines --max-len --max-messages --whole --ssign --jobs --sshlogin --findings --sessions'
         else
             _ssign_archive_offer folders
         fi
         ;;
     prepare)
         if [[ $2 == -* ]]; then
-            _ssign_archive_offer words '--help --results --answers --lines --max-len --max-messages --ssign'
+            _ssign_archive_offer words '--help --results --answers --lines --max-len --max-messages --whole --ssign'
         else
             _ssign_archive_offer folders
         fi
