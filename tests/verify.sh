@@ -384,6 +384,9 @@ holds 'without counters: no key of them' test "$(grep -c 'missing\|next' out)" =
 keys verify --key keys/public-key.pem --counters <(cat counters) - <signed
 says 'up to counters from a pipe' 0 "$all_there Nothing is missing up to the counters."
 
+holds 'the counters of examples/signed' cmp "$root/examples/signed/signed.counters" \
+    <("$program" counters --answers "$root/examples/signed/signed.answers" <"$root/examples/signed/signed.frames")
+
 # the log goes on behind the counters
 part='Nothing is missing up to the counters, which cover only a part of this log.'
 kept '1 2' '1 0 0 9'
@@ -639,7 +642,7 @@ keys verify --key keys/public-key.pem --raw signed
 mv out raw
 for _ in 1 2 3 4 5 6 7 8; do
     # the writer writes and closes at once, when somebody opens the pipe
-    python3 -c 'import os
+    timeout "$patience" python3 -c 'import os
 log = open("signed", "rb").read()
 pipe = os.open("pipe", os.O_WRONLY)
 os.write(pipe, log)' 2>said &
