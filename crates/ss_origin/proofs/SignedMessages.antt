@@ -107,8 +107,8 @@ module _ (c : Config) (later earlier : List Turn) (t : Turn) (message : List ℕ
 same_group : (grouping : Grouping) (a b : ℕ) → group_of grouping a ≡ group_of grouping b → a ≡ b
 same_group grouping a b e = ap (λ g. g.spri) e
 
--- a signature block that covers the message's number, with the hashes of the messages from its first number on, has this
--- message's hash there
+-- a signature block that covers the message's number, with the hashes of the messages from its first number on, has
+-- this message's hash there
 module _ (s : Setting) (chain : List (List Turn)) (message : List ℕ) (before after : List (List ℕ)) where
   abbrev group : ℕ
   group = spri_in s.config.grouping message

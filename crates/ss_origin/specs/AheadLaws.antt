@@ -30,8 +30,8 @@ pub record IsGiven (lives : List Life) (message : List ℕ) : Type 0 where
   pub stamp : Option Moment
   pub call : turn.call ≡ Submit message stamp
 
--- The number that it got in its group: the first one with which its originator began, and one more for each message of the
--- group that came before it.
+-- The number that it got in its group: the first one with which its originator began, and one more for each message of
+-- the group that came before it.
 abbrev pub number_given : {lives : List Life} {message : List ℕ} → Config → IsGiven lives message → ℕ
 number_given {message = message} c g =
     let spri = spri_in c.grouping message in number_in g.life.start.counters.groups spri + length (messages_of c.grouping spri (calls_of g.earlier))
@@ -42,15 +42,15 @@ abbrev pub MessagesAheadAreSigned : Type 0
 MessagesAheadAreSigned = (s : Setting) (lives : List Life) → IsChainAhead s lives → (message : List ℕ) (g : IsGiven lives message)
     → ¬ IsPending s.config g.later g.turn g.earlier message → IsSigned s g.life.turns message (number_given s.config g)
 
--- No number of a group is given twice: two messages that got one number are one, and were accepted in the same call, which
--- has as many originators behind it, and as many of its own originator's turns.
+-- No number of a group is given twice: two messages that got one number are one, accepted in one call. It has as many
+-- originators before it, and as many turns of its own originator.
 abbrev pub NumbersAreGivenOnce : Type 0
 NumbersAreGivenOnce = (s : Setting) (lives : List Life) → IsChainAhead s lives → (m n : List ℕ) (g : IsGiven lives m) (h : IsGiven lives n)
     → spri_in s.config.grouping m ≡ spri_in s.config.grouping n → number_given s.config g ≡ number_given s.config h
     → (m ≡ n) × (length g.older ≡ length h.older) × (length g.earlier ≡ length h.earlier)
 
--- The numbers that are left out between the last counters of an originator and those with which the next one began are in
--- no block.
+-- The numbers that are left out between the last counters of an originator and those with which the next one began are
+-- in no block.
 abbrev pub SkippedNumbersAreInNoBlock : Type 0
 SkippedNumbersAreInNoBlock = (s : Setting) (newer older : List Life) (next last : Life) (spri number : ℕ)
     → IsChainAhead s (newer ++ next ∷ last ∷ older) → spri < 192

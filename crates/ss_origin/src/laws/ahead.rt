@@ -9,8 +9,8 @@ pub fn chains_go_on_ahead()
     ensures { ChainsGoOnAhead }
 {}
 
-/// Two signature blocks that such a chain sent, and that have a hash for one number of a group or one GBC, are copies of
-/// one.
+/// Two signature blocks that such a chain sent, and that have a hash for one number of a group or one GBC, are copies
+/// of one.
 pub fn numbers_are_in_one_block()
     ensures { NumbersAheadAreInOneBlock }
 {
