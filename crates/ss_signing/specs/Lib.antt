@@ -3,3 +3,4 @@ pub mod Wants
 pub mod Run
 pub mod Jobs
 pub mod Sending
+pub mod PlanLaws

@@ -5,6 +5,7 @@
 mod blank;
 mod calls;
 mod fault;
+pub mod laws;
 mod log;
 mod output;
 mod plan;
