@@ -406,7 +406,12 @@ says 'counters of blocks alone' 0 "$all_there $part" \
 as_reviewed 'counters of blocks alone' signed --counters counters
 kept '1 0 0 11'
 keys verify --key keys/public-key.pem --counters counters signed
-says 'counters of messages alone' 0 "$all_there $part"
+says 'counters of messages alone' 0 "$all_there $part" \
+    "$known 10, and to the signature block that GBC counts as 2; the counters go as far, to number 10, but name no signature block"
+kept '1 0 0 10'
+keys verify --key keys/public-key.pem --counters counters signed
+says 'counters of fewer messages alone' 0 "$all_there $part" \
+    "$known 10, and to the signature block that GBC counts as 2; the counters cover only the front, up to number 9"
 kept '1 0' '1 0 0 1'
 keys verify --key keys/public-key.pem --counters counters signed
 says 'counters of nothing' 0 "$all_there $part" \

@@ -78,6 +78,8 @@ def counters_words(group: Reached) -> str:
         return f"the counters go on to number {last}{gbc}"
     if group.is_covered:
         return f"the counters go as far, to number {last}{gbc}"
+    if last == group.last and not gbc:
+        return f"the counters go as far, to number {last}, but name no signature block"
     return f"the counters cover only the front, up to number {last}{gbc}"
 
 
