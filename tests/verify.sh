@@ -576,6 +576,10 @@ keys verify --key keys/public-key.pem --counters "$TMPDIR" signed
 refuses 'a folder of counters' "ssign-keys: the counters file $TMPDIR can't be read: Is a directory"
 keys verify --key keys/public-key.pem --counters counters.1 --counters counters.2 both
 refuses 'two files of counters' "ssign-keys: --counters can be given only once: put the files one behind the other (\`cat\`)"
+keys verify --key keys/public-key.pem --counters /dev/stdin - < <(cat counters.1)
+refuses 'one pipe for the log and the counters' "ssign-keys: standard input can't be both the log and the counters file"
+keys verify --key keys/public-key.pem --counters /dev/stdin signed < <(cat counters.1)
+says 'counters on standard input' 0 "$all_there Nothing is missing up to the counters."
 kept 'x'
 python3 -B "$root/tests/verdicts.py" terminal "$keys_program" verify --key keys/public-key.pem --counters counters signed >out 2>err
 holds 'a bad line of counters on a terminal: the sentence of ssign explain' grep -qFx "$("$program" explain C1)" out

@@ -4,6 +4,8 @@ What is missing up to them, ssign reports. They are read here too, since a repor
 """
 from __future__ import annotations
 
+import os
+import stat
 from typing import BinaryIO, Dict, Optional, Tuple
 
 from .blocks import Session
@@ -46,6 +48,15 @@ class Counters:
     def next_number(self, session: Session, sg: int, spri: int) -> Optional[int]:
         """The number of the next message of a group, or None where no counter says it."""
         return self._groups.get((session, sg, spri))
+
+
+def is_standard_pipe(path: str) -> bool:
+    """Whether a path names standard input, where that is a pipe: what one reader takes, no other gets."""
+    try:
+        given = os.fstat(0)
+        return stat.S_ISFIFO(given.st_mode) and os.path.samestat(os.stat(path), given)
+    except (OSError, ValueError):
+        return False
 
 
 def copy_counters(path: str, workplace: Workplace) -> str:

@@ -12,7 +12,7 @@ from . import trust as trust_options
 from .answer import answers
 from .blocks import Session
 from .faults import Fault
-from .kept import Counters, copy_counters, read_counters
+from .kept import Counters, copy_counters, is_standard_pipe, read_counters
 from .logs import Log, open_log
 from .machine import Machine
 from .person import Person
@@ -67,6 +67,7 @@ def run(arguments: argparse.Namespace) -> int:
         with Workplace() as workplace:
             refuse_to_overwrite(arguments.answers_out)
             refuse_two_counters(arguments.counters)
+            refuse_one_pipe(arguments.counters, arguments.logs)
             trust = Trust.from_arguments(arguments)
             missing = find_missing(program, arguments, workplace, progress)
             log = open_log(arguments.logs, arguments.lines, workplace, progress)
@@ -205,6 +206,12 @@ def refuse_two_counters(paths: Optional[List[str]]) -> None:
     """Refuses a second counters file, before anything is done."""
     if paths is not None and len(paths) > 1:
         raise Fault("--counters can be given only once: put the files one behind the other (`cat`)")
+
+
+def refuse_one_pipe(paths: Optional[List[str]], logs: List[str]) -> None:
+    """Refuses a pipe for both the log and the counters, since the log would be empty behind the counters."""
+    if paths and "-" in logs and is_standard_pipe(paths[0]):
+        raise Fault("standard input can't be both the log and the counters file")
 
 
 def find_missing(program: str, arguments: argparse.Namespace, workplace: Workplace, progress: Progress) -> Missing:
