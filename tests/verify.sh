@@ -357,7 +357,7 @@ count() {
 # the front of the line that says how far a group is known
 known='  session gate signer - 1, SG 0, SPRI 0: known up to the message with number'
 nothing_of_it='no block that is believed announces a message of it'
-both_said='The verdict says nothing of what was sent both behind the counters and behind the last block that is here:'
+both_said='The verdict says nothing of what was sent after the counters and after the last block that is here:'
 both_end='Whether anything came behind these, and is missing, nobody can tell from this log and these counters.'
 log_said='The verdict says nothing of what was sent behind the last block that is here:'
 log_end='Whether anything came behind these, and is missing, nobody can tell from this log.'

@@ -182,8 +182,8 @@ class Person(Teller):
         self._put(f"Verdict: {sentence(status, self.totals, self.states, self.missing or 0, self.reach.coverage())}")
         if not self.reach:
             return
-        both = "" if self.counters is None else "both behind the counters and "
-        self._put(f"The verdict says nothing of what was sent {both}behind the last block that is here:")
+        where = "behind" if self.counters is None else "after the counters and after"
+        self._put(f"The verdict says nothing of what was sent {where} the last block that is here:")
         for it in self.reach:
             host, app, procid, rsid = map(shown, it.session)
             counted = "" if self.counters is None else f"; {counters_words(it)}"
