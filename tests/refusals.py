@@ -25,15 +25,17 @@ import threading
 
 import cost_logs as logs
 from counters import counters_text
+from kept import kept_text, status_of as kept_status_of
 from review_examples import A, A2, ALL, B, C, CX, C9A, C9B, H, M1, M2, P1, READINGS, S, S7, certificate, signature
-from review_model import Log
-from review_runs import answers_text, answers_to, frame, joined, line, read_frames, read_lines, run
+from review_model import Log, review
+from review_runs import answers_text, answers_to, frame, joined, line, read_frames, read_lines, report_text, run
+from tally import tally_text
 from whole import status_of, whole_text
 
 HERE = os.path.dirname(os.path.abspath(__file__))
-# the codes of each command, in their order: what belongs to the answers comes before the log
+# the codes of each command, in their order: what belongs to counters and answers comes before the log
 CODES = {
-    "review": "(W2 )+(A4 )*((F4|V1|W2) )*",
+    "review": "(W2 )+(C4 )*(A4 )*((F4|V1|W2) )*",
     "extract": "(W2 )+(A4 )*((F4|V1|W2) )*",
     "counters": "(W2 )+(A4 )*((F4|V1|W2) )*",
     "questions": "(W2 )*((F4|V1|W2) )*",
@@ -49,7 +51,7 @@ WORDS_ALONE = 80
 BUFFER = 65536
 
 # `wanted` is all that a run says, or its status; `some` is whether some allocations are refused alone
-Case = collections.namedtuple("Case", "name words log wanted answers some", defaults=[None, False])
+Case = collections.namedtuple("Case", "name words log wanted answers some counters", defaults=[None, False, None])
 Said = collections.namedtuple("Said", "status out err")
 
 passed = failed = 0
@@ -153,6 +155,61 @@ def reviews():
     yield reviewed("a log that nobody answers for", "review", log, nobody, "--whole")
     yield reviewed("a clean log", "counters", log, example)
     yield reviewed("a log with no digit behind it", "counters", log + b"x", example)
+
+
+# what was kept of EVERYTHING and of a session that it hasn't: in any order, one twice, and less and more than is there
+KEPT = ["count i s - 7 2", "count h s - 1 0 0 20", "count h s - 1 9", "count h s - 1 1 14 4", "count i s - 7 0 0 3", "count h s - 1 3",
+        "count h s - 1 1 13 2"]
+
+
+def kept_reviews():
+    """Reviews up to counters that were kept, and refusals of their files."""
+    everything = answers_of(EVERYTHING, (lambda payload: payload == P1, accepted))
+    text = answers_text(*everything)
+    for unit, words in ((frame, []), (line, ["--lines"])):
+        octets = b"".join(map(unit, EVERYTHING)) + unit(M1)[:-1]
+        messages, torn = (read_lines if words else read_frames)(octets)
+        wanted = kept_text(Log(messages), *everything, KEPT, torn)
+        yield Case("review of everything, up to counters" + ", as lines" * bool(words), ["review", *words], octets,
+                   Said(kept_status_of(wanted), joined(wanted), b""), text, counters=joined(KEPT))
+    octets = b"".join(map(frame, EXAMPLE))
+    text = answers_text(*answers_of(EXAMPLE, ALL))
+    own = ["count h s - 1 1", "count h s - 1 0 0 3"]
+    wanted = kept_text(Log(EXAMPLE), *answers_of(EXAMPLE, ALL), own)
+    yield Case("review of a clean log, up to its counters", ["review"], octets, Said(0, joined(wanted), b""), text, counters=joined(own))
+    yield Case("review of an empty log, up to counters", ["review"], b"", 1, None, counters=joined(own * 20))
+    for name, lines in (("an empty line", ["count h s - 1 1", ""]), ("a leading zero", [*own, "count h s - 1 01"])):
+        yield Case("counters: " + name, ["review"], octets, refused("C1 %d" % len(lines)), text, counters=joined(lines))
+    yield Case("counters: a folder", ["review", "--counters", HERE], octets, refused("C2"), text)
+    yield Case("counters: a bad line, and one of the answers", ["review"], octets, refused("C1 1"), b"want\n", counters=b"count\n")
+
+
+def tallies():
+    """Tallies of what is reviewed above, and reports in the other forms."""
+    everything = answers_of(EVERYTHING, (lambda payload: payload == P1, accepted))
+    octets, text = b"".join(map(frame, EVERYTHING)), answers_text(*everything)
+    wanted = tally_text(report_text(review(Log(EVERYTHING), *everything)))
+    yield Case("review --tally of everything", ["review", "--tally"], octets, Said(1, joined(wanted), b""), text)
+    for words in (["--tally", "--json", "--whole"], ["--json"], ["--findings", "--json"]):
+        yield Case("review %s of everything" % " ".join(words), ["review", *words], octets, 1, text, counters=joined(KEPT))
+    yield Case("counters --json of everything", ["counters", "--json"], octets, 0, text)
+
+
+def extracts():
+    """Extracts of unlisted messages and of places, as frames and as lines, and their refusals."""
+    answers, log = answers_of(EXAMPLE, ALL), [*EXAMPLE, b"x\r", b"nobody"]
+    octets, text = b"".join(map(frame, log)), answers_text(*answers)
+    for unit, words in ((frame, []), (line, ["--lines-out"])):
+        name = " ".join(words)
+        yield Case("extract %s" % name, ["extract", *words], octets, Said(1, unit(M1) + unit(M2), b""), text)
+        yield Case("extract --unlisted %s" % name, ["extract", "--unlisted", *words], octets,
+                   Said(1, unit(b"x\r") + unit(b"nobody"), b""), text)
+        places = [it for place in (5, 0, 2, 5, 0) for it in ("--place", str(place))]
+        yield Case("extract of places %s" % name, ["extract", *places, *words], octets, Said(0, unit(M1) + unit(C) + unit(b"nobody"), b""))
+        yield Case("extract of a place past the end %s" % name, ["extract", *places, "--place", "6", *words], octets, refused("E1 6"))
+    octets += frame(b"a\nb")
+    yield Case("extract of a message with LF as a line", ["extract", "--unlisted", "--lines-out"], octets, refused("E2 6"), text)
+    yield Case("extract of its place as a line", ["extract", "--place", "6", "--lines-out"], octets, refused("E2 6"))
 
 
 def inspected(name, messages, torn=b""):
@@ -327,12 +384,13 @@ class Runner:
 
     def case(self, place, case, first):
         """Faults, the codes, and how often the run did without memory; `first` is the first allocation to refuse."""
-        log, answers = (os.path.join(self.folder, "%d.%s" % (place, end)) for end in ("log", "answers"))
-        for path, octets in ((log, case.log), (answers, case.answers)):
+        log, answers, counters = (os.path.join(self.folder, "%d.%s" % (place, end)) for end in ("log", "answers", "counters"))
+        for path, octets in ((log, case.log), (answers, case.answers), (counters, case.counters)):
             if octets is not None:
                 with open(path, "wb") as file:
                     file.write(octets)
         words = case.words + ([] if case.answers is None else ["--answers", answers])
+        words += [] if case.counters is None else ["--counters", counters]
         clean, count = self.run(words, log, 0)
         wanted = clean._replace(status=case.wanted) if isinstance(case.wanted, int) else case.wanted
         faults = ["" if clean == wanted else "it says %r, and not %r" % (clean, wanted)]
@@ -348,7 +406,7 @@ class Runner:
             if said == clean and (number == count + 1 or clean.status == 2 or kind in DO_WITHOUT):
                 without += number <= count
                 faults.append("" if number <= count or asked == count else "it asks for %d allocations" % asked)
-            elif number <= count and said == refused(code) and re.fullmatch(r"F4|A4|V1|W2|O10( \d+)?", code):
+            elif number <= count and said == refused(code) and re.fullmatch(r"F4|A4|C4|V1|W2|O10( \d+)?", code):
                 codes.append(code)
                 faults.append("")
             else:
@@ -368,7 +426,7 @@ def firsts(cases):
     """The first allocation to refuse of each case."""
     seen = set()
     for case in cases:
-        words = (*case.words, case.answers is None)
+        words = (*case.words, case.answers is None, case.counters is None)
         yield WORDS_ALONE if words in seen else 1
         seen.add(words)
 
@@ -385,7 +443,8 @@ def main():
     parser.add_argument("library", nargs="?", default="")
     parser.add_argument("--show", action="store_true")
     given = parser.parse_args()
-    cases = [case for make in (reviews, inspections, answers, signings, refused_signings, others, long_outputs)
+    cases = [case for make in (reviews, kept_reviews, tallies, extracts, inspections, answers, signings, refused_signings, others,
+                               long_outputs)
              for case in make()]
     first = cases[0].wanted.out.decode().splitlines()
     for word in WORDS:
