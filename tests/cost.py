@@ -42,13 +42,14 @@ TUNED = {"GLIBC_TUNABLES": "glibc.cpu.x86_rep_movsb_threshold=1000000000:glibc.c
 ROOM, ROOM_FOR_EACH = 1 << 19, 32
 # a run that takes more seconds hangs, however busy the machine is
 PATIENCE = 300
-COMMANDS = REVIEW, WHOLE, EXTRACT, QUESTIONS, INSPECT, PLAN, SIGN, COUNTERS = (
-    "review", "review --whole", "extract", "questions", "inspect", "plan", "sign", "counters")
+COMMANDS = REVIEW, WHOLE, KEPT, TALLY, EXTRACT, UNLISTED, QUESTIONS, INSPECT, PLAN, SIGN, COUNTERS = (
+    "review", "review --whole", "review --counters", "review --tally", "extract", "extract --unlisted", "questions", "inspect", "plan",
+    "sign", "counters")
 
 # each shape, how large its smaller input is, the commands whose steps are counted, and those of which the rest is
 SHAPES = [
-    (logs.signed, 900, [REVIEW, QUESTIONS, EXTRACT, INSPECT], [COUNTERS]),
-    (logs.unanswered, 900, [], [REVIEW, EXTRACT]),
+    (logs.signed, 900, [REVIEW, QUESTIONS, EXTRACT, INSPECT], [COUNTERS, TALLY]),
+    (logs.unanswered, 900, [], [REVIEW, EXTRACT, UNLISTED]),
     (logs.by_sha256, 900, [], [REVIEW]),
     (logs.falling, 900, [], [WHOLE, QUESTIONS, EXTRACT]),
     (logs.equal, 900, [REVIEW], [EXTRACT]),
@@ -56,7 +57,11 @@ SHAPES = [
     (logs.hashes_alike, 450, [REVIEW], []),
     (logs.sessions, 900, [COUNTERS, QUESTIONS], [REVIEW, EXTRACT]),
     (logs.hosts_alike, 900, [REVIEW], [QUESTIONS]),
-    (logs.groups, 768, [REVIEW, COUNTERS], []),
+    (logs.groups, 768, [REVIEW, COUNTERS], [TALLY]),
+    (logs.kept_sessions, 900, [KEPT], []),
+    (logs.kept_groups, 768, [KEPT], []),
+    (logs.kept_absent, 900, [KEPT], []),
+    (logs.kept_equal, 6000, [KEPT], []),
     (logs.apart, 900, [WHOLE], []),
     (logs.far_apart, 900, [WHOLE], []),
     (logs.disputed, 900, [REVIEW], []),
@@ -238,7 +243,11 @@ class Bench:
         if command == SIGN:
             wants = run([self.program, PLAN] + words, log)[1].splitlines()
             lines += [b"seal " + line[5:] + b" AAAA" for line in wants]
-        if command in (REVIEW, WHOLE, EXTRACT, SIGN, COUNTERS):
+        if command == KEPT:
+            with open(log + ".counters", "wb") as file:
+                file.writelines(line + b"\n" for line in made.counters)
+            words = [log + ".counters", *words]
+        if command in (REVIEW, WHOLE, KEPT, TALLY, EXTRACT, UNLISTED, SIGN, COUNTERS):
             with open(log + ".answers", "wb") as file:
                 file.writelines(line + b"\n" for line in lines)
             words = words + ["--answers", log + ".answers"]
@@ -248,7 +257,7 @@ class Bench:
         if self.counter and stepped:
             with open(log, "rb") as file:
                 counts["steps"] = self.counter.count(words, stdin=file, env={**self.environment, **TUNED}) or 0
-        return counts, fault_of(said, made.says[command], command in (EXTRACT, SIGN))
+        return counts, fault_of(said, made.says[command], command in (EXTRACT, UNLISTED, SIGN))
 
     def counts(self, made, name, commands, stepped):
         """The same of each command, as frames and as lines."""

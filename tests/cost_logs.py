@@ -13,17 +13,20 @@ SIGN = b"AAAA"
 LAST = 9_999_999_999
 LONGEST = 99_999_999
 LONG_LINES = ["--max-len", "1048576"]
+# HOSTNAME, APP-NAME and PROCID of the sessions
+NAMES = b" ".join(HEAD.split()[2:5])
 # a review of an ordinary message reads no further than a scan for this; with it behind a text, that is parsed
 PARSED = b"[ssign]"
 
 
 class Input:
-    """A log, its answers, and what each command says."""
+    """A log, its answers, the counters that were kept of it, and what each command says."""
 
     def __init__(self, *options, payload=PAYLOAD, answered=True):
         self.messages, self.options, self.says = [], list(options), {}
         self.payload = b64(payload)
         self.answers = [b"trust " + self.payload] if answered else []
+        self.counters = []
 
     def put(self, *texts):
         self.messages += texts
@@ -33,6 +36,10 @@ class Input:
         self.messages.append(front + b' SIGN="' + sign + b'"' + back)
         if valid:
             self.answers.append(b"yes %s %s %s" % (self.payload, b64(front + back), sign))
+
+    def keep(self, number, rsid=7, group=None, names=NAMES):
+        """A counter of a session, or of a group."""
+        self.counters.append(b"count %s %d" % (names, rsid) + (b" %d %d" % group if group else b"") + b" %d" % number)
 
     def say(self, command, status, told):
         self.says[command] = (status, told)
@@ -44,6 +51,14 @@ class Input:
     def whole(self, status, **words):
         """The same, with missing blocks."""
         return self.say("review --whole", status, {**words, "end": 1})
+
+    def kept(self, status, **words):
+        """The same, up to the counters."""
+        return self.say("review --counters", status, {**words, "end": 1})
+
+    def tally(self, status, **words):
+        """The lines of a tally."""
+        return self.say("review --tally", status, {**words, **{"%s-count" % it: 1 for it in ("unlisted", "refused", "spoilt")}, "end": 1})
 
 
 def announcing(*hashes, first=1, gbc=0, rsid=7, group=(0, 0)):
@@ -61,8 +76,11 @@ def nothing(n=0):
     made.say("questions", 0, {})
     made.say("extract", 0, 0)
     made.say("inspect", 0, {"end": 1})
+    made.say("extract --unlisted", 0, 0)
     made.say("counters", 0, {})
     made.whole(0)
+    made.kept(0)
+    made.tally(0)
     return made.review(0)
 
 
@@ -81,6 +99,7 @@ def signed(n):
     made.say("questions", 0, {"trust": 1, "yes": 1 + n // 10})
     made.say("extract", 0, n)
     made.say("counters", 0, {"count": 2})
+    made.tally(0, session=1, tally=1)
     return made.say("inspect", 0, {"certificate": 1, "plain": n, "signature": n // 10, "end": 1})
 
 
@@ -89,6 +108,7 @@ def unanswered(n):
     made = signed(n)
     made.answers = []
     made.say("extract", 1, 0)
+    made.say("extract --unlisted", 1, n)
     made.say("counters", 0, {})
     made.whole(1, session=1, unlisted=n, refused=1 + n // 10)
     return made.review(1, session=1, unlisted=n, refused=1 + n // 10)
@@ -182,7 +202,44 @@ def groups(n):
             made.put_block(certificate(rsid=i // 768))
         made.put_block(announcing(number(i), gbc=i, rsid=i // 768, group=(i % 768 // 192, i % 192)))
     made.say("counters", 0, {"count": -(-n // 768) + n})
+    made.tally(1, session=-(-n // 768), tally=n)
     return made.review(1, session=-(-n // 768), gap=n)
+
+
+def kept_sessions(n):
+    """Counters of each of many sessions, behind what the log has of it."""
+    made = sessions(n)
+    for i in range(n):
+        made.keep(3, i * 4241 % n)
+        made.keep(5, i * 4241 % n, (0, 0))
+    return made.kept(1, session=n, gap=n, tail=n, blocks=n)
+
+
+def kept_groups(n):
+    """Counters of 768 groups in each session, in falling order. The blocks of a session but the first begin with a great GBC."""
+    made = groups(n)
+    for i in reversed(range(n)):
+        made.keep(3, i // 768, (i % 768 // 192, i % 192))
+    more = -(-n // 768) - 1
+    return made.kept(1, session=1 + more, gap=n, tail=n, **({"blocks": more} if more else {}))
+
+
+def kept_absent(n):
+    """Counters of as many sessions that the log has no block of, whose HOSTNAME differs at its end alone."""
+    made = Input()
+    for i in range(n):
+        names = b"h" * 48 + b"%07d s -" % (i * 7919 % n)
+        made.keep(2, 1, None, names)
+        made.keep(4, 1, (0, 0), names)
+    return made.kept(1, session=n, tail=n, blocks=n)
+
+
+def kept_equal(n):
+    """As many counters of one group."""
+    made = Input()
+    for i in range(n):
+        made.keep(2 + i, 7, (0, 0))
+    return made.kept(1, session=1, tail=1)
 
 
 def apart(n):
