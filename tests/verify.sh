@@ -127,6 +127,13 @@ fi
 keys verify --key keys/public-key.pem <(printf '') && says 'an empty log' 0 \
     'Verdict: NOTHING WAS SIGNED: the log is empty, so nothing in it is changed, and nobody can say what is missing.'
 
+# certificate blocks alone: the session is joined, and nothing is announced
+grep -v '\[ssign ' signed.lines >unannounced.lines
+keys verify --key keys/public-key.pem --lines unannounced.lines
+says 'the signature blocks taken out' 1 "$joined" \
+    'Verdict: FINDINGS: no block that is believed announces a message; 10 stored messages are unlisted.'
+as_reviewed 'the signature blocks taken out' unannounced.lines --lines
+
 # several files: the first ends behind the seventh message, the second holds the rest and a message that nobody signed
 python3 -B "$root/tests/verdicts.py" split signed 7 first second
 { cat second; frame '<13>1 - - - - - - nobody signed this'; } >third
@@ -539,6 +546,19 @@ says 'another key, up to counters' 1 '  state: untrusted; its key is none that y
     '  missing or unlisted, by the counters: SG 0, SPRI 0 (all messages), numbers 1 to 10 (10 messages); no block that is believed announces a message of this group' \
     "${nothing%.}; 10 messages up to the counters are missing or unlisted; 3 signature blocks are missing or aren't believed." \
     "  session gate signer - 1, SG 0, SPRI 0: $nothing_of_it; the counters go on to number 10, and to GBC 2"
+keys sign --key others/private-key.pem --host gate --app signer --rsid 2 --lines "$ten"
+cat signed out >both
+keys verify --key keys/public-key.pem --counters counters both
+says 'a session of another key, which the counters do not name' 1 \
+    '  state: untrusted; its key is none that you trust, so nothing of it counts'
+holds 'a session of another key, which the counters do not name: they cover a part' \
+    grep -q "^Verdict: FINDINGS: .*; 1 session isn't believed\\. ${part//./\\.}\$" out
+as_reviewed 'a session of another key, which the counters do not name' both --counters counters
+kept '1 3' '1 0 0 11' '2 0'
+keys verify --key keys/public-key.pem --counters counters both
+holds 'a session of another key, which sent no block by the counters: they cover all' \
+    grep -q "^Verdict: FINDINGS: .*; 1 session isn't believed\\. Nothing is missing up to the counters\\.\$" out
+kept '1 3' '1 0 0 11'
 keys verify --key others/public-key.pem --counters /dev/null signed
 says 'another key, and counters without a line' 1 "$nothing The counters file has no line, so it shows nothing."
 keys verify --key keys/public-key.pem --counters counters --lines "$ten"

@@ -6,7 +6,7 @@ from __future__ import annotations
 
 import os
 import stat
-from typing import BinaryIO, Dict, Optional, Tuple
+from typing import BinaryIO, Dict, Optional, Set, Tuple
 
 from .blocks import Session
 from .faults import Fault
@@ -26,11 +26,13 @@ class Counters:
         """No counter yet."""
         self._blocks: Dict[Session, int] = {}
         self._groups: Dict[Tuple[Session, int, int], int] = {}
+        self._sessions: Set[Session] = set()
 
     def add(self, line: bytes) -> None:
         """Takes a line of a file that ssign didn't refuse."""
         fields = line.rstrip(b"\n").split(b" ")
         session, numbers = Session(*fields[1:5]), [int(it) for it in fields[5:]]
+        self._sessions.add(session)
         if len(numbers) == 1:
             self._blocks[session] = max(numbers[0], self._blocks.get(session, 0))
         else:
@@ -39,7 +41,11 @@ class Counters:
 
     def is_empty(self) -> bool:
         """Whether there is no counter."""
-        return not self._blocks and not self._groups
+        return not self._sessions
+
+    def names(self, session: Session) -> bool:
+        """Whether a counter is one of this session."""
+        return session in self._sessions
 
     def next_gbc(self, session: Session) -> Optional[int]:
         """The GBC of the next signature block of a session, or None where no counter says it."""

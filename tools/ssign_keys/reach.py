@@ -15,7 +15,7 @@ class Coverage(enum.Enum):
     NOTHING = enum.auto()
     """There is no counter."""
     PART = enum.auto()
-    """The log goes on behind a counter, or has a group without one."""
+    """The log goes on behind a counter, or has a group, or a session that isn't believed, without one."""
     ALL = enum.auto()
 
 
@@ -52,6 +52,7 @@ class Reach:
         """No group yet."""
         self._counters = counters
         self._groups: List[Reached] = []
+        self._has_unknown = False
 
     def __iter__(self) -> Iterator[Reached]:
         """The groups."""
@@ -71,6 +72,12 @@ class Reach:
         self._groups.insert(place, Reached(session, sg, spri, last, gbc, counters.next_number(session, sg, spri),
                                            counters.next_gbc(session), fallen, first_fallen))
 
+    def pass_over(self, session: Session) -> None:
+        """Takes a session of the log that isn't joined, so it has no group of its own: only counters can say how far it
+        went."""
+        if self._counters is not None and not self._counters.names(session):
+            self._has_unknown = True
+
     @staticmethod
     def _stands_behind(group: Reached, session: Session, sg: int, spri: int) -> bool:
         return group.session == session and (group.sg, group.spri) > (sg, spri)
@@ -81,4 +88,5 @@ class Reach:
             return None
         if self._counters.is_empty():
             return Coverage.NOTHING
-        return Coverage.ALL if all(it.is_covered for it in self._groups) else Coverage.PART
+        is_whole = not self._has_unknown and all(it.is_covered for it in self._groups)
+        return Coverage.ALL if is_whole else Coverage.PART

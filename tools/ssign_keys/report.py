@@ -192,6 +192,8 @@ class Reading:
             self._session = Session(*fields[:4])
             state = fields[4].decode("ascii")
             teller.states[state] = teller.states.get(state, 0) + 1
+            if state not in ("joined", "absent"):
+                teller.reach.pass_over(self._session)
             teller.session(self._session, state)
         elif word == b"tail" and teller.counters is not None:
             self._take_tail(*map(int, fields[4:8]))

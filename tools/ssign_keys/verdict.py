@@ -1,7 +1,7 @@
 """The verdict on a log: a sentence or a few, made of the counts of its report and of the status that ssign gave."""
 from __future__ import annotations
 
-from typing import Dict, List, Optional
+from typing import Dict, Optional
 
 from .reach import Coverage
 from .report import Totals
@@ -116,18 +116,7 @@ def order(totals: Totals) -> str:
 
 def findings(totals: Totals, missing: int, absent: int, unbelieved: int) -> str:
     """Of a log with a session that is joined, in which something isn't as it was signed."""
-    signed = totals.listed + totals.lost + totals.disputed
-    parts: List[str] = []
-    if totals.lost:
-        parts.append(f"{totals.lost} {'is' if totals.lost == 1 else 'are'} missing or changed")
-    if totals.disputed:
-        parts.append(f"{totals.disputed} {'is' if totals.disputed == 1 else 'are'} disputed")
-    said = (
-        f"FINDINGS: of {counted(signed, 'announced message')} "
-        f"{totals.listed} {'is' if totals.listed == 1 else 'are'} there, unchanged"
-    )
-    if parts:
-        said += ", and " + ", and ".join(parts)
+    said = f"FINDINGS: {announced(totals)}"
     items = [
         several(totals.unannounced, "number isn't announced", "numbers aren't announced"),
         tails(totals),
@@ -143,6 +132,24 @@ def findings(totals: Totals, missing: int, absent: int, unbelieved: int) -> str:
     if totals.torn is not None:
         said += "; the log breaks off"
     return said + "." + order(totals)
+
+
+def announced(totals: Totals) -> str:
+    """How many of the announced messages are there, and what is wrong with the others."""
+    signed = totals.listed + totals.lost + totals.disputed
+    if signed == 0:
+        return "no block that is believed announces a message"
+    said = f"of {counted(signed, 'announced message')} {are(totals.listed)} there, unchanged"
+    if totals.lost:
+        said += f", and {are(totals.lost)} missing or changed"
+    if totals.disputed:
+        said += f", and {are(totals.disputed)} disputed"
+    return said
+
+
+def are(count: int) -> str:
+    """A count with its verb."""
+    return f"{count} {'is' if count == 1 else 'are'}"
 
 
 def several(count: int, one: str, many: str) -> str:
