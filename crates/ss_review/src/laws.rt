@@ -5,4 +5,5 @@ mod delivered;
 pub mod deliveries;
 pub mod kept;
 pub mod reports;
+pub mod reviewers;
 mod whole;
