@@ -98,3 +98,9 @@ pub mod CleanUpTo
 pub mod CountersGiven
 pub mod CountersInRange
 pub mod LostTold
+pub mod FilteredAlike
+pub mod OnesInOrder
+pub mod PartBlocks
+pub mod PartKeys
+pub mod PartAssigned
+pub mod PartSessions

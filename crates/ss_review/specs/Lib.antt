@@ -44,3 +44,5 @@ pub mod Delivered
 pub mod Whole
 pub mod CounterText
 pub mod CounterRange
+pub mod Parts
+pub mod PartLaws

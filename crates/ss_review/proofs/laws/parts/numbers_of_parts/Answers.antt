@@ -1,0 +1,10 @@
+use Rattle.ss_review.specs.Sessions.{sessions}
+use Rattle.ss_review.specs.Parts.{blocks_of}
+use Rattle.ss_origin.proofs.Members.{has_from_contains}
+use Rattle.ss_review.proofs.PartAssigned.{same_assigned}
+use Rattle.ss_review.proofs.PartBlocks.{is_own}
+use Rattle.ss_review.proofs.laws.parts.numbers_of_parts.Goals as goal
+
+pub returns : goal.returns
+returns c = λ says log part whole stay k j h.
+    same_assigned part log k whole says stay j (is_own part log.blocks k j.session (has_from_contains (sessions (blocks_of part k log.blocks)) j.session h))

@@ -1,0 +1,14 @@
+use Rattle.std.proofs.Common.{refl}
+use Rattle.ss_review.specs.Sessions.{sessions}
+use Rattle.ss_review.specs.Parts.{blocks_of}
+use Rattle.ss_origin.proofs.Members.{has_from_contains, contains_from_has}
+use Rattle.ss_review.proofs.PartBlocks.{has-own, is_own, its_own, has_its_blocks}
+use Rattle.ss_review.proofs.laws.parts.sessions_of_parts.Goals as goal
+
+pub returns : goal.returns
+returns c = λ says bs part whole. (
+  λ b h.
+      contains_from_has (sessions (blocks_of part (part b.place) bs)) b.session
+      (its_own part bs (part b.place) b.session (b, has-own part bs (part b.place) b (has_from_contains bs b h) refl, refl)),
+  λ k s h. has_its_blocks part bs k whole says s (is_own part bs k s (has_from_contains (sessions (blocks_of part k bs)) s h)),
+)
