@@ -6,10 +6,9 @@ use Rattle.std.specs.Ordering.{match_ordering, ordering_reverse}
 use Rattle.std.specs.Cmp.{IsTotalOrder}
 use Rattle.std.specs.List.{AllByRecursion}
 use Rattle.std.specs.List.Sorted.{IsStrictlySortedBy}
-use Rattle.std.proofs.lemmas.Cmp.{tied_itself}
 use Rattle.ss_review.specs.Ordered.{with_member, in_order}
 use Rattle.ss_origin.proofs.Members.{Has}
-use Rattle.ss_review.proofs.Rising.{below_all, all_below, not_less_itself, reversed, same_members}
+use Rattle.ss_review.proofs.Rising.{below_all, all_below, reversed, same_members}
 
 module _ {K : Type 0} {R : K → K → Ordering} (o : IsTotalOrder R) where
   -- elements of a list that rises which tie are one
@@ -111,3 +110,13 @@ rise_told {K} {X} R Q f by (k ∷ ks) up = (told ks up.0, rise_told R Q f by ks 
     told : (js : List K) → AllByRecursion (λ j. R k j ≡ Less) js → AllByRecursion (λ (x : X). Q (f k) x ≡ Less) (map f js)
     told [] a = tt
     told (j ∷ js) a = (by k j ∙ a.0, told js a.1)
+
+-- what rises by its keys
+pub rise_by_key : {K X : Type 0} (key : X → K) (R : K → K → Ordering) (xs : List X) → IsStrictlySortedBy R (map key xs) → IsStrictlySortedBy (λ x y. R (key x) (key y)) xs
+unfolding IsStrictlySortedBy
+rise_by_key key R [] up = tt
+rise_by_key {K} {X} key R (x ∷ xs) up = (keyed xs up.0, rise_by_key key R xs up.1)
+  where
+    keyed : (ys : List X) → AllByRecursion (λ k. R (key x) k ≡ Less) (map key ys) → AllByRecursion (λ y. R (key x) (key y) ≡ Less) ys
+    keyed [] a = tt
+    keyed (y ∷ ys) a = (a.0, keyed ys a.1)

@@ -26,7 +26,7 @@ use Rattle.ss_review.proofs.TotalOrders.{key_cmp_total}
 
 -- ---- what is wanted by some hashes
 
-wanted_alike : (ms ns : List NormalMessage) (hs : List Hash) → ((h : Hash) → Has hs h → pair_of_bearer ms h ≡ pair_of_bearer ns h) → wanted_with ms hs ≡ wanted_with ns hs
+pub wanted_alike : (ms ns : List NormalMessage) (hs : List Hash) → ((h : Hash) → Has hs h → pair_of_bearer ms h ≡ pair_of_bearer ns h) → wanted_with ms hs ≡ wanted_with ns hs
 wanted_alike ms ns [] f = refl
 wanted_alike ms ns (h ∷ []) f = f h (inl refl)
 wanted_alike ms ns (h ∷ g ∷ hs) f = refl

@@ -46,3 +46,4 @@ pub mod CounterText
 pub mod CounterRange
 pub mod Parts
 pub mod PartLaws
+pub mod PartRows

@@ -1,16 +1,28 @@
 -- What holds of the parts of every log.
-use Rattle.std.specs.Prelude.{◌≡◌, ◌↔◌, ℕ, List, Contains}
+use Rattle.std.specs.Prelude.{◌≡◌, ◌↔◌, ℕ, List, map, Contains}
+use Rattle.std.specs.List.{list_all, range_with_len}
 use Rattle.ss_block.specs.declared.hash.Hash.{Hash}
 use Rattle.ss_block.specs.declared.session.Session.{Session}
 use Rattle.ss_review.specs.declared.keep.message.BlockMessage.{BlockMessage}
-use Rattle.ss_review.specs.Contents.{Contents}
+use Rattle.ss_review.specs.Notes.{notes}
+use Rattle.ss_review.specs.Contents.{Contents, contents}
 use Rattle.ss_review.specs.Sessions.{sessions, of_session}
 use Rattle.ss_review.specs.Verified.{Answers, joined, is_verified}
 use Rattle.ss_review.specs.Announced.{Key, rows}
 use Rattle.ss_review.specs.Announcing.{Announces}
 use Rattle.ss_review.specs.Assigned.{assigned}
-use Rattle.ss_review.specs.Report.{session_report}
-use Rattle.ss_review.specs.Parts.{blocks_of, part_of, SessionsStayWhole, AnnouncedStayWithBlocks}
+use Rattle.ss_review.specs.Report.{session_report, report}
+use Rattle.ss_review.specs.Verdict.{is_clean}
+use Rattle.ss_review.specs.Parts.{
+  blocks_of,
+  part_of,
+  SessionsStayWhole,
+  AnnouncedStayWithBlocks,
+  AreParts,
+  together,
+  messages_of,
+  report_of_part,
+}
 
 -- ---- sessions
 
@@ -21,11 +33,13 @@ pub record HasItsBlocks (says : Answers) (whole own : List BlockMessage) (s : Se
       → is_verified says own b ≡ is_verified says whole b
   pub announced : (k : Key) (h : Hash) → k.session ≡ s → Announces says own k h ↔ Announces says whole k h
 
--- each session is one of the part of its blocks, and has all of them there
+-- each session is one of the part of its blocks, and of no other, and has all of them there
 abbrev pub SessionsOfParts : Type 0
 SessionsOfParts =
     (says : Answers) (bs : List BlockMessage) (part : ℕ → ℕ) → SessionsStayWhole part bs
     → ((b : BlockMessage) → Contains bs b → Contains (sessions (blocks_of part (part b.place) bs)) b.session)
+    × ((k j : ℕ) (s : Session) → Contains (sessions (blocks_of part k bs)) s
+    → Contains (sessions (blocks_of part j bs)) s → k ≡ j)
     × ((k : ℕ) (s : Session) → Contains (sessions (blocks_of part k bs)) s
     → HasItsBlocks says bs (blocks_of part k bs) s)
 
@@ -48,3 +62,20 @@ SessionReportsOfParts =
     → (k : ℕ) (s : Session) → Contains (sessions (blocks_of part k log.blocks)) s
     → session_report says (part_of part k log) (rows says (part_of part k log).blocks) s
     ≡ session_report says log (rows says log.blocks) s
+
+-- ---- reports
+
+-- the report of a log is the reports of its parts put together, with the places that they have in the whole
+abbrev pub PartsAddUp : Type 0
+PartsAddUp =
+    (says : Answers) (log : List (List ℕ)) (part : ℕ → ℕ) (parts : ℕ)
+    → AreParts says (contents (notes log)) part parts
+    → report says log ≡ together (map (λ k. report_of_part says part k log) (range_with_len 0 parts))
+
+-- it is clean exactly where the report of each part is
+abbrev pub CleanWherePartsAre : Type 0
+CleanWherePartsAre =
+    (says : Answers) (log : List (List ℕ)) (part : ℕ → ℕ) (parts : ℕ)
+    → AreParts says (contents (notes log)) part parts
+    → is_clean (report says log)
+    ≡ list_all (λ k. is_clean (report says (messages_of part k log))) (range_with_len 0 parts)
