@@ -1,16 +1,22 @@
 -- What the cuts of the small logs keep.
-use Rattle.std.proofs.Common.{◌≡◌, inl, inr, ℕ, ◌-◌, ◌<◌, ◌==◌, Bool, true, false, cond, [], ◌∷◌, get_or, refl, sym, ap, ◌∙◌, subst, arith}
+use Rattle.std.proofs.Common.{◌≡◌, ◌⊎◌, inl, inr, ℕ, zero, suc, ◌-◌, ◌<◌, ◌==◌, Bool, true, false, cond, List, [], ◌∷◌, get_or, refl, sym, ap, ◌∙◌, subst, arith}
+use Rattle.std.specs.Prelude.{Some, slice_get}
 use Rattle.std.specs.List.{list_any}
 use Rattle.ss_message.specs.declared.draft.Field.{Field}
 use Rattle.ss_message.specs.declared.draft.Field.TheVariants as fields
 use Rattle.ss_block.specs.Block as block
+use Rattle.ss_block.specs.declared.hash.Hash.{Hash}
+use Rattle.ss_block.specs.declared.hash.Hash.TheVariants as hashes
+use Rattle.ss_block.specs.declared.hash.HashPair.{HashPair}
 use Rattle.ss_block.specs.declared.session.Session.{Session}
 use Rattle.ss_review.specs.declared.keep.message.NormalMessage.{NormalMessage}
 use Rattle.ss_review.specs.declared.keep.message.BlockMessage.{BlockMessage}
-use Rattle.ss_review.specs.declared.keep.message.Said.TheVariants.{Hashes}
+use Rattle.ss_review.specs.declared.keep.message.Said.{Said}
+use Rattle.ss_review.specs.declared.keep.message.Said.TheVariants.{Hashes, Fragment}
 use Rattle.ss_review.specs.Parts.{SessionsStayWhole, AnnouncedStayWithBlocks, AreParts}
-use Rattle.ss_review.specs.PartRows.{cut_off}
-use Rattle.ss_review.specs.Rows.{yes, whole_log, two_sessions_log, two_hosts_payloads_log}
+use Rattle.ss_review.specs.PartRows.{cut_off, halves_log}
+use Rattle.ss_review.specs.Assigned.{has_hash}
+use Rattle.ss_review.specs.Rows.{first, second, yes, whole_log, two_sessions_log, two_hosts_payloads_log}
 use Rattle.ss_origin.proofs.Members.{Has, has_from_contains}
 
 -- ---- one session, and a message cut off
@@ -95,3 +101,55 @@ session_kept = record {
       only_message m (has_from_contains two_hosts_payloads_log.normal m c)
       ∙ sym (only_announcer a.message (has_from_contains two_hosts_payloads_log.blocks a.message a.stored) a.said a.says_so);
 }
+
+-- ---- one session, and half of its blocks cut off
+
+abbrev half_cut : ℕ → ℕ
+half_cut = cut_off (3 ∷ 4 ∷ 5 ∷ [])
+
+half_message : (m : NormalMessage) → Has halves_log.normal m → ((half_cut m.place ≡ 0) × (m.pair ≡ first)) ⊎ ((half_cut m.place ≡ 1) × (m.pair ≡ second))
+half_message m (inl e) = inl (subst (λ (n : NormalMessage). half_cut n.place ≡ 0) e refl, ap (λ (n : NormalMessage). n.pair) (sym e))
+half_message m (inr (inl e)) = inr (subst (λ (n : NormalMessage). half_cut n.place ≡ 1) e refl, ap (λ (n : NormalMessage). n.pair) (sym e))
+half_message m (inr (inr h)) = absurd h
+
+hashes_in : Said → List Hash
+hashes_in (Hashes said) = said.hashes
+hashes_in (Fragment said) = []
+
+only_one : (h g : Hash) (i : ℕ) → slice_get (h ∷ []) i ≡ Some g → g ≡ h
+only_one h g zero e = cc
+only_one h g (suc i) e = absurd (cc)
+
+half_hash : (b : BlockMessage) → Has halves_log.blocks b → (said : block.Signature) → b.said ≡ Hashes said → (i : ℕ) (h : Hash) → slice_get said.hashes i ≡ Some h
+    → ((half_cut b.place ≡ 0) × (h ≡ hashes.Sha1 (1 ∷ []))) ⊎ ((half_cut b.place ≡ 1) × (h ≡ hashes.Sha1 (2 ∷ [])))
+unfolding hashes_in
+half_hash b (inl e) said s i h at = let no = ap (λ (d : BlockMessage). d.said) e ∙ s in absurd (cc)
+half_hash b (inr (inl e)) said s i h at =
+    let told : hashes.Sha1 (1 ∷ []) ∷ [] ≡ said.hashes = ap (λ (d : BlockMessage). hashes_in d.said) e ∙ ap hashes_in s in
+    inl (subst (λ (d : BlockMessage). half_cut d.place ≡ 0) e refl, only_one (hashes.Sha1 (1 ∷ [])) h i (ap (λ hs. slice_get hs i) told ∙ at))
+half_hash b (inr (inr (inl e))) said s i h at = let no = ap (λ (d : BlockMessage). d.said) e ∙ s in absurd (cc)
+half_hash b (inr (inr (inr (inl e)))) said s i h at =
+    let told : hashes.Sha1 (2 ∷ []) ∷ [] ≡ said.hashes = ap (λ (d : BlockMessage). hashes_in d.said) e ∙ ap hashes_in s in
+    inr (subst (λ (d : BlockMessage). half_cut d.place ≡ 1) e refl, only_one (hashes.Sha1 (2 ∷ [])) h i (ap (λ hs. slice_get hs i) told ∙ at))
+half_hash b (inr (inr (inr (inr n)))) said s i h at = absurd n
+
+not_of_second : (h : Hash) (p : HashPair) → h ≡ hashes.Sha1 (1 ∷ []) → p ≡ second → has_hash h p ≡ true → ⊥
+not_of_second h p e f has =
+    let no : has_hash (hashes.Sha1 (1 ∷ [])) second ≡ true = (λ i. has_hash (sym e i) (sym f i)) ∙ has in absurd (cc)
+
+not_of_first : (h : Hash) (p : HashPair) → h ≡ hashes.Sha1 (2 ∷ []) → p ≡ first → has_hash h p ≡ true → ⊥
+not_of_first h p e f has =
+    let no : has_hash (hashes.Sha1 (2 ∷ [])) first ≡ true = (λ i. has_hash (sym e i) (sym f i)) ∙ has in absurd (cc)
+
+pub halves_kept : AnnouncedStayWithBlocks yes (cut_off (3 ∷ 4 ∷ 5 ∷ [])) halves_log
+halves_kept m k h a c has =
+    elim (half_message m (has_from_contains halves_log.normal m c)) [
+      | inl m0 ↦ (elim (half_hash a.message (has_from_contains halves_log.blocks a.message a.stored) a.said a.says_so a.index h a.hash) [
+        | inl a0 ↦ m0.0 ∙ sym a0.0
+        | inr a1 ↦ absurd (not_of_first h m.pair a1.1 m0.1 has)
+      ])
+      | inr m1 ↦ (elim (half_hash a.message (has_from_contains halves_log.blocks a.message a.stored) a.said a.says_so a.index h a.hash) [
+        | inl a0 ↦ absurd (not_of_second h m.pair a0.1 m1.1 has)
+        | inr a1 ↦ m1.0 ∙ sym a1.0
+      ])
+    ]

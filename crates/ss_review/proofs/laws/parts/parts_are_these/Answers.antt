@@ -9,7 +9,7 @@ use Rattle.ss_review.specs.Report.{report_of}
 use Rattle.ss_review.specs.Verdict.{is_clean}
 use Rattle.ss_review.specs.Verified.{joined, is_verified}
 use Rattle.ss_block.specs.PayloadReading.{parts_at_space, stamp_in, stamp_and_rest_in, blob_in, payload_in}
-use Rattle.ss_review.proofs.CutRows.{session_kept, message_from_one_session, announcer_with_messages, message_from_two_sessions}
+use Rattle.ss_review.proofs.CutRows.{session_kept, message_from_one_session, announcer_with_messages, message_from_two_sessions, halves_kept}
 use Rattle.ss_review.proofs.laws.parts.parts_are_these.Goals as goal
 
 pub returns : goal.returns
@@ -25,4 +25,9 @@ returns c = record {
   block_cut_off_is_not_clean = refl;
   message_of_other_keeps = message_from_two_sessions;
   message_of_other = refl;
+  halves_keep = halves_kept;
+  halves = refl;
+  halves_are_not_clean = refl;
+  first_half_is_clean = refl;
+  second_half_is_clean = refl;
 }
