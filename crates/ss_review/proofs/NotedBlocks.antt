@@ -1,8 +1,9 @@
 -- The block that a message is noted with is the one that its text holds.
-use Rattle.std.proofs.Common.{◌≡◌, ℕ, ◌+◌, false, List, [], ◌∷◌, ◌++◌, length, map, refl, sym, ap, ◌∙◌}
-use Rattle.std.specs.Prelude.{Option, None}
+use Rattle.std.proofs.Common.{◌≡◌, ℕ, ◌+◌, ◌≤◌, false, List, [], ◌∷◌, ◌++◌, length, map, refl, sym, ap, ◌∙◌, subst}
+use Rattle.std.specs.Prelude.{Option, Some, None, All, IfSome}
 use Rattle.std.specs.List.{cons_option}
-use Rattle.std.proofs.lemmas.List.{map-append}
+use Rattle.std.proofs.lemmas.List.{map-append, append-nil}
+use Rattle.std.proofs.lemmas.List.Elements.{All-push}
 use Rattle.ss_block.specs.declared.reading.Reading.{Reading}
 use Rattle.ss_block.specs.declared.reading.Reading.TheVariants.{Plain, Unparsed, Signature, Certificate, Spoilt}
 use Rattle.ss_block.specs.Mark.{has_block_element}
@@ -15,6 +16,7 @@ use Rattle.ss_review.specs.Notes.{Note, noted, note}
 use Rattle.ss_review.specs.Contents.{said_in, block_with, block_in, block_at, blocks}
 use Rattle.ss_review.specs.Questions.{needed}
 use Rattle.ss_review.specs.Keeping.{KeepsBlocks}
+use Rattle.ss_review.specs.Shortened.{hash_count}
 use Rattle.ss_review.proofs.Ends.{blocks_push, count_more}
 
 held : (place : ℕ) (text : List ℕ) (r : Reading) → r ≡ reading text → block_in place text ≡ block_at place (noted text r)
@@ -57,3 +59,18 @@ keeps_held q new ns n k held is more blocks_are = record {
       ∙ sym (map-append needed (blocks ns) (cons_option (block_at (length ns) n) []))
       ∙ ap (map needed) (sym (blocks_push ns n));
 }
+
+few_held : (bs : List BlockMessage) (held : Option BlockMessage)
+    → IfSome held (λ b. hash_count b.said ≤ 1)
+    → All (λ b. hash_count b.said ≤ 1) bs
+    → All (λ b. hash_count b.said ≤ 1) (bs ++ cons_option held [])
+few_held bs None one few = subst (All (λ b. hash_count b.said ≤ 1)) (sym (append-nil bs)) few
+few_held bs (Some d) one few = All-push (λ b. hash_count b.said ≤ 1) bs d few one
+
+-- one more block with few hashes
+pub keeps_few : (bs kept : List BlockMessage) (held : Option BlockMessage)
+    → IfSome held (λ b. hash_count b.said ≤ 1)
+    → All (λ b. hash_count b.said ≤ 1) bs
+    → kept ≡ bs ++ cons_option held []
+    → All (λ b. hash_count b.said ≤ 1) kept
+keeps_few bs kept held one few kept_are = subst (All (λ b. hash_count b.said ≤ 1)) (sym kept_are) (few_held bs held one few)
