@@ -8,10 +8,10 @@ use Rattle.ss_report.specs.Counters.{counter_lines_with}
 use Rattle.ss_report.proofs.CountersWritten.{counters_are, report_in_range}
 use Rattle.ss_report.proofs.counters.count_log.Goals as goal
 
-pub returns : goal.returns
-returns g c =
+pub returns-clause-made : goal.returns-clause-made
+returns-clause-made g c =
     let says = answers g.J.Judge.trusted g.J.Judge.valid c.args.judge in
-    let fed = c.in_ok-reviewer.ensures in
+    let fed = c.in_ok-reviewer.ensures.fed in
     let counted = c.in_ok-report.report in
     let told : counted.report ≡ report says fed.messages = c.in_ok-report.ensures.report (notes fed.messages) fed.keeps in
     let found : counted.counted ≡ counted_sessions says (blocks (notes fed.messages)) = c.in_ok-report.ensures.counted (notes fed.messages) fed.keeps in (

@@ -1,4 +1,4 @@
-use Rattle.std.proofs.Common.{◌≡◌, ◌≤◌, ◌<◌, ◌^◌, ap, ◌∙◌, subst, sym, arith, get_or}
+use Rattle.std.proofs.Common.{◌≡◌, ◌≤◌, ◌<◌, ◌^◌, ap, ◌∙◌, arith, get_or}
 use Rattle.std.proofs.lemmas.List.Elements.{All-get_or}
 use Rattle.ss_block.specs.Ranges.{past_last_number}
 use Rattle.ss_review.specs.declared.report.group_report.GroupReport.{GroupReport}

@@ -10,7 +10,7 @@ use Rattle.ss_report.specs.declared.lines.detail.Detail.{Detail}
 use Rattle.ss_report.specs.declared.verdict.Verdict.{Verdict}
 use Rattle.ss_report.specs.Run.{Runs}
 use Rattle.ss_report.specs.Jobs.{ReviewsAs, reviewing_as}
-use Rattle.ss_report.proofs.Answered.{runs_if_ok, stops_if_err, fails_by_write}
+use Rattle.ss_report.proofs.Answered.{runs_if_ok, stops_if_err, fails_by_write, never_of_memory}
 use Rattle.ss_report.proofs.review_as.run_review_as.Goals as goal
 
 -- a review that succeeds lists what is announced, as each report does
@@ -21,13 +21,17 @@ reviews_if_ok form detail says limits before after was is (Err fault) law ran = 
 
 pub returns-clause-reviewed : goal.returns-clause-reviewed
 returns-clause-reviewed g c =
-    let told = c.end_run.ensures _ _ _ _ _ _ (c.in_ok-reviewed.ensures c.args.form c.args.detail) c.write_report_as.ensures in
+    let told = c.end_run.ensures _ _ _ _ _ _ (c.in_ok-reviewed.ensures.made c.args.form c.args.detail) c.write_report_as.ensures in
     reviews_if_ok c.args.form c.args.detail _ _ _ _ _ _ _ c.reports_list_what_is_announced.ensures (runs_if_ok _ _ _ _ _ _ _ told)
 
 pub returns-clause-stopped : goal.returns-clause-stopped
 returns-clause-stopped g c =
-    stops_if_err _ _ _ _ _ _ _ (c.end_run.ensures _ _ _ _ _ _ (c.in_ok-reviewed.ensures c.args.form c.args.detail) c.write_report_as.ensures)
+    stops_if_err _ _ _ _ _ _ _ (c.end_run.ensures _ _ _ _ _ _ (c.in_ok-reviewed.ensures.made c.args.form c.args.detail) c.write_report_as.ensures)
 
 pub returns-clause-untouched : goal.returns-clause-untouched
 returns-clause-untouched g c =
-    fails_by_write _ _ _ _ _ _ _ _ (c.end_run.ensures _ _ _ _ _ _ (c.in_ok-reviewed.ensures c.args.form c.args.detail) c.write_report_as.ensures)
+    fails_by_write _ _ _ _ _ _ _ _ (c.end_run.ensures _ _ _ _ _ _ (c.in_ok-reviewed.ensures.made c.args.form c.args.detail) c.write_report_as.ensures)
+
+pub returns-clause-code : goal.returns-clause-code
+returns-clause-code g c =
+    never_of_memory _ _ _ _ _ _ _ (c.end_run.ensures _ _ _ _ _ _ (c.in_ok-reviewed.ensures.made c.args.form c.args.detail) c.write_report_as.ensures)

@@ -12,7 +12,7 @@ use Rattle.ss_report.proofs.review_whole.review_log.Goals as goal
 pub returns : goal.returns
 returns g c =
     let says = answers g.J.Judge.trusted g.J.Judge.valid c.args.judge in
-    let fed = c.in_ok-reviewer.ensures in
+    let fed = c.in_ok-reviewer.ensures.fed in
     let found = c.in_ok-report.field-0 in
     let told : found.report ≡ report says fed.messages = c.in_ok-report.ensures.report (notes fed.messages) fed.keeps in
     let counted : found.counted ≡ counted_sessions says (blocks (notes fed.messages)) = c.in_ok-report.ensures.counted (notes fed.messages) fed.keeps in
