@@ -14,8 +14,9 @@ A number is *settled* by a night that lists it and carries over no block that an
   collision  no message that is listed later under a hash differs from an earlier, settled one with that hash
 
 Where all hold, the nights together have to say what the whole says: states, listed numbers with their texts, gaps, holes,
-unlisted texts, refused and spoilt places, and the count. Equal messages may be exchanged, and nothing else. Without one of
-the premises some logs have to differ, or it wouldn't be needed. `checked_facts` has what holds of every log.
+unlisted texts, refused and spoilt places, and the count. Equal messages may be exchanged, and nothing else. If no two texts
+have one SHA-1, the nights have to differ from the whole in each log where some premise fails, so none can be weaker. The
+last premise speaks of such texts alone. `checked_facts` has what holds of every log.
 
 The recipe carry.py of docs/scale.md has to carry over what the model does, by the reports of the program. The last line is
 `nights: N passed, M failed`.
@@ -25,6 +26,7 @@ import collections
 import copy
 import os
 import pathlib
+import random
 import subprocess
 import sys
 import tempfile
@@ -41,7 +43,8 @@ KINDS = ["certificates", "unjudged", "gaps", "listed", "unlisted"]
 # what some logs have to be like
 REACHED = ["all hold, in 2 nights", "all hold, in 3 nights", "all hold, in 4 nights", "all hold, and some number is settled",
            "all hold, and a later night lists what it was left", "all hold, and a later night joins a session",
-           "all hold, and a settled number is announced again", "all hold, and the last report shows it",
+           "all hold, and a settled number is announced again", "all hold, and the reports show it",
+           "all hold, and more blocks are carried over",
            *("all hold, and some %s" % it for it in ("is lost", "is disputed", "is unlisted", "block is refused", "is spoilt")),
            *("without %s alone, and the nights differ" % it for it in PREMISES)]
 
@@ -116,12 +119,12 @@ def has(pair, hash_of):
 
 # ---- what is carried over
 
-def carried(told, kinds=KINDS):
+def carried(told, kinds=KINDS, more=frozenset()):
     """The places that a night carries over, and the keys that the carried blocks announce. In the order of their places:
 
     certificates   of a joined session, each verified certificate block with an octet that those before it don't cover
     unjudged       of any other session, all blocks
-    gaps           each verified signature block with a number that is lost or disputed
+    gaps           each verified signature block with a number that is lost or disputed, and more of them, if somebody likes
     listed         each message that is listed under a number of such a block
     unlisted       each message that is unlisted"""
     places, keys, covered = set(), set(), collections.defaultdict(set)
@@ -135,7 +138,7 @@ def carried(told, kinds=KINDS):
             covered[block.session] |= indexes
             if indexes and "certificates" in kinds:
                 places.add(block.place)
-        elif any(key in told.gaps for key, _ in announced(block)) and "gaps" in kinds:
+        elif block.place in more or any(key in told.gaps for key, _ in announced(block)) and "gaps" in kinds:
             places.add(block.place)
             keys.update(key for key, _ in announced(block))
     if "listed" in kinds:
@@ -146,7 +149,7 @@ def carried(told, kinds=KINDS):
 class Nights:
     """A log that is reviewed night by night, each night with what the nights before carried over."""
 
-    def __init__(self, log, answers, files, kinds=KINDS):
+    def __init__(self, log, answers, files, kinds=KINDS, more=frozenset()):
         self.log = log
         self.nights, self.carried = [], []
         # of each settled key the night, the place and the hash
@@ -155,7 +158,7 @@ class Nights:
         for number, file in enumerate(files):
             told = Told(at_places(log, places | set(file)), answers)
             self.nights.append(told)
-            places, keys = carried(told, kinds)
+            places, keys = carried(told, kinds, more)
             self.carried.append(sorted(places))
             if number < len(files) - 1:
                 for key, place in told.listed.items():
@@ -294,6 +297,12 @@ class Keeper(Maker):
         return log
 
 
+def has_twins(log):
+    """Whether two texts have one SHA-1."""
+    pairs = set(log.pairs.values())
+    return len({sha1 for sha1, _ in pairs}) < len(pairs)
+
+
 def made(seed):
     return Keeper("nights %d" % seed).made()
 
@@ -313,7 +322,7 @@ def kinds_of(log, whole, nights):
     if any(key in told.gaps for key, _, _, told in nights.later()):
         yield "and a settled number is announced again"
     if nights.settled and nights.reports_show():
-        yield "and the last report shows it"
+        yield "and the reports show it"
     if whole.listed != nights.listed:
         yield "and equal messages are exchanged"
     for name, some in [("is lost", "lost" in whole.gaps.values()), ("is disputed", "disputed" in whole.gaps.values()),
@@ -325,16 +334,18 @@ def kinds_of(log, whole, nights):
 def compare(seed, reached):
     messages, answers, files = made(seed)
     log = Log(messages)
-    whole, nights = Told(log, answers), Nights(log, answers, files)
+    chance = random.Random(seed)
+    more = {block.place for block in log.blocks if chance.random() < 0.5} if chance.random() < 0.2 else set()
+    whole, nights = Told(log, answers), Nights(log, answers, files, more=more)
     broken, differ = list(nights.broken()), differences(log, whole, nights)
     checked_facts("seed %d" % seed, log, whole, nights, broken)
     if not broken:
         reached["all hold"] += 1
         tell("seed %d" % seed, [], differ)
         reached.update({"all hold, %s" % it for it in kinds_of(log, whole, nights)})
-    # these three are needed in each log, whatever else doesn't hold
-    if not {"joined", "hash", "again"}.isdisjoint(broken):
-        tell("seed %d: without %s" % (seed, broken), True, differ != [])
+        reached["all hold, and more blocks are carried over"] += bool(more)
+    if not has_twins(log):
+        tell("seed %d: without %s" % (seed, broken), broken != [], differ != [])
     if len(broken) == 1:
         reached["without %s alone, and the nights %s" % (broken[0], "differ" if differ else "agree")] += 1
 
