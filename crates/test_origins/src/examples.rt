@@ -2,28 +2,38 @@
 use crate::sealing::{Lenient, Seal, answer};
 use crate::settings::{Groups, Setting, config, payload};
 use ss_block::{Alg, Payload};
-use ss_message::Stamp;
-use ss_origin::{Config, Emitted, OriginFault, Originator, Sealer};
+use ss_origin::{Config, Counters, Emitted, OriginFault, Originator, Sealer, Seals};
 use std::alloc::Global;
 use std::test::Fail;
 
-/// What was emitted at the beginning, for the message, and at the end.
-type Sent = (Emitted, Emitted, Emitted);
+/// What was emitted at the beginning, for the message, and at the end, and the counters then.
+type Sent = (Emitted, Emitted, Emitted, Counters);
 
-fn sends(
+fn sends<J: Seals>(
+    alloc: Global,
+    config: Config,
+    sealer: J,
+    message: &[u8],
+) -> Result<Sent, OriginFault>
+    requires { J.sound sealer }
+{
+    let mut originator = Originator::new(alloc, config, sealer)?;
+    let certificates = originator.begin(None)?;
+    let sent = originator.submit(message, None)?;
+    let last = originator.flush(None)?;
+    let counters = originator.counters()?;
+    Ok((certificates, sent, last, counters))
+}
+
+/// The same with a sealer that signs everything.
+fn sends_sealed(
     alloc: Global,
     (config, payload): (Config, Payload),
     message: &[u8],
-    stamp: Option<Stamp>,
 ) -> Result<Sent, OriginFault> {
-    let scheme = Lenient;
     let seal = |alloc: Global, _octets: &[u8]| answer(alloc, Seal::Zeros(3));
-    let sealer = Sealer::new(&scheme, payload, seal);
-    let mut originator = Originator::new(alloc, config, sealer)?;
-    let certificates = originator.begin(stamp)?;
-    let sent = originator.submit(message, stamp)?;
-    let last = originator.flush(stamp)?;
-    Ok((certificates, sent, last))
+    let sealer = Sealer::new(&Lenient, payload, seal);
+    sends(alloc, config, sealer, message)
 }
 
 /// Blocks of two hashes at most, each sent once.
@@ -42,9 +52,14 @@ fn a_message_is_sent(rt: HostRuntime) -> Result<(), Fail> {
     let config = config(rt.alloc(), &SETTING)?.ok_or("a configuration")?;
     let payload = payload(rt.alloc())?.ok_or("a payload")?;
     let message = b"<34>1 - h su - ID47 - hello";
-    let (certificates, sent, last) = sends(rt.alloc(), (config, payload), message, None)?;
+    let (certificates, sent, last, counters) = sends_sealed(
+        rt.alloc(),
+        (config, payload),
+        message,
+    )?;
     assert_eq!(rt; certificates.as_slice().len(), 1);
     assert_eq!(rt; sent.as_slice().len(), 1);
     assert_eq!(rt; last.as_slice().len(), 1);
+    assert_eq!(rt; counters.gbc, 1);
     Ok(())
 }
