@@ -5,6 +5,7 @@
 //   peak    the most octets that were taken at one time; a realloc has its old room and its new one at once
 //   moved   the octets that memcpy, memmove and memset wrote, and those that a realloc keeps
 //   passed  the octets that read and write passed
+//   behind  the most octets that were taken at one time since an input was read to its end
 //
 // tests/cost.sh compiles it.
 #define _GNU_SOURCE
@@ -16,7 +17,7 @@
 #include <string.h>
 #include <unistd.h>
 
-static unsigned long calls, live, peak, moved, passed;
+static unsigned long calls, live, peak, moved, passed, behind;
 
 #define NEXT(name, ...)                  \
     static __typeof__(name) *next;       \
@@ -39,6 +40,8 @@ static void *taken(void *block) {
     live += malloc_usable_size(block);
     if (live > peak)
         peak = live;
+    if (live > behind)
+        behind = live;
     return block;
 }
 
@@ -84,6 +87,8 @@ void *memset(void *to, int octet, size_t size) {
 ssize_t read(int file, void *to, size_t size) {
     ssize_t count = next_read(file, to, size);
     passed += count > 0 ? count : 0;
+    if (count == 0)
+        behind = live;
     return count;
 }
 
@@ -98,6 +103,6 @@ __attribute__((destructor)) static void tell(void) {
     FILE *file = path ? fopen(path, "w") : NULL;
     if (!file)
         return;
-    fprintf(file, "%lu %lu %lu %lu\n", calls, peak, moved, passed);
+    fprintf(file, "%lu %lu %lu %lu %lu\n", calls, peak, moved, passed, behind);
     fclose(file);
 }

@@ -1,0 +1,22 @@
+#!/usr/bin/env bash
+# The memory that calls of the libraries take, over inputs of up to 10,000 messages: see room.py.
+# shellcheck source=tests/lib.sh
+. "$(dirname -- "$0")/lib.sh"
+programs=()
+for it in tool_timing tool_originated tool_reviewed; do
+    made=$root/crates/$it/out/$it
+    [[ -z ${TOOLS:-} ]] || made=$TOOLS/$it/out/$it
+    if [[ ! -x $made ]]; then
+        echo "$name: there is no program $made; ./check leaves it behind"
+        failed=1
+        finish
+    fi
+    programs+=("$made")
+done
+if ! command -v cc >/dev/null; then
+    echo "$name: no cc here, so no memory is counted"
+    tell 'the programs are there' ''
+    finish
+fi
+cc -O1 -shared -fPIC -o "$scratch/count.so" "$root/tests/count.c" -ldl || exit 1
+python3 -B "$root/tests/room.py" "$scratch/count.so" "${programs[@]}" "$@"
