@@ -12,6 +12,8 @@ mod deliveries;
 #[cfg(test)]
 mod ends;
 #[cfg(test)]
+mod examples;
+#[cfg(test)]
 mod inspections;
 #[cfg(test)]
 mod keeping;
