@@ -1,5 +1,5 @@
 //! What one parse tells of a message: what it is, its session, and what is signed of it.
-use ss_block::{Reading, Session, read_fully};
+use ss_block::{FullReading, Reading, Session, read_fully};
 use ss_frame::Bytes;
 use ss_message::{Field, NoMemory, Part};
 use std::process::Abort;
@@ -19,15 +19,19 @@ fn octets(field: &Field) -> Option<&[u8]> {
     }
 }
 
-/// The host, the application and the number of the session are those.
+/// Whether the host, the application and the number of the session are those.
+fn is_session(session: &Session, procid: Option<&[u8]>, rsid: u64) -> bool {
+    octets(&session.host) == Some(b"h".as_slice())
+        && octets(&session.app) == Some(b"s".as_slice())
+        && octets(&session.procid) == procid
+        && session.rsid == rsid
+}
+
 fn sees_session(rt: &impl Abort, session: &Option<Session>, procid: Option<&[u8]>, rsid: u64) {
-    let Some(session) = session else {
-        panic!(rt; "no session");
-    };
-    assert_eq!(rt; octets(&session.host), Some(b"h".as_slice()));
-    assert_eq!(rt; octets(&session.app), Some(b"s".as_slice()));
-    assert_eq!(rt; octets(&session.procid), procid);
-    assert_eq!(rt; session.rsid, rsid);
+    match session {
+        Some(session) => assert!(rt; is_session(session, procid, rsid), "{session:?}"),
+        None => panic!(rt; "no session"),
+    }
 }
 
 /// What is signed is the text up to one octet, and from another.
@@ -48,19 +52,28 @@ fn sees_kind(rt: &impl Abort, reading: &Reading, certificate: bool) {
     }
 }
 
-fn sees_certificate(rt: &(impl Abort + AllocGlobal)) -> Result<(), NoMemory> {
-    let told = read_fully(rt.alloc(), CERTIFICATE)?;
-    sees_kind(rt, &told.reading, true);
-    sees_session(rt, &told.session, None, 1);
-    sees_signed(rt, &told.signed, CERTIFICATE, 129, 141);
-    Ok(())
+/// A text, whether it is a certificate block, the end of its session, and what is signed of it.
+type Row = (
+    &'static [u8],
+    bool,
+    (Option<&'static [u8]>, u64),
+    (usize, usize),
+);
+
+const ROWS: [Row; 2] = [
+    (CERTIFICATE, true, (None, 1), (129, 141)),
+    (SIGNATURE, false, (Some(b"7"), 9), (117, 129)),
+];
+
+fn sees_told(rt: &impl Abort, told: &FullReading, row: &Row) {
+    let (text, certificate, (procid, rsid), (until, from)) = *row;
+    sees_kind(rt, &told.reading, certificate);
+    sees_session(rt, &told.session, procid, rsid);
+    sees_signed(rt, &told.signed, text, until, from);
 }
 
-fn sees_signature(rt: &(impl Abort + AllocGlobal)) -> Result<(), NoMemory> {
-    let told = read_fully(rt.alloc(), SIGNATURE)?;
-    sees_kind(rt, &told.reading, false);
-    sees_session(rt, &told.session, Some(b"7"), 9);
-    sees_signed(rt, &told.signed, SIGNATURE, 117, 129);
+fn sees_block(rt: &(impl Abort + AllocGlobal), row: &Row) -> Result<(), NoMemory> {
+    sees_told(rt, &read_fully(rt.alloc(), row.0)?, row);
     Ok(())
 }
 
@@ -72,22 +85,29 @@ fn fault_of(reading: &Reading) -> Option<(Part, usize)> {
     }
 }
 
+/// Whether a text is told to be no block, for this fault or else plain.
+fn is_no_block(told: &FullReading, fault: Option<(Part, usize)>) -> bool {
+    fault_of(&told.reading) == fault
+        && matches!(&told.reading, Reading::Plain) == fault.is_none()
+        && told.session.is_none()
+        && told.signed.is_none()
+}
+
 fn sees_no_block(
     rt: &(impl Abort + AllocGlobal),
     text: &[u8],
     fault: Option<(Part, usize)>,
 ) -> Result<(), NoMemory> {
     let told = read_fully(rt.alloc(), text)?;
-    assert_eq!(rt; fault_of(&told.reading), fault);
-    assert_eq!(rt; matches!(&told.reading, Reading::Plain), fault.is_none());
-    assert!(rt; told.session.is_none() && told.signed.is_none());
+    assert!(rt; is_no_block(&told, fault), "{text:?}");
     Ok(())
 }
 
 #[test]
 fn read_once(rt: HostRuntime) -> Result<(), NoMemory> {
-    sees_certificate(&rt)?;
-    sees_signature(&rt)?;
+    for row in &ROWS {
+        sees_block(&rt, row)?;
+    }
     sees_no_block(&rt, b"<13>1 - - - - - -", None)?;
     sees_no_block(&rt, b"abc", Some((Part::Pri, 0)))
 }

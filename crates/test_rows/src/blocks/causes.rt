@@ -1,7 +1,8 @@
 //! Each cause of a spoilt block beside each other, and parameters that are put wrong.
-use crate::blocks::elements::{Block, Edit, HEAD, Kind, Named, kind_of, put};
+use crate::blocks::elements::{Block, Edit, HEAD, Kind, Named, kind_of, put, sees_kind};
 use ss_block::Spoil;
 use std::alloc::AllocError;
+use std::process::Abort;
 use std::test::Fail;
 
 /// An edit for each cause of a signature block, in the order of their numbers.
@@ -41,20 +42,26 @@ fn first(a: Spoil, b: Spoil) -> Spoil {
     if a < b { a } else { b }
 }
 
+/// A cause beside each of a block's.
+fn sees_beside(
+    rt: &(impl Abort + AllocGlobal),
+    block: Block,
+    one: (Edit, Spoil),
+    causes: &[(Edit, Spoil)],
+) -> Result<(), AllocError> {
+    let (edit, cause) = one;
+    for (other_edit, other) in causes {
+        let kind = Kind::Spoilt(first(cause, *other));
+        sees_kind(rt, block, &[edit, *other_edit], kind)?;
+    }
+    Ok(())
+}
+
 #[test]
 fn each_cause_beside_each_other(rt: HostRuntime) -> Result<(), Fail> {
-    let alloc = rt.alloc();
     for (block, causes) in &CAUSES {
         for (edit, cause) in *causes {
-            for (other_edit, other) in *causes {
-                let text = block.with(alloc, &[*edit, *other_edit])?;
-                let kind = Kind::Spoilt(first(*cause, *other));
-                assert_eq!(rt;
-                    kind_of(alloc, &text),
-                    Some(kind),
-                    "for {cause:?} and {other:?}"
-                );
-            }
+            sees_beside(&rt, *block, (*edit, *cause), causes)?;
         }
     }
     Ok(())
@@ -129,22 +136,30 @@ fn put_wrong(
     Ok(text.push(b']')?)
 }
 
+fn sees_wrong(
+    rt: &(impl Abort + AllocGlobal),
+    block: Block,
+    wrong: Wrong,
+    at: usize,
+) -> Result<(), AllocError> {
+    let mut text = Vec::from_slice(rt.alloc(), HEAD)?;
+    put_wrong(&mut text, block.id(), block.parameters(), wrong, at)?;
+    assert_eq!(rt;
+        kind_of(rt.alloc(), &text),
+        Some(Kind::Spoilt(Spoil::Names)),
+        "for {block:?}, {wrong:?} at {at}"
+    );
+    Ok(())
+}
+
 const BLOCKS: [Block; 2] = [Block::Signature, Block::Certificate];
 
 #[test]
 fn names_that_are_put_wrong(rt: HostRuntime) -> Result<(), Fail> {
-    let alloc = rt.alloc();
     for wrong in &WRONGS {
         for at in 0..9 {
             for block in &BLOCKS {
-                let mut text = Vec::from_slice(alloc, HEAD)?;
-                put_wrong(&mut text, block.id(), block.parameters(), *wrong, at)?;
-                let kind = Some(Kind::Spoilt(Spoil::Names));
-                assert_eq!(rt;
-                    kind_of(alloc, &text),
-                    kind,
-                    "for {block:?}, {wrong:?} at {at}"
-                );
+                sees_wrong(&rt, *block, *wrong, at)?;
             }
         }
     }

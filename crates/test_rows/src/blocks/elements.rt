@@ -2,6 +2,7 @@
 use ss_block::{Reading, Spoil, classify};
 use ss_message::Part;
 use std::alloc::{AllocError, Global};
+use std::process::Abort;
 
 /// What a text is, without its fields.
 #[derive(Clone, Copy, Debug, PartialEq, Eq)]
@@ -13,14 +14,20 @@ pub enum Kind {
     Spoilt(Spoil),
 }
 
+fn kind_in(reading: &Reading) -> Kind {
+    match reading {
+        Reading::Plain => Kind::Plain,
+        Reading::Unparsed { part, pos } => Kind::Unparsed(*part, *pos),
+        Reading::Signature(_) => Kind::Signature,
+        Reading::Certificate(_) => Kind::Certificate,
+        Reading::Spoilt(cause) => Kind::Spoilt(*cause),
+    }
+}
+
 /// What a text is; none where memory ran out.
 pub(crate) fn kind_of(alloc: Global, text: &[u8]) -> Option<Kind> {
     match classify(alloc, text) {
-        Ok(Reading::Plain) => Some(Kind::Plain),
-        Ok(Reading::Unparsed { part, pos }) => Some(Kind::Unparsed(part, pos)),
-        Ok(Reading::Signature(_)) => Some(Kind::Signature),
-        Ok(Reading::Certificate(_)) => Some(Kind::Certificate),
-        Ok(Reading::Spoilt(cause)) => Some(Kind::Spoilt(cause)),
+        Ok(reading) => Some(kind_in(&reading)),
         Err(_) => None,
     }
 }
@@ -134,4 +141,16 @@ impl Block {
         put_element(&mut text, self.id(), self.parameters(), edits)?;
         Ok(text)
     }
+}
+
+/// The message of the block, edited so, is of that kind.
+pub(crate) fn sees_kind(
+    rt: &(impl Abort + AllocGlobal),
+    block: Block,
+    edits: &[Edit],
+    kind: Kind,
+) -> Result<(), AllocError> {
+    let text = block.with(rt.alloc(), edits)?;
+    assert_eq!(rt; kind_of(rt.alloc(), &text), Some(kind), "for {edits:?}");
+    Ok(())
 }

@@ -4,6 +4,7 @@ use ss_block::Joined::{Agreed, Disagrees};
 use ss_block::{JoinState, Joined, Joiner};
 use ss_message::NoMemory;
 use std::alloc::Global;
+use std::process::Abort;
 use std::test::Fail;
 
 /// A fragment by TPBL, INDEX and FRAG.
@@ -198,6 +199,10 @@ fn is_then(joiner: &Joiner, then: Then) -> Result<bool, NoMemory> {
     })
 }
 
+fn is_incomplete_at_first(alloc: Global) -> Result<bool, NoMemory> {
+    is_then(&Joiner::new(alloc), Incomplete)
+}
+
 /// The first step, counted from 0, that a joiner which takes them all in turn doesn't bear out.
 fn first_wrong(alloc: Global, steps: &[Step]) -> Result<Option<usize>, NoMemory> {
     let mut joiner = Joiner::new(alloc);
@@ -220,8 +225,67 @@ fn sequences(rt: HostRuntime) -> Result<(), Fail> {
     for (name, steps) in &SEQUENCES {
         assert_eq!(rt; first_wrong(rt.alloc(), steps)?, None, "{name}");
     }
-    let joiner = Joiner::new(rt.alloc());
-    assert!(rt; is_then(&joiner, Incomplete)?);
+    assert!(rt; is_incomplete_at_first(rt.alloc())?);
+    Ok(())
+}
+
+/// Adds a fragment, and says whether it agrees and leaves this state.
+fn agrees(
+    joiner: &mut Joiner,
+    at: (u32, u32),
+    fragment: &[u8],
+    state: JoinState,
+) -> Result<bool, NoMemory> {
+    match add(joiner, at.0, at.1, fragment) {
+        Some(answer) => Ok(answer? == Agreed && joiner.state() == state),
+        None => Ok(false),
+    }
+}
+
+/// At both ends of the longest payload.
+fn sees_both_ends(rt: &(impl Abort + AllocGlobal), fragment: &[u8]) -> Result<(), NoMemory> {
+    let mut joiner = Joiner::new(rt.alloc());
+    for index in [1, 99_990_001, 5_000, 99_980_002] {
+        let at = (99_999_999, index);
+        assert!(rt; agrees(&mut joiner, at, fragment, JoinState::Incomplete)?);
+    }
+    Ok(())
+}
+
+/// As a payload of its own.
+fn sees_whole(rt: &(impl Abort + AllocGlobal), fragment: &[u8]) -> Result<(), NoMemory> {
+    let mut joiner = Joiner::new(rt.alloc());
+    assert!(rt; agrees(&mut joiner, (9_999, 1), fragment, JoinState::Whole)?);
+    assert!(rt; is_payload(&joiner, fragment)?);
+    Ok(())
+}
+
+fn is_payload(joiner: &Joiner, text: &[u8]) -> Result<bool, NoMemory> {
+    match joiner.payload()? {
+        Some(payload) => Ok(payload.as_slice() == text),
+        None => Ok(false),
+    }
+}
+
+/// Joiners of the longest payload with one octet each, from behind.
+fn joiners(alloc: Global) -> Result<Option<Vec<Joiner>>, NoMemory> {
+    let mut joiners = Vec::new(alloc);
+    for i in 0..1_000 {
+        let mut joiner = Joiner::new(alloc);
+        let at = (99_999_999, 99_999_999 - i);
+        if !agrees(&mut joiner, at, b"x", JoinState::Incomplete)? {
+            return Ok(None);
+        }
+        joiners.push(joiner)?;
+    }
+    Ok(Some(joiners))
+}
+
+fn sees_many(rt: &(impl Abort + AllocGlobal)) -> Result<(), Fail> {
+    let joiners = joiners(rt.alloc())?.ok_or("a joiner disagrees")?;
+    for joiner in &joiners {
+        assert!(rt; is_then(joiner, Incomplete)?);
+    }
     Ok(())
 }
 
@@ -229,39 +293,14 @@ fn sequences(rt: HostRuntime) -> Result<(), Fail> {
 /// nothing: a thousand joiners of the longest payload, with one octet each.
 #[test]
 fn longest(rt: HostRuntime) -> Result<(), Fail> {
-    let mut fragment = Vec::new(rt.alloc());
-    for _ in 0..9_999 {
-        fragment.push(b'x')?;
-    }
-    let mut joiner = Joiner::new(rt.alloc());
-    for index in [1, 99_990_001, 5_000, 99_980_002] {
-        let answer = add(&mut joiner, 99_999_999, index, fragment.as_slice());
-        assert_eq!(rt; answer.ok_or("out of range")??, Agreed);
-        assert_eq!(rt; joiner.state(), JoinState::Incomplete);
-    }
-    let mut joiner = Joiner::new(rt.alloc());
-    let answer = add(&mut joiner, 9_999, 1, fragment.as_slice());
-    assert_eq!(rt; answer.ok_or("out of range")??, Agreed);
-    let text = joiner.payload()?.ok_or("no payload of a whole joiner")?;
-    assert_eq!(rt; text.as_slice(), fragment.as_slice());
-
-    let mut joiners = Vec::new(rt.alloc());
-    for i in 0..1_000 {
-        let mut joiner = Joiner::new(rt.alloc());
-        let answer = add(&mut joiner, 99_999_999, 99_999_999 - i, b"x");
-        assert_eq!(rt; answer.ok_or("out of range")??, Agreed);
-        joiners.push(joiner)?;
-    }
-    for joiner in &joiners {
-        assert!(rt; is_then(joiner, Incomplete)?);
-    }
+    let fragment = [b'x'; 9_999];
+    sees_both_ends(&rt, &fragment)?;
+    sees_whole(&rt, &fragment)?;
+    sees_many(&rt)?;
     Ok(())
 }
 
-/// One octet at each odd index, rising and then falling again: each is a run of its own for whoever keeps runs. And one at
-/// each index, falling: whole with the last that comes, and not before.
-#[test]
-fn ten_thousand_octets(rt: HostRuntime) -> Result<(), Fail> {
+fn sees_odd(rt: &(impl Abort + AllocGlobal)) -> Result<(), NoMemory> {
     let mut joiner = Joiner::new(rt.alloc());
     for i in 0..20_000 {
         let index = if i < 10_000 {
@@ -269,20 +308,37 @@ fn ten_thousand_octets(rt: HostRuntime) -> Result<(), Fail> {
         } else {
             39_999 - 2 * i
         };
-        let answer = add(&mut joiner, 99_999_999, index, b"x");
-        assert_eq!(rt; answer.ok_or("out of range")??, Agreed);
-        assert_eq!(rt; joiner.state(), JoinState::Incomplete);
+        let at = (99_999_999, index);
+        assert!(rt;
+            agrees(&mut joiner, at, b"x", JoinState::Incomplete)?,
+            "{index}"
+        );
     }
     assert!(rt; is_then(&joiner, Incomplete)?);
+    Ok(())
+}
 
+fn sees_falling(rt: &(impl Abort + AllocGlobal)) -> Result<(), NoMemory> {
     let mut joiner = Joiner::new(rt.alloc());
     for i in 0..10_000 {
         assert_eq!(rt; joiner.state(), JoinState::Incomplete);
-        let answer = add(&mut joiner, 10_000, 10_000 - i, b"x");
-        assert_eq!(rt; answer.ok_or("out of range")??, Agreed);
+        let state = if i < 9_999 {
+            JoinState::Incomplete
+        } else {
+            JoinState::Whole
+        };
+        let at = (10_000, 10_000 - i);
+        assert!(rt; agrees(&mut joiner, at, b"x", state)?, "{i}");
     }
-    assert_eq!(rt; joiner.state(), JoinState::Whole);
-    let text = joiner.payload()?.ok_or("no payload of a whole joiner")?;
-    assert_eq!(rt; text.as_slice().len(), 10_000);
+    assert!(rt; is_payload(&joiner, &[b'x'; 10_000])?);
+    Ok(())
+}
+
+/// One octet at each odd index, rising and then falling again: each is a run of its own for whoever keeps runs. And one at
+/// each index, falling: whole with the last that comes, and not before.
+#[test]
+fn ten_thousand_octets(rt: HostRuntime) -> Result<(), Fail> {
+    sees_odd(&rt)?;
+    sees_falling(&rt)?;
     Ok(())
 }

@@ -2,7 +2,7 @@
 use crate::blocks::fields::bytes;
 use ss_block::{Cut, Kind, Payload, cut};
 use ss_message::{NoMemory, Offset, Stamp};
-use std::alloc::Global;
+use std::alloc::{AllocError, Global};
 use std::test::Fail;
 
 /// A text, its kind and its blob, and what is written of it again: the same, but for an SP behind the `N` of a
@@ -88,14 +88,36 @@ fn stamp() -> Option<Stamp> {
     Stamp::new(2009, 5, 3, 14, 0, 39, 0, 0, Offset::Utc)
 }
 
+/// Whether the payload has this kind and this blob, and is written so.
+fn is_payload(
+    alloc: Global,
+    payload: &Payload,
+    fields: (Kind, &[u8]),
+    written: &[u8],
+) -> Result<bool, NoMemory> {
+    let (kind, blob) = fields;
+    let is_read = payload.kind() == kind && payload.blob().as_slice() == blob;
+    Ok(is_read && payload.write(alloc)?.as_slice() == written)
+}
+
+/// Whether the text is such a payload.
+fn is_read(
+    alloc: Global,
+    text: &[u8],
+    fields: (Kind, &[u8]),
+    written: &[u8],
+) -> Result<bool, NoMemory> {
+    match Payload::parse(alloc, text)? {
+        Some(payload) => is_payload(alloc, &payload, fields, written),
+        None => Ok(false),
+    }
+}
+
 #[test]
 fn texts(rt: HostRuntime) -> Result<(), Fail> {
     let alloc = rt.alloc();
-    for (text, (kind, blob), written) in &ACCEPTED {
-        let payload = Payload::parse(alloc, text)?.ok_or("a payload block is refused")?;
-        assert_eq!(rt; payload.kind(), *kind, "of {text:?}");
-        assert_eq!(rt; payload.blob().as_slice(), *blob, "of {text:?}");
-        assert_eq!(rt; payload.write(alloc)?.as_slice(), *written);
+    for (text, fields, written) in &ACCEPTED {
+        assert!(rt; is_read(alloc, text, *fields, written)?, "of {text:?}");
     }
     for text in &REFUSED {
         assert!(rt; Payload::parse(alloc, text)?.is_none(), "of {text:?}");
@@ -166,17 +188,26 @@ const CUT: [(u16, &[Cut]); 5] = [
     ),
 ];
 
+fn is_made(alloc: Global, kind: Kind, blob: &[u8]) -> Result<bool, AllocError> {
+    Ok(Payload::new(None, kind, bytes(alloc, blob)?).is_some())
+}
+
+/// Whether a payload of 27 octets is cut into these pieces, of that size at most.
+fn is_cut(alloc: Global, size: u16, pieces: &[Cut]) -> Result<bool, NoMemory> {
+    if size < 1 || size > 9999 {
+        return Ok(false);
+    }
+    Ok(cut(alloc, b"2009-05-03T14:00:39Z K S0VZ", size)?.as_slice() == pieces)
+}
+
 #[test]
 fn made_and_cut(rt: HostRuntime) -> Result<(), Fail> {
-    let alloc = rt.alloc();
     for (kind, blob, made) in &MADE {
-        let payload = Payload::new(None, *kind, bytes(alloc, blob)?);
-        assert_eq!(rt; payload.is_some(), *made, "{kind:?} {blob:?}");
+        let is_made = is_made(rt.alloc(), *kind, blob)?;
+        assert_eq!(rt; is_made, *made, "{kind:?} {blob:?}");
     }
     for (size, pieces) in &CUT {
-        assert!(rt; *size >= 1 && *size <= 9999);
-        let cuts = cut(alloc, b"2009-05-03T14:00:39Z K S0VZ", *size)?;
-        assert_eq!(rt; cuts.as_slice(), *pieces, "of {size}");
+        assert!(rt; is_cut(rt.alloc(), *size, pieces)?, "of {size}");
     }
     Ok(())
 }

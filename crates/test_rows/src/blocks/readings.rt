@@ -6,6 +6,7 @@ use crate::blocks::fields::{A, A2, B, CertificateFields, Fields, SignatureFields
 use ss_block::{Alg, Group, Hash, Reading, Spoil, classify};
 use ss_message::Part;
 use std::alloc::{AllocError, Global};
+use std::process::Abort;
 use std::test::Fail;
 
 /// A block, how it is edited, and its fields.
@@ -93,35 +94,56 @@ const ESCAPED: [(&[u8], &[u8]); 6] = [
     (b"\xC3\xA9[", b"\xC3\xA9["),
 ];
 
+fn sees_row(rt: &(impl Abort + AllocGlobal), row: &Row) -> Result<(), AllocError> {
+    let text = row.block.with(rt.alloc(), row.edits)?;
+    assert!(rt; is_block(rt.alloc(), &text, &row.fields), "{}", row.name);
+    Ok(())
+}
+
+/// The certificate block whose fragment is written so, with a FLEN.
+fn with_fragment(
+    alloc: Global,
+    length: &'static [u8],
+    raw: &'static [u8],
+) -> Result<Vec<u8>, AllocError> {
+    let edits = [(b"FLEN".as_slice(), Some(length)), (b"FRAG", Some(raw))];
+    Block::Certificate.with(alloc, &edits)
+}
+
+/// The octets of a fragment, of which there are three, are counted without its escapes.
+fn sees_fragment(
+    rt: &(impl Abort + AllocGlobal),
+    raw: &'static [u8],
+    octets: &'static [u8],
+) -> Result<(), AllocError> {
+    let mut fields = WHOLE;
+    fields.fragment = octets;
+    let fields = Fields::Certificate(fields);
+    let text = with_fragment(rt.alloc(), b"3", raw)?;
+    assert!(rt; is_block(rt.alloc(), &text, &fields), "for {raw:?}");
+    Ok(())
+}
+
+fn sees_fragment_refused(
+    rt: &(impl Abort + AllocGlobal),
+    raw: &'static [u8],
+) -> Result<(), AllocError> {
+    let text = with_fragment(rt.alloc(), b"4", raw)?;
+    let kind = Some(Kind::Spoilt(Spoil::Fragment));
+    assert_eq!(rt; kind_of(rt.alloc(), &text), kind, "for {raw:?}");
+    Ok(())
+}
+
 #[test]
 fn blocks(rt: HostRuntime) -> Result<(), Fail> {
-    let alloc = rt.alloc();
     for row in &ROWS {
-        let text = row.block.with(alloc, row.edits)?;
-        assert!(rt; is_block(alloc, &text, &row.fields), "{}", row.name);
+        sees_row(&rt, row)?;
     }
-    assert_eq!(rt; Block::Signature.with(alloc, &[])?.len(), 159);
-    assert_eq!(rt; Block::Certificate.with(alloc, &[])?.len(), 142);
-    // The octets of a fragment are counted without its escapes.
+    assert_eq!(rt; Block::Signature.with(rt.alloc(), &[])?.len(), 159);
+    assert_eq!(rt; Block::Certificate.with(rt.alloc(), &[])?.len(), 142);
     for (raw, octets) in &ESCAPED {
-        let mut fields = WHOLE;
-        fields.fragment = *octets;
-        let edits = [
-            (b"FLEN".as_slice(), Some(b"3".as_slice())),
-            (b"FRAG", Some(*raw)),
-        ];
-        let text = Block::Certificate.with(alloc, &edits)?;
-        assert!(rt;
-            is_block(alloc, &text, &Fields::Certificate(fields)),
-            "for {raw:?}"
-        );
-        let edits = [
-            (b"FLEN".as_slice(), Some(b"4".as_slice())),
-            (b"FRAG", Some(*raw)),
-        ];
-        let text = Block::Certificate.with(alloc, &edits)?;
-        let kind = Some(Kind::Spoilt(Spoil::Fragment));
-        assert_eq!(rt; kind_of(alloc, &text), kind, "for {raw:?}");
+        sees_fragment(&rt, raw, octets)?;
+        sees_fragment_refused(&rt, raw)?;
     }
     Ok(())
 }
@@ -212,18 +234,26 @@ fn put_together(alloc: Global, pieces: &[Piece]) -> Result<Vec<u8>, AllocError> 
     Ok(text)
 }
 
+/// The parts together are of that kind. The one signature block has 177 octets.
+fn sees_put_together(
+    rt: &(impl Abort + AllocGlobal),
+    name: &str,
+    pieces: &[Piece],
+    kind: Kind,
+) -> Result<(), AllocError> {
+    let text = put_together(rt.alloc(), pieces)?;
+    assert_eq!(rt; kind_of(rt.alloc(), &text), Some(kind), "{name}");
+    assert!(rt; kind != Kind::Signature || text.len() == 177, "{name}");
+    Ok(())
+}
+
 #[test]
 fn texts(rt: HostRuntime) -> Result<(), Fail> {
-    let alloc = rt.alloc();
     for (text, kind) in &TEXTS {
-        assert_eq!(rt; kind_of(alloc, text), Some(*kind), "for {text:?}");
+        assert_eq!(rt; kind_of(rt.alloc(), text), Some(*kind), "for {text:?}");
     }
     for (name, pieces, kind) in &PUT_TOGETHER {
-        let text = put_together(alloc, pieces)?;
-        assert_eq!(rt; kind_of(alloc, &text), Some(*kind), "{name}");
-        if matches!(kind, Kind::Signature) {
-            assert_eq!(rt; text.len(), 177, "{name}");
-        }
+        sees_put_together(&rt, name, pieces, *kind)?;
     }
     Ok(())
 }

@@ -5,6 +5,7 @@ use ss_block::{Joiner, Payload, classify, session_of, signed_bytes};
 use ss_message::{Fault, NoMemory, parse, value};
 use std::alloc::{AllocError, Global};
 use std::fs;
+use std::process::Abort;
 use std::rt::Files;
 use std::test::Fail;
 
@@ -150,6 +151,37 @@ fn repeated(
     Ok(text)
 }
 
+/// Pieces between others: 20,000 parameters, 50,000 escapes, and a blob of 75,000 octets.
+const REPEATED: [(&[u8], &[u8], u32, &[u8]); 3] = [
+    (b"<1>1 - - - - - [x@1", b" a=\"\"", 20_000, b"]"),
+    (b"<1>1 - - - - - [x@1 a=\"", b"\\\"", 50_000, b"\"]"),
+    (b"- C ", b"AAAA", 25_000, b""),
+];
+
+/// Long texts, which stay, so that no later call finds their room free.
+fn texts<R: Files + Abort + AllocGlobal>(rt: &R) -> Result<Vec<Vec<u8>>, Fail> {
+    let mut texts = Vec::new(rt.alloc());
+    for (front, piece, times, back) in &REPEATED {
+        let text = repeated(rt.alloc(), front, piece, *times, back)?;
+        assert_eq!(rt; first_over(rt, &text)?, None, "{front:?}");
+        texts.push(text)?;
+    }
+    let elements = many_elements(rt.alloc())?;
+    assert_eq!(rt; first_over(rt, &elements)?, None);
+    texts.push(elements)?;
+    Ok(texts)
+}
+
+/// A list of 33,000,000 octets is seen.
+fn sees_peak<R: Files + Abort + AllocGlobal>(rt: &R) -> Result<(), Fail> {
+    let before = peak(rt)?;
+    let list: Vec<u8> = Vec::with_capacity(rt.alloc(), 33_000_000)?;
+    let taken = peak(rt)?.saturating_sub(before);
+    assert!(rt; taken > 32_000, "33,000,000 octets are {taken} KiB");
+    assert!(rt; list.is_empty());
+    Ok(())
+}
+
 /// Stated numbers reserve nothing, and long texts take room by their octets. A list of 33,000,000 octets, a third of the
 /// largest number there is, would be seen.
 #[test]
@@ -157,26 +189,8 @@ fn room(rt: HostRuntime) -> Result<(), Fail> {
     for text in &HOSTILE {
         assert_eq!(rt; first_over(&rt, text)?, None);
     }
-    let parameters = repeated(rt.alloc(), b"<1>1 - - - - - [x@1", b" a=\"\"", 20_000, b"]")?;
-    assert_eq!(rt; first_over(&rt, &parameters)?, None);
-    let escapes = repeated(
-        rt.alloc(),
-        b"<1>1 - - - - - [x@1 a=\"",
-        b"\\\"",
-        50_000,
-        b"\"]",
-    )?;
-    assert_eq!(rt; first_over(&rt, &escapes)?, None);
-    let blob = repeated(rt.alloc(), b"- C ", b"AAAA", 25_000, b"")?;
-    assert_eq!(rt; first_over(&rt, &blob)?, None);
-
-    let elements = many_elements(rt.alloc())?;
-    assert_eq!(rt; first_over(&rt, &elements)?, None);
-
-    let before = peak(&rt)?;
-    let list: Vec<u8> = Vec::with_capacity(rt.alloc(), 33_000_000)?;
-    let taken = peak(&rt)?.saturating_sub(before);
-    assert!(rt; taken > 32_000, "33,000,000 octets are {taken} KiB");
-    assert!(rt; list.is_empty());
+    let texts = texts(&rt)?;
+    sees_peak(&rt)?;
+    assert_eq!(rt; texts.len(), 4);
     Ok(())
 }

@@ -1,7 +1,9 @@
 //! What is signed of a message, the session of a block, and the hashes of a text.
 use base64::engine::general_purpose::STANDARD;
-use ss_block::{pair_of, session_of, signed_bytes};
-use ss_message::Field;
+use ss_block::{Session, pair_of, session_of, signed_bytes};
+use ss_message::{Field, NoMemory};
+use std::alloc::Global;
+use std::process::Abort;
 use std::test::Fail;
 
 /// A certificate block, and what is signed of it.
@@ -128,32 +130,68 @@ const LEFT_OUT: [LeftOut; 3] = [
     },
 ];
 
+/// Whether this is signed of a text, or nothing.
+fn signs(alloc: Global, text: &[u8], left: Option<&[u8]>) -> Result<bool, NoMemory> {
+    match (signed_bytes(alloc, text)?, left) {
+        (Some(signed), Some(left)) => Ok(signed.as_slice() == left),
+        (None, None) => Ok(true),
+        _ => Ok(false),
+    }
+}
+
+fn is_of(session: &Session, sender: Sender) -> bool {
+    let (fields, rsid) = sender;
+    octets(&session.host) == fields[0]
+        && octets(&session.app) == fields[1]
+        && octets(&session.procid) == fields[2]
+        && session.rsid == rsid
+}
+
+/// Whether a text has this session, or none.
+fn is_sent(alloc: Global, text: &[u8], sender: Option<Sender>) -> Result<bool, NoMemory> {
+    match (session_of(alloc, text)?, sender) {
+        (Some(session), Some(sender)) => Ok(is_of(&session, sender)),
+        (None, None) => Ok(true),
+        _ => Ok(false),
+    }
+}
+
+fn sees_left_out(rt: &impl Abort, row: &LeftOut) {
+    let (start, end) = row.octets;
+    assert_eq!(rt; (row.block.len(), row.signed.len()), row.lengths);
+    assert_eq!(rt; row.signed.get(..start), row.block.get(..start));
+    assert_eq!(rt; row.signed.get(start..), row.block.get(end..));
+}
+
+fn sees_hashes(
+    rt: &(impl Abort + AllocGlobal),
+    text: &[u8],
+    sha1: &str,
+    sha256: &str,
+) -> Result<(), Fail> {
+    let pair = pair_of(text);
+    assert_eq!(rt; STANDARD.encode(rt.alloc(), &pair.sha1)?.as_str(), sha1);
+    assert_eq!(rt; STANDARD.encode(rt.alloc(), &pair.sha256)?.as_str(), sha256);
+    Ok(())
+}
+
 #[test]
 fn signed_sent_and_hashed(rt: HostRuntime) -> Result<(), Fail> {
-    let alloc = rt.alloc();
-    for (block, left, (fields, rsid)) in &BLOCKS {
-        let signed = signed_bytes(alloc, block)?.ok_or("a block")?;
-        assert_eq!(rt; signed.as_slice(), *left);
-        let session = session_of(alloc, block)?.ok_or("a block")?;
-        assert_eq!(rt; octets(&session.host), fields[0], "of {block:?}");
-        assert_eq!(rt; octets(&session.app), fields[1], "of {block:?}");
-        assert_eq!(rt; octets(&session.procid), fields[2], "of {block:?}");
-        assert_eq!(rt; session.rsid, *rsid, "of {block:?}");
+    for (block, left, sender) in &BLOCKS {
+        let is_signed = signs(rt.alloc(), block, Some(left))?;
+        let is_sent = is_sent(rt.alloc(), block, Some(*sender))?;
+        assert!(rt; is_signed && is_sent, "of {block:?}");
     }
     for text in &NO_BLOCKS {
-        assert!(rt; signed_bytes(alloc, text)?.is_none(), "of {text:?}");
-        assert!(rt; session_of(alloc, text)?.is_none(), "of {text:?}");
+        let is_signed = signs(rt.alloc(), text, None)?;
+        let is_sent = is_sent(rt.alloc(), text, None)?;
+        assert!(rt; is_signed && is_sent, "of {text:?}");
     }
     for row in &LEFT_OUT {
-        let (start, end) = row.octets;
-        assert_eq!(rt; (row.block.len(), row.signed.len()), row.lengths);
-        assert_eq!(rt; row.signed.get(..start), row.block.get(..start));
-        assert_eq!(rt; row.signed.get(start..), row.block.get(end..));
+        sees_left_out(&rt, row);
     }
     for (text, sha1, sha256) in &HASHES {
-        let pair = pair_of(text);
-        assert_eq!(rt; STANDARD.encode(alloc, &pair.sha1)?.as_str(), *sha1);
-        assert_eq!(rt; STANDARD.encode(alloc, &pair.sha256)?.as_str(), *sha256);
+        sees_hashes(&rt, text, sha1, sha256)?;
     }
     Ok(())
 }

@@ -1,5 +1,5 @@
 //! Each form in which a parameter may stand or may not: both ends of each range, and every form that is near one.
-use crate::blocks::elements::{Block, Edit, Kind, kind_of};
+use crate::blocks::elements::{Block, Edit, Kind, sees_kind};
 use ss_block::Spoil;
 use std::test::Fail;
 
@@ -292,26 +292,14 @@ const EDITED: [(Block, &[Edit], Kind); 3] = [
 
 #[test]
 fn values(rt: HostRuntime) -> Result<(), Fail> {
-    let alloc = rt.alloc();
     for (name, value, kind) in &SIGNATURE_VALUES {
-        let text = Block::Signature.with(alloc, &[(*name, Some(*value))])?;
-        assert_eq!(rt;
-            kind_of(alloc, &text),
-            Some(*kind),
-            "for {name:?} {value:?}"
-        );
+        sees_kind(&rt, Block::Signature, &[(*name, Some(*value))], *kind)?;
     }
     for (name, value, kind) in &CERTIFICATE_VALUES {
-        let text = Block::Certificate.with(alloc, &[(*name, Some(*value))])?;
-        assert_eq!(rt;
-            kind_of(alloc, &text),
-            Some(*kind),
-            "for {name:?} {value:?}"
-        );
+        sees_kind(&rt, Block::Certificate, &[(*name, Some(*value))], *kind)?;
     }
     for (block, edits, kind) in &EDITED {
-        let text = block.with(alloc, edits)?;
-        assert_eq!(rt; kind_of(alloc, &text), Some(*kind), "for {edits:?}");
+        sees_kind(&rt, *block, edits, *kind)?;
     }
     Ok(())
 }

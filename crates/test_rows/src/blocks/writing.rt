@@ -222,21 +222,49 @@ fn certificate_written(
     Ok((signed, Some(write_cert(alloc, head, stamp, block)?)))
 }
 
+/// What is written of a signature block; none where there is none of these fields.
+fn signature_of(
+    alloc: Global,
+    head: &Head,
+    stamp: Option<Stamp>,
+    fields: &SignatureFields,
+) -> Result<Option<Written>, NoMemory> {
+    match fields.block(alloc)? {
+        Some(block) => Ok(Some(signature_written(alloc, head, stamp, &block)?)),
+        None => Ok(None),
+    }
+}
+
+/// The same of a certificate block.
+fn certificate_of(
+    alloc: Global,
+    head: &Head,
+    stamp: Option<Stamp>,
+    fields: &CertificateFields,
+) -> Result<Option<Written>, NoMemory> {
+    match fields.block(alloc)? {
+        Some(block) => Ok(Some(certificate_written(alloc, head, stamp, &block)?)),
+        None => Ok(None),
+    }
+}
+
+fn block_of(
+    alloc: Global,
+    head: &Head,
+    stamp: Option<Stamp>,
+    block: &Fields,
+) -> Result<Option<Written>, NoMemory> {
+    match block {
+        Fields::Signature(fields) => signature_of(alloc, head, stamp, fields),
+        Fields::Certificate(fields) => certificate_of(alloc, head, stamp, fields),
+    }
+}
+
 /// What is written of a row; none where it has no head or no block.
 fn written_of(alloc: Global, row: &Row) -> Result<Option<Written>, NoMemory> {
-    let Some(head) = head_of(alloc, &row.head)? else {
-        return Ok(None);
-    };
-    let stamp = Stamp::parse(row.stamp);
-    match &row.block {
-        Fields::Signature(fields) => match fields.block(alloc)? {
-            Some(block) => Ok(Some(signature_written(alloc, &head, stamp, &block)?)),
-            None => Ok(None),
-        },
-        Fields::Certificate(fields) => match fields.block(alloc)? {
-            Some(block) => Ok(Some(certificate_written(alloc, &head, stamp, &block)?)),
-            None => Ok(None),
-        },
+    match head_of(alloc, &row.head)? {
+        Some(head) => block_of(alloc, &head, Stamp::parse(row.stamp), &row.block),
+        None => Ok(None),
     }
 }
 
@@ -245,6 +273,16 @@ fn octets(message: &Option<Bytes>) -> Option<&[u8]> {
     match message {
         Some(message) => Some(message.as_slice()),
         None => None,
+    }
+}
+
+/// Whether what is signed of the row, and its message, are written.
+fn is_written(alloc: Global, row: &Row) -> Result<bool, NoMemory> {
+    match written_of(alloc, row)? {
+        Some((signed, message)) => {
+            Ok(signed.as_slice() == row.signed && octets(&message) == row.message)
+        }
+        None => Ok(false),
     }
 }
 
@@ -259,9 +297,7 @@ const LENGTHS: [(&[u8], usize); 4] = [
 #[test]
 fn written(rt: HostRuntime) -> Result<(), Fail> {
     for row in &ROWS {
-        let (signed, message) = written_of(rt.alloc(), row)?.ok_or("a block under a head")?;
-        assert_eq!(rt; signed.as_slice(), row.signed, "{}", row.name);
-        assert_eq!(rt; octets(&message), row.message, "{}", row.name);
+        assert!(rt; is_written(rt.alloc(), row)?, "{}", row.name);
     }
     for (text, length) in &LENGTHS {
         assert_eq!(rt; text.len(), *length, "of {text:?}");
@@ -278,33 +314,32 @@ fn is_head(alloc: Global, pri: u8, texts: &[&[u8]; 4]) -> Result<bool, AllocErro
     Ok(Head::new(pri, hostname, app_name, procid, msgid).is_some())
 }
 
-const LONG: &[u8] = &[b'x'; 256];
+/// The longest HOSTNAME, APP-NAME, PROCID and MSGID.
+const LONGEST: [&[u8]; 4] = [&[b'x'; 255], &[b'x'; 48], &[b'x'; 128], &[b'x'; 32]];
+
+/// Whether there is a head of this PRI and these texts.
+const HEADS: [(bool, u8, [&[u8]; 4]); 14] = [
+    (true, 0, [b"h", b"s", b"p", b"m"]),
+    (true, 191, LONGEST),
+    (true, 110, [b"--", b"!", b"~", b"=\"]"]),
+    (false, 192, [b"h", b"s", b"p", b"m"]),
+    (false, 110, [b"-", b"s", b"p", b"m"]),
+    (false, 110, [b"h", b"-", b"p", b"m"]),
+    (false, 110, [b"h", b"s", b"-", b"m"]),
+    (false, 110, [b"h", b"s", b"p", b"-"]),
+    (false, 110, [&[b'x'; 256], b"s", b"p", b"m"]),
+    (false, 110, [b"h", &[b'x'; 49], b"p", b"m"]),
+    (false, 110, [b"h", b"s", &[b'x'; 129], b"m"]),
+    (false, 110, [b"h", b"s", b"p", &[b'x'; 33]]),
+    (false, 110, [b"", b"s", b"p", b"m"]),
+    (false, 110, [b"h h", b"s", b"p", b"\x7F"]),
+];
 
 #[test]
 fn heads(rt: HostRuntime) -> Result<(), Fail> {
-    let alloc = rt.alloc();
-    let rows: [(bool, u8, [&[u8]; 4]); 14] = [
-        (true, 0, [b"h", b"s", b"p", b"m"]),
-        (
-            true,
-            191,
-            [&LONG[..255], &LONG[..48], &LONG[..128], &LONG[..32]],
-        ),
-        (true, 110, [b"--", b"!", b"~", b"=\"]"]),
-        (false, 192, [b"h", b"s", b"p", b"m"]),
-        (false, 110, [b"-", b"s", b"p", b"m"]),
-        (false, 110, [b"h", b"-", b"p", b"m"]),
-        (false, 110, [b"h", b"s", b"-", b"m"]),
-        (false, 110, [b"h", b"s", b"p", b"-"]),
-        (false, 110, [LONG, b"s", b"p", b"m"]),
-        (false, 110, [b"h", &LONG[..49], b"p", b"m"]),
-        (false, 110, [b"h", b"s", &LONG[..129], b"m"]),
-        (false, 110, [b"h", b"s", b"p", &LONG[..33]]),
-        (false, 110, [b"", b"s", b"p", b"m"]),
-        (false, 110, [b"h h", b"s", b"p", b"\x7F"]),
-    ];
-    for (made, pri, texts) in &rows {
-        assert_eq!(rt; is_head(alloc, *pri, texts)?, *made, "{pri} {texts:?}");
+    for (made, pri, texts) in &HEADS {
+        let is_head = is_head(rt.alloc(), *pri, texts)?;
+        assert_eq!(rt; is_head, *made, "{pri} {texts:?}");
     }
     Ok(())
 }

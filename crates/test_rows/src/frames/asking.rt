@@ -25,7 +25,15 @@ impl<'w> Want<'w> {
         }
     }
 
-    fn is_given(self, answer: &Result<Step, FrameFault>) -> bool {
+    /// Whether a read has failed, and whether the frames have.
+    fn failures(self) -> (bool, bool) {
+        (
+            matches!(self, Want::Fault(FrameFault::Read)),
+            matches!(self, Want::Fault(_)),
+        )
+    }
+
+    pub(crate) fn is_given(self, answer: &Result<Step, FrameFault>) -> bool {
         match (self, answer) {
             (Want::Message(octets), Ok(Step::Message(message))) => message.as_slice() == octets,
             (Want::Done, Ok(Step::Done)) => true,
@@ -72,18 +80,10 @@ fn ask(
         want.is_given(&answer),
         "{name}: {answer:?}, not {want:?}, at {offset}"
     );
-    assert_eq!(rt; frames.offset(), offset, "{name}: after {want:?}");
-    assert_eq!(rt; pieces.taken, offset, "{name}: after {want:?}");
-    assert_eq!(rt;
-        read_failed,
-        matches!(want, Want::Fault(FrameFault::Read)),
-        "{name}: at {offset}"
-    );
-    assert_eq!(rt;
-        frames.failed(),
-        matches!(want, Want::Fault(_)),
-        "{name}: at {offset}"
-    );
+    let taken = (frames.offset(), pieces.taken);
+    assert_eq!(rt; taken, (offset, offset), "{name}: after {want:?}");
+    let failed = (read_failed, frames.failed());
+    assert_eq!(rt; failed, want.failures(), "{name}: at {offset}");
 }
 
 /// Asks for all frames of `pieces`. Each answer is wanted with the octets that are then taken. The last is an end, and two
@@ -108,6 +108,20 @@ pub(crate) fn ask_all(
     }
 }
 
+/// One call, before which nothing has failed.
+fn next(
+    rt: &impl Abort,
+    frames: &mut FrameReader,
+    reader: &mut Watched<Pieces<'_>>,
+) -> Result<Step, FrameFault> {
+    assert!(rt;
+        !reader.failed() && !frames.failed(),
+        "at {}",
+        frames.offset()
+    );
+    frames.next_frame(reader)
+}
+
 /// As `ask_all`, over one watched reader and up to the last of `wants`. A call that wants memory is made again.
 pub(crate) fn ask_on(
     rt: &(impl Abort + AllocGlobal),
@@ -118,12 +132,10 @@ pub(crate) fn ask_on(
     let mut reader = Watched::new(pieces);
     let mut frames = FrameReader::new(rt.alloc(), limits);
     for (want, offset) in wants {
-        assert!(rt; !reader.failed() && !frames.failed(), "before {want:?}");
-        let mut answer = frames.next_frame(&mut reader);
-        if matches!(&answer, Err(FrameFault::Memory)) {
-            assert!(rt; !reader.failed() && !frames.failed(), "for {want:?}");
-            answer = frames.next_frame(&mut reader);
-        }
+        let answer = match next(rt, &mut frames, &mut reader) {
+            Err(FrameFault::Memory) => next(rt, &mut frames, &mut reader),
+            answer => answer,
+        };
         assert!(rt; want.is_given(&answer), "{answer:?}, not {want:?}");
         assert_eq!(rt; frames.offset(), *offset, "after {want:?}");
     }

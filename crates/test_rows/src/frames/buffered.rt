@@ -1,5 +1,6 @@
 //! A buffered reader behind which one read fails.
-use ss_frame::{Buffered, FrameFault, FrameReader, Limits, Step, Watched};
+use crate::frames::asking::Want;
+use ss_frame::{Buffered, FrameFault, FrameReader, Limits, Watched};
 use std::io;
 use std::io::{ErrorKind, Read};
 use std::process::Abort;
@@ -26,9 +27,60 @@ struct Row {
     ends: [u64; 2],
 }
 
+/// The next unit is `abc`, before which nothing has failed.
+fn sees_message<R: Read>(
+    rt: &impl Abort,
+    frames: &mut FrameReader,
+    reader: &mut Watched<R>,
+    read: u64,
+) {
+    assert!(rt; !reader.failed() && !frames.failed());
+    let answer = frames.next_frame(reader);
+    let is_given = Want::Message(b"abc").is_given(&answer);
+    assert!(rt; is_given, "{answer:?}, read {read}");
+}
+
+/// The next answer is this fault, behind a read that has failed where it isn't the read's own.
+fn sees_fault<R: Read>(
+    rt: &impl Abort,
+    frames: &mut FrameReader,
+    reader: &mut Watched<R>,
+    want: FrameFault,
+    read: u64,
+) {
+    assert!(rt; !reader.failed() || frames.failed(), "before {want:?}");
+    assert_eq!(rt; reader.failed(), matches!(want, FrameFault::Failed));
+    let answer = frames.next_frame(reader);
+    let is_given = Want::Fault(want).is_given(&answer);
+    assert!(rt; is_given, "{answer:?}, not {want:?}, read {read}");
+    assert!(rt; reader.failed() && frames.failed());
+}
+
+/// Reads the units of `row` up to the octets that come before the read that fails. All of them are used, and the fault is
+/// told once.
+fn sees_row(
+    rt: &(impl Abort + AllocGlobal),
+    row: &Row,
+    lent: Lent<'_, '_>,
+    came: u64,
+    read: u64,
+) -> Result<(), Fail> {
+    let mut reader = Watched::new(Buffered::new(rt.alloc(), lent)?);
+    let mut frames = FrameReader::new(rt.alloc(), row.limits);
+    for end in row.ends {
+        if end <= came {
+            sees_message(rt, &mut frames, &mut reader, read);
+        }
+    }
+    for want in [FrameFault::Read, FrameFault::Failed, FrameFault::Failed] {
+        sees_fault(rt, &mut frames, &mut reader, want, read);
+    }
+    assert_eq!(rt; frames.offset(), came, "read {read}");
+    Ok(())
+}
+
 /// Reads the units of `row` through a buffer, where a read behind it takes at most `most` octets and the read of
-/// the number `read`, from 1, fails. All octets that came before are used, the fault is told once, and nothing is
-/// read after it. A read that the stream doesn't need is passed over.
+/// the number `read`, from 1, fails. Nothing is read after it. A read that the stream doesn't need is passed over.
 fn fails_at(
     rt: &(impl Abort + AllocGlobal),
     row: &Row,
@@ -45,30 +97,7 @@ fn fails_at(
     let lent = Lent {
         pieces: &mut pieces,
     };
-    let mut reader = Watched::new(Buffered::new(rt.alloc(), lent)?);
-    let mut frames = FrameReader::new(rt.alloc(), row.limits);
-    for end in row.ends {
-        if end <= came {
-            assert!(rt; !reader.failed() && !frames.failed());
-            let answer = frames.next_frame(&mut reader);
-            assert!(rt;
-                matches!(&answer, Ok(Step::Message(message)) if message.as_slice() == b"abc".as_slice()),
-                "{answer:?}, read {read}"
-            );
-        }
-    }
-    for want in [FrameFault::Read, FrameFault::Failed, FrameFault::Failed] {
-        assert!(rt; !reader.failed() || frames.failed(), "before {want:?}");
-        assert_eq!(rt; reader.failed(), matches!(want, FrameFault::Failed));
-        let answer = frames.next_frame(&mut reader);
-        assert!(rt;
-            matches!(&answer, Err(fault) if *fault == want),
-            "{answer:?}, not {want:?}, read {read}"
-        );
-        assert!(rt; reader.failed() && frames.failed());
-    }
-    assert_eq!(rt; frames.offset(), came, "read {read}");
-    drop(reader);
+    sees_row(rt, row, lent, came, read)?;
     assert_eq!(rt; pieces.reads, read);
     assert_eq!(rt; pieces.taken, came, "read {read}");
     Ok(())

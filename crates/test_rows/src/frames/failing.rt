@@ -2,7 +2,9 @@
 use crate::frames::asking::Want::{Done, Fault, Message, Torn};
 use crate::frames::asking::{Bounds, FRAMES, LINES, Want, ask_all, ask_on, limits_of};
 use ss_frame::{Form, FrameFault, Limits};
+use std::alloc::AllocError;
 use std::io::ErrorKind;
+use std::process::Abort;
 use std::test::Fail;
 use test_devices::Pieces;
 
@@ -62,26 +64,47 @@ const FAILING: [Failing; 5] = [
     },
 ];
 
+/// The read behind so many octets fails in each way.
+fn stops_at(
+    rt: &(impl Abort + AllocGlobal),
+    row: &Failing,
+    limits: Limits,
+    taken: u64,
+) -> Result<(), AllocError> {
+    let mut wants = Vec::from_slice(rt.alloc(), row.before)?;
+    wants.push((Fault(FrameFault::Read), taken))?;
+    for kind in KINDS {
+        let pieces = Pieces::failing(row.stream, 1, taken.saturating_add(1), kind);
+        ask_all(rt, row.name, limits, pieces, wants.as_slice());
+    }
+    Ok(())
+}
+
 #[test]
 fn stops_at_each_read_that_fails(rt: HostRuntime) -> Result<(), Fail> {
     for row in &FAILING {
         let limits = limits_of(row.bounds).ok_or("no limits")?;
         for taken in row.taken.0..row.taken.1 {
-            let mut wants = Vec::from_slice(rt.alloc(), row.before)?;
-            wants.push((Fault(FrameFault::Read), taken))?;
-            for kind in KINDS {
-                let pieces = Pieces::failing(row.stream, 1, taken.saturating_add(1), kind);
-                ask_all(&rt, row.name, limits, pieces, wants.as_slice());
-            }
+            stops_at(&rt, row, limits, taken)?;
         }
     }
     Ok(())
 }
 
-/// `rt try --test --fail-alloc N` makes the Nth allocation of each test fail, and this one passes for every N: after
-/// F4 the octets that were taken are kept, and the next call goes on. The other tests take F4 for a wrong answer.
-#[test]
-fn goes_on_after_want_of_memory(rt: HostRuntime) {
+/// The stream, in pieces of so many octets at most.
+fn sees_stream(
+    rt: &(impl Abort + AllocGlobal),
+    limits: Limits,
+    stream: &[u8],
+    most: &[usize],
+    wants: &[(Want<'_>, u64)],
+) {
+    for most in most {
+        ask_on(rt, limits, Pieces::new(stream, *most), wants);
+    }
+}
+
+fn sees_frames(rt: &(impl Abort + AllocGlobal)) {
     let mut stream = [b'x'; 10_011];
     stream[..11].copy_from_slice(b"3 abc10000 ");
     let wants = [
@@ -90,12 +113,11 @@ fn goes_on_after_want_of_memory(rt: HostRuntime) {
         (Done, 10_011),
     ];
     let frames = Limits::standard();
-    ask_on(&rt, frames, Pieces::new(&stream, usize::MAX), &wants);
-    ask_on(&rt, frames, Pieces::new(&stream, 1_000), &wants);
-    let wants = [(Message(b"abc"), 5), (Torn(5), 9)];
-    ask_on(&rt, frames, Pieces::new(b"3 abc3 ab", usize::MAX), &wants);
-    ask_on(&rt, frames, Pieces::new(b"3 abc3 ab", 1), &wants);
-    // The octets of a line are stored in parts, and the last of them behind its LF.
+    sees_stream(rt, frames, &stream, &[usize::MAX, 1_000], &wants);
+}
+
+/// The octets of a line are stored in parts, and the last of them behind its LF.
+fn sees_lines(rt: &(impl Abort + AllocGlobal)) {
     let mut stream = [b'x'; 10_005];
     stream[3] = b'\n';
     stream[10_004] = b'\n';
@@ -104,9 +126,24 @@ fn goes_on_after_want_of_memory(rt: HostRuntime) {
         (Message(&stream[4..10_004]), 10_005),
         (Done, 10_005),
     ];
-    let lines = frames.lines();
-    ask_on(&rt, lines, Pieces::new(&stream, usize::MAX), &wants);
-    ask_on(&rt, lines, Pieces::new(&stream, 1), &wants);
-    let wants = [(Message(b"xxx".as_slice()), 4), (Torn(4), 6)];
-    ask_on(&rt, lines, Pieces::new(&stream[..6], 1), &wants);
+    let lines = Limits::standard().lines();
+    sees_stream(rt, lines, &stream, &[usize::MAX, 1], &wants);
+}
+
+/// `rt try --test --fail-alloc N` makes the Nth allocation of each test fail, and this one passes for every N: after
+/// F4 the octets that were taken are kept, and the next call goes on. The other tests take F4 for a wrong answer.
+#[test]
+fn goes_on_after_want_of_memory(rt: HostRuntime) {
+    sees_frames(&rt);
+    sees_lines(&rt);
+    let torn = [(Message(b"abc"), 5), (Torn(5), 9)];
+    sees_stream(
+        &rt,
+        Limits::standard(),
+        b"3 abc3 ab",
+        &[usize::MAX, 1],
+        &torn,
+    );
+    let torn = [(Message(b"xxx".as_slice()), 4), (Torn(4), 6)];
+    sees_stream(&rt, Limits::standard().lines(), b"xxx\nxx", &[1], &torn);
 }

@@ -14,14 +14,9 @@ fn writes(
 ) {
     let mut writer = Watched::new(paper);
     let answer = write_frame(&mut writer, message);
-    assert_eq!(rt; answer, want, "{message:?}");
-    assert_eq!(rt;
-        writer.failed(),
-        matches!(want, Err(WriteFault::Write)),
-        "{message:?}"
-    );
-    let paper = writer.into_inner();
-    assert_eq!(rt; paper.text(), written);
+    let wants = (want, matches!(want, Err(WriteFault::Write)));
+    assert_eq!(rt; (answer, writer.failed()), wants, "{message:?}");
+    assert_eq!(rt; writer.into_inner().text(), written);
 }
 
 /// A message and its frame.
@@ -31,6 +26,24 @@ const WRITTEN: [(&[u8], &[u8]); 3] = [
     (b"0123456789", b"10 0123456789"),
 ];
 
+/// No octet, no frame.
+fn sees_no_frame(rt: &impl Abort) {
+    let mut writer = Watched::new(Paper::new(16));
+    let answer = write_frame(&mut writer, b"");
+    assert!(rt; answer == Err(WriteFault::Empty) && !writer.failed());
+    assert_eq!(rt; writer.into_inner().writes, 0);
+}
+
+/// Octets alone.
+fn sees_octets(rt: &impl Abort) {
+    let mut writer = Watched::new(Paper::new(2));
+    let is_written = write_octets(&mut writer, b"")
+        && write_octets(&mut writer, b"abc")
+        && write_octets(&mut writer, b"d");
+    let paper = writer.into_inner();
+    assert!(rt; is_written && paper.writes == 3 && paper.text() == b"abcd".as_slice());
+}
+
 #[test]
 fn writes_a_message_behind_its_length(rt: HostRuntime) {
     for (message, frame) in &WRITTEN {
@@ -38,19 +51,8 @@ fn writes_a_message_behind_its_length(rt: HostRuntime) {
             writes(&rt, Paper::new(most), message, Ok(()), frame);
         }
     }
-    // No octet, no frame.
-    let mut writer = Watched::new(Paper::new(16));
-    assert_eq!(rt; write_frame(&mut writer, b""), Err(WriteFault::Empty));
-    assert!(rt; !writer.failed());
-    assert_eq!(rt; writer.into_inner().writes, 0);
-    // Octets alone.
-    let mut writer = Watched::new(Paper::new(2));
-    assert!(rt; write_octets(&mut writer, b""));
-    assert!(rt; write_octets(&mut writer, b"abc"));
-    assert!(rt; write_octets(&mut writer, b"d"));
-    let paper = writer.into_inner();
-    assert_eq!(rt; paper.writes, 3);
-    assert_eq!(rt; paper.text(), b"abcd".as_slice());
+    sees_no_frame(&rt);
+    sees_octets(&rt);
 }
 
 const REFUSALS: [Refusal; 3] = [
@@ -58,6 +60,31 @@ const REFUSALS: [Refusal; 3] = [
     Refusal::Error(ErrorKind::Interrupted),
     Refusal::Nothing,
 ];
+
+/// The calls on a writer that fails at its second write: two for a frame, one for a frame without an octet, and two for
+/// octets.
+fn write_on(writer: &mut Watched<Paper>) -> ([Result<(), WriteFault>; 3], [bool; 2]) {
+    let frames = [
+        write_frame(writer, b"abc"),
+        write_frame(writer, b"abc"),
+        write_frame(writer, b""),
+    ];
+    (
+        frames,
+        [write_octets(writer, b"abc"), write_octets(writer, b"")],
+    )
+}
+
+/// A writer that has failed is left alone, and a message without an octet is still told first.
+fn sees_failed(rt: &impl Abort, refusal: Refusal) {
+    let mut writer = Watched::new(Paper::refusing(1, 2, refusal));
+    let (frames, octets) = write_on(&mut writer);
+    let write = Err(WriteFault::Write);
+    assert_eq!(rt; frames, [write, write, Err(WriteFault::Empty)]);
+    assert!(rt; octets == [false, false] && writer.failed());
+    let paper = writer.into_inner();
+    assert!(rt; paper.writes == 2 && paper.text() == b"3".as_slice());
+}
 
 #[test]
 fn stops_at_each_write_that_is_refused(rt: HostRuntime) {
@@ -68,17 +95,7 @@ fn stops_at_each_write_that_is_refused(rt: HostRuntime) {
             writes(&rt, paper, b"abc", Err(WriteFault::Write), &frame[..octets]);
         }
         writes(&rt, Paper::refusing(1, 6, refusal), b"abc", Ok(()), frame);
-        // A writer that has failed is left alone, and a message without an octet is still told first.
-        let mut writer = Watched::new(Paper::refusing(1, 2, refusal));
-        assert_eq!(rt; write_frame(&mut writer, b"abc"), Err(WriteFault::Write));
-        assert_eq!(rt; write_frame(&mut writer, b"abc"), Err(WriteFault::Write));
-        assert_eq!(rt; write_frame(&mut writer, b""), Err(WriteFault::Empty));
-        assert!(rt; !write_octets(&mut writer, b"abc"));
-        assert!(rt; !write_octets(&mut writer, b""));
-        assert!(rt; writer.failed());
-        let paper = writer.into_inner();
-        assert_eq!(rt; paper.writes, 2);
-        assert_eq!(rt; paper.text(), b"3".as_slice());
+        sees_failed(&rt, refusal);
     }
     let mut writer = Watched::new(Paper::refusing(16, 1, Refusal::Nothing));
     assert!(rt; !write_octets(&mut writer, b"a"));

@@ -1,7 +1,8 @@
 //! Streams of frames and of lines, whole and octet by octet.
 use crate::frames::asking::Want::{Done, Fault, Message, Torn};
 use crate::frames::asking::{Bounds, FRAMES, Want, ask_all, limits_of};
-use ss_frame::{Form, FrameFault, FrameReader, Limits, Step, Watched};
+use ss_frame::{Form, FrameFault, FrameReader, Limits, Watched};
+use std::process::Abort;
 use std::test::Fail;
 use test_devices::Pieces;
 
@@ -216,31 +217,36 @@ const ENDLESS: [(Want<'static>, u64); 6] = [
 /// In pieces as large as they are asked for, and octet by octet.
 const MOST: [usize; 2] = [usize::MAX, 1];
 
+fn sees_row(rt: &(impl Abort + AllocGlobal), row: &Row, limits: Limits) {
+    for most in MOST {
+        let pieces = Pieces::new(row.stream, most);
+        ask_all(rt, row.name, limits, pieces, row.wants);
+    }
+}
+
+fn sees_endless(rt: &(impl Abort + AllocGlobal), limits: Limits) {
+    for most in MOST {
+        let pieces = Pieces::endless(b"1 a", most);
+        ask_all(rt, "without an end", limits, pieces, &ENDLESS);
+    }
+}
+
 #[test]
 fn streams(rt: HostRuntime) -> Result<(), Fail> {
     for row in &ROWS {
-        let limits = limits_of(row.bounds).ok_or("no limits")?;
-        for most in MOST {
-            ask_all(
-                &rt,
-                row.name,
-                limits,
-                Pieces::new(row.stream, most),
-                row.wants,
-            );
-        }
+        sees_row(&rt, row, limits_of(row.bounds).ok_or("no limits")?);
     }
-    let few = Limits::new(3, 5).ok_or("no limits")?;
-    for most in MOST {
-        ask_all(
-            &rt,
-            "without an end",
-            few,
-            Pieces::endless(b"1 a", most),
-            &ENDLESS,
-        );
-    }
+    sees_endless(&rt, Limits::new(3, 5).ok_or("no limits")?);
     Ok(())
+}
+
+/// The length is read by six reads, and the message by three.
+fn sees_reads(rt: &(impl Abort + AllocGlobal), pieces: Pieces<'_>) {
+    let mut reader = Watched::new(pieces);
+    let mut frames = FrameReader::new(rt.alloc(), Limits::standard());
+    assert!(rt; frames.next_frame(&mut reader).is_ok());
+    let pieces = reader.into_inner();
+    assert_eq!(rt; (pieces.longest, pieces.reads), (4_096, 9));
 }
 
 #[test]
@@ -252,21 +258,10 @@ fn reads_a_long_message_in_short_reads(rt: HostRuntime) {
         (Fault(FrameFault::BadLength { pos: 10_006 }), 10_007),
     ];
     for most in MOST {
-        ask_all(
-            &rt,
-            "long",
-            Limits::standard(),
-            Pieces::new(&stream, most),
-            &wants,
-        );
+        let pieces = Pieces::new(&stream, most);
+        ask_all(&rt, "long", Limits::standard(), pieces, &wants);
     }
-    let mut reader = Watched::new(Pieces::new(&stream, usize::MAX));
-    let mut frames = FrameReader::new(rt.alloc(), Limits::standard());
-    assert!(rt; frames.next_frame(&mut reader).is_ok());
-    // The length by six reads, and the message by three.
-    let pieces = reader.into_inner();
-    assert_eq!(rt; pieces.longest, 4_096);
-    assert_eq!(rt; pieces.reads, 9);
+    sees_reads(&rt, Pieces::new(&stream, usize::MAX));
 }
 
 /// A stream, and what is left of it when the message `abc` was read.
@@ -275,20 +270,20 @@ const LEFT: [(Form, &[u8], &[u8]); 2] = [
     (Form::Lines, b"abc\nab", b"ab"),
 ];
 
+fn sees_left(rt: &(impl Abort + AllocGlobal), limits: Limits, stream: &[u8], left: &[u8]) {
+    let mut reader = Watched::new(stream);
+    let mut frames = FrameReader::new(rt.alloc(), limits);
+    let answer = frames.next_frame(&mut reader);
+    let is_given = Message(b"abc").is_given(&answer);
+    assert!(rt; is_given && !reader.failed(), "{answer:?}");
+    assert_eq!(rt; reader.into_inner(), left);
+}
+
 #[test]
 fn leaves_the_octets_behind_a_message_in_the_reader(rt: HostRuntime) -> Result<(), Fail> {
     for (form, stream, left) in LEFT {
         let limits = limits_of((form, 65_536, 10_000_000)).ok_or("no limits")?;
-        let mut reader = Watched::new(stream);
-        let mut frames = FrameReader::new(rt.alloc(), limits);
-        match frames.next_frame(&mut reader)? {
-            Step::Message(message) => {
-                assert_eq!(rt; message.as_slice(), b"abc".as_slice(), "{form:?}");
-            }
-            other => panic!(rt; "{form:?}: {other:?}"),
-        }
-        assert!(rt; !reader.failed(), "{form:?}");
-        assert_eq!(rt; reader.into_inner(), left, "{form:?}");
+        sees_left(&rt, limits, stream, left);
     }
     Ok(())
 }

@@ -68,7 +68,10 @@ fn two_elements(alloc: Global) -> Result<DraftElements, AllocError> {
     Ok(DraftElements::from_vec(elements))
 }
 
-/// A draft with nothing absent.
+/// The message of a draft with nothing absent.
+const FULL: &[u8] = b"<191>1 2009-05-03T14:00:39Z h s -- m [a@1 b=\"\\]\\\"\\\\\"][c] ";
+
+/// The draft of it.
 fn full(alloc: Global) -> Result<Draft, AllocError> {
     let mut draft = header(alloc, 191, &[b"h", b"s", b"--", b"m"])?;
     draft.stamp = Stamp::new(2009, 5, 3, 14, 0, 39, 0, 0, Offset::Utc);
@@ -77,13 +80,18 @@ fn full(alloc: Global) -> Result<Draft, AllocError> {
     Ok(draft)
 }
 
+fn sees_empty(rt: &(impl Abort + AllocGlobal)) -> Result<(), DraftFault> {
+    sees(rt, &empty(rt.alloc()), b"<13>1 - - - - - -")
+}
+
+fn sees_full(rt: &(impl Abort + AllocGlobal)) -> Result<(), DraftFault> {
+    sees(rt, &full(rt.alloc())?, FULL)
+}
+
 #[test]
 fn written(rt: HostRuntime) -> Result<(), Fail> {
-    let draft = empty(rt.alloc());
-    sees(&rt, &draft, b"<13>1 - - - - - -")?;
-    let draft = full(rt.alloc())?;
-    let want = b"<191>1 2009-05-03T14:00:39Z h s -- m [a@1 b=\"\\]\\\"\\\\\"][c] ";
-    sees(&rt, &draft, want)?;
+    sees_empty(&rt)?;
+    sees_full(&rt)?;
     Ok(())
 }
 
@@ -132,39 +140,76 @@ const BODIES: [([&[u8]; 5], Part); 8] = [
     ([b"a", b"b", b"c", b"d", b"\xEF\xBB\xBF\xFF"], Part::Msg),
 ];
 
-fn header(alloc: Global, pri: u8, texts: &[&[u8]; 4]) -> Result<Draft, AllocError> {
-    let mut draft = empty(alloc);
-    draft.pri = pri;
+fn set_fields(draft: &mut Draft, alloc: Global, texts: &[&[u8]; 4]) -> Result<(), AllocError> {
     draft.hostname = field(alloc, texts[0])?;
     draft.app_name = field(alloc, texts[1])?;
     draft.procid = field(alloc, texts[2])?;
     draft.msgid = field(alloc, texts[3])?;
+    Ok(())
+}
+
+fn header(alloc: Global, pri: u8, texts: &[&[u8]; 4]) -> Result<Draft, AllocError> {
+    let mut draft = empty(alloc);
+    draft.pri = pri;
+    set_fields(&mut draft, alloc, texts)?;
     Ok(draft)
+}
+
+fn put_elements(
+    elements: &mut Vec<DraftElement>,
+    alloc: Global,
+    texts: &[&[u8]; 5],
+) -> Result<(), AllocError> {
+    elements.push(element(alloc, texts[0], texts[1], texts[2])?)?;
+    Ok(elements.push(element(alloc, texts[3], b"b", b"")?)?)
 }
 
 fn body(alloc: Global, texts: &[&[u8]; 5]) -> Result<Draft, AllocError> {
     let mut elements = Vec::new(alloc);
-    elements.push(element(alloc, texts[0], texts[1], texts[2])?)?;
-    elements.push(element(alloc, texts[3], b"b", b"")?)?;
+    put_elements(&mut elements, alloc, texts)?;
     let mut draft = empty(alloc);
     draft.elements = DraftElements::from_vec(elements);
     draft.msg = Some(bytes(alloc, texts[4])?);
     Ok(draft)
 }
 
+fn sees_header_refused(
+    rt: &(impl Abort + AllocGlobal),
+    pri: u8,
+    texts: &[&[u8]; 4],
+    part: Part,
+) -> Result<(), AllocError> {
+    let draft = header(rt.alloc(), pri, texts)?;
+    sees_refused(rt, &draft, part);
+    Ok(())
+}
+
+fn sees_body_refused(
+    rt: &(impl Abort + AllocGlobal),
+    texts: &[&[u8]; 5],
+    part: Part,
+) -> Result<(), AllocError> {
+    let draft = body(rt.alloc(), texts)?;
+    sees_refused(rt, &draft, part);
+    Ok(())
+}
+
+/// A text without an octet is no text.
+fn sees_no_text(rt: &(impl Abort + AllocGlobal)) -> Result<(), AllocError> {
+    let mut draft = empty(rt.alloc());
+    draft.hostname = Field::Text(bytes(rt.alloc(), b"")?);
+    sees_refused(rt, &draft, Part::Hostname);
+    Ok(())
+}
+
 #[test]
 fn not_written(rt: HostRuntime) -> Result<(), Fail> {
     for (pri, texts, part) in &HEADERS {
-        let draft = header(rt.alloc(), *pri, texts)?;
-        sees_refused(&rt, &draft, *part);
+        sees_header_refused(&rt, *pri, texts, *part)?;
     }
     for (texts, part) in &BODIES {
-        let draft = body(rt.alloc(), texts)?;
-        sees_refused(&rt, &draft, *part);
+        sees_body_refused(&rt, texts, *part)?;
     }
-    // A text without an octet is no text.
-    let mut draft = empty(rt.alloc());
-    draft.hostname = Field::Text(bytes(rt.alloc(), b"")?);
-    sees_refused(&rt, &draft, Part::Hostname);
+    sees_no_text(&rt)?;
     Ok(())
 }

@@ -1,6 +1,8 @@
 //! The examples of RFC 5424, section 6.5, and the values of parameters.
 use ss_frame::Bytes;
-use ss_message::{Message, NoMemory, Parameter, Span, Stamp, escape, parse, value, write_stamp};
+use ss_message::{
+    Element, Message, NoMemory, Parameter, Span, Stamp, escape, parse, value, write_stamp,
+};
 use std::alloc::Global;
 use std::process::Abort;
 use std::test::Fail;
@@ -98,54 +100,80 @@ fn stamp_text(alloc: Global, stamp: &Option<Stamp>) -> Result<Bytes, NoMemory> {
     }
 }
 
+fn sees_stamp(
+    rt: &(impl Abort + AllocGlobal),
+    row: &Example,
+    stamp: &Option<Stamp>,
+) -> Result<(), NoMemory> {
+    let text = stamp_text(rt.alloc(), stamp)?;
+    assert_eq!(rt; text.as_slice(), row.stamp, "{}", row.name);
+    Ok(())
+}
+
+/// PRI, the four fields of the header, and MSG are those.
+fn sees_fields(rt: &impl Abort, row: &Example, m: &Message<'_>) {
+    let spans = [m.hostname, m.app_name, m.procid, m.msgid];
+    for (span, field) in spans.iter().zip(&row.fields) {
+        assert_eq!(rt; text_of(row.text, *span), Some(*field), "{}", row.name);
+    }
+    let msg = match m.msg {
+        Some(span) => text_of(row.text, span),
+        None => None,
+    };
+    assert_eq!(rt; (m.pri, msg), (row.pri, row.msg), "{}", row.name);
+}
+
+/// The SD-IDs are those, in that order.
+fn sees_ids(rt: &impl Abort, row: &Example, elements: &[Element]) {
+    assert_eq!(rt; elements.len(), row.ids.len(), "{}", row.name);
+    for (element, id) in elements.iter().zip(row.ids) {
+        assert_eq!(rt; text_of(row.text, element.id), Some(*id), "{}", row.name);
+    }
+}
+
 #[test]
 fn examples(rt: HostRuntime) -> Result<(), Fail> {
     for row in &EXAMPLES {
         let m = read(rt.alloc(), row.text)?;
-        assert_eq!(rt; m.pri, row.pri, "{}", row.name);
-        let stamp = stamp_text(rt.alloc(), &m.stamp)?;
-        assert_eq!(rt; stamp.as_slice(), row.stamp, "{}", row.name);
-        for (i, span) in [m.hostname, m.app_name, m.procid, m.msgid]
-            .iter()
-            .enumerate()
-        {
-            let field = row.fields.get(i).copied();
-            assert_eq!(rt; text_of(row.text, *span), field, "{}", row.name);
-        }
-        assert_eq!(rt; m.elements.as_slice().len(), row.ids.len(), "{}", row.name);
-        for (i, element) in m.elements.as_slice().iter().enumerate() {
-            let id = row.ids.get(i).copied();
-            assert_eq!(rt; text_of(row.text, element.id), id, "{}", row.name);
-        }
-        let msg = match m.msg {
-            Some(span) => text_of(row.text, span),
-            None => None,
-        };
-        assert_eq!(rt; msg, row.msg, "{}", row.name);
+        sees_stamp(&rt, row, &m.stamp)?;
+        sees_fields(&rt, row, &m);
+        sees_ids(&rt, row, m.elements.as_slice());
     }
+    Ok(())
+}
+
+/// An SD-ID, and which element of the fourth example has it.
+const PLACES: [(&[u8], Option<usize>); 4] = [
+    (b"exampleSDID@32473", Some(0)),
+    (b"examplePriority@32473", Some(1)),
+    (b"examplesdid@32473", None),
+    (b"example", None),
+];
+
+/// The parameters are three, and the last of them is that one.
+fn sees_parameters(rt: &impl Abort, parameters: &[Parameter]) -> Result<(), Fail> {
+    let last = parameters.last().ok_or("a parameter")?;
+    assert_eq!(rt; parameters.len(), 3);
+    assert_eq!(rt; text_of(FOURTH, last.name), Some(b"eventID".as_slice()));
+    assert_eq!(rt; text_of(FOURTH, last.value), Some(b"1011".as_slice()));
     Ok(())
 }
 
 #[test]
 fn elements(rt: HostRuntime) -> Result<(), Fail> {
     let m = read(rt.alloc(), FOURTH)?;
-    assert_eq!(rt; m.element(b"exampleSDID@32473"), Some(0));
-    assert_eq!(rt; m.element(b"examplePriority@32473"), Some(1));
-    assert_eq!(rt; m.element(b"examplesdid@32473"), None);
-    assert_eq!(rt; m.element(b"example"), None);
+    for (id, place) in &PLACES {
+        assert_eq!(rt; m.element(id), *place, "{id:?}");
+    }
     let first = m.elements.as_slice().first().ok_or("an element")?;
-    assert_eq!(rt; first.parameters.as_slice().len(), 3);
-    let last = first.parameters.as_slice().last().ok_or("a parameter")?;
-    assert_eq!(rt; text_of(FOURTH, last.name), Some(b"eventID".as_slice()));
-    assert_eq!(rt; text_of(FOURTH, last.value), Some(b"1011".as_slice()));
+    sees_parameters(&rt, first.parameters.as_slice())?;
     Ok(())
 }
 
 /// What a message says of itself: its length, its elements by name, and its host.
 fn sees_names(rt: &impl Abort, m: &Message<'_>) {
-    assert_eq!(rt; m.source.len(), 177);
-    assert_eq!(rt; m.element(b"ssign"), Some(1));
-    assert_eq!(rt; m.element(b"z"), None);
+    let places = (m.element(b"ssign"), m.element(b"z"));
+    assert_eq!(rt; (m.source.len(), places), (177, (Some(1), None)));
     let host = m.hostname;
     assert!(rt; host.start <= host.end && host.end <= m.source.len());
     assert_eq!(rt; m.part(host), b"h".as_slice());
@@ -157,10 +185,10 @@ fn sees_edges(rt: &impl Abort, source: &[u8], sign: &Parameter) {
     let before = sign.name.start.saturating_sub(1);
     let behind = sign.value.end.saturating_add(1);
     assert_eq!(rt; (before, behind), (134, 146));
-    let whole = Some(b" SIGN=\"AAAA\"".as_slice());
-    assert_eq!(rt; source.get(before..behind), whole);
-    let rest = Some(b"][y@1 a=\"\\]\"] hello SIGN=\"AAAA\"".as_slice());
-    assert_eq!(rt; source.get(behind..), rest);
+    let whole = b" SIGN=\"AAAA\"".as_slice();
+    let rest = b"][y@1 a=\"\\]\"] hello SIGN=\"AAAA\"".as_slice();
+    let parts = (source.get(before..behind), source.get(behind..));
+    assert_eq!(rt; parts, (Some(whole), Some(rest)));
 }
 
 fn sees_value(rt: &impl Abort, m: &Message<'_>, value: Span) {

@@ -1,6 +1,7 @@
 //! Each row of the fault table, with the part and the position that the table gives.
 use ss_message::{Fault, Part, parse};
 use std::alloc::{AllocError, Global};
+use std::process::Abort;
 use std::test::Fail;
 
 /// The fault that is found in a text, or none.
@@ -229,6 +230,20 @@ fn bad(part: Part, pos: usize) -> Option<Fault> {
     Some(Fault::Bad { part, pos })
 }
 
+/// The fault where the run of a limit has so many octets, or none.
+fn fault_at(alloc: Global, row: &Limit, count: usize) -> Result<Option<Fault>, AllocError> {
+    let text = filled(alloc, row.before, count, row.behind)?;
+    Ok(fault_of(alloc, text.as_slice()))
+}
+
+fn sees_limit(rt: &(impl Abort + AllocGlobal), row: &Limit) -> Result<(), AllocError> {
+    let longest = fault_at(rt.alloc(), row, row.most)?;
+    let longer = fault_at(rt.alloc(), row, row.most.wrapping_add(1))?;
+    let wants = (None, bad(row.part, row.pos));
+    assert_eq!(rt; (longest, longer), wants, "{:?}", row.part);
+    Ok(())
+}
+
 #[test]
 fn faults(rt: HostRuntime) -> Result<(), Fail> {
     for text in &ACCEPTED {
@@ -238,21 +253,7 @@ fn faults(rt: HostRuntime) -> Result<(), Fail> {
         assert_eq!(rt; fault_of(rt.alloc(), text), bad(*part, *pos), "in {text:?}");
     }
     for row in &LIMITS {
-        let longest = filled(rt.alloc(), row.before, row.most, row.behind)?;
-        assert_eq!(rt;
-            fault_of(rt.alloc(), longest.as_slice()),
-            None,
-            "{:?}",
-            row.part
-        );
-        let longer = filled(rt.alloc(), row.before, row.most.wrapping_add(1), row.behind)?;
-        let want = bad(row.part, row.pos);
-        assert_eq!(rt;
-            fault_of(rt.alloc(), longer.as_slice()),
-            want,
-            "{:?}",
-            row.part
-        );
+        sees_limit(&rt, row)?;
     }
     Ok(())
 }
