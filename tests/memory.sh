@@ -1,7 +1,7 @@
 #!/usr/bin/env bash
-# Each allocation of a test is refused in turn. Of the scripts of crates/test_origins the call that wanted it is made
-# again, and has to send, refuse or count what its row says; of the runs of crates/test_signings the run is made again,
-# once nothing was written, and has to write what it writes with memory.
+# Each allocation of a test is refused in turn. The call that wanted it answers want of memory. It is made again, on the
+# same reader, joiner, reviewer or originator if it is a call on one, and has to give what its row says. A run is made
+# again, once nothing was written, and has to write what it writes with memory.
 # shellcheck source=tests/lib.sh
 . "$(dirname -- "$0")/lib.sh"
 
@@ -37,6 +37,10 @@ if command -v cc >/dev/null; then
 else
     echo "$name: no cc here, so no allocation is refused"
 fi
+rows=${ROWS_TESTS:-$root/crates/test_rows/out/test_rows_tests}
+plays "$rows" frames::failing::goes_on_after_want_of_memory frames::streams::streams
+plays "$rows" blocks::joining::sequences blocks::joining::longest
+plays "$rows" memory::gives_the_answer_after_want_of_memory blocks::writing::written
 plays "${ORIGINS_TESTS:-$root/crates/test_origins/out/test_origins_tests}" \
     scripts::goes_on_after_want_of_memory scripts::scripts
 plays "${SIGNINGS_TESTS:-$root/crates/test_signings/out/test_signings_tests}" \

@@ -1,6 +1,6 @@
 #!/usr/bin/env bash
 # Each allocation of the built program is refused in turn, in runs of every command: see refusals.py. tests/memory.sh
-# does the same to the tests of the originator and of the runs that sign, which make a call again.
+# does the same to tests of the libraries, which make a call again.
 # shellcheck source=tests/lib.sh
 . "$(dirname -- "$0")/lib.sh"
 need_program

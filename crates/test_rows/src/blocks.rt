@@ -8,6 +8,6 @@ mod orders;
 mod payloads;
 mod readings;
 mod room;
-mod signing;
+pub mod signing;
 mod values;
-mod writing;
+pub mod writing;

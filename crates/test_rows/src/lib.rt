@@ -10,4 +10,6 @@ mod frames;
 #[cfg(test)]
 mod full_readings;
 #[cfg(test)]
+mod memory;
+#[cfg(test)]
 mod messages;

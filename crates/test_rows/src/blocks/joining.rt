@@ -218,8 +218,8 @@ fn first_wrong(alloc: Global, steps: &[Step]) -> Result<Option<usize>, NoMemory>
     Ok(None)
 }
 
-/// `rt try --test --fail-alloc N` makes the Nth allocation of each test fail, and this one passes for every N: what was
-/// refused leaves the joiner as it was, and is done when it is asked again.
+/// `tests/memory.sh` refuses each allocation of this test in turn, and it passes each time: what was refused leaves the
+/// joiner as it was, and is done when it is asked again.
 #[test]
 fn sequences(rt: HostRuntime) -> Result<(), Fail> {
     for (name, steps) in &SEQUENCES {

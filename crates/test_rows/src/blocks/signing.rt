@@ -35,10 +35,10 @@ const BEFORE_OTHERS_SIGNED: &[u8] =
     b"<110>1 - h s - - [ssign VER=\"0111\" RSID=\"1\" SG=\"0\" SPRI=\"0\" GBC=\"0\" FMN=\"1\" CNT=\"1\" HB=\"qZk+NkcGgWq6PiVxeFDCbJzQ2J0=\"][y@1 SIGN=\"BBBB\"] ";
 
 /// Values that hold an escaped SIGN, in the block's element too.
-const ESCAPED: &[u8] =
+pub const ESCAPED: &[u8] =
     b"<110>1 - - - 7 - [x@1 a=\" SIGN=\\\"x\\\"\"][ssign-cert VER=\"0121\" RSID=\"9\" SG=\"0\" SPRI=\"0\" TPBL=\"9\" INDEX=\"1\" FLEN=\"9\" FRAG=\" SIGN=\\\"x\\\"\" SIGN=\"AAAA\"]";
 
-const ESCAPED_SIGNED: &[u8] =
+pub const ESCAPED_SIGNED: &[u8] =
     b"<110>1 - - - 7 - [x@1 a=\" SIGN=\\\"x\\\"\"][ssign-cert VER=\"0121\" RSID=\"9\" SG=\"0\" SPRI=\"0\" TPBL=\"9\" INDEX=\"1\" FLEN=\"9\" FRAG=\" SIGN=\\\"x\\\"\"]";
 
 /// Blocks whose last message has a number of eleven digits, and with a CNT that is another than HB has hashes.

@@ -286,6 +286,16 @@ fn is_written(alloc: Global, row: &Row) -> Result<bool, NoMemory> {
     }
 }
 
+/// Whether those of each row are written.
+pub(crate) fn is_each_written(alloc: Global) -> Result<bool, NoMemory> {
+    for row in &ROWS {
+        if !is_written(alloc, row)? {
+            return Ok(false);
+        }
+    }
+    Ok(true)
+}
+
 /// A text, and how many octets it has.
 const LENGTHS: [(&[u8], usize); 4] = [
     (SIGNATURE, 159),

@@ -69,10 +69,10 @@ fn two_elements(alloc: Global) -> Result<DraftElements, AllocError> {
 }
 
 /// The message of a draft with nothing absent.
-const FULL: &[u8] = b"<191>1 2009-05-03T14:00:39Z h s -- m [a@1 b=\"\\]\\\"\\\\\"][c] ";
+pub const FULL: &[u8] = b"<191>1 2009-05-03T14:00:39Z h s -- m [a@1 b=\"\\]\\\"\\\\\"][c] ";
 
 /// The draft of it.
-fn full(alloc: Global) -> Result<Draft, AllocError> {
+pub(crate) fn full(alloc: Global) -> Result<Draft, AllocError> {
     let mut draft = header(alloc, 191, &[b"h", b"s", b"--", b"m"])?;
     draft.stamp = Stamp::new(2009, 5, 3, 14, 0, 39, 0, 0, Offset::Utc);
     draft.elements = two_elements(alloc)?;

@@ -16,7 +16,7 @@ const SECOND: &[u8] =
 const THIRD: &[u8] =
     b"<165>1 2003-10-11T22:14:15.003Z mymachine.example.com evntslog - ID47 [exampleSDID@32473 iut=\"3\" eventSource=\"Application\" eventID=\"1011\"] \xEF\xBB\xBFAn application event log entry...";
 
-const FOURTH: &[u8] =
+pub const FOURTH: &[u8] =
     b"<165>1 2003-10-11T22:14:15.003Z mymachine.example.com evntslog - ID47 [exampleSDID@32473 iut=\"3\" eventSource=\"Application\" eventID=\"1011\"][examplePriority@32473 class=\"high\"]";
 
 /// A text with a block element between two others, and a MSG that looks like one.
