@@ -4,6 +4,8 @@
 #[cfg(test)]
 mod answers;
 #[cfg(test)]
+mod examples;
+#[cfg(test)]
 mod many;
 #[cfg(test)]
 mod rows;
