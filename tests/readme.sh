@@ -1,7 +1,8 @@
 #!/usr/bin/env bash
 # The examples of README.md and docs/guide.md: a block that is one line with `./ssign`, or with `./tools/ssign-keys` and a
 # file of examples/, is a command, the block behind it is what the program prints, and between the two stands `status N`.
-# Where the command has `./ssign` twice, the last one prints.
+# Where the command has `./ssign` twice, the last one prints. The same holds of the README of the crate `ssign`. What
+# the README of each crate has to be, and where the example of a library stands, crate_readmes.py says.
 # shellcheck source=tests/lib.sh
 . "$(dirname -- "$0")/lib.sh"
 need_program
@@ -62,4 +63,8 @@ examples() {
 
 examples README.md
 examples docs/guide.md
+examples crates/ssign/README.md
+for folder in crates/*/; do
+    holds "${folder}README.md" python3 -B "$root/tests/crate_readmes.py" "$(basename -- "$folder")"
+done
 finish
