@@ -43,7 +43,13 @@ plays "$rows" blocks::joining::sequences blocks::joining::longest
 plays "$rows" memory::gives_the_answer_after_want_of_memory blocks::writing::written
 plays "${ORIGINS_TESTS:-$root/crates/test_origins/out/test_origins_tests}" \
     scripts::goes_on_after_want_of_memory scripts::scripts
-plays "${SIGNINGS_TESTS:-$root/crates/test_signings/out/test_signings_tests}" \
-    stops::wants_memory_or_gives_the_output rows::makes
+runs=${RUNS_TESTS:-$root/crates/test_runs/out/test_runs_tests}
+plays "$runs" memory::goes_on_after_want_of_memory asking::asking
+plays "$runs" memory::wants_memory_or_gives_the_output keeping::keeping
+plays "$runs" stops::wants_memory_or_gives_the_output rows::rows
+plays "$runs" inspections::wants_memory_or_says_what_there_is ends::ends
+signings=${SIGNINGS_TESTS:-$root/crates/test_signings/out/test_signings_tests}
+plays "$signings" stops::wants_memory_or_gives_the_output rows::makes
+plays "$signings" answers::goes_on_after_want_of_memory answers::answers_by_the_lines
 
 finish

@@ -12,20 +12,20 @@ use std::test::Fail;
 
 /// A question about the usual payload, and about the usual signature.
 #[derive(Clone, Copy, Debug)]
-enum Asked {
+pub enum Asked {
     Trust,
     Yes(Text),
 }
 
 /// A log, and what is asked.
 #[derive(Clone, Copy)]
-struct Row {
-    name: &'static str,
-    log: &'static [Text],
-    asked: &'static [Asked],
+pub struct Row {
+    pub name: &'static str,
+    pub log: &'static [Text],
+    pub asked: &'static [Asked],
 }
 
-const ROWS: [Row; 10] = [
+pub const ROWS: [Row; 10] = [
     Row {
         name: "each block by its place",
         log: &[Text::Short, Text::Long, Text::Certificate, Text::Both],
@@ -171,12 +171,16 @@ impl Judge for Counting {
 }
 
 /// Whether these octets are a block of which this is signed.
-fn is_signed(alloc: Global, octets: &Bytes, text: Text) -> Result<bool, AllocError> {
+pub(crate) fn is_signed(alloc: Global, octets: &Bytes, text: Text) -> Result<bool, AllocError> {
     let signed = signed_of(alloc, text)?;
     Ok(octets.as_slice() == signed.as_slice())
 }
 
-fn is_asked(alloc: Global, question: &Question, asked: Asked) -> Result<bool, AllocError> {
+pub(crate) fn is_asked(
+    alloc: Global,
+    question: &Question,
+    asked: Asked,
+) -> Result<bool, AllocError> {
     match (question, asked) {
         (Question::Trust(payload), Asked::Trust) => Ok(payload.as_slice() == PAYLOAD),
         (Question::Yes(payload, octets, signature), Asked::Yes(text)) => {

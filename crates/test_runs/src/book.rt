@@ -97,6 +97,7 @@ pub(crate) fn run_by<R: Read, W: Write>(
 }
 
 /// Says yes to everything.
+#[derive(Drop)]
 pub struct Yes;
 
 impl Judge for Yes {

@@ -2,13 +2,14 @@
 //! by a write that failed.
 use ss_frame::{FrameFault, Limits, Watched};
 use ss_report::{ReportForm, RunFault, Verdict, run_inspect};
-use std::io::ErrorKind;
+use std::alloc::Global;
+use std::io::{ErrorKind, Read};
 use std::process::Abort;
 use std::test::Fail;
 use test_devices::{Paper, Pieces, Refusal};
 
 /// Two messages and their blocks, 373 octets.
-const LOG: &[u8] =
+pub const LOG: &[u8] =
     b"3 abc56 abcdbcdecdefdefgefghfghighijhijkijkljklmklmnlmnomnopnopq142 <110>1 - h s - - [ssign-cert VER=\"0111\" RSID=\"1\" SG=\"0\" SPRI=\"0\" TPBL=\"27\" INDEX=\"1\" FLEN=\"27\" FRAG=\"2009-05-03T14:00:39Z K S0VZ\" SIGN=\"AAAA\"]159 <110>1 - h s - - [ssign VER=\"0111\" RSID=\"1\" SG=\"0\" SPRI=\"0\" GBC=\"0\" FMN=\"1\" CNT=\"2\" HB=\"qZk+NkcGgWq6PiVxeFDCbJzQ2J0= hJg+RBw70m66rkqh+VEp5eVGcPE=\" SIGN=\"AAAA\"]";
 
 /// What an inspection says of it, 102 octets.
@@ -40,89 +41,88 @@ const REFUSALS: [Refusal; 3] = [
     Refusal::Nothing,
 ];
 
+/// Inspects what `source` gives, and hands back both devices.
+fn inspect_over<R: Read>(
+    alloc: Global,
+    source: R,
+    paper: Paper,
+    limits: Limits,
+) -> (Result<Verdict, RunFault>, Watched<R>, Watched<Paper>) {
+    let mut reader = Watched::new(source);
+    let mut writer = Watched::new(paper);
+    let form = ReportForm::Text;
+    let said = run_inspect(alloc, &mut reader, &mut writer, limits, form);
+    (said, reader, writer)
+}
+
+/// A log that can't be read on.
+fn stops_at_frame(rt: &(impl Abort + AllocGlobal), log: &[u8], limits: Limits, fault: FrameFault) {
+    let (said, reader, writer) = inspect_over(rt.alloc(), log, Paper::new(1), limits);
+    assert_eq!(rt; said, Err(RunFault::Frame(fault)));
+    assert!(rt; !reader.failed() && !writer.failed(), "{fault:?}");
+    assert_eq!(rt; writer.into_inner().writes, 0, "{fault:?}");
+}
+
+/// Octet by octet, the read of that number fails.
+fn stops_at_read(rt: &(impl Abort + AllocGlobal), read: u64, kind: ErrorKind) {
+    let source = Pieces::failing(LOG, 1, read, kind);
+    let limits = Limits::standard();
+    let (said, reader, writer) = inspect_over(rt.alloc(), source, Paper::new(1), limits);
+    assert_eq!(rt; said, Err(RunFault::Frame(FrameFault::Read)), "at {read}");
+    assert!(rt; reader.failed() && !writer.failed(), "at {read}");
+    let done = (reader.into_inner().reads, writer.into_inner().writes);
+    assert_eq!(rt; done, (read, 0), "at {read}");
+}
+
+/// Octet by octet, a write fails behind so many of them.
+fn stops_at_write(rt: &(impl Abort + AllocGlobal), before: usize, refusal: Refusal) {
+    let write = (before as u64).saturating_add(1);
+    let paper = Paper::refusing(1, write, refusal);
+    let (said, reader, writer) = inspect_over(rt.alloc(), LOG, paper, Limits::standard());
+    assert_eq!(rt; said, Err(RunFault::Write), "at {write}");
+    assert!(rt; writer.failed() && !reader.failed(), "at {write}");
+    let paper = writer.into_inner();
+    assert_eq!(rt; Some(paper.text()), INSPECTION.get(..before));
+    assert_eq!(rt; paper.writes, write);
+}
+
+/// All is written, and then the flush fails.
+fn stops_at_flush(rt: &(impl Abort + AllocGlobal)) {
+    let paper = Paper::failing_at_flush(1);
+    let (said, reader, writer) = inspect_over(rt.alloc(), LOG, paper, Limits::standard());
+    assert_eq!(rt; said, Err(RunFault::Write));
+    assert!(rt; writer.failed() && !reader.failed());
+    assert_eq!(rt; writer.into_inner().text(), INSPECTION);
+}
+
 /// A log that can't be read, and then octet by octet each read and each write that fails in turn, the read of the log's end
 /// among them, and the flush.
 #[test]
 fn stops_with_nothing_else_written(rt: HostRuntime) -> Result<(), Fail> {
     for (log, (max_len, max_messages), fault) in &STOPS {
         let limits = Limits::new(*max_len, *max_messages).ok_or("no limits")?;
-        let mut reader = Watched::new(*log);
-        let mut writer = Watched::new(Paper::new(1));
-        let said = run_inspect(
-            rt.alloc(),
-            &mut reader,
-            &mut writer,
-            limits,
-            ReportForm::Text,
-        );
-        assert_eq!(rt; said, Err(RunFault::Frame(*fault)));
-        assert!(rt; !reader.failed() && !writer.failed(), "{fault:?}");
-        assert_eq!(rt; writer.into_inner().writes, 0, "{fault:?}");
+        stops_at_frame(&rt, log, limits, *fault);
     }
     assert_eq!(rt; (LOG.len(), INSPECTION.len()), (373, 102));
-    let limits = Limits::standard();
     for kind in [ErrorKind::BrokenPipe, ErrorKind::Interrupted] {
         for read in 1..375 {
-            let mut reader = Watched::new(Pieces::failing(LOG, 1, read, kind));
-            let mut writer = Watched::new(Paper::new(1));
-            let said = run_inspect(
-                rt.alloc(),
-                &mut reader,
-                &mut writer,
-                limits,
-                ReportForm::Text,
-            );
-            assert_eq!(rt; said, Err(RunFault::Frame(FrameFault::Read)), "at {read}");
-            assert!(rt; reader.failed() && !writer.failed(), "at {read}");
-            assert_eq!(rt; reader.into_inner().reads, read);
-            assert_eq!(rt; writer.into_inner().writes, 0, "at {read}");
+            stops_at_read(&rt, read, kind);
         }
     }
     for refusal in REFUSALS {
         for before in 0..INSPECTION.len() {
-            let write = before as u64 + 1;
-            let mut reader = Watched::new(LOG);
-            let mut writer = Watched::new(Paper::refusing(1, write, refusal));
-            let said = run_inspect(
-                rt.alloc(),
-                &mut reader,
-                &mut writer,
-                limits,
-                ReportForm::Text,
-            );
-            assert_eq!(rt; said, Err(RunFault::Write), "at {write}");
-            assert!(rt; writer.failed() && !reader.failed(), "at {write}");
-            let paper = writer.into_inner();
-            assert_eq!(rt; paper.text(), &INSPECTION[..before]);
-            assert_eq!(rt; paper.writes, write);
+            stops_at_write(&rt, before, refusal);
         }
     }
-    let mut reader = Watched::new(LOG);
-    let mut writer = Watched::new(Paper::failing_at_flush(1));
-    let said = run_inspect(
-        rt.alloc(),
-        &mut reader,
-        &mut writer,
-        limits,
-        ReportForm::Text,
-    );
-    assert_eq!(rt; said, Err(RunFault::Write));
-    assert!(rt; writer.failed() && !reader.failed());
-    assert_eq!(rt; writer.into_inner().text(), INSPECTION);
+    stops_at_flush(&rt);
     Ok(())
 }
 
 /// Inspects the log octet by octet. Want of memory is answered before anything is written, and by no device.
 fn inspect(rt: &(impl Abort + AllocGlobal)) -> Result<Verdict, RunFault> {
-    let mut reader = Watched::new(Pieces::new(LOG, 1));
-    let mut writer = Watched::new(Paper::new(1));
-    let said = run_inspect(
-        rt.alloc(),
-        &mut reader,
-        &mut writer,
-        Limits::standard(),
-        ReportForm::Text,
-    );
+    let source = Pieces::new(LOG, 1);
+    let limits = Limits::standard();
+    let (said, reader, writer) = inspect_over(rt.alloc(), source, Paper::new(1), limits);
     assert!(rt; !reader.failed() && !writer.failed(), "{said:?}");
     let paper = writer.into_inner();
     match said {
@@ -132,8 +132,8 @@ fn inspect(rt: &(impl Abort + AllocGlobal)) -> Result<Verdict, RunFault> {
     said
 }
 
-/// `rt try --test --fail-alloc N` makes the Nth allocation of each test fail, and this one passes for every N: after want
-/// of memory nothing is written, and the next call gives the output.
+/// `tests/memory.sh` refuses each allocation of this test in turn, and it passes each time: after want of memory nothing
+/// is written, and the next call gives the output.
 #[test]
 fn wants_memory_or_says_what_there_is(rt: HostRuntime) {
     let mut said = inspect(&rt);

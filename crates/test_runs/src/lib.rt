@@ -18,6 +18,8 @@ mod inspections;
 #[cfg(test)]
 mod keeping;
 #[cfg(test)]
+mod memory;
+#[cfg(test)]
 mod originating;
 #[cfg(test)]
 mod rows;

@@ -5,6 +5,7 @@ use crate::texts::{Text, log_of};
 use ss_frame::{Buffered, Form};
 use ss_report::Verdict;
 use std::alloc::AllocError;
+use std::io::Read;
 use std::process::Abort;
 use std::test::Fail;
 use test_devices::{Paper, Pieces};
@@ -344,13 +345,21 @@ const ROWS: [Row; 32] = [
 /// The run of a row is the same over frames and over lines, octet by octet and through a buffer.
 fn sees(rt: &(impl Abort + AllocGlobal), row: &Row, form: Form) -> Result<(), AllocError> {
     let log = log_of(rt.alloc(), row.log, form, b"")?;
-    let limits = limits_of(form);
-    let slow = Pieces::new(&log, 1);
-    let done = run(rt.alloc(), row.job, slow, Paper::new(1), row.who, limits)?;
-    assert_eq!(rt; done.said, Ok(row.verdict), "{}", row.name);
-    assert_eq!(rt; done.paper.text(), row.text, "{}", row.name);
+    sees_run(rt, row, form, Pieces::new(&log, 1), Paper::new(1))?;
     let fast = Buffered::new(rt.alloc(), log.as_slice())?;
-    let done = run(rt.alloc(), row.job, fast, Paper::new(1024), row.who, limits)?;
+    sees_run(rt, row, form, fast, Paper::new(1024))
+}
+
+/// What the run of a row writes on this paper.
+fn sees_run<R: Read + Drop>(
+    rt: &(impl Abort + AllocGlobal),
+    row: &Row,
+    form: Form,
+    source: R,
+    paper: Paper,
+) -> Result<(), AllocError> {
+    let limits = limits_of(form);
+    let done = run(rt.alloc(), row.job, source, paper, row.who, limits)?;
     assert_eq!(rt; done.said, Ok(row.verdict), "{}", row.name);
     assert_eq!(rt; done.paper.text(), row.text, "{}", row.name);
     Ok(())

@@ -3,7 +3,7 @@ use ss_block::{Group, Session};
 use ss_message::{Field, NoMemory};
 use ss_review::{
     CountedSession, Counter, Counts, Entries, Entry, Gbcs, GroupReport, GroupReports, GroupTail,
-    MissingRun, SessionReport, SessionState, Shortfall, Why, log_shortfalls,
+    LogShortfalls, MissingRun, SessionReport, SessionState, Shortfall, Why, log_shortfalls,
 };
 use std::alloc::Global;
 use std::process::Abort;
@@ -176,55 +176,62 @@ fn counted(alloc: Global) -> Result<Vec<CountedSession>, NoMemory> {
     Ok(counted)
 }
 
+fn sees_tails(rt: &impl Abort, tails: &[GroupTail], wants: &[(What, u64, u64)]) {
+    assert_eq!(rt; tails.len(), wants.len());
+    for (tail, (what, first, last)) in tails.iter().zip(wants) {
+        let want = GroupTail {
+            group: group_of(*what),
+            first: *first,
+            last: *last,
+        };
+        assert_eq!(rt; *tail, want);
+    }
+}
+
+fn sees_blocks(rt: &impl Abort, blocks: &[MissingRun], wants: &[(u64, u64)]) {
+    assert_eq!(rt; blocks.len(), wants.len());
+    for (run, (first, last)) in blocks.iter().zip(wants) {
+        let want = MissingRun {
+            first: *first,
+            last: *last,
+        };
+        assert_eq!(rt; *run, want);
+    }
+}
+
 /// The shortfall is that one.
 fn sees(rt: &(impl Abort + AllocGlobal), shortfall: &Shortfall, missing: &Missing) {
     assert!(rt; shortfall.session == session(missing.rsid));
-    let tails = shortfall.tails.as_slice();
-    assert_eq!(rt; tails.len(), missing.tails.len());
-    for (tail, (what, first, last)) in tails.iter().zip(missing.tails) {
-        let group = group_of(*what);
-        assert_eq!(rt;
-            *tail,
-            GroupTail {
-                group,
-                first: *first,
-                last: *last
-            }
-        );
+    sees_tails(rt, shortfall.tails.as_slice(), missing.tails);
+    sees_blocks(rt, shortfall.blocks.as_slice(), missing.blocks);
+}
+
+fn sees_known(rt: &(impl Abort + AllocGlobal), known: &[Shortfall], missing: &Missing) {
+    assert_eq!(rt; known.len(), 1);
+    for shortfall in known {
+        sees(rt, shortfall, missing);
     }
-    let blocks = shortfall.blocks.as_slice();
-    assert_eq!(rt; blocks.len(), missing.blocks.len());
-    for (run, (first, last)) in blocks.iter().zip(missing.blocks) {
-        assert_eq!(rt;
-            *run,
-            MissingRun {
-                first: *first,
-                last: *last
-            }
-        );
+}
+
+fn sees_absent(rt: &(impl Abort + AllocGlobal), absent: &[Shortfall], missing: &[Missing]) {
+    assert_eq!(rt; absent.len(), missing.len());
+    for (shortfall, missing) in absent.iter().zip(missing) {
+        sees(rt, shortfall, missing);
     }
+}
+
+/// What is missing up to these counters.
+fn shortfalls_of(alloc: Global, counters: &[Counter]) -> Result<LogShortfalls, NoMemory> {
+    let sessions = reported(alloc)?;
+    let counted = counted(alloc)?;
+    log_shortfalls(alloc, counters, sessions.as_slice(), counted.as_slice())
 }
 
 fn sees_row(rt: &(impl Abort + AllocGlobal), row: &Row) -> Result<(), NoMemory> {
     let counters = counters_of(rt.alloc(), row)?;
-    let sessions = reported(rt.alloc())?;
-    let counted = counted(rt.alloc())?;
-    let all = log_shortfalls(
-        rt.alloc(),
-        counters.as_slice(),
-        sessions.as_slice(),
-        counted.as_slice(),
-    )?;
-    let known = all.known.as_slice();
-    assert_eq!(rt; known.len(), 1);
-    for shortfall in known {
-        sees(rt, shortfall, &row.known);
-    }
-    let absent = all.absent.as_slice();
-    assert_eq!(rt; absent.len(), row.absent.len());
-    for (shortfall, missing) in absent.iter().zip(row.absent) {
-        sees(rt, shortfall, missing);
-    }
+    let all = shortfalls_of(rt.alloc(), counters.as_slice())?;
+    sees_known(rt, all.known.as_slice(), &row.known);
+    sees_absent(rt, all.absent.as_slice(), row.absent);
     Ok(())
 }
 

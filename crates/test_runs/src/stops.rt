@@ -173,6 +173,20 @@ fn prints(rt: &(impl Abort + AllocGlobal), fault: RunFault, text: &str) -> Resul
     Ok(())
 }
 
+fn stops_over(
+    rt: &(impl Abort + AllocGlobal),
+    job: Job,
+    log: &[u8],
+    text: &[u8],
+) -> Result<(), AllocError> {
+    stops_at_reads(rt, job, log, ErrorKind::BrokenPipe)?;
+    stops_at_reads(rt, job, log, ErrorKind::Interrupted)?;
+    for refusal in REFUSALS {
+        stops_at_writes(rt, job, log, text, refusal)?;
+    }
+    stops_at_flush(rt, job, log, text)
+}
+
 #[test]
 fn stops(rt: HostRuntime) -> Result<(), Fail> {
     for (fault, text) in &PRINTED {
@@ -180,12 +194,7 @@ fn stops(rt: HostRuntime) -> Result<(), Fail> {
     }
     let log = log_of(rt.alloc(), &TEXTS, Form::Frames, b"")?;
     for (job, text) in &JOBS {
-        stops_at_reads(&rt, *job, &log, ErrorKind::BrokenPipe)?;
-        stops_at_reads(&rt, *job, &log, ErrorKind::Interrupted)?;
-        for refusal in REFUSALS {
-            stops_at_writes(&rt, *job, &log, text, refusal)?;
-        }
-        stops_at_flush(&rt, *job, &log, text)?;
+        stops_over(&rt, *job, &log, text)?;
         stops_at_frames(&rt, *job)?;
     }
     Ok(())
@@ -207,19 +216,21 @@ fn run_once(
     Ok(done.said)
 }
 
+/// How a run answers want of memory.
+pub const MEMORY: [RunFault; 3] = [
+    RunFault::Memory,
+    RunFault::Frame(FrameFault::Memory),
+    RunFault::Review(ReviewFault::Memory),
+];
+
 /// Whether the run was clean, and not short of memory.
 fn has_memory(
     rt: &(impl Abort + AllocGlobal),
     said: Result<Result<Verdict, RunFault>, AllocError>,
 ) -> bool {
-    let memory = [
-        RunFault::Memory,
-        RunFault::Frame(FrameFault::Memory),
-        RunFault::Review(ReviewFault::Memory),
-    ];
     match said {
         Ok(Err(fault)) => {
-            assert!(rt; memory.contains(&fault), "{fault:?}");
+            assert!(rt; MEMORY.contains(&fault), "{fault:?}");
             false
         }
         Ok(said) => said == Ok(Verdict::Clean),
@@ -227,8 +238,8 @@ fn has_memory(
     }
 }
 
-/// `rt try --test --fail-alloc N` makes the Nth allocation of each test fail, and this one passes for every N: after want
-/// of memory nothing is written, and a run that is called again gives its output. The others don't.
+/// `tests/memory.sh` refuses each allocation of this test in turn, and it passes each time: after want of memory nothing
+/// is written, and a run that is called again gives its output.
 #[test]
 fn wants_memory_or_gives_the_output(rt: HostRuntime) {
     for (job, text) in &JOBS {

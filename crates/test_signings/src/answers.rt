@@ -2,10 +2,11 @@
 ghost use Rattle.std.specs.Prelude.{◌≡◌};
 ghost use Rattle.ss_answers.specs.Answers.{trusted, valid};
 
-use ss_answers::{AnswerFault, Answers, read_answers};
+use ss_answers::{AnswerFault, Answers, CounterFault, read_answers, read_counters};
 use ss_frame::Watched;
 use ss_origin::SealFault;
 use ss_review::{Judge, Verifier};
+use std::alloc::Global;
 use std::io::ErrorKind;
 use std::process::Abort;
 use std::test::Fail;
@@ -174,5 +175,50 @@ fn answers_by_the_lines(rt: HostRuntime) -> Result<(), Fail> {
     let answers = read(&rt, b"seal S0VZ AAAA", 1000)?;
     sees_seal(&rt, &answers, b"KEY")?;
     sees_no_seal(&rt, &answers, b"KEX");
+    Ok(())
+}
+
+/// Reads answers octet by octet, and once more where memory ran out, which no read tells.
+fn read_on(rt: &(impl Abort + AllocGlobal), text: &[u8], max: u32) -> Result<Answers, AnswerFault> {
+    let mut reader = Watched::new(Pieces::new(text, 1));
+    let said = read_answers(rt.alloc(), &mut reader, max);
+    assert!(rt; !reader.failed(), "{text:?}");
+    match said {
+        Err(AnswerFault::Memory) => read(rt, text, max),
+        said => said,
+    }
+}
+
+/// The octets have the signature of three zeros, which is asked for once more where memory ran out.
+fn sees_seal_on(rt: &(impl Abort + AllocGlobal), answers: &Answers) -> Result<(), SealFault> {
+    match sees_seal(rt, answers, b"A") {
+        Err(SealFault::Memory) => sees_seal(rt, answers, b"A"),
+        said => said,
+    }
+}
+
+const COUNTERS: &[u8] = b"count h s - 1 2\ncount h s - 1 0 0 4\n";
+
+fn count(alloc: Global) -> Result<usize, CounterFault> {
+    let mut reader = Watched::new(COUNTERS);
+    Ok(read_counters(alloc, &mut reader, 1000)?.as_slice().len())
+}
+
+/// `tests/memory.sh` refuses each allocation of this test in turn, and it passes each time.
+#[test]
+fn goes_on_after_want_of_memory(rt: HostRuntime) -> Result<(), Fail> {
+    for (text, max, fault) in &REFUSED {
+        assert_eq!(rt; read_on(&rt, text, *max).err(), Some(*fault), "{text:?}");
+    }
+    let answers = read_on(&rt, LINES, 1000)?;
+    sees(&rt, &answers, b"KEY", b"A", b"\0\0\0", (true, true));
+    sees(&rt, &answers, b"KEY", b"B", b"\0\0\0", (true, false));
+    sees_no_seal(&rt, &answers, b"KEY");
+    sees_seal_on(&rt, &answers)?;
+    let counted = match count(rt.alloc()) {
+        Err(CounterFault::Memory) => count(rt.alloc()),
+        counted => counted,
+    };
+    assert_eq!(rt; counted, Ok(2));
     Ok(())
 }

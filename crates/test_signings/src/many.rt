@@ -4,6 +4,7 @@ use crate::sealing::{Lenient, Seal};
 use ss_frame::{Limits, Watched, put_number};
 use ss_report::{Verdict, run_review};
 use std::alloc::{AllocError, Global};
+use std::process::Abort;
 use std::test::Fail;
 
 /// A line for each message: a header, and its place as MSG.
@@ -17,23 +18,31 @@ fn log(alloc: Global) -> Result<Vec<u8>, AllocError> {
     Ok(log)
 }
 
-/// Blocks of 99 hashes. The log is signed as lines, and reviewed as the frames that are written.
-#[test]
-fn signs_what_is_reviewed(rt: HostRuntime) -> Result<(), Fail> {
-    let log = log(rt.alloc())?;
-    let mut reader = Watched::new(log.as_slice());
+fn signed(rt: &(impl Abort + AllocGlobal), log: &[u8]) -> Vec<u8> {
+    let mut reader = Watched::new(log);
     let mut writer = Watched::new(Vec::new(rt.alloc()));
     let lines = Limits::standard().lines();
     let job = Job::Sign(Seal::Zeros);
     let said = run_by(rt.alloc(), job, &mut reader, &mut writer, (99, 1), lines);
     assert_eq!(rt; said, Ok(()));
-    let signed = writer.into_inner();
-    let mut reader = Watched::new(signed.as_slice());
+    writer.into_inner()
+}
+
+fn reviewed(rt: &(impl Abort + AllocGlobal), frames: &[u8]) -> Vec<u8> {
+    let mut reader = Watched::new(frames);
     let mut writer = Watched::new(Vec::new(rt.alloc()));
-    let frames = Limits::standard();
-    let said = run_review(rt.alloc(), &mut reader, &mut writer, &Lenient, frames);
+    let limits = Limits::standard();
+    let said = run_review(rt.alloc(), &mut reader, &mut writer, &Lenient, limits);
     assert_eq!(rt; said, Ok(Verdict::Clean));
-    let report = writer.into_inner();
+    writer.into_inner()
+}
+
+/// Blocks of 99 hashes. The log is signed as lines, and reviewed as the frames that are written.
+#[test]
+fn signs_what_is_reviewed(rt: HostRuntime) -> Result<(), Fail> {
+    let log = log(rt.alloc())?;
+    let signed = signed(&rt, log.as_slice());
+    let report = reviewed(&rt, signed.as_slice());
     assert!(rt; report.as_slice().ends_with(b"\nend 10103\n"));
     Ok(())
 }

@@ -2,7 +2,8 @@
 use crate::run::{Job, Sizes, run};
 use crate::sealing::Seal;
 use crate::texts::{
-    BOTH_FRAMES, BOTH_WANTS, CERTIFICATE_FRAME, CERTIFICATE_WANT, TWICE_FRAMES, TWICE_WANTS,
+    BOTH_FRAMES, BOTH_WANTS, CERTIFICATE_FRAME, CERTIFICATE_WANT, ONE_OCTET_FRAMES, TWICE_FRAMES,
+    TWICE_WANTS,
 };
 use ss_frame::Form::{Frames, Lines};
 use ss_frame::{Form, FrameFault, Limits};
@@ -47,7 +48,7 @@ const FRAMES: &[u8] = b"19 <13>1 - - - - - - a19 <14>1 - - - - - - b";
 const LINES: &[u8] = b"<13>1 - - - - - - a\n<14>1 - - - - - - b\n";
 
 /// What is made of a log: a run, the form of the log and the log, the sizes, and what is written.
-const MADE: [(Job, Form, &[u8], Sizes, &[u8]); 10] = [
+const MADE: [(Job, Form, &[u8], Sizes, &[u8]); 11] = [
     (SIGN, Frames, b"", USUAL, CERTIFICATE_FRAME),
     (Job::Plan, Frames, b"", USUAL, CERTIFICATE_WANT),
     (SIGN, Lines, b"", USUAL, CERTIFICATE_FRAME),
@@ -55,6 +56,7 @@ const MADE: [(Job, Form, &[u8], Sizes, &[u8]); 10] = [
     (SIGN, Frames, FRAMES, USUAL, BOTH_FRAMES),
     (Job::Plan, Frames, FRAMES, USUAL, BOTH_WANTS),
     (SIGN, Lines, LINES, USUAL, BOTH_FRAMES),
+    (Job::Sign(Seal::Zero), Lines, LINES, USUAL, ONE_OCTET_FRAMES),
     (Job::Plan, Lines, LINES, USUAL, BOTH_WANTS),
     (SIGN, Frames, FRAMES, TWICE, TWICE_FRAMES),
     (Job::Plan, Lines, LINES, TWICE, TWICE_WANTS),

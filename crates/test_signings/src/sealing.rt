@@ -35,6 +35,8 @@ impl Judge for Lenient {
 #[derive(Clone, Copy, Debug)]
 pub enum Seal {
     Zeros,
+    /// One octet 0.
+    Zero,
     /// A signature without an octet, for octets with this end.
     EmptyFor(&'static [u8]),
     /// A fault, for octets with this end.
@@ -54,9 +56,13 @@ pub(crate) fn answer(alloc: Global, seal: Seal, octets: &[u8]) -> Result<Vec<u8>
     match seal {
         Seal::EmptyFor(end) if ends_so(octets, end) => return Ok(Vec::new(alloc)),
         Seal::FaultFor(fault, end) if ends_so(octets, end) => return Err(fault),
-        Seal::Zeros | Seal::EmptyFor(_) | Seal::FaultFor(..) => {}
+        Seal::Zeros | Seal::Zero | Seal::EmptyFor(_) | Seal::FaultFor(..) => {}
     }
-    match Vec::from_slice(alloc, b"\0\0\0") {
+    let octets = match seal {
+        Seal::Zero => b"\0".as_slice(),
+        _ => b"\0\0\0",
+    };
+    match Vec::from_slice(alloc, octets) {
         Ok(signature) => Ok(signature),
         Err(_) => Err(SealFault::Memory),
     }

@@ -12,7 +12,11 @@ pub const CERTIFICATE_WANT: &[u8] =
 pub const BOTH_FRAMES: &[u8] =
     b"142 <110>1 - h s - - [ssign-cert VER=\"0111\" RSID=\"1\" SG=\"0\" SPRI=\"0\" TPBL=\"27\" INDEX=\"1\" FLEN=\"27\" FRAG=\"2009-05-03T14:00:39Z K S0VZ\" SIGN=\"AAAA\"]19 <13>1 - - - - - - a19 <14>1 - - - - - - b159 <110>1 - h s - - [ssign VER=\"0111\" RSID=\"1\" SG=\"0\" SPRI=\"0\" GBC=\"0\" FMN=\"1\" CNT=\"2\" HB=\"3Pfc6GFE4IsSJJq/MbjynAYg1oM= wTX9aOKATkVu7zPIYLz/u/iH3uQ=\" SIGN=\"AAAA\"]";
 
-/// The same, as a plan.
+/// The same, where each signature is one octet 0.
+pub const ONE_OCTET_FRAMES: &[u8] =
+    b"142 <110>1 - h s - - [ssign-cert VER=\"0111\" RSID=\"1\" SG=\"0\" SPRI=\"0\" TPBL=\"27\" INDEX=\"1\" FLEN=\"27\" FRAG=\"2009-05-03T14:00:39Z K S0VZ\" SIGN=\"AA==\"]19 <13>1 - - - - - - a19 <14>1 - - - - - - b159 <110>1 - h s - - [ssign VER=\"0111\" RSID=\"1\" SG=\"0\" SPRI=\"0\" GBC=\"0\" FMN=\"1\" CNT=\"2\" HB=\"3Pfc6GFE4IsSJJq/MbjynAYg1oM= wTX9aOKATkVu7zPIYLz/u/iH3uQ=\" SIGN=\"AA==\"]";
+
+/// Two messages in one group, as a plan.
 pub const BOTH_WANTS: &[u8] =
     b"want PDExMD4xIC0gaCBzIC0gLSBbc3NpZ24tY2VydCBWRVI9IjAxMTEiIFJTSUQ9IjEiIFNHPSIwIiBTUFJJPSIwIiBUUEJMPSIyNyIgSU5ERVg9IjEiIEZMRU49IjI3IiBGUkFHPSIyMDA5LTA1LTAzVDE0OjAwOjM5WiBLIFMwVloiXQ==\nwant PDExMD4xIC0gaCBzIC0gLSBbc3NpZ24gVkVSPSIwMTExIiBSU0lEPSIxIiBTRz0iMCIgU1BSST0iMCIgR0JDPSIwIiBGTU49IjEiIENOVD0iMiIgSEI9IjNQZmM2R0ZFNElzU0pKcS9NYmp5bkFZZzFvTT0gd1RYOWFPS0FUa1Z1N3pQSVlMei91L2lIM3VRPSJd\n";
 

@@ -1,0 +1,283 @@
+//! Calls of a reviewer, of a questioner and of the runs with counters, of which `tests/memory.sh` refuses each allocation
+//! in turn: a call answers want of memory then, changes nothing, and gives its answer when it is made again.
+use crate::asking::{Asked, ROWS, Row, is_asked, is_signed};
+use crate::book::{PAYLOAD, SIGN, Yes};
+use crate::inspections::LOG;
+use crate::rows::REPORT;
+use crate::run::Done;
+use crate::stops::MEMORY;
+use crate::texts::{Text, octets_of};
+use ss_block::{Group, Session};
+use ss_frame::{Bytes, Limits, Tail, Watched};
+use ss_message::{Field, NoMemory};
+use ss_report::report_text::report_text;
+use ss_report::{
+    Detail, Notation, ReportForm, RunFault, Verdict, run_counters, run_review_as, run_review_whole,
+};
+use ss_review::{
+    AskedSession, AskedSessions, Counter, Counts, Question, Questioner, Questions, Report,
+    ReviewFault, Reviewer,
+};
+use std::alloc::{AllocError, Global};
+use std::process::Abort;
+use test_devices::{Paper, Pieces};
+
+/// A log, and the report on it.
+const REVIEWED: [(&[Text], &[u8]); 3] = [
+    (
+        &[Text::Short, Text::Long, Text::Certificate, Text::Both],
+        REPORT,
+    ),
+    (
+        &[
+            Text::Short,
+            Text::Back,
+            Text::Front,
+            Text::ShortAlone,
+            Text::PastLastNumber,
+        ],
+        b"session h s - 1 joined\nok h s - 1 0 0 1 0\nspoilt 4 S9\nend 5\n",
+    ),
+    (
+        &[
+            Text::Short,
+            Text::Certificate,
+            Text::SecondSession,
+            Text::ShortBySha256,
+            Text::ShortOfSecondSession,
+        ],
+        b"session h s - 1 joined\nok h s - 1 0 0 1 0\nsession h s - 2 joined\ngap h s - 2 0 0 1 lost\nend 5\n",
+    ),
+];
+
+/// Feeds a message, and once more where memory ran out and left what is kept as it was.
+fn feed(reviewer: &mut Reviewer, octets: &[u8]) -> Result<(), ReviewFault> {
+    let kept = reviewer.kept();
+    match reviewer.feed(octets) {
+        Err(ReviewFault::Memory) if reviewer.kept() == kept => reviewer.feed(octets),
+        said => said,
+    }
+}
+
+/// A reviewer that was fed the log.
+fn reviewer_of(alloc: Global, log: &[Text]) -> Result<Reviewer, ReviewFault> {
+    let mut reviewer = Reviewer::new(alloc, 16);
+    for text in log {
+        feed(&mut reviewer, octets_of(*text))?;
+    }
+    Ok(reviewer)
+}
+
+/// A reviewer's report, and its questions, which are asked for once more where memory ran out.
+fn finish(reviewer: &Reviewer) -> Result<Report, ReviewFault> {
+    match reviewer.finish(&Yes) {
+        Err(ReviewFault::Memory) => reviewer.finish(&Yes),
+        said => said,
+    }
+}
+
+fn questions(reviewer: &Reviewer) -> Result<Questions, ReviewFault> {
+    match reviewer.questions() {
+        Err(ReviewFault::Memory) => reviewer.questions(),
+        said => said,
+    }
+}
+
+fn text_of(alloc: Global, report: &Report) -> Result<Bytes, NoMemory> {
+    match report_text(alloc, report, Tail::Clean) {
+        Err(_) => report_text(alloc, report, Tail::Clean),
+        text => text,
+    }
+}
+
+fn reports(alloc: Global, log: &[Text], text: &[u8]) -> Result<bool, ReviewFault> {
+    let reviewer = reviewer_of(alloc, log)?;
+    let report = finish(&reviewer)?;
+    Ok(text_of(alloc, &report)?.as_slice() == text)
+}
+
+/// Whether the questions are those, in that order.
+fn are_those(alloc: Global, questions: &[Question], asked: &[Asked]) -> Result<bool, AllocError> {
+    for (question, asked) in questions.iter().zip(asked) {
+        if !is_asked(alloc, question, *asked)? {
+            return Ok(false);
+        }
+    }
+    Ok(questions.len() == asked.len())
+}
+
+/// Whether a reviewer of a row's log asks what the row says.
+fn asks(alloc: Global, row: &Row) -> Result<bool, ReviewFault> {
+    let reviewer = reviewer_of(alloc, row.log)?;
+    let questions = questions(&reviewer)?;
+    match are_those(alloc, questions.as_slice(), row.asked) {
+        Err(_) => Ok(are_those(alloc, questions.as_slice(), row.asked)?),
+        said => Ok(said?),
+    }
+}
+
+/// Feeds a message, and once more where memory ran out.
+fn feed_questioner(questioner: &mut Questioner, octets: &[u8]) -> Result<(), ReviewFault> {
+    match questioner.feed(octets) {
+        Err(ReviewFault::Memory) => questioner.feed(octets),
+        said => said,
+    }
+}
+
+/// What a questioner asks that was fed the log.
+fn asked_of(alloc: Global, log: &[Text]) -> Result<AskedSessions, ReviewFault> {
+    let mut questioner = Questioner::new(alloc, 16);
+    for text in log {
+        feed_questioner(&mut questioner, octets_of(*text))?;
+    }
+    questioner.ask()
+}
+
+/// Whether the questions about sessions are those, in that order.
+fn are_asked(
+    alloc: Global,
+    sessions: &[AskedSession],
+    asked: &[Asked],
+) -> Result<bool, AllocError> {
+    let mut asked = asked.iter();
+    for session in sessions {
+        let is_trust = matches!(asked.next(), Some(Asked::Trust));
+        if !is_trust || session.payload.as_slice() != PAYLOAD {
+            return Ok(false);
+        }
+        for block in session.blocks.as_slice() {
+            let Some(Asked::Yes(text)) = asked.next() else {
+                return Ok(false);
+            };
+            if block.signature.as_slice() != SIGN || !is_signed(alloc, &block.octets, *text)? {
+                return Ok(false);
+            }
+        }
+    }
+    Ok(asked.next().is_none())
+}
+
+/// Whether a questioner of a row's log asks what the row says.
+fn asks_by_session(alloc: Global, row: &Row) -> Result<bool, ReviewFault> {
+    let sessions = asked_of(alloc, row.log)?;
+    Ok(are_asked(alloc, sessions.as_slice(), row.asked)?)
+}
+
+/// The calls on a reviewer that is there go on. A questioner is let go when it is asked, and is made again.
+#[test]
+fn goes_on_after_want_of_memory(rt: HostRuntime) {
+    for (log, text) in &REVIEWED {
+        assert_eq!(rt; reports(rt.alloc(), log, text), Ok(true), "{log:?}");
+    }
+    for row in &ROWS[..5] {
+        assert_eq!(rt; asks(rt.alloc(), row), Ok(true), "{}", row.name);
+        let asked = match asks_by_session(rt.alloc(), row) {
+            Err(_) => asks_by_session(rt.alloc(), row),
+            asked => asked,
+        };
+        assert_eq!(rt; asked, Ok(true), "{}", row.name);
+    }
+}
+
+/// A run with counters, or in another form.
+#[derive(Clone, Copy, Debug)]
+enum Run {
+    Counters,
+    Tally,
+    Whole,
+}
+
+/// A run over the log of two messages and their blocks, and what it writes: a message was sent behind the two, and one
+/// block.
+const RUNS: [(Run, &[u8], Verdict); 3] = [
+    (
+        Run::Counters,
+        b"count h s - 1 1\ncount h s - 1 0 0 3\n",
+        Verdict::Clean,
+    ),
+    (
+        Run::Tally,
+        b"session h s - 1 joined\ntally h s - 1 0 0 2 0 0 0 1 2\nunlisted-count 0\nrefused-count 0\nspoilt-count 0\nend 4\n",
+        Verdict::Clean,
+    ),
+    (
+        Run::Whole,
+        b"session h s - 1 joined\nok h s - 1 0 0 1 0\nok h s - 1 0 0 2 1\ntail h s - 1 0 0 3 3\nblocks h s - 1 1 1\nend 4\n",
+        Verdict::Findings,
+    ),
+];
+
+fn session(alloc: Global) -> Result<Session, AllocError> {
+    Ok(Session {
+        host: Field::Text(Bytes::from_vec(Vec::from_slice(alloc, b"h")?)),
+        app: Field::Text(Bytes::from_vec(Vec::from_slice(alloc, b"s")?)),
+        procid: Field::Nil,
+        rsid: 1,
+    })
+}
+
+/// Two blocks and three messages were sent.
+fn counters(alloc: Global) -> Result<Vec<Counter>, AllocError> {
+    let mut counters = Vec::new(alloc);
+    counters.push(Counter {
+        session: session(alloc)?,
+        counts: Counts::Blocks,
+        next: 2,
+    })?;
+    counters.push(Counter {
+        session: session(alloc)?,
+        counts: Counts::Messages(Group { sg: 0, spri: 0 }),
+        next: 4,
+    })?;
+    Ok(counters)
+}
+
+/// Runs over the log octet by octet.
+fn make(alloc: Global, run: Run) -> Result<Done, AllocError> {
+    let counters = counters(alloc)?;
+    let mut reader = Watched::new(Pieces::new(LOG, 1));
+    let mut writer = Watched::new(Paper::new(1));
+    let limits = Limits::standard();
+    let (from, to) = (&mut reader, &mut writer);
+    let (form, each) = (ReportForm::Text, Detail::Each);
+    let said = match run {
+        Run::Counters => run_counters(alloc, from, to, Yes, limits, Notation::Plain),
+        Run::Tally => run_review_as(alloc, from, to, Yes, limits, form, Detail::Tally),
+        Run::Whole => run_review_whole(alloc, from, to, Yes, limits, form, each, &counters),
+    };
+    Ok(Done {
+        said,
+        read_failed: reader.failed(),
+        write_failed: writer.failed(),
+        paper: writer.into_inner(),
+    })
+}
+
+/// Whether the run gave its output. Want of memory is answered before anything is written, and by no device.
+fn is_made(rt: &(impl Abort + AllocGlobal), run: Run, text: &[u8], verdict: Verdict) -> bool {
+    let Ok(done) = make(rt.alloc(), run) else {
+        return false;
+    };
+    assert!(rt; !done.read_failed && !done.write_failed, "{run:?}");
+    match done.said {
+        Ok(said) => {
+            assert_eq!(rt; said, verdict, "{run:?}");
+            assert_eq!(rt; done.paper.text(), text, "{run:?}");
+            true
+        }
+        Err(fault) => {
+            assert!(rt; MEMORY.contains(&fault), "{run:?}: {fault:?}");
+            assert_eq!(rt; done.paper.writes, 0, "{run:?}");
+            false
+        }
+    }
+}
+
+#[test]
+fn wants_memory_or_gives_the_output(rt: HostRuntime) {
+    for (run, text, verdict) in &RUNS {
+        if !is_made(&rt, *run, text, *verdict) {
+            assert!(rt; is_made(&rt, *run, text, *verdict), "{run:?}");
+        }
+    }
+}
