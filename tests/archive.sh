@@ -5,6 +5,8 @@
 # shellcheck source=tests/lib.sh
 . "$(dirname -- "$0")/lib.sh"
 need_program
+# the scripts run in the order of their names, so the one that installs the engine comes behind this one
+bash "$root/tests/install-tools.sh" >"$scratch/installed" 2>&1 || cat -- "$scratch/installed"
 export SSIGN=$program
 tool=$root/tools/archive
 archives=$root/tests/archives.py
