@@ -50,6 +50,6 @@ plays "$runs" stops::wants_memory_or_gives_the_output rows::rows
 plays "$runs" inspections::wants_memory_or_says_what_there_is ends::ends
 signings=${SIGNINGS_TESTS:-$root/crates/test_signings/out/test_signings_tests}
 plays "$signings" stops::wants_memory_or_gives_the_output rows::makes
-plays "$signings" answers::goes_on_after_want_of_memory answers::answers_by_the_lines
+plays "$signings" answers::goes_on_after_want_of_memory answers::refuses
 
 finish
