@@ -29,3 +29,4 @@ pub mod OneBlockLaws
 pub mod NoBlockLaws
 pub mod AheadLaws
 pub mod CountedLaws
+pub mod FaultText
