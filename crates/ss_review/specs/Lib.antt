@@ -47,3 +47,4 @@ pub mod CounterRange
 pub mod Parts
 pub mod PartLaws
 pub mod PartRows
+pub mod FaultText

@@ -4,17 +4,30 @@ ghost use Rattle.ss_review.specs.declared.fault.ReviewFault.TheVariants.{Memory}
 
 use ss_message::NoMemory;
 use std::alloc::{AllocError, AllocFailed};
+use std::fmt;
 use thiserror::Error;
 
 /// Why a reviewer gives no answer. It is unchanged then.
 #[derive(Clone, Copy, Debug, PartialEq, Eq, Error)]
 pub enum ReviewFault {
     /// V1: want of memory.
-    #[error("V1")]
     Memory,
     /// V2: as many messages were fed as the reviewer takes.
-    #[error("V2")]
     TooManyMessages,
+}
+
+impl fmt::Display for ReviewFault {
+    ghost use Rattle.std.specs.Prelude.{Some};
+    ghost use Rattle.ss_review.specs.FaultText.{review_fault_text};
+
+    ghost output = { λ fault. Some (review_fault_text fault) };
+
+    fn fmt<W: fmt::Write>(&self, f: &mut fmt::Formatter<W>) -> fmt::Result {
+        match self {
+            ReviewFault::Memory => f.write_str("V1"),
+            ReviewFault::TooManyMessages => f.write_str("V2"),
+        }
+    }
 }
 
 impl From<NoMemory> for ReviewFault {
