@@ -19,3 +19,4 @@ pub mod Writing
 pub mod Run
 pub mod Jobs
 pub mod CounterLaws
+pub mod FaultText

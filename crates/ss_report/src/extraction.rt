@@ -1,6 +1,7 @@
 //! What an extract writes.
 use ss_frame::Form;
 use ss_review::Places;
+use std::fmt;
 use thiserror::Error;
 
 /// Which messages of a log an extract writes.
@@ -27,15 +28,27 @@ pub struct Extraction {
 #[derive(Clone, Copy, Debug, PartialEq, Eq, Error)]
 pub enum ExtractFault {
     /// E1: the first of the given places that the log hasn't.
-    #[error("E1 {place}")]
     Absent {
         /// That place.
         place: u32,
     },
     /// E2: the first message to be written as a line that holds LF.
-    #[error("E2 {place}")]
     HoldsLf {
         /// Its place.
         place: u32,
     },
+}
+
+impl fmt::Display for ExtractFault {
+    ghost use Rattle.std.specs.Prelude.{Some};
+    ghost use Rattle.ss_report.specs.FaultText.{extract_fault_text};
+
+    ghost output = { λ fault. Some (extract_fault_text fault) };
+
+    fn fmt<W: fmt::Write>(&self, f: &mut fmt::Formatter<W>) -> fmt::Result {
+        match self {
+            ExtractFault::Absent { place } => write!(f, "E1 {place}"),
+            ExtractFault::HoldsLf { place } => write!(f, "E2 {place}"),
+        }
+    }
 }

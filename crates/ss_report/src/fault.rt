@@ -7,27 +7,40 @@ use ss_frame::FrameFault;
 use ss_message::NoMemory;
 use ss_review::ReviewFault;
 use std::alloc::{AllocError, AllocFailed};
+use std::fmt;
 use thiserror::Error;
 
 /// Why a run gave no output. But for a failed write, nothing was written.
 #[derive(Clone, Copy, Debug, PartialEq, Eq, Error)]
 pub enum RunFault {
     /// The log couldn't be read to its end: F1 to F5, or F9.
-    #[error("{0}")]
     Frame(FrameFault),
     /// The messages couldn't be reviewed: V1, want of memory. V2 is never answered, since the log is refused with F5
     /// before a message too many is reviewed.
-    #[error("{0}")]
     Review(ReviewFault),
     /// The messages couldn't be extracted: E1 or E2.
-    #[error("{0}")]
     Extract(ExtractFault),
     /// W1: a write failed. What was written is a prefix of the output.
-    #[error("W1")]
     Write,
     /// W2: want of memory.
-    #[error("W2")]
     Memory,
+}
+
+impl fmt::Display for RunFault {
+    ghost use Rattle.std.specs.Prelude.{Some};
+    ghost use Rattle.ss_report.specs.FaultText.{run_fault_text};
+
+    ghost output = { λ fault. Some (run_fault_text fault) };
+
+    fn fmt<W: fmt::Write>(&self, f: &mut fmt::Formatter<W>) -> fmt::Result {
+        match self {
+            RunFault::Frame(fault) => write!(f, "{fault}"),
+            RunFault::Review(fault) => write!(f, "{fault}"),
+            RunFault::Extract(fault) => write!(f, "{fault}"),
+            RunFault::Write => f.write_str("W1"),
+            RunFault::Memory => f.write_str("W2"),
+        }
+    }
 }
 
 impl From<FrameFault> for RunFault {
