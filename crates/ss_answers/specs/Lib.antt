@@ -7,3 +7,4 @@ pub mod AnswerInput
 pub mod Seals
 pub mod CounterLine
 pub mod CounterInput
+pub mod FaultText
