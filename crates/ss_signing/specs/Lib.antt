@@ -4,3 +4,4 @@ pub mod Run
 pub mod Jobs
 pub mod Sending
 pub mod PlanLaws
+pub mod FaultText

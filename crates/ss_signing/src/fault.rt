@@ -6,11 +6,11 @@ ghost use Rattle.ss_report.specs.declared.fault.RunFault.TheVariants.{Memory};
 use ss_message::NoMemory;
 use ss_origin::OriginFault;
 use ss_report::RunFault;
-use std::error::Error;
 use std::fmt;
+use thiserror::Error;
 
 /// Why nothing was planned or signed. But for a failed write, nothing was written.
-#[derive(Clone, Copy, Debug, PartialEq, Eq)]
+#[derive(Clone, Copy, Debug, PartialEq, Eq, Error)]
 pub enum SignFault {
     /// The log couldn't be read to its end (F1 to F5, F9), a write failed (W1), or memory ran out (W2).
     Run(RunFault),
@@ -29,6 +29,11 @@ pub enum SignFault {
 }
 
 impl fmt::Display for SignFault {
+    ghost use Rattle.std.specs.Prelude.{Some};
+    ghost use Rattle.ss_signing.specs.FaultText.{sign_fault_text};
+
+    ghost output = { λ fault. Some (sign_fault_text fault) };
+
     fn fmt<W: fmt::Write>(&self, f: &mut fmt::Formatter<W>) -> fmt::Result {
         match self {
             SignFault::Run(fault) => write!(f, "{fault}"),
@@ -41,8 +46,6 @@ impl fmt::Display for SignFault {
         }
     }
 }
-
-impl Error for SignFault {}
 
 impl From<NoMemory> for SignFault {
     ghost from_gives = { λ _ e. e ≡ Run Memory };
