@@ -1,7 +1,10 @@
 //! The payload block of a session (RFC 5848, section 5.2).
-ghost use Rattle.std.specs.Prelude.{◌≡◌, ℕ, List, Option, Some, None, option_and_then, IfOk, IfSome};
-ghost use Rattle.ss_payload.specs.Payload.{PayloadValue, IsPayload, Spells, if_suited, payload_text};
+ghost use Rattle.std.specs.Prelude.{◌≡◌, ◌≢◌, ◌∷◌, ℕ, List, Option, Some, None, option_and_then, IfOk, IfSome};
+ghost use Rattle.ss_frame.specs.Ascii.{sp};
 ghost use Rattle.ss_message.specs.Stamp.{Moment};
+ghost use Rattle.ss_message.specs.StampReading.{past};
+ghost use Rattle.ss_payload.specs.Payload.{PayloadValue, IsPayload, Spells, if_suited, letter, payload_text};
+ghost use Rattle.ss_payload.specs.declared.kind.Kind.TheVariants.{N};
 ghost use Rattle.ss_payload.specs.PayloadReading.{stamp_and_rest_in, first_in, kind_in, payload_in};
 
 use crate::kind::Kind;
@@ -85,6 +88,15 @@ impl Payload {
         ensures letter_first { (stamp : Option Moment) (rest : List ℕ)
             → stamp_and_rest_in bytes.now ≡ Some (stamp, rest)
             → option_and_then (λ first. kind_in first.0) (first_in rest) ≡ None
+            → result ≡ Ok None }
+        // Behind `N` no memory is taken, and behind another letter none before SP is seen.
+        ensures n_first { (stamp : Option Moment) (behind : List ℕ)
+            → stamp_and_rest_in bytes.now ≡ Some (stamp, letter N ∷ behind)
+            → result ≡ Ok (payload_in bytes.now) }
+        ensures space_first { (stamp : Option Moment) (first : ℕ) (behind : List ℕ)
+            → stamp_and_rest_in bytes.now ≡ Some (stamp, first ∷ behind)
+            → first ≢ letter N
+            → past sp behind ≡ None
             → result ≡ Ok None }
     {
         payload_of(alloc, bytes)

@@ -1,10 +1,11 @@
 //! Payload blocks read from the left (RFC 5848, section 5.2).
-ghost use Rattle.std.specs.Prelude.{◌≡◌, ◌==◌, ℕ, List, Option, Some, None, option_and_then, IfOk, IfSome, option_map};
+ghost use Rattle.std.specs.Prelude.{◌≡◌, ◌≢◌, ◌==◌, ◌∷◌, ℕ, List, Option, Some, None, option_and_then, IfOk, IfSome, option_map};
 ghost use Rattle.std.specs.List.{position};
 ghost use Rattle.ss_frame.specs.Ascii.{sp};
 ghost use Rattle.ss_message.specs.Stamp.{Moment};
-ghost use Rattle.ss_message.specs.StampReading.{stamp_of};
-ghost use Rattle.ss_payload.specs.Payload.{IsPayload};
+ghost use Rattle.ss_message.specs.StampReading.{past, stamp_of};
+ghost use Rattle.ss_payload.specs.Payload.{IsPayload, letter};
+ghost use Rattle.ss_payload.specs.declared.kind.Kind.TheVariants.{N};
 ghost use Rattle.ss_payload.specs.PayloadReading.{parts_at_space, stamp_in, stamp_and_rest_in, no_blob_in, some_blob_in, blob_in, first_in, kind_in, payload_in};
 
 use crate::kind::{Kind, kind_of};
@@ -58,7 +59,8 @@ fn no_blob_of(alloc: Global, text: &[u8]) -> Option<Bytes>
 }
 
 fn some_blob_of(alloc: Global, text: &[u8]) -> Result<Option<Bytes>, NoMemory>
-    ensures { IfOk result (λ o. o ≡ some_blob_in text.now) }
+    ensures blob { IfOk result (λ o. o ≡ some_blob_in text.now) }
+    ensures space_first { past sp text.now ≡ None → result ≡ Ok None }
 {
     match text {
         [b' ', blob @ ..] => decoded(alloc, blob),
@@ -69,7 +71,9 @@ fn some_blob_of(alloc: Global, text: &[u8]) -> Result<Option<Bytes>, NoMemory>
 /// The blob that stands behind the letter of its type.
 #[tactic(auto, unfolding(crate::specs::PayloadReading::blob_in))]
 fn blob_of(alloc: Global, kind: Kind, text: &[u8]) -> Result<Option<Bytes>, NoMemory>
-    ensures { IfOk result (λ o. o ≡ blob_in kind text.now) }
+    ensures blob { IfOk result (λ o. o ≡ blob_in kind text.now) }
+    ensures n_first { kind ≡ N → result ≡ Ok (blob_in N text.now) }
+    ensures space_first { kind ≢ N → past sp text.now ≡ None → result ≡ Ok None }
 {
     match kind {
         Kind::N => Ok(no_blob_of(alloc, text)),
@@ -96,6 +100,14 @@ pub fn payload_of(alloc: Global, text: &[u8]) -> Result<Option<Payload>, NoMemor
     ensures letter_first { (stamp : Option Moment) (rest : List ℕ)
         → stamp_and_rest_in text.now ≡ Some (stamp, rest)
         → option_and_then (λ first. kind_in first.0) (first_in rest) ≡ None
+        → result ≡ Ok None }
+    ensures n_first { (stamp : Option Moment) (behind : List ℕ)
+        → stamp_and_rest_in text.now ≡ Some (stamp, letter N ∷ behind)
+        → result ≡ Ok (payload_in text.now) }
+    ensures space_first { (stamp : Option Moment) (first : ℕ) (behind : List ℕ)
+        → stamp_and_rest_in text.now ≡ Some (stamp, first ∷ behind)
+        → first ≢ letter N
+        → past sp behind ≡ None
         → result ≡ Ok None }
 {
     let Some((stamp, rest)) = stamp_and_rest(text) else {
