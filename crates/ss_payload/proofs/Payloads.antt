@@ -10,6 +10,7 @@ use Rattle.base64.specs.GeneralPurpose.{IsBytes}
 use Rattle.ss_message.specs.Octets.{is_absent, is_no_space}
 use Rattle.ss_message.specs.Stamp.{Moment, is_stamp, stamp_text}
 use Rattle.ss_message.specs.Message.{timestamp_text, is_timestamp}
+use Rattle.ss_frame.specs.Cut.{parts_at}
 use Rattle.ss_message.specs.StampReading.{◌>>=◌, past, stamp_of}
 use Rattle.ss_message.proofs.Numbers.{bind_some, chosen_some, some_is, past_takes}
 use Rattle.ss_message.proofs.Stamps.{stamp_takes, stamp_again}
@@ -18,7 +19,7 @@ use Rattle.ss_payload.specs.declared.kind.Kind.TheVariants.{C, P, K, N, U}
 use Rattle.ss_payload.specs.StrictBase64.{base64, octets_in}
 use Rattle.ss_payload.specs.Payload.{PayloadValue, IsPayload, Spells, letter, blob_text, is_blob, if_suited, payload_text}
 use Rattle.ss_payload.specs.Payload.Spells.{exactly, with_space}
-use Rattle.ss_payload.specs.PayloadReading.{parts_at_space, stamp_in, stamp_and_rest_in, kind_in, no_blob_in, some_blob_in, blob_in, first_in, payload_in}
+use Rattle.ss_payload.specs.PayloadReading.{stamp_in, stamp_and_rest_in, kind_in, no_blob_in, some_blob_in, blob_in, first_in, payload_in}
 use Rattle.ss_payload.proofs.Base64Text.{octets_in-base64, is_base64}
 use Rattle.ss_payload.proofs.StampEnds.{stamp_ends}
 
@@ -41,8 +42,8 @@ map_some f None y e = absurd cc
 position_is : (text : List ℕ) (n : ℕ) → prefix_len is_no_space text ≡ n → n < length text → position (λ octet. octet == 32) text ≡ Some n
 position_is text n e lt = let t : ltb n (length text) ≡ true = lt-ltb n (length text) lt in rw (e, t) refl
 
-parts_take : (text : List ℕ) (x : List ℕ × List ℕ) → parts_at_space text ≡ Some x → text ≡ x.0 ++ 32 ∷ x.1
-unfolding parts_at_space
+parts_take : (text : List ℕ) (x : List ℕ × List ℕ) → parts_at 32 text ≡ Some x → text ≡ x.0 ++ 32 ∷ x.1
+unfolding parts_at
 parts_take text x e =
     let f : ℕ → List ℕ × List ℕ = λ i. (take i text, drop (i + 1) text) in
     let m = map_some f (position (λ octet. octet == 32) text) x e in
@@ -52,8 +53,8 @@ parts_take text x e =
     let behind : drop m.0 text ≡ 32 ∷ drop (m.0 + 1) text = drop_more text m.0 0 lt ∙ ap (λ b. b ∷ drop (m.0 + 1) text) space in
     subst (λ (y : List ℕ × List ℕ). text ≡ y.0 ++ 32 ∷ y.1) m.2 (sym (take-append-drop m.0 text) ∙ ap (λ (t : List ℕ). take m.0 text ++ t) behind)
 
-parts_again : (s : Option Moment) (rest : List ℕ) → is_timestamp s ≡ true → parts_at_space (timestamp_text s ++ 32 ∷ rest) ≡ Some (timestamp_text s, rest)
-unfolding parts_at_space
+parts_again : (s : Option Moment) (rest : List ℕ) → is_timestamp s ≡ true → parts_at 32 (timestamp_text s ++ 32 ∷ rest) ≡ Some (timestamp_text s, rest)
+unfolding parts_at
 parts_again s rest valid =
     let front : List ℕ = timestamp_text s in
     let text : List ℕ = front ++ 32 ∷ rest in
@@ -91,7 +92,7 @@ stamp_in_again (Some m) valid = rw (stamp_present m, stamp_again m valid) refl
 front_takes : (text : List ℕ) (x : Option Moment × List ℕ) → stamp_and_rest_in text ≡ Some x → text ≡ timestamp_text x.0 ++ 32 ∷ x.1
 unfolding stamp_and_rest_in
 front_takes text x e =
-    let a = bind_some (parts_at_space text) (λ parts. stamp_in parts.0 >>= λ stamp. Some (stamp, parts.1)) x e in
+    let a = bind_some (parts_at 32 text) (λ parts. stamp_in parts.0 >>= λ stamp. Some (stamp, parts.1)) x e in
     let b = bind_some (stamp_in a.0.0) (λ stamp. Some (stamp, a.0.1)) x a.2 in
     let made : Option Moment × List ℕ = (b.0, a.0.1) in
     let t = parts_take text a.0 a.1 in

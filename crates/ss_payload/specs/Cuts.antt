@@ -10,7 +10,8 @@ octet_count cuts = sum_by (λ c. c.len) cuts
 -- The pieces of a text of so many octets: they follow one another from index 1 to its end, each of `size` octets but
 -- a shorter last one.
 pub record AreCuts (octets size : ℕ) (cuts : List Cut) : Type 0 where
-  pub follow : (before : List Cut) (c : Cut) (after : List Cut) → cuts ≡ before ++ c ∷ after → c.index ≡ 1 + octet_count before
+  pub follow : (before : List Cut) (c : Cut) (after : List Cut) → cuts ≡ before ++ c ∷ after
+      → c.index ≡ 1 + octet_count before
   pub end : octet_count cuts ≡ octets
   pub full : (before : List Cut) (c next : Cut) (after : List Cut) → cuts ≡ before ++ c ∷ next ∷ after → c.len ≡ size
   pub last : (before : List Cut) (c : Cut) → cuts ≡ before ++ c ∷ [] → (1 ≤ c.len) × (c.len ≤ size)

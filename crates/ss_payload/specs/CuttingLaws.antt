@@ -17,14 +17,18 @@ HasIndex c index = (c.index ≤ index) × (index < c.index + c.len)
 
 -- each piece lies within
 abbrev pub PiecesLieWithin : Type 0
-PiecesLieWithin = (octets size : ℕ) (cuts : List Cut) (c : Cut) → 1 ≤ size → AreCuts octets size cuts → Contains cuts c → LiesWithin octets size c
+PiecesLieWithin =
+    (octets size : ℕ) (cuts : List Cut) (c : Cut) → 1 ≤ size → AreCuts octets size cuts → Contains cuts c
+    → LiesWithin octets size c
 
 -- each index has its piece
 abbrev pub PiecesCover : Type 0
 PiecesCover =
-    (octets size : ℕ) (cuts : List Cut) (index : ℕ) → 1 ≤ size → AreCuts octets size cuts → 1 ≤ index → index ≤ octets → (c : Cut) × Contains cuts c × HasIndex c index
+    (octets size : ℕ) (cuts : List Cut) (index : ℕ) → 1 ≤ size → AreCuts octets size cuts → 1 ≤ index → index ≤ octets
+    → (c : Cut) × Contains cuts c × HasIndex c index
 
 -- and no second one
 abbrev pub PiecesAreApart : Type 0
 PiecesAreApart =
-    (octets size : ℕ) (cuts : List Cut) (c d : Cut) (index : ℕ) → 1 ≤ size → AreCuts octets size cuts → Contains cuts c → Contains cuts d → HasIndex c index → HasIndex d index → c ≡ d
+    (octets size : ℕ) (cuts : List Cut) (c d : Cut) (index : ℕ) → 1 ≤ size → AreCuts octets size cuts → Contains cuts c
+    → Contains cuts d → HasIndex c index → HasIndex d index → c ≡ d

@@ -1,4 +1,5 @@
--- What a joiner stands for: it keeps whether one total was stated, or more, and at each index whether one octet was, or more.
+-- What a joiner stands for: it keeps whether one total was stated, or more, and at each index whether one octet was, or
+-- more.
 use Rattle.std.specs.Prelude.{◌≡◌, ◌≢◌, ℕ, ◌+◌, ◌<◌, true, false, eqb}
 use Rattle.std.specs.FinSet as set
 use Rattle.ss_payload.specs.declared.joiner.slot.Slot.{Slot}

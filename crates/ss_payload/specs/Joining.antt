@@ -1,5 +1,5 @@
--- What the fragments of a payload state together (RFC 5848, section 5.3.2). A fragment states how many octets the payload
--- has (TPBL), and octets of it with their indexes, which begin at 1 (INDEX and FRAG).
+-- What the fragments of a payload state together (RFC 5848, section 5.3.2). A fragment states how many octets the
+-- payload has (TPBL), and octets of it with their indexes, which begin at 1 (INDEX and FRAG).
 use Rattle.std.specs.Prelude.{◌≡◌, ◌≢◌, ℕ, ◌+◌, ◌<◌, ◌≤◌, ◌⊎◌, true, List, [], ◌∷◌, length, slice_index}
 use Rattle.std.specs.declared.cmp.Ordering.{Ordering}
 use Rattle.std.specs.Ordering.{nat_cmp, ordering_then}
@@ -47,13 +47,15 @@ DisagreesWith stated total index octets =
 unfoldable pub IsDisputed : Stated → Type 0
 IsDisputed stated =
     ((total : ℕ) × (other : ℕ) × HasTotal stated total × HasTotal stated other × (total ≢ other))
-    ⊎ ((index : ℕ) × (octet : ℕ) × (other : ℕ) × HasOctet stated index octet × HasOctet stated index other × (octet ≢ other))
+    ⊎ ((index : ℕ) × (octet : ℕ) × (other : ℕ) × HasOctet stated index octet × HasOctet stated index other
+    × (octet ≢ other))
 
 -- no total was stated, or no octet at an index from 1 to the total
 unfoldable pub HasGap : Stated → Type 0
 HasGap stated =
     ((total : ℕ) → ¬ HasTotal stated total)
-    ⊎ ((total : ℕ) × (index : ℕ) × HasTotal stated total × (1 ≤ index) × (index ≤ total) × ((octet : ℕ) → ¬ HasOctet stated index octet))
+    ⊎ ((total : ℕ) × (index : ℕ) × HasTotal stated total × (1 ≤ index) × (index ≤ total)
+    × ((octet : ℕ) → ¬ HasOctet stated index octet))
 
 -- the state of what is stated: disputed, else incomplete where there is a gap, else whole
 abbrev pub HasState : Stated → JoinState → Type 0

@@ -10,7 +10,9 @@ use Rattle.ss_payload.specs.Joining.{Stated, HasTotal, HasOctet, with_fragment, 
 
 -- what is disputed stays so, whatever fragment comes
 abbrev pub DisputesStay : Type 0
-DisputesStay = (stated : Stated) (total index : ℕ) (octets : List ℕ) → IsDisputed stated → IsDisputed (with_fragment stated total index octets)
+DisputesStay =
+    (stated : Stated) (total index : ℕ) (octets : List ℕ) → IsDisputed stated
+    → IsDisputed (with_fragment stated total index octets)
 
 -- two fragments state the same in either order
 abbrev pub OrderIsFree : Type 0
@@ -23,7 +25,8 @@ OrderIsFree =
 abbrev pub RepeatsAreFree : Type 0
 RepeatsAreFree =
     (stated : Stated) (total index : ℕ) (octets : List ℕ)
-    → with_fragment (with_fragment stated total index octets) total index octets ≡ with_fragment stated total index octets
+    → with_fragment (with_fragment stated total index octets) total index octets
+    ≡ with_fragment stated total index octets
 
 -- what is stated has one state
 abbrev pub OneState : Type 0
@@ -31,16 +34,21 @@ OneState = (stated : Stated) (state other : JoinState) → HasState stated state
 
 -- and one payload, unless it is disputed
 abbrev pub OnePayload : Type 0
-OnePayload = (stated : Stated) (text other : List ℕ) → ¬ IsDisputed stated → IsPayload stated text → IsPayload stated other → text ≡ other
+OnePayload =
+    (stated : Stated) (text other : List ℕ) → ¬ IsDisputed stated → IsPayload stated text → IsPayload stated other
+    → text ≡ other
 
 -- a total is stated by fragments where some fragment states it
 abbrev pub TotalsAreOfFragments : Type 0
-TotalsAreOfFragments = (fragments : List Fragment) (total : ℕ) → HasTotal (stated_by fragments) total ↔ Any (λ f. f.total ≡ total) fragments
+TotalsAreOfFragments =
+    (fragments : List Fragment) (total : ℕ) → HasTotal (stated_by fragments) total
+    ↔ Any (λ f. f.total ≡ total) fragments
 
 -- and an octet where some fragment has it at the index
 abbrev pub OctetsAreOfFragments : Type 0
 OctetsAreOfFragments =
-    (fragments : List Fragment) (index octet : ℕ) → HasOctet (stated_by fragments) index octet ↔ Any (λ f. States f index octet) fragments
+    (fragments : List Fragment) (index octet : ℕ) → HasOctet (stated_by fragments) index octet
+    ↔ Any (λ f. States f index octet) fragments
 
 -- The pieces of a text, sent in any order and as often as one likes, are a whole payload, which is the text.
 abbrev pub PiecesAreWhole : Type 0
@@ -50,4 +58,5 @@ PiecesAreWhole =
     → 1 ≤ size
     → AreCuts (length text) size cuts
     → ((c : Cut) → Contains sent c ↔ Contains cuts c)
-    → HasState (stated_by (map (fragment_of text) sent)) Whole × IsPayload (stated_by (map (fragment_of text) sent)) text
+    → HasState (stated_by (map (fragment_of text) sent)) Whole
+    × IsPayload (stated_by (map (fragment_of text) sent)) text

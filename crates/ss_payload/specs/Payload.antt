@@ -1,5 +1,6 @@
 -- The payload block of a session (RFC 5848, section 5.2): a timestamp, the type of the key blob, and the blob.
-use Rattle.std.specs.Prelude.{◌≡◌, ℕ, Bool, true, not, List, [], ◌∷◌, ◌++◌, length, Option, Some, None, ◌==◌, if◌then◌else◌}
+use Rattle.std.specs.Prelude.{◌≡◌, ℕ, Bool, true, not, List, [], ◌∷◌, ◌++◌, length, Option, Some, None, ◌==◌}
+use Rattle.std.specs.Prelude.{if◌then◌else◌}
 use Rattle.ss_frame.specs.Ascii.{sp}
 use Rattle.base64.specs.GeneralPurpose.{IsBytes}
 use Rattle.ss_message.specs.Stamp.{Moment}

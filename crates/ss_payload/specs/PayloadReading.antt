@@ -1,7 +1,7 @@
 -- A payload block read from the left: what it says, or none.
-use Rattle.std.specs.Prelude.{ℕ, ◌+◌, List, [], ◌∷◌, take, drop, Option, Some, None, option_map, ◌==◌, if◌then◌else◌}
-use Rattle.std.specs.List.{position}
+use Rattle.std.specs.Prelude.{ℕ, List, [], ◌∷◌, Option, Some, None, option_map, ◌==◌, if◌then◌else◌}
 use Rattle.ss_frame.specs.Ascii.{sp}
+use Rattle.ss_frame.specs.Cut.{parts_at}
 use Rattle.ss_message.specs.Octets.{is_absent}
 use Rattle.ss_message.specs.Stamp.{Moment}
 use Rattle.ss_message.specs.StampReading.{◌>>=◌, past, stamp_of}
@@ -10,10 +10,6 @@ use Rattle.ss_payload.specs.declared.kind.Kind.TheVariants.{C, P, K, N, U}
 use Rattle.ss_payload.specs.StrictBase64.{octets_in}
 use Rattle.ss_payload.specs.Payload.{PayloadValue, if_suited}
 
--- what stands before the first SP, and behind it
-unfoldable pub parts_at_space : List ℕ → Option (List ℕ × List ℕ)
-parts_at_space text = option_map (λ i. (take i text, drop (i + 1) text)) (position (λ octet. octet == sp) text)
-
 -- a stamp, or `-` for none
 unfoldable pub stamp_in : List ℕ → Option (Option Moment)
 stamp_in text = if is_absent text then Some None else option_map (λ m. Some m) (stamp_of text)
@@ -21,7 +17,7 @@ stamp_in text = if is_absent text then Some None else option_map (λ m. Some m) 
 -- the stamp before the first SP, and what follows that SP
 unfoldable pub stamp_and_rest_in : List ℕ → Option (Option Moment × List ℕ)
 stamp_and_rest_in text = do
-  parts ← parts_at_space text
+  parts ← parts_at sp text
   stamp ← stamp_in parts.0
   Some (stamp, parts.1)
 

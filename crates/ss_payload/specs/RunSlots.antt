@@ -6,17 +6,20 @@ use Rattle.ss_payload.specs.Slots.{joined_slot, slot_differs}
 
 -- the first `count` octets of a piece were said at the places from `at` on, and nothing at others
 pub record IsWritten (old new : List Slot) (at : ℕ) (octets : List ℕ) (count : ℕ) : Type 0 where
-  pub inside : (j : ℕ) → j < count → slice_index_or new (at + j) Empty ≡ joined_slot (slice_index_or old (at + j) Empty) (slice_index octets j)
+  pub inside : (j : ℕ) → j < count
+      → slice_index_or new (at + j) Empty ≡ joined_slot (slice_index_or old (at + j) Empty) (slice_index octets j)
   pub before : (k : ℕ) → k < at → slice_index_or new k Empty ≡ slice_index_or old k Empty
   pub behind : (k : ℕ) → at + count ≤ k → slice_index_or new k Empty ≡ slice_index_or old k Empty
 
 -- another octet was said at some place of a piece
 abbrev pub SomeDiffersIn : List Slot → ℕ → List ℕ → Type 0
-SomeDiffersIn run at octets = (j : ℕ) × (j < length octets) × (slot_differs (slice_index_or run (at + j) Empty) (slice_index octets j) ≡ true)
+SomeDiffersIn run at octets =
+    (j : ℕ) × (j < length octets) × (slot_differs (slice_index_or run (at + j) Empty) (slice_index octets j) ≡ true)
 
 -- no other octet was said at the first `count` places of a piece
 abbrev pub NoneDiffersIn : List Slot → ℕ → List ℕ → ℕ → Type 0
-NoneDiffersIn run at octets count = (j : ℕ) → j < count → slot_differs (slice_index_or run (at + j) Empty) (slice_index octets j) ≡ false
+NoneDiffersIn run at octets count =
+    (j : ℕ) → j < count → slot_differs (slice_index_or run (at + j) Empty) (slice_index octets j) ≡ false
 
 -- the octets at `count` places from `at` on were written behind a text
 pub record IsPushed (old new : List ℕ) (run : List Slot) (at count : ℕ) : Type 0 where

@@ -1,5 +1,6 @@
 -- What was said at each index, as the runs of a joiner keep it.
-use Rattle.std.specs.Prelude.{◌≡◌, ℕ, ◌+◌, ◌/◌, ◌%◌, ◌<◌, ◌≤◌, Bool, true, false, not, eqb, cond, List, length, slice_index, slice_index_or, Option, None, Some, IsSome}
+use Rattle.std.specs.Prelude.{◌≡◌, ℕ, ◌+◌, ◌/◌, ◌%◌, ◌<◌, ◌≤◌, Bool, true, false, not, eqb, cond, List, length}
+use Rattle.std.specs.Prelude.{slice_index, slice_index_or, Option, None, Some, IsSome}
 use Rattle.std.specs.Ordering.{nat_cmp}
 use Rattle.std.specs.BTreeMap as tree
 use Rattle.ss_payload.specs.declared.joiner.slot.Slot.{Slot}
@@ -38,17 +39,20 @@ IsOne Many = ⊥
 
 -- the first `count` octets of a fragment were said at the indexes from `index` on, and nothing elsewhere
 pub record IsPut (old new : Runs) (index : ℕ) (octets : List ℕ) (count : ℕ) : Type 0 where
-  pub inside : (j : ℕ) → j < count → slot_at new (index + j) ≡ joined_slot (slot_at old (index + j)) (slice_index octets j)
+  pub inside : (j : ℕ) → j < count
+      → slot_at new (index + j) ≡ joined_slot (slot_at old (index + j)) (slice_index octets j)
   pub before : (i : ℕ) → i < index → slot_at new i ≡ slot_at old i
   pub behind : (i : ℕ) → index + count ≤ i → slot_at new i ≡ slot_at old i
 
 -- another octet was said at some index of a fragment
 abbrev pub SomeDiffers : Runs → ℕ → List ℕ → Type 0
-SomeDiffers runs index octets = (j : ℕ) × (j < length octets) × (slot_differs (slot_at runs (index + j)) (slice_index octets j) ≡ true)
+SomeDiffers runs index octets =
+    (j : ℕ) × (j < length octets) × (slot_differs (slot_at runs (index + j)) (slice_index octets j) ≡ true)
 
 -- no other octet was said at the first `count` indexes of a fragment
 abbrev pub NoneDiffers : Runs → ℕ → List ℕ → ℕ → Type 0
-NoneDiffers runs index octets count = (j : ℕ) → j < count → slot_differs (slot_at runs (index + j)) (slice_index octets j) ≡ false
+NoneDiffers runs index octets count =
+    (j : ℕ) → j < count → slot_differs (slot_at runs (index + j)) (slice_index octets j) ≡ false
 
 -- a text has the octets that were said at the indexes from 1 to a total
 pub record IsTextOf (runs : Runs) (text : List ℕ) (total : ℕ) : Type 0 where

@@ -1,5 +1,6 @@
 //! A payload joined from the fragments of certificate blocks (RFC 5848, section 5.3.2).
-ghost use Rattle.std.specs.Prelude.{◌≡◌, ◌+◌, ◌-◌, ◌≤◌, ◌↔◌, length, MatchResult, IfOk, MatchOption, IfSome, IfNone, false};
+ghost use Rattle.std.specs.Prelude.{◌≡◌, ◌+◌, ◌-◌, ◌≤◌, ◌↔◌, length, MatchResult, IfOk, MatchOption, IfSome, IfNone};
+ghost use Rattle.std.specs.Prelude.{false};
 ghost use Rattle.ss_payload.specs.declared.joiner.JoinState.TheVariants.{Whole};
 ghost use Rattle.ss_payload.specs.declared.joiner.Joined.TheVariants.{Disagrees};
 ghost use Rattle.ss_payload.specs.Joining.{Stated, nothing_stated, with_fragment, DisagreesWith, HasState, IsPayload};
@@ -75,7 +76,8 @@ impl Joiner {
         requires within { index + length fragment.now - 1 ≤ total }
         ensures joined { (stated : Stated)
             → Stands self.old stated
-            → MatchResult result (λ joined. Stands self.new (with_fragment stated total index fragment.now)) (λ e. Stands self.new stated) }
+            → MatchResult result (λ joined. Stands self.new (with_fragment stated total index fragment.now))
+            (λ e. Stands self.new stated) }
         ensures answer { (stated : Stated)
             → Stands self.old stated
             → IfOk result (λ joined. (joined ≡ Disagrees) ↔ DisagreesWith stated total index fragment.now) }
@@ -133,7 +135,8 @@ impl Joiner {
     pub fn payload(&self) -> Result<Option<Bytes>, NoMemory>
         ensures payload { (stated : Stated)
             → Stands self.now stated
-            → IfOk result (λ text. MatchOption text (¬ HasState stated Whole) (λ t. HasState stated Whole × IsPayload stated t)) }
+            → IfOk result
+            (λ text. MatchOption text (¬ HasState stated Whole) (λ t. HasState stated Whole × IsPayload stated t)) }
         // Another state is seen before memory is taken.
         ensures state_first { (stated : Stated) → Stands self.now stated → ¬ HasState stated Whole → result ≡ Ok None }
     {

@@ -18,4 +18,5 @@ pub use cutting::cut;
 pub use joiner::{JoinState, Joined, Joiner};
 pub use kind::Kind;
 pub use payload::Payload;
+pub use payload_reading::stamp_of;
 pub use ranges::LONGEST_PAYLOAD;

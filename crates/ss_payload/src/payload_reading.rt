@@ -1,35 +1,21 @@
 //! Payload blocks read from the left (RFC 5848, section 5.2).
-ghost use Rattle.std.specs.Prelude.{◌≡◌, ◌≢◌, ◌==◌, ◌∷◌, ℕ, List, Option, Some, None, option_and_then, IfOk, IfSome, option_map};
-ghost use Rattle.std.specs.List.{position};
+ghost use Rattle.std.specs.Prelude.{◌≡◌, ◌≢◌, ◌∷◌, ℕ, List, Option, Some, None, option_and_then, IfOk, IfSome, option_map};
 ghost use Rattle.ss_frame.specs.Ascii.{sp};
 ghost use Rattle.ss_message.specs.Stamp.{Moment};
 ghost use Rattle.ss_message.specs.StampReading.{past, stamp_of};
 ghost use Rattle.ss_payload.specs.Payload.{IsPayload, letter};
 ghost use Rattle.ss_payload.specs.declared.kind.Kind.TheVariants.{N};
-ghost use Rattle.ss_payload.specs.PayloadReading.{parts_at_space, stamp_in, stamp_and_rest_in, no_blob_in, some_blob_in, blob_in, first_in, kind_in, payload_in};
+ghost use Rattle.ss_payload.specs.PayloadReading.{stamp_in, stamp_and_rest_in, no_blob_in, some_blob_in, blob_in};
+ghost use Rattle.ss_payload.specs.PayloadReading.{first_in, kind_in, payload_in};
 
 use crate::kind::{Kind, kind_of};
 use crate::payload::Payload;
 use crate::strict_base64::decoded;
-use ss_frame::Bytes;
+use ss_frame::{Bytes, cut_first};
 use ss_message::{NoMemory, Stamp, timestamp_in_range};
 use std::alloc::Global;
 
-fn place_of_space(text: &[u8]) -> Option<usize>
-    ensures { result ≡ position (λ octet. octet == sp) text.now }
-{
-    text.iter().position(|octet| *octet == b' ')
-}
-
-/// What stands before the first SP, and behind it.
-#[tactic(auto, unfolding(crate::specs::PayloadReading::parts_at_space))]
-fn parts_at_space(text: &[u8]) -> Option<(&[u8], &[u8])>
-    ensures { option_map (λ x. (x.0.now, x.1.now)) result ≡ parts_at_space text.now }
-{
-    let place = place_of_space(text)?;
-    Some((&text[..place], &text[place + 1..]))
-}
-
+/// The stamp that the octets spell, all of them.
 fn moment_of(text: &[u8]) -> Option<Stamp>
     ensures { result ≡ stamp_of text.now }
 {
@@ -38,9 +24,9 @@ fn moment_of(text: &[u8]) -> Option<Stamp>
     stamp
 }
 
-/// The stamp that the octets spell, all of them, or none for `-`.
+/// The stamp that the octets spell, all of them, or none for `-`. `None` where they spell neither.
 #[tactic(auto, unfolding(crate::specs::PayloadReading::stamp_in))]
-fn stamp_of(text: &[u8]) -> Option<Option<Stamp>>
+pub fn stamp_of(text: &[u8]) -> Option<Option<Stamp>>
     ensures { result ≡ stamp_in text.now }
 {
     match text {
@@ -86,7 +72,7 @@ fn blob_of(alloc: Global, kind: Kind, text: &[u8]) -> Result<Option<Bytes>, NoMe
 fn stamp_and_rest(text: &[u8]) -> Option<(Option<Stamp>, &[u8])>
     ensures { option_map (λ x. (x.0, x.1.now)) result ≡ stamp_and_rest_in text.now }
 {
-    let (front, rest) = parts_at_space(text)?;
+    let (front, rest) = cut_first(text, b' ')?;
     let stamp = stamp_of(front)?;
     Some((stamp, rest))
 }

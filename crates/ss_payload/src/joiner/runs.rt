@@ -1,7 +1,9 @@
 //! The octets of a payload by their indexes, in sorted runs.
-ghost use Rattle.std.specs.Prelude.{◌≡◌, ◌+◌, ◌-◌, ◌/◌, ◌%◌, ◌<◌, ◌≤◌, ◌≢◌, ◌^◌, ◌⊎◌, ℕ, List, length, slice_index_or, IsTrue, true, false, OnOk, IfOk};
+ghost use Rattle.std.specs.Prelude.{◌≡◌, ◌+◌, ◌-◌, ◌/◌, ◌%◌, ◌<◌, ◌≤◌, ◌≢◌, ◌^◌, ◌⊎◌, ℕ, List, length, slice_index_or};
+ghost use Rattle.std.specs.Prelude.{IsTrue, true, false, OnOk, IfOk};
 ghost use Rattle.ss_payload.specs.declared.joiner.slot.Slot.TheVariants.{Empty};
-ghost use Rattle.ss_payload.specs.Slots.{slot_at, HasRun, IsOne, IsPut, IsTextOf, NoneDiffers, SomeDiffers, joined_slot, slot_differs};
+ghost use Rattle.ss_payload.specs.Slots.{slot_at, HasRun, IsOne, IsPut, IsTextOf, NoneDiffers, SomeDiffers};
+ghost use Rattle.ss_payload.specs.Slots.{joined_slot, slot_differs};
 ghost use Rattle.ss_payload.specs.RunSlots.{IsWritten, SomeDiffersIn, NoneDiffersIn, IsPushed, BelongsTo};
 
 use super::slot::Slot;
@@ -13,11 +15,11 @@ use std::collections::BTreeMap;
 /// How many indexes stand in a run.
 const RUN: u32 = 16;
 
-/// Octets by their indexes. A run has room for 16 indexes that follow each other, the first of them a multiple of 16, and
-/// its number is a sixteenth of that. There are runs only where octets came, or were to come when memory ran out, so the
-/// length of a payload takes no room. As the borders of runs are fixed, none is ever merged or cut. A run is found once
-/// for all of a fragment that lies in it, in time by the logarithm of how many runs there are, in whatever order octets
-/// come.
+/// Octets by their indexes. A run has room for 16 indexes that follow each other, the first of them a multiple of 16,
+/// and its number is a sixteenth of that. There are runs only where octets came, or were to come when memory ran out,
+/// so the length of a payload takes no room. As the borders of runs are fixed, none is ever merged or cut. A run is
+/// found once for all of a fragment that lies in it, in time by the logarithm of how many runs there are, in whatever
+/// order octets come.
 #[derive(Drop)]
 pub struct Runs {
     runs: BTreeMap<u32, [Slot; 16]>,
@@ -68,7 +70,8 @@ fn are_said(run: &[Slot; 16], at: usize, count: usize) -> bool
 /// Writes the octets at `count` places of a run from `at` on at the end of `text`.
 fn push(text: &mut Vec<u8>, run: &[Slot; 16], at: usize, count: usize) -> Result<(), AllocError>
     requires { at + count ≤ 16 }
-    ensures { ((j : ℕ) → j < count → IsOne (slice_index_or run.now (at + j) Empty)) → OnOk result (IsPushed text.old.items text.new.items run.now at count) }
+    ensures { ((j : ℕ) → j < count → IsOne (slice_index_or run.now (at + j) Empty))
+        → OnOk result (IsPushed text.old.items text.new.items run.now at count) }
 {
     for j in 0..count {
         if let Slot::One(octet) = run[at + j] {
@@ -103,8 +106,8 @@ impl Runs {
         Ok(())
     }
 
-    /// Makes the runs of `length` indexes from `index` on, and no others. It changes nothing of what was said, also where
-    /// memory runs out.
+    /// Makes the runs of `length` indexes from `index` on, and no others. It changes nothing of what was said, also
+    /// where memory runs out.
     pub fn make_room(&mut self, index: u32, length: usize) -> Result<(), NoMemory>
         requires some { 1 ≤ length }
         requires fits { index + length < 2 ^ 31 }
@@ -119,8 +122,8 @@ impl Runs {
         Ok(())
     }
 
-    /// Says the octets of `piece` at the indexes from `index` on, all of one run, which there is. Whether another octet was
-    /// said at one of them.
+    /// Says the octets of `piece` at the indexes from `index` on, all of one run, which there is. Whether another octet
+    /// was said at one of them.
     fn put(&mut self, index: u32, piece: &[u8]) -> bool
         requires one { index % 16 + length piece.now ≤ 16 }
         requires room { HasRun self.old (index / 16) }
@@ -136,8 +139,8 @@ impl Runs {
         }
     }
 
-    /// Says the octets of `fragment` at the indexes from `index` on, whose runs there are. Whether another octet was said
-    /// at one of them.
+    /// Says the octets of `fragment` at the indexes from `index` on, whose runs there are. Whether another octet was
+    /// said at one of them.
     pub fn put_all(&mut self, index: u32, fragment: &[u8]) -> bool
         requires room { (j : ℕ) → j < length fragment.now → HasRun self.old ((index + j) / 16) }
         requires fits { index + length fragment.now < 2 ^ 31 }
@@ -190,7 +193,8 @@ impl Runs {
         true
     }
 
-    /// Writes the octets at `count` indexes from `index` on, all of one run, at the end of `text`, which has those before.
+    /// Writes the octets at `count` indexes from `index` on, all of one run, at the end of `text`, which has those
+    /// before.
     fn push_part(&self, text: &mut Vec<u8>, index: u32, count: u32) -> Result<(), AllocError>
         requires { index % 16 + count ≤ 16 }
         ensures { (before : ℕ)
@@ -207,7 +211,8 @@ impl Runs {
 
     /// The octets at the indexes from 1 to `total`, where one octet was said at each of them.
     pub fn text(&self, alloc: Global, total: u32) -> Result<Bytes, NoMemory>
-        ensures { ((k : ℕ) → k < total → IsOne (slot_at self.now (k + 1))) → IfOk result (λ text. IsTextOf self.now text total) }
+        ensures { ((k : ℕ) → k < total → IsOne (slot_at self.now (k + 1)))
+            → IfOk result (λ text. IsTextOf self.now text total) }
     {
         let mut text = Vec::with_capacity(alloc, total as usize)?;
         let mut before = 0;

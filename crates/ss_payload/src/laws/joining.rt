@@ -1,5 +1,6 @@
 //! What holds of all that the fragments of a payload can state.
-ghost use Rattle.ss_payload.specs.JoiningLaws.{DisputesStay, OctetsAreOfFragments, OnePayload, OneState, OrderIsFree, PiecesAreWhole, RepeatsAreFree, TotalsAreOfFragments};
+ghost use Rattle.ss_payload.specs.JoiningLaws.{DisputesStay, OctetsAreOfFragments, OnePayload, OneState, OrderIsFree};
+ghost use Rattle.ss_payload.specs.JoiningLaws.{PiecesAreWhole, RepeatsAreFree, TotalsAreOfFragments};
 
 /// What is disputed stays so, whatever fragment comes.
 pub fn disputes_stay()
