@@ -185,7 +185,7 @@ impl SigBlock {
     }
 
     /// Every block is in the ranges that `new` asks for.
-    pub fn in_range(&self)
+    pub fn assure_in_range(&self)
         ensures { IsSignature self.now }
     {
         let _rsid = self.rsid;
@@ -325,7 +325,7 @@ impl CertBlock {
     }
 
     /// Every block is in the ranges that `new` asks for.
-    pub fn in_range(&self)
+    pub fn assure_in_range(&self)
         ensures { IsCertificate self.now }
     {
         let _rsid = self.rsid;

@@ -7,38 +7,38 @@ ghost use Rattle.ss_block.specs.WritingLaws.{IsHash};
 use crate::hash::Hash;
 
 /// Each octet is below 256.
-pub fn are_octets(octets: &[u8])
+pub fn assure_octets(octets: &[u8])
     ensures { IsBytes octets.now }
 {}
 
-fn is_sha1(octets: &[u8; 20])
+fn assure_sha1(octets: &[u8; 20])
     ensures count { length octets.now ≡ 20 }
     ensures octets { IsBytes octets.now }
 {
-    are_octets(octets);
+    assure_octets(octets);
 }
 
-fn is_sha256(octets: &[u8; 32])
+fn assure_sha256(octets: &[u8; 32])
     ensures count { length octets.now ≡ 32 }
     ensures octets { IsBytes octets.now }
 {
-    are_octets(octets);
+    assure_octets(octets);
 }
 
-fn is_hash(hash: &Hash)
+fn assure_hash(hash: &Hash)
     ensures { IsHash hash.now }
 {
     match hash {
-        Hash::Sha1(octets) => is_sha1(octets),
-        Hash::Sha256(octets) => is_sha256(octets),
+        Hash::Sha1(octets) => assure_sha1(octets),
+        Hash::Sha256(octets) => assure_sha256(octets),
     }
 }
 
 /// Each hash has as many octets as its algorithm makes, each of them below 256.
-pub fn are_hashes(hashes: &[Hash])
+pub fn assure_hashes(hashes: &[Hash])
     ensures { All IsHash hashes.now }
 {
     for hash in hashes {
-        is_hash(hash);
+        assure_hash(hash);
     }
 }

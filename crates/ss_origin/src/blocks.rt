@@ -90,7 +90,7 @@ pub fn certificates(
         × (v.items ≡ map (certificate_of config.now (payload_text payload.now)) cuts)) }
     ensures session { IfOk result (λ v. All (HasSession config.now) v.items) }
 {
-    config.head.in_range();
+    config.head.assure_in_range();
     texts_have_octets();
     texts_are_ascii();
     pieces_lie_within();

@@ -11,7 +11,7 @@ use crate::kind::Kind;
 use crate::payload_reading::payload_of;
 use crate::payload_writing::payload_text;
 use ss_frame::Bytes;
-use ss_message::{NoMemory, Stamp, timestamp_in_range};
+use ss_message::{NoMemory, Stamp, assure_timestamp};
 use std::alloc::Global;
 use std::marker::Model;
 
@@ -40,7 +40,7 @@ impl Payload {
         ensures value { result ≡ if_suited (record { stamp = stamp; kind = kind; blob = blob }) }
         ensures in_range { IfSome result IsPayload }
     {
-        timestamp_in_range(&stamp);
+        assure_timestamp(&stamp);
         let octets = blob.as_slice();
         if octets.is_empty() != (kind == Kind::N) {
             return None;
@@ -70,7 +70,7 @@ impl Payload {
     }
 
     /// Every payload is in the ranges that `new` asks for.
-    pub fn in_range(&self)
+    pub fn assure_in_range(&self)
         ensures { IsPayload self.now }
     {
         let _kind = self.kind;

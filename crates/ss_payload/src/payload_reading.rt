@@ -12,7 +12,7 @@ use crate::kind::{Kind, kind_of};
 use crate::payload::Payload;
 use crate::strict_base64::decoded;
 use ss_frame::{Bytes, cut_first};
-use ss_message::{NoMemory, Stamp, timestamp_in_range};
+use ss_message::{NoMemory, Stamp, assure_timestamp};
 use std::alloc::Global;
 
 /// The stamp that the octets spell, all of them.
@@ -20,7 +20,7 @@ fn moment_of(text: &[u8]) -> Option<Stamp>
     ensures { result ≡ stamp_of text.now }
 {
     let stamp = Stamp::parse(text);
-    timestamp_in_range(&stamp);
+    assure_timestamp(&stamp);
     stamp
 }
 

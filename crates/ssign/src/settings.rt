@@ -16,7 +16,7 @@ use crate::text_option::TextOption;
 use clap::ArgMatches;
 use ss_block::{Alg, Head, LAST_NUMBER, Payload};
 use ss_frame::Bytes;
-use ss_message::{Field, NoMemory, Stamp, timestamp_in_range};
+use ss_message::{Field, NoMemory, Stamp, assure_timestamp};
 use ss_origin::Config;
 use std::alloc::Global;
 use thiserror::Error;
@@ -172,7 +172,7 @@ fn moment_of(text: &[u8]) -> Option<Stamp>
     ensures { result ≡ moment_in text.now }
 {
     let stamp = Stamp::parse(text);
-    timestamp_in_range(&stamp);
+    assure_timestamp(&stamp);
     stamp
 }
 

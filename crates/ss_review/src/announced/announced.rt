@@ -28,7 +28,7 @@ fn add_hashes<'s>(
     ensures { OnOk result (map row_of rows.new.items
         ≡ map row_of rows.old.items ++ rows_said session.now (Hashes block.now)) }
 {
-    block.in_range();
+    block.assure_in_range();
     let group = block.group();
     let mut number = block.first();
     for hash in block.hashes().as_slice() {

@@ -17,7 +17,7 @@ fn with_one_hash(alloc: Global, block: SigBlock) -> Result<SigBlock, NoMemory>
     ensures signature { IfOk result (λ b. b.signature ≡ block.signature) }
     ensures one { IfOk result (λ b. length b.hashes ≡ 1) }
 {
-    block.in_range();
+    block.assure_in_range();
     let hashes = Hashes::from_vec(Vec::from_slice(alloc, &block.hashes().as_slice()[..1])?);
     let signature = copy_of(alloc, block.signature())?;
     let shortened = SigBlock::new(

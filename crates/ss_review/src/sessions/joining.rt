@@ -18,7 +18,7 @@ fn add_fragment(joiner: &mut Joiner, block: &CertBlock) -> Result<(), NoMemory>
         → Stands joiner.old (stated_in_turn cs)
         → OnOk result (Stands joiner.new (stated_in_turn (cs ++ block.now ∷ []))) }
 {
-    block.in_range();
+    block.assure_in_range();
     joiner.add(block.total(), block.index(), block.fragment().as_slice())?;
     Ok(())
 }

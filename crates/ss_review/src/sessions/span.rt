@@ -18,7 +18,7 @@ pub(crate) struct Span {
 pub(crate) fn span_of(block: &CertBlock) -> Span
     ensures { result ≡ span_of block.now }
 {
-    block.in_range();
+    block.assure_in_range();
     let start = u64::from(block.index());
     let length = block.fragment().as_slice().len() as u64;
     Span {

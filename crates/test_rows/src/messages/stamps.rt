@@ -148,7 +148,7 @@ fn stamp_of(numbers: Numbers, offset: Offset) -> Option<Stamp> {
 fn is_written(alloc: Global, stamp: Option<Stamp>, text: Option<&[u8]>) -> Result<bool, NoMemory> {
     match (stamp, text) {
         (Some(stamp), Some(text)) => {
-            stamp.in_range();
+            stamp.assure_in_range();
             Ok(write_stamp(alloc, &stamp)?.as_slice() == text)
         }
         (None, None) => Ok(true),

@@ -10,7 +10,7 @@ message-requires-clause-names c =
 
 pub message-requires-clause-raws : goal.message-requires-clause-raws
 message-requires-clause-raws c =
-    ap has_raws (made_unsigned _ _ c.args.block.now c.in_ok-element.ensures c.in_ok-parameters.ensures) ∙ raws_unsigned c.args.block.now c.in_range.ensures
+    ap has_raws (made_unsigned _ _ c.args.block.now c.in_ok-element.ensures c.in_ok-parameters.ensures) ∙ raws_unsigned c.args.block.now c.assure_in_range.ensures
 
 pub returns : goal.returns
 returns c =

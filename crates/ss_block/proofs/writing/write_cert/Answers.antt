@@ -28,16 +28,16 @@ pub returns-clause-read : goal.returns-clause-read
 returns-clause-read c =
     holds c.message.result (certificate_text c.args.head.now c.args.stamp c.args.block.now) (λ t. reading t ≡ readings.Certificate c.args.block.now)
     (written_of c.args.head.now c.args.stamp _ _ c.message.result (made_signed _ _ _ c.args.block.now _ c.in_ok-element.ensures c.in_ok-put_sign.ensures c.in_ok-parameters.ensures c.signature.ensures) c.message.ensures)
-    (certificate_is_read c.args.head.now c.args.stamp c.args.block.now c.in_range.ensures c.timestamp_in_range.ensures c.assure_certificate.ensures.range c.assure_certificate.ensures.signature c.requires).read
+    (certificate_is_read c.args.head.now c.args.stamp c.args.block.now c.assure_in_range.ensures c.assure_timestamp.ensures c.assure_certificate.ensures.range c.assure_certificate.ensures.signature c.requires).read
 
 pub returns-clause-signed : goal.returns-clause-signed
 returns-clause-signed c =
     holds c.message.result (certificate_text c.args.head.now c.args.stamp c.args.block.now) (λ t. signed t ≡ Some (unsigned_certificate_text c.args.head.now c.args.stamp c.args.block.now))
     (written_of c.args.head.now c.args.stamp _ _ c.message.result (made_signed _ _ _ c.args.block.now _ c.in_ok-element.ensures c.in_ok-put_sign.ensures c.in_ok-parameters.ensures c.signature.ensures) c.message.ensures)
-    (certificate_is_read c.args.head.now c.args.stamp c.args.block.now c.in_range.ensures c.timestamp_in_range.ensures c.assure_certificate.ensures.range c.assure_certificate.ensures.signature c.requires).signed
+    (certificate_is_read c.args.head.now c.args.stamp c.args.block.now c.assure_in_range.ensures c.assure_timestamp.ensures c.assure_certificate.ensures.range c.assure_certificate.ensures.signature c.requires).signed
 
 pub returns-clause-session : goal.returns-clause-session
 returns-clause-session c =
     holds c.message.result (certificate_text c.args.head.now c.args.stamp c.args.block.now) (λ t. session t ≡ Some (head_session c.args.head.now c.args.block.now.rsid))
     (written_of c.args.head.now c.args.stamp _ _ c.message.result (made_signed _ _ _ c.args.block.now _ c.in_ok-element.ensures c.in_ok-put_sign.ensures c.in_ok-parameters.ensures c.signature.ensures) c.message.ensures)
-    (certificate_is_read c.args.head.now c.args.stamp c.args.block.now c.in_range.ensures c.timestamp_in_range.ensures c.assure_certificate.ensures.range c.assure_certificate.ensures.signature c.requires).session
+    (certificate_is_read c.args.head.now c.args.stamp c.args.block.now c.assure_in_range.ensures c.assure_timestamp.ensures c.assure_certificate.ensures.range c.assure_certificate.ensures.signature c.requires).session

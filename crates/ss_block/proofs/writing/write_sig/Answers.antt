@@ -28,16 +28,16 @@ pub returns-clause-read : goal.returns-clause-read
 returns-clause-read c =
     holds c.message.result (signature_text c.args.head.now c.args.stamp c.args.block.now) (λ t. reading t ≡ readings.Signature c.args.block.now)
     (written_of c.args.head.now c.args.stamp _ _ c.message.result (made_signed _ _ _ c.args.block.now _ c.in_ok-element.ensures c.in_ok-put_sign.ensures c.in_ok-parameters.ensures c.signature.ensures) c.message.ensures)
-    (signature_is_read c.args.head.now c.args.stamp c.args.block.now c.in_range.ensures c.timestamp_in_range.ensures c.assure_signature.ensures.range c.assure_signature.ensures.hashes c.assure_signature.ensures.signature c.requires).read
+    (signature_is_read c.args.head.now c.args.stamp c.args.block.now c.assure_in_range.ensures c.assure_timestamp.ensures c.assure_signature.ensures.range c.assure_signature.ensures.hashes c.assure_signature.ensures.signature c.requires).read
 
 pub returns-clause-signed : goal.returns-clause-signed
 returns-clause-signed c =
     holds c.message.result (signature_text c.args.head.now c.args.stamp c.args.block.now) (λ t. signed t ≡ Some (unsigned_signature_text c.args.head.now c.args.stamp c.args.block.now))
     (written_of c.args.head.now c.args.stamp _ _ c.message.result (made_signed _ _ _ c.args.block.now _ c.in_ok-element.ensures c.in_ok-put_sign.ensures c.in_ok-parameters.ensures c.signature.ensures) c.message.ensures)
-    (signature_is_read c.args.head.now c.args.stamp c.args.block.now c.in_range.ensures c.timestamp_in_range.ensures c.assure_signature.ensures.range c.assure_signature.ensures.hashes c.assure_signature.ensures.signature c.requires).signed
+    (signature_is_read c.args.head.now c.args.stamp c.args.block.now c.assure_in_range.ensures c.assure_timestamp.ensures c.assure_signature.ensures.range c.assure_signature.ensures.hashes c.assure_signature.ensures.signature c.requires).signed
 
 pub returns-clause-session : goal.returns-clause-session
 returns-clause-session c =
     holds c.message.result (signature_text c.args.head.now c.args.stamp c.args.block.now) (λ t. session t ≡ Some (head_session c.args.head.now c.args.block.now.rsid))
     (written_of c.args.head.now c.args.stamp _ _ c.message.result (made_signed _ _ _ c.args.block.now _ c.in_ok-element.ensures c.in_ok-put_sign.ensures c.in_ok-parameters.ensures c.signature.ensures) c.message.ensures)
-    (signature_is_read c.args.head.now c.args.stamp c.args.block.now c.in_range.ensures c.timestamp_in_range.ensures c.assure_signature.ensures.range c.assure_signature.ensures.hashes c.assure_signature.ensures.signature c.requires).session
+    (signature_is_read c.args.head.now c.args.stamp c.args.block.now c.assure_in_range.ensures c.assure_timestamp.ensures c.assure_signature.ensures.range c.assure_signature.ensures.hashes c.assure_signature.ensures.signature c.requires).session

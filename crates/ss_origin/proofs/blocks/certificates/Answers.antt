@@ -32,7 +32,7 @@ certificates_of-requires-clause-certificates c =
     let are = rw (c.as_slice.ensures ∙ c.in_ok-text.ensures.text) at c.in_ok-cuts.ensures.pieces in
     subst (λ t. All (λ piece. IsCertificate (certificate_in config t piece)) c.as_slice-3.result.now) (sym (c.as_slice-2.ensures ∙ c.in_ok-text.ensures.text))
     (subst (λ cs. All (λ piece. IsCertificate (certificate_in config text piece)) cs) (sym c.as_slice-3.ensures)
-    (certificates_fit c.pieces_are_fragments.ensures config text cuts c.requires.config c.in_range.ensures (c.texts_are_ascii.ensures c.args.payload.now) (c.texts_have_octets.ensures c.args.payload.now) c.requires.octets are))
+    (certificates_fit c.pieces_are_fragments.ensures config text cuts c.requires.config c.assure_in_range.ensures (c.texts_are_ascii.ensures c.args.payload.now) (c.texts_have_octets.ensures c.args.payload.now) c.requires.octets are))
 
 pub returns-clause-session : goal.returns-clause-session
 returns-clause-session c = all_have_session c.args.config.now c.as_slice-2.result.now c.as_slice-3.result.now c.certificates_of.result c.certificates_of.ensures
