@@ -3,6 +3,8 @@ ghost use Rattle.std.specs.Prelude.{◌≡◌, ◌++◌, ◌∷◌, ◌<◌, len
 ghost use Rattle.ss_frame.specs.Ascii.{lf, sp};
 ghost use Rattle.ss_answers.specs.Lines.{IsCutAfterLine, Lacks};
 
+use ss_frame::cut_first;
+
 const LINE_FEED: u8 = b'\n';
 
 const SPACE: u8 = b' ';
@@ -13,8 +15,8 @@ pub fn cut_line(text: &[u8]) -> (&[u8], &[u8])
     ensures cut { IsCutAfterLine text.now result.0.now result.1.now }
     ensures shorter { 0 < length text.now → length result.1.now < length text.now }
 {
-    match text.iter().position(|octet| *octet == LINE_FEED) {
-        Some(at) => (&text[..at], &text[at + 1..]),
+    match cut_first(text, LINE_FEED) {
+        Some(parts) => parts,
         None => (text, &[]),
     }
 }
@@ -24,6 +26,5 @@ pub fn cut_word(text: &[u8]) -> Option<(&[u8], &[u8])>
     ensures { MatchOption result (Lacks sp text.now)
         (λ parts. Lacks sp parts.0.now × (text.now ≡ parts.0.now ++ sp ∷ parts.1.now)) }
 {
-    let at = text.iter().position(|octet| *octet == SPACE)?;
-    Some((&text[..at], &text[at + 1..]))
+    cut_first(text, SPACE)
 }

@@ -6,8 +6,8 @@ ghost use Rattle.ss_block.specs.Reading.{hash_in, hashes_in, pieces};
 
 use crate::hash::{Alg, Hash};
 use crate::hashes::Hashes;
-use crate::split::split_first;
 use base64::engine::general_purpose::STANDARD;
+use ss_frame::cut_first;
 use ss_message::NoMemory;
 use std::alloc::Global;
 
@@ -65,7 +65,7 @@ pub fn hashes_of(alloc: Global, alg: Alg, text: &[u8]) -> Result<Option<Hashes>,
 {
     let mut hashes = Vec::with_capacity(alloc, count_pieces(text))?;
     let mut rest = text;
-    while let Some((piece, after)) = split_first(rest, b' ') {
+    while let Some((piece, after)) = cut_first(rest, b' ') {
         let Some(hash) = hash_in(alg, piece) else {
             return Ok(None);
         };

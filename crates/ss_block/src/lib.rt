@@ -25,7 +25,6 @@ mod signature_reading;
 mod signed;
 mod sound;
 mod spelling;
-mod split;
 mod spoil;
 mod texts;
 mod writing;

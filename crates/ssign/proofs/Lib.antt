@@ -1,7 +1,6 @@
 mod Commands
 mod Options
 mod Flags
-mod Commas
 mod Spaces
 mod ReadBounds
 mod Openings

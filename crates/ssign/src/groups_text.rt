@@ -1,10 +1,10 @@
 //! The groups of messages, as an option spells them.
-ghost use Rattle.std.specs.Prelude.{◌≡◌, ◌==◌, ◌∷◌, [], ◌<◌, length, position, MatchOption, IfOk, IfSome};
-ghost use Rattle.std.specs.List.{slice_split};
+ghost use Rattle.std.specs.Prelude.{◌≡◌, IfOk};
 ghost use Rattle.ss_block.specs.Number.{number_in};
 ghost use Rattle.ssign.specs.GroupsText.{bounds_in, grouping_in};
 
 use ss_block::number_of;
+use ss_frame::cut_first;
 use ss_message::NoMemory;
 use ss_origin::{Bounds, Grouping, are_bounds};
 use std::alloc::Global;
@@ -19,25 +19,6 @@ fn pri_of(text: &[u8]) -> Option<u8>
     }
 }
 
-/// The place of the first comma.
-fn place_of_comma(text: &[u8]) -> Option<usize>
-    ensures { result ≡ position (λ octet. octet == 44) text.now }
-{
-    text.iter().position(|octet| *octet == b',')
-}
-
-/// What stands before the first comma, and behind it.
-fn split_at_comma(text: &[u8]) -> Option<(&[u8], &[u8])>
-    ensures parts { MatchOption result (slice_split (λ octet. octet == 44) text.now ≡ text.now ∷ [])
-        (λ x. slice_split (λ octet. octet == 44) text.now ≡ x.0.now ∷ slice_split (λ octet. octet == 44) x.1.now) }
-    ensures shorter { IfSome result (λ x. length x.1.now < length text.now) }
-{
-    let Some(place) = place_of_comma(text) else {
-        return None;
-    };
-    Some((&text[..place], &text[place + 1..]))
-}
-
 /// The bounds that are joined by commas: the highest PRI of each range. `None` where a piece between commas is no PRI,
 /// one isn't above the one before, or the last isn't 191.
 fn bounds_of(alloc: Global, text: &[u8]) -> Result<Option<Bounds>, NoMemory>
@@ -45,7 +26,7 @@ fn bounds_of(alloc: Global, text: &[u8]) -> Result<Option<Bounds>, NoMemory>
 {
     let mut bounds = Vec::new(alloc);
     let mut rest = text;
-    while let Some((piece, after)) = split_at_comma(rest) {
+    while let Some((piece, after)) = cut_first(rest, b',') {
         let Some(bound) = pri_of(piece) else {
             return Ok(None);
         };
