@@ -1,8 +1,6 @@
 //! What the options of a command that signs ask for.
 ghost use Rattle.std.specs.Prelude.{◌≡◌, ◌≤◌, ℕ, Option, Some, IfOk, IfSome, IsSome};
-ghost use Rattle.ss_payload.specs.PayloadReading.{stamp_in};
 ghost use Rattle.ss_message.specs.Draft.{drafted_field};
-ghost use Rattle.ss_message.specs.StampReading.{stamp_of as moment_in};
 ghost use Rattle.ssign.specs.CommandLine.{HasNumber};
 ghost use Rattle.ssign.specs.Settings.{HasChoices, HasNumberIn, HasTexts, IsRead};
 ghost use Rattle.ssign.specs.Settings.{FieldGives, Gives, HeadGives, field_in, version_in};
@@ -16,8 +14,9 @@ use crate::text_option::TextOption;
 use clap::ArgMatches;
 use ss_block::{Alg, Head, LAST_NUMBER, Payload};
 use ss_frame::Bytes;
-use ss_message::{Field, NoMemory, Stamp, assure_timestamp};
+use ss_message::{Field, NoMemory, Stamp};
 use ss_origin::Config;
+use ss_payload::stamp_of;
 use std::alloc::Global;
 use thiserror::Error;
 
@@ -166,25 +165,6 @@ fn settings_from(
         payload,
         stamp,
     })
-}
-
-fn moment_of(text: &[u8]) -> Option<Stamp>
-    ensures { result ≡ moment_in text.now }
-{
-    let stamp = Stamp::parse(text);
-    assure_timestamp(&stamp);
-    stamp
-}
-
-/// The stamp that the octets spell, all of them, or none for `-`.
-#[tactic(auto, unfolding(ss_payload::specs::PayloadReading::stamp_in))]
-fn stamp_of(text: &[u8]) -> Option<Option<Stamp>>
-    ensures { result ≡ stamp_in text.now }
-{
-    match text {
-        [b'-'] => Some(None),
-        _ => Some(Some(moment_of(text)?)),
-    }
 }
 
 /// The field that the text spells: absent for `-`.
