@@ -1,5 +1,6 @@
 -- How a call tells why an element holds no block.
-use Rattle.std.specs.Prelude.{◌≡◌, ◌+◌, ◌≤◌, nat_lt, ◌||◌, Bool, true, false, not, List, [], ◌∷◌, length, Some, None, Result, Ok, Err, ◌==◌, is_some}
+use Rattle.std.specs.Prelude.{◌≡◌, ◌+◌, ◌≤◌, nat_lt, ◌||◌, Bool, true, false, not, List, [], ◌∷◌, length, Some, None}
+use Rattle.std.specs.Prelude.{Result, Ok, Err, ◌==◌, is_some}
 use Rattle.std.specs.List.{list_all}
 use Rattle.ss_block.specs.declared.spoil.Spoil.{Spoil}
 use Rattle.ss_block.specs.declared.spoil.Spoil.TheVariants as spoils

@@ -1,4 +1,5 @@
--- What the messages of one originator's blocks have in common: PRI and four fields of the header (RFC 5424, section 6.2).
+-- What the messages of one originator's blocks have in common: PRI and four fields of the header (RFC 5424, section
+-- 6.2).
 use Rattle.std.specs.Prelude.{◌≡◌, ℕ, ◌≤◌, true, List, Option}
 use Rattle.ss_message.specs.declared.draft.Field.{Field}
 use Rattle.ss_message.specs.Draft.{drafted_field}

@@ -9,7 +9,8 @@ number text = digits_value 10 text
 
 -- the text is the one spelling of a number from least to most
 unfoldable pub is_number : ℕ → ℕ → List ℕ → Bool
-is_number least most text = bytes_eq (decimal (number text)) text && nat_le least (number text) && nat_le (number text) most
+is_number least most text =
+    bytes_eq (decimal (number text)) text && nat_le least (number text) && nat_le (number text) most
 
 abbrev pub number_in : ℕ → ℕ → List ℕ → Option ℕ
 number_in least most text = if is_number least most text then Some (number text) else None

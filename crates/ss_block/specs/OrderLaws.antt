@@ -17,7 +17,8 @@ use Rattle.ss_block.specs.declared.hash.HashPair.{HashPair}
 use Rattle.ss_block.specs.declared.session.Session.{Session}
 use Rattle.ss_block.specs.declared.spoil.Spoil.{Spoil}
 use Rattle.ss_block.specs.declared.spoil.Spoil.TheVariants as spoils
-use Rattle.ss_block.specs.Order.{octets_cmp, group_cmp, hash_cmp, pair_cmp, spoil_number, spoil_cmp, spelled, presence, field_cmp, session_cmp}
+use Rattle.ss_block.specs.Order.{octets_cmp, group_cmp, hash_cmp, pair_cmp, spoil_number, spoil_cmp, spelled, presence}
+use Rattle.ss_block.specs.Order.{field_cmp, session_cmp}
 
 -- a total order under which only equal values tie
 pub record IsExactOrder {K : Type 0} (R : K → K → Ordering) : Type 0 where
@@ -125,7 +126,8 @@ numbered-number spoils.Fragment = refl
 numbered-number spoils.LastNumber = refl
 
 pub spoil_cmp_exact : (a b : Spoil) → spoil_cmp a b ≡ Equal → a ≡ b
-spoil_cmp_exact a b h = sym (numbered-number a) ∙ ap numbered (exact_unsigned (spoil_number a) (spoil_number b) h) ∙ numbered-number b
+spoil_cmp_exact a b h =
+    sym (numbered-number a) ∙ ap numbered (exact_unsigned (spoil_number a) (spoil_number b) h) ∙ numbered-number b
 
 -- ---- sessions
 
@@ -158,7 +160,9 @@ session_cmp_exact a b h =
 
 -- Each order is total, and only equal values tie.
 abbrev pub OrdersAreExact : Type 0
-OrdersAreExact = IsExactOrder group_cmp × IsExactOrder hash_cmp × IsExactOrder pair_cmp × IsExactOrder spoil_cmp × IsExactOrder session_cmp
+OrdersAreExact =
+    IsExactOrder group_cmp × IsExactOrder hash_cmp × IsExactOrder pair_cmp × IsExactOrder spoil_cmp
+    × IsExactOrder session_cmp
 
 pub orders_are_exact : OrdersAreExact
 orders_are_exact = (

@@ -1,6 +1,7 @@
--- What a stored text is to a review (RFC 5848, sections 4 and 5): a block, a spoilt block, a message without a block, or
--- no message of RFC 5424.
-use Rattle.std.specs.Prelude.{ℕ, ◌+◌, Bool, true, ◌&&◌, ◌||◌, not, List, [], ◌∷◌, length, drop, map, flat_map, codes, Option, Some, None, Result, Ok, Err, nat_lt, ◌==◌, if◌then◌else◌, is_some}
+-- What a stored text is to a review (RFC 5848, sections 4 and 5): a block, a spoilt block, a message without a block,
+-- or no message of RFC 5424.
+use Rattle.std.specs.Prelude.{ℕ, ◌+◌, Bool, true, ◌&&◌, ◌||◌, not, List, [], ◌∷◌, length, drop, map, flat_map, codes}
+use Rattle.std.specs.Prelude.{Option, Some, None, Result, Ok, Err, nat_lt, ◌==◌, if◌then◌else◌, is_some}
 use Rattle.std.specs.List.{list_all, slice_split}
 use Rattle.std.specs.Str.{bytes_eq}
 use Rattle.std.specs.Cmp.Lexicographic.{pointwise}
@@ -86,7 +87,9 @@ or_none (Some octets) = octets
 -- ---- the element `ssign` (RFC 5848, section 4.2)
 
 abbrev pub signature_names : List (List ℕ)
-signature_names = codes "VER" ∷ codes "RSID" ∷ codes "SG" ∷ codes "SPRI" ∷ codes "GBC" ∷ codes "FMN" ∷ codes "CNT" ∷ codes "HB" ∷ codes "SIGN" ∷ []
+signature_names =
+    codes "VER" ∷ codes "RSID" ∷ codes "SG" ∷ codes "SPRI" ∷ codes "GBC" ∷ codes "FMN" ∷ codes "CNT" ∷ codes "HB"
+    ∷ codes "SIGN" ∷ []
 
 pub record SignatureTexts : Type 0 where
   pub ver : List ℕ
@@ -100,7 +103,18 @@ pub record SignatureTexts : Type 0 where
   pub sign : List ℕ
 
 abbrev pub signature_texts : ElementValue → SignatureTexts
-signature_texts e = record { ver = text_at e 0; rsid = text_at e 1; sg = text_at e 2; spri = text_at e 3; gbc = text_at e 4; fmn = text_at e 5; cnt = text_at e 6; hb = text_at e 7; sign = text_at e 8 }
+signature_texts e =
+    record {
+      ver = text_at e 0;
+      rsid = text_at e 1;
+      sg = text_at e 2;
+      spri = text_at e 3;
+      gbc = text_at e 4;
+      fmn = text_at e 5;
+      cnt = text_at e 6;
+      hb = text_at e 7;
+      sign = text_at e 8;
+    }
 
 abbrev pub signature_numbers : SignatureTexts → Bool
 signature_numbers t =
@@ -136,12 +150,16 @@ unless_spoilt (Some cause) r = Spoilt cause
 
 -- the block, or the first cause that applies
 unfoldable pub signature_reading : ElementValue → Reading
-signature_reading e = unless_spoilt (first_cause (signature_causes (has_parameters signature_names e) (signature_texts e))) (Signature (signature_block (signature_texts e)))
+signature_reading e =
+    unless_spoilt (first_cause (signature_causes (has_parameters signature_names e) (signature_texts e)))
+    (Signature (signature_block (signature_texts e)))
 
 -- ---- the element `ssign-cert` (RFC 5848, section 5.3.2)
 
 abbrev pub certificate_names : List (List ℕ)
-certificate_names = codes "VER" ∷ codes "RSID" ∷ codes "SG" ∷ codes "SPRI" ∷ codes "TPBL" ∷ codes "INDEX" ∷ codes "FLEN" ∷ codes "FRAG" ∷ codes "SIGN" ∷ []
+certificate_names =
+    codes "VER" ∷ codes "RSID" ∷ codes "SG" ∷ codes "SPRI" ∷ codes "TPBL" ∷ codes "INDEX" ∷ codes "FLEN" ∷ codes "FRAG"
+    ∷ codes "SIGN" ∷ []
 
 pub record CertificateTexts : Type 0 where
   pub ver : List ℕ
@@ -155,7 +173,18 @@ pub record CertificateTexts : Type 0 where
   pub sign : List ℕ
 
 abbrev pub certificate_texts : ElementValue → CertificateTexts
-certificate_texts e = record { ver = text_at e 0; rsid = text_at e 1; sg = text_at e 2; spri = text_at e 3; tpbl = text_at e 4; index = text_at e 5; flen = text_at e 6; frag = text_at e 7; sign = text_at e 8 }
+certificate_texts e =
+    record {
+      ver = text_at e 0;
+      rsid = text_at e 1;
+      sg = text_at e 2;
+      spri = text_at e 3;
+      tpbl = text_at e 4;
+      index = text_at e 5;
+      flen = text_at e 6;
+      frag = text_at e 7;
+      sign = text_at e 8;
+    }
 
 abbrev pub certificate_numbers : CertificateTexts → Bool
 certificate_numbers t =
@@ -168,7 +197,11 @@ certificate_causes named t =
     ∷ (not (is_version t.ver), spoils.Version)
     ∷ (not (certificate_numbers t), spoils.Number)
     ∷ (not (is_some (octets_in t.sign)), spoils.Sign)
-    ∷ (nat_lt (number t.tpbl + 1) (number t.index + number t.flen) || not (length t.frag == number t.flen), spoils.Fragment)
+    ∷ (
+      nat_lt (number t.tpbl + 1) (number t.index + number t.flen)
+          || not (length t.frag == number t.flen),
+      spoils.Fragment,
+    )
     ∷ []
 
 abbrev pub certificate_block : CertificateTexts → block.Certificate
@@ -183,7 +216,9 @@ certificate_block t = record {
 }
 
 unfoldable pub certificate_reading : ElementValue → Reading
-certificate_reading e = unless_spoilt (first_cause (certificate_causes (has_parameters certificate_names e) (certificate_texts e))) (Certificate (certificate_block (certificate_texts e)))
+certificate_reading e =
+    unless_spoilt (first_cause (certificate_causes (has_parameters certificate_names e) (certificate_texts e)))
+    (Certificate (certificate_block (certificate_texts e)))
 
 -- ---- a whole message
 

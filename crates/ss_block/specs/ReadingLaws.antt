@@ -14,9 +14,11 @@ use Rattle.ss_block.specs.Signed.{signed}
 abbrev pub ReadingsAreOfValues : Type 0
 ReadingsAreOfValues =
     ((t : List ℕ) (v : MessageValue) → IsMessage v → t ≡ text v → reading t ≡ value_reading v)
-    × ((t : List ℕ) (part : Part) (pos : ℕ) → reading t ≡ Unparsed part pos → (v : MessageValue) → IsMessage v → t ≡ text v → ⊥)
+    × ((t : List ℕ) (part : Part) (pos : ℕ) → reading t ≡ Unparsed part pos → (v : MessageValue) → IsMessage v
+    → t ≡ text v → ⊥)
 
--- what is told to be no message fails there, by the row of the table of faults for that part, and what fails so is told so
+-- what is told to be no message fails there, by the row of the table of faults for that part, and what fails so is told
+-- so
 abbrev pub UnparsedTextsFail : Type 0
 UnparsedTextsFail =
     ((t : List ℕ) (part : Part) (pos : ℕ) → reading t ≡ Unparsed part pos → FailsAt part t pos)
@@ -38,4 +40,5 @@ is_block (Spoilt cause) = false
 
 -- what is signed of a text, and its session, are there exactly where it is a block
 abbrev pub BlocksAreSigned : Type 0
-BlocksAreSigned = (t : List ℕ) → (is_some (signed t) ≡ is_block (reading t)) × (is_some (session t) ≡ is_block (reading t))
+BlocksAreSigned =
+    (t : List ℕ) → (is_some (signed t) ≡ is_block (reading t)) × (is_some (session t) ≡ is_block (reading t))

@@ -16,7 +16,8 @@ field_from None = Nil
 field_from (Some octets) = Text octets
 
 abbrev pub session_from : MessageValue → ℕ → Session
-session_from v rsid = record { host = field_from v.hostname; app = field_from v.app_name; procid = field_from v.procid; rsid = rsid }
+session_from v rsid =
+    record { host = field_from v.hostname; app = field_from v.app_name; procid = field_from v.procid; rsid = rsid }
 
 abbrev pub session_if_block : Reading → MessageValue → Option Session
 session_if_block (Signature b) v = Some (session_from v b.rsid)

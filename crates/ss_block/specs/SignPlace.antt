@@ -17,4 +17,5 @@ block_id (Spoilt cause) = None
 
 -- the ninth parameter of the element with this SD-ID
 abbrev pub ninth_parameter : List ℕ → List ℕ → List Element → Option Parameter
-ninth_parameter source id es = option_and_then (λ e. slice_get e.parameters 8) (option_and_then (slice_get es) (element_from 0 source id es))
+ninth_parameter source id es =
+    option_and_then (λ e. slice_get e.parameters 8) (option_and_then (slice_get es) (element_from 0 source id es))

@@ -1,10 +1,12 @@
 -- What is signed of a block message (RFC 5848, sections 4.2 and 5.3.2): all of it, as it stands, but the SIGN
 -- parameter of its block element and the SP before it.
-use Rattle.std.specs.Prelude.{◌≡◌, ℕ, [], Bool, true, length, ◌∷◌, ◌++◌, List, take, map, flat_map, codes, Option, Some, None, Result, Ok, Err, if◌then◌else◌, ◌||◌}
+use Rattle.std.specs.Prelude.{◌≡◌, ℕ, [], Bool, true, length, ◌∷◌, ◌++◌, List, take, map, flat_map, codes, Option, Some}
+use Rattle.std.specs.Prelude.{None, Result, Ok, Err, if◌then◌else◌, ◌||◌}
 use Rattle.std.specs.Str.{bytes_eq}
 use Rattle.ss_frame.specs.Ascii.{opening_bracket, closing_bracket}
 use Rattle.ss_message.specs.declared.fault.BadPart.{BadPart}
-use Rattle.ss_message.specs.Message.{ParameterValue, ElementValue, MessageValue, IsMessage, text, header_text, element_text, parameter_text, msg_text}
+use Rattle.ss_message.specs.Message.{ParameterValue, ElementValue, MessageValue, IsMessage, text, header_text}
+use Rattle.ss_message.specs.Message.{element_text, parameter_text, msg_text}
 use Rattle.ss_message.specs.Layout.{Layout, value_at}
 use Rattle.ss_message.specs.Reading.{layout_at}
 use Rattle.ss_block.specs.declared.reading.Reading.{Reading}
@@ -46,8 +48,8 @@ unfoldable pub signed : List ℕ → Option (List ℕ)
 signed t = signed_from t (layout_at t)
 
 -- The text is that of a message with a block element, whose ninth parameter is SIGN, and these octets are what is left
--- of it without that parameter and the SP before it: all up to the first eight parameters of the element, and all from its
--- `]` on.
+-- of it without that parameter and the SP before it: all up to the first eight parameters of the element, and all from
+-- its `]` on.
 pub record IsWithoutSign (t octets : List ℕ) : Type 0 where
   pub value : MessageValue
   pub valid : IsMessage value
@@ -59,8 +61,13 @@ pub record IsWithoutSign (t octets : List ℕ) : Type 0 where
   pub after : List ElementValue
   pub block : is_block_id id ≡ true
   pub eight : length parameters ≡ 8
-  pub elements : value.elements ≡ before ++ record { id = id; parameters = parameters ++ record { name = codes "SIGN"; raw = sign } ∷ [] } ∷ after
-  pub whole : t ≡ (header_text value ++ flat_map element_text before ++ opening_bracket ∷ id ++ flat_map parameter_text parameters)
+  pub elements : value.elements
+      ≡ before ++ record { id = id; parameters = parameters ++ record { name = codes "SIGN"; raw = sign } ∷ [] } ∷ after
+  pub whole : t
+      ≡ (header_text value ++ flat_map element_text before ++ opening_bracket ∷ id
+      ++ flat_map parameter_text parameters)
       ++ codes " SIGN=\"" ++ sign ++ codes "\"" ++ (closing_bracket ∷ flat_map element_text after ++ msg_text value.msg)
-  pub left : octets ≡ (header_text value ++ flat_map element_text before ++ opening_bracket ∷ id ++ flat_map parameter_text parameters)
+  pub left : octets
+      ≡ (header_text value ++ flat_map element_text before ++ opening_bracket ∷ id
+      ++ flat_map parameter_text parameters)
       ++ (closing_bracket ∷ flat_map element_text after ++ msg_text value.msg)

@@ -13,8 +13,10 @@ begins_escaped (a ∷ b ∷ rest) = (a == backslash) && is_special b
 -- A `\` before `"`, `\` or `]` gives that octet, and every other octet gives itself.
 pub data Stands : List ℕ → List ℕ → Type 0 where
   nothing : Stands [] []
-  escape : {a b : ℕ} {raw value : List ℕ} → a ≡ backslash → is_special b ≡ true → Stands raw value → Stands (a ∷ b ∷ raw) (b ∷ value)
-  itself : {a : ℕ} {raw value : List ℕ} → begins_escaped (a ∷ raw) ≡ false → Stands raw value → Stands (a ∷ raw) (a ∷ value)
+  escape : {a b : ℕ} {raw value : List ℕ} → a ≡ backslash → is_special b ≡ true
+      → Stands raw value → Stands (a ∷ b ∷ raw) (b ∷ value)
+  itself : {a : ℕ} {raw value : List ℕ} → begins_escaped (a ∷ raw) ≡ false → Stands raw value
+      → Stands (a ∷ raw) (a ∷ value)
 
 -- Octets stand for one value, which is the one that is read.
 abbrev pub ValuesStand : Type 0

@@ -88,14 +88,17 @@ abbrev pub unsigned_signature_text : HeadValue → Option Moment → block.Signa
 unsigned_signature_text h stamp b = text (block_message h stamp (ssign_element (signature_parameters b)))
 
 abbrev pub signature_text : HeadValue → Option Moment → block.Signature → List ℕ
-signature_text h stamp b = text (block_message h stamp (ssign_element (signature_parameters b ++ sign_parameter b.signature ∷ [])))
+signature_text h stamp b =
+    text (block_message h stamp (ssign_element (signature_parameters b ++ sign_parameter b.signature ∷ [])))
 
 abbrev pub unsigned_certificate_text : HeadValue → Option Moment → block.Certificate → List ℕ
 unsigned_certificate_text h stamp b = text (block_message h stamp (ssign_cert_element (certificate_parameters b)))
 
 abbrev pub certificate_text : HeadValue → Option Moment → block.Certificate → List ℕ
-certificate_text h stamp b = text (block_message h stamp (ssign_cert_element (certificate_parameters b ++ sign_parameter b.signature ∷ [])))
+certificate_text h stamp b =
+    text (block_message h stamp (ssign_cert_element (certificate_parameters b ++ sign_parameter b.signature ∷ [])))
 
 -- HOSTNAME, APP-NAME, PROCID and RSID
 abbrev pub head_session : HeadValue → ℕ → Session
-head_session h rsid = record { host = field_from h.hostname; app = field_from h.app_name; procid = field_from h.procid; rsid = rsid }
+head_session h rsid =
+    record { host = field_from h.hostname; app = field_from h.app_name; procid = field_from h.procid; rsid = rsid }

@@ -14,7 +14,8 @@ use Rattle.ss_block.specs.Head.{HeadValue, IsHead}
 use Rattle.ss_block.specs.Reading.{reading}
 use Rattle.ss_block.specs.Session.{session}
 use Rattle.ss_block.specs.Signed.{signed}
-use Rattle.ss_block.specs.Writing.{unsigned_signature_text, signature_text, unsigned_certificate_text, certificate_text, head_session}
+use Rattle.ss_block.specs.Writing.{unsigned_signature_text, signature_text, unsigned_certificate_text, certificate_text}
+use Rattle.ss_block.specs.Writing.{head_session}
 
 -- 20 octets of SHA-1, 32 of SHA-256, each below 256, as every hash of a call has them
 abbrev pub IsHash : Hash → Type 0
@@ -31,18 +32,39 @@ pub record IsBlockText (t : List ℕ) (r : Reading) (octets : List ℕ) (s : Ses
 abbrev pub UnsignedTextsHaveNoSignature : Type 0
 UnsignedTextsHaveNoSignature =
     ((h : HeadValue) (stamp : Option Moment) (b : block.Signature) (other : List ℕ)
-    → unsigned_signature_text h stamp (record { alg = b.alg; rsid = b.rsid; group = b.group; gbc = b.gbc; first = b.first; hashes = b.hashes; signature = other })
+    → unsigned_signature_text h stamp
+    (record {
+      alg = b.alg;
+      rsid = b.rsid;
+      group = b.group;
+      gbc = b.gbc;
+      first = b.first;
+      hashes = b.hashes;
+      signature = other;
+    })
     ≡ unsigned_signature_text h stamp b)
     × ((h : HeadValue) (stamp : Option Moment) (b : block.Certificate) (other : List ℕ)
-    → unsigned_certificate_text h stamp (record { alg = b.alg; rsid = b.rsid; group = b.group; total = b.total; index = b.index; fragment = b.fragment; signature = other })
+    → unsigned_certificate_text h stamp
+    (record {
+      alg = b.alg;
+      rsid = b.rsid;
+      group = b.group;
+      total = b.total;
+      index = b.index;
+      fragment = b.fragment;
+      signature = other;
+    })
     ≡ unsigned_certificate_text h stamp b)
 
 abbrev pub SignaturesAreRead : Type 0
 SignaturesAreRead = (h : HeadValue) (stamp : Option Moment) (b : block.Signature)
-    → IsHead h → is_timestamp stamp ≡ true → block.IsSignature b → All IsHash b.hashes → IsBytes b.signature → 1 ≤ length b.signature
-    → IsBlockText (signature_text h stamp b) (readings.Signature b) (unsigned_signature_text h stamp b) (head_session h b.rsid)
+    → IsHead h → is_timestamp stamp ≡ true → block.IsSignature b → All IsHash b.hashes → IsBytes b.signature
+    → 1 ≤ length b.signature
+    → IsBlockText (signature_text h stamp b) (readings.Signature b) (unsigned_signature_text h stamp b)
+    (head_session h b.rsid)
 
 abbrev pub CertificatesAreRead : Type 0
 CertificatesAreRead = (h : HeadValue) (stamp : Option Moment) (b : block.Certificate)
     → IsHead h → is_timestamp stamp ≡ true → block.IsCertificate b → IsBytes b.signature → 1 ≤ length b.signature
-    → IsBlockText (certificate_text h stamp b) (readings.Certificate b) (unsigned_certificate_text h stamp b) (head_session h b.rsid)
+    → IsBlockText (certificate_text h stamp b) (readings.Certificate b) (unsigned_certificate_text h stamp b)
+    (head_session h b.rsid)

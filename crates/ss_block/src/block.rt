@@ -69,9 +69,26 @@ impl Model for SigBlock {
 
     ghost Value = { Signature };
 
-    ghost view = { λ b. record { alg = b.alg; rsid = b.rsid; group = b.group; gbc = b.gbc; first = b.first; hashes = b.hashes; signature = b.signature } };
+    ghost view = { λ b. record {
+      alg = b.alg;
+      rsid = b.rsid;
+      group = b.group;
+      gbc = b.gbc;
+      first = b.first;
+      hashes = b.hashes;
+      signature = b.signature;
+    } };
 
-    ghost invariant = { λ b. IsSignature (record { alg = b.alg; rsid = b.rsid; group = b.group; gbc = b.gbc; first = b.first; hashes = b.hashes; signature = b.signature }) };
+    ghost invariant = { λ b. IsSignature
+        (record {
+          alg = b.alg;
+          rsid = b.rsid;
+          group = b.group;
+          gbc = b.gbc;
+          first = b.first;
+          hashes = b.hashes;
+          signature = b.signature;
+        }) };
 }
 
 impl SigBlock {
@@ -210,14 +227,31 @@ impl Model for CertBlock {
 
     ghost Value = { Certificate };
 
-    ghost view = { λ b. record { alg = b.alg; rsid = b.rsid; group = b.group; total = b.total; index = b.index; fragment = b.fragment; signature = b.signature } };
+    ghost view = { λ b. record {
+      alg = b.alg;
+      rsid = b.rsid;
+      group = b.group;
+      total = b.total;
+      index = b.index;
+      fragment = b.fragment;
+      signature = b.signature;
+    } };
 
-    ghost invariant = { λ b. IsCertificate (record { alg = b.alg; rsid = b.rsid; group = b.group; total = b.total; index = b.index; fragment = b.fragment; signature = b.signature }) };
+    ghost invariant = { λ b. IsCertificate
+        (record {
+          alg = b.alg;
+          rsid = b.rsid;
+          group = b.group;
+          total = b.total;
+          index = b.index;
+          fragment = b.fragment;
+          signature = b.signature;
+        }) };
 }
 
 impl CertBlock {
-    /// `None` where `rsid` is over 9,999,999,999, `total` over 99,999,999, `index` is 0, SG or SPRI is out of its range,
-    /// the fragment has not 1 to 9,999 octets, isn't UTF-8, or ends behind the payload's end. Takes no memory.
+    /// `None` where `rsid` is over 9,999,999,999, `total` over 99,999,999, `index` is 0, SG or SPRI is out of its
+    /// range, the fragment has not 1 to 9,999 octets, isn't UTF-8, or ends behind the payload's end. Takes no memory.
     pub fn new(
         alg: Alg,
         rsid: u64,

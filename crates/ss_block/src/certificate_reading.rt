@@ -5,7 +5,8 @@ ghost use Rattle.ss_message.specs.Layout.{element_value};
 ghost use Rattle.ss_message.specs.Places.{ElementIsWithin};
 ghost use Rattle.ss_block.specs.declared.spoil.Spoil.TheVariants as spoils;
 ghost use Rattle.ss_block.specs.declared.reading.Reading.TheVariants.{Certificate};
-ghost use Rattle.ss_block.specs.Reading.{has_parameters, certificate_names, certificate_texts, certificate_numbers, certificate_reading};
+ghost use Rattle.ss_block.specs.Reading.{has_parameters, certificate_names, certificate_texts, certificate_numbers};
+ghost use Rattle.ss_block.specs.Reading.{certificate_reading};
 ghost use Rattle.ss_block.specs.Meanings.{HasNine};
 ghost use Rattle.ss_block.specs.Causes.{Tests, Reads, IsCertificateNumbers};
 
@@ -33,7 +34,8 @@ pub struct CertificateNumbers {
 // RSID, SG, SPRI, TPBL, INDEX and FLEN.
 fn numbers(alloc: Global, source: &[u8], element: &Element) -> Result<CertificateNumbers, Refusal>
     requires { HasNine source.now element.now }
-    ensures value { Tests spoils.Number (certificate_numbers (certificate_texts (element_value source.now element.now))) (IsCertificateNumbers (certificate_texts (element_value source.now element.now))) result }
+    ensures value { Tests spoils.Number (certificate_numbers (certificate_texts (element_value source.now element.now)))
+        (IsCertificateNumbers (certificate_texts (element_value source.now element.now))) result }
 {
     let rsid = number_at(alloc, source, element, 1, 0, LAST_NUMBER)?;
     let sg = number_at(alloc, source, element, 2, 0, 3)? as u8;

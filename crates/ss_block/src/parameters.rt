@@ -31,7 +31,8 @@ fn alg_of(version: &[u8]) -> Option<Alg>
 /// VER's hash algorithm (RFC 5848, section 4.2.1).
 pub fn version(alloc: Global, source: &[u8], element: &Element) -> Result<Alg, Refusal>
     requires { HasNine source.now element.now }
-    ensures { Tests spoils.Version (is_version (text_at (element_value source.now element.now) 0)) (λ alg. alg ≡ alg_of (text_at (element_value source.now element.now) 0)) result }
+    ensures { Tests spoils.Version (is_version (text_at (element_value source.now element.now) 0))
+        (λ alg. alg ≡ alg_of (text_at (element_value source.now element.now) 0)) result }
 {
     let text = text_at(alloc, source, element, 0)?;
     Ok(alg_of(text.as_slice()).ok_or(Spoil::Version)?)
@@ -48,7 +49,8 @@ pub fn number_at(
 ) -> Result<u64, Refusal>
     requires nine { HasNine source.now element.now }
     requires place { i < 9 }
-    ensures value { Tests spoils.Number (is_number least most (text_at (element_value source.now element.now) i)) (λ n. n ≡ number (text_at (element_value source.now element.now) i)) result }
+    ensures value { Tests spoils.Number (is_number least most (text_at (element_value source.now element.now) i))
+        (λ n. n ≡ number (text_at (element_value source.now element.now) i)) result }
     ensures bound { IfOk result (λ n. (least ≤ n) × (n ≤ most)) }
 {
     let text = text_at(alloc, source, element, i)?;
@@ -58,7 +60,8 @@ pub fn number_at(
 /// The octets of SIGN (RFC 5848, section 4.2.8).
 pub fn sign(alloc: Global, source: &[u8], element: &Element) -> Result<Bytes, Refusal>
     requires { HasNine source.now element.now }
-    ensures { Tests spoils.Sign (is_some (octets_in (text_at (element_value source.now element.now) 8))) (λ octets. octets ≡ or_none (octets_in (text_at (element_value source.now element.now) 8))) result }
+    ensures { Tests spoils.Sign (is_some (octets_in (text_at (element_value source.now element.now) 8)))
+        (λ octets. octets ≡ or_none (octets_in (text_at (element_value source.now element.now) 8))) result }
 {
     let text = text_at(alloc, source, element, 8)?;
     Ok(decoded(alloc, text.as_slice())?.ok_or(Spoil::Sign)?)

@@ -45,7 +45,8 @@ pub(crate) fn message_reading(alloc: Global, message: &Message<'_>) -> Result<Re
     }
 }
 
-// What the text in `bytes` is, and the message that it spells, if it spells one: the one parse of each call that reads a text.
+// What the text in `bytes` is, and the message that it spells, if it spells one: the one parse of each call that reads
+// a text.
 pub(crate) fn read<'a>(
     alloc: Global,
     bytes: &'a [u8],

@@ -5,7 +5,8 @@ ghost use Rattle.ss_message.specs.Places.{ElementIsWithin};
 ghost use Rattle.ss_block.specs.declared.spoil.Spoil.TheVariants as spoils;
 ghost use Rattle.ss_block.specs.declared.reading.Reading.TheVariants.{Signature};
 ghost use Rattle.ss_block.specs.Number.{number};
-ghost use Rattle.ss_block.specs.Reading.{has_parameters, text_at, alg_of, pieces, hashes_in, signature_names, signature_texts, signature_numbers, signature_reading};
+ghost use Rattle.ss_block.specs.Reading.{has_parameters, text_at, alg_of, pieces, hashes_in, signature_names};
+ghost use Rattle.ss_block.specs.Reading.{signature_texts, signature_numbers, signature_reading};
 ghost use Rattle.ss_block.specs.Meanings.{HasNine};
 ghost use Rattle.ss_block.specs.Causes.{Tests, Spoils, hash_causes, Reads, IsSignatureNumbers};
 
@@ -35,7 +36,8 @@ pub struct SignatureNumbers {
 // RSID, SG, SPRI, GBC, FMN and CNT.
 fn numbers(alloc: Global, source: &[u8], element: &Element) -> Result<SignatureNumbers, Refusal>
     requires { HasNine source.now element.now }
-    ensures value { Tests spoils.Number (signature_numbers (signature_texts (element_value source.now element.now))) (IsSignatureNumbers (signature_texts (element_value source.now element.now))) result }
+    ensures value { Tests spoils.Number (signature_numbers (signature_texts (element_value source.now element.now)))
+        (IsSignatureNumbers (signature_texts (element_value source.now element.now))) result }
 {
     let rsid = number_at(alloc, source, element, 1, 0, LAST_NUMBER)?;
     let sg = number_at(alloc, source, element, 2, 0, 3)? as u8;
@@ -64,7 +66,8 @@ fn hashes(
     requires nine { HasNine source.now element.now }
     requires alg { alg ≡ alg_of (text_at (element_value source.now element.now) 0) }
     requires count { count ≡ number (text_at (element_value source.now element.now) 6) }
-    ensures { Spoils (hash_causes (signature_texts (element_value source.now element.now))) (λ h. h ≡ hashes_in alg (pieces (text_at (element_value source.now element.now) 7))) result }
+    ensures { Spoils (hash_causes (signature_texts (element_value source.now element.now)))
+        (λ h. h ≡ hashes_in alg (pieces (text_at (element_value source.now element.now) 7))) result }
 {
     let text = text_at(alloc, source, element, 7)?;
     let text = text.as_slice();
