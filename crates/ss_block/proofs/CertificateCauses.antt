@@ -7,8 +7,9 @@ use Rattle.ss_block.specs.declared.reading.Reading.{Reading}
 use Rattle.ss_block.specs.declared.reading.Reading.TheVariants.{Certificate, Spoilt}
 use Rattle.ss_block.specs.Block as block
 use Rattle.ss_payload.specs.StrictBase64.{octets_in}
-use Rattle.ss_block.specs.Reading.{has_parameters, first_cause, is_version, certificate_names, certificate_texts, certificate_numbers, certificate_block, unless_spoilt, certificate_reading}
+use Rattle.ss_block.specs.Reading.{has_parameters, first_cause, certificate_names, certificate_texts, certificate_numbers, certificate_block, unless_spoilt, certificate_reading}
 use Rattle.ss_block.specs.Causes.{misfits}
+use Rattle.ss_block.specs.Versions.{is_version}
 
 abbrev told : Bool → Bool → Bool → Bool → Bool → Reading → Reading
 told n v u s f x = unless_spoilt (first_cause ((not n, spoils.Names) ∷ (not v, spoils.Version) ∷ (not u, spoils.Number) ∷ (not s, spoils.Sign) ∷ (f, spoils.Fragment) ∷ [])) x

@@ -1,7 +1,7 @@
 -- What a stored text is to a review (RFC 5848, sections 4 and 5): a block, a spoilt block, a message without a block,
 -- or no message of RFC 5424.
-use Rattle.std.specs.Prelude.{ℕ, ◌+◌, Bool, true, ◌&&◌, ◌||◌, not, List, [], ◌∷◌, length, drop, map, flat_map, codes}
-use Rattle.std.specs.Prelude.{Option, Some, None, Result, Ok, Err, nat_lt, ◌==◌, if◌then◌else◌, is_some}
+use Rattle.std.specs.Prelude.{ℕ, ◌+◌, Bool, ◌&&◌, ◌||◌, not, List, [], ◌∷◌, length, drop, map, flat_map, codes, Option}
+use Rattle.std.specs.Prelude.{Some, None, Result, Ok, Err, nat_lt, ◌==◌, if◌then◌else◌, is_some}
 use Rattle.std.specs.List.{list_all, slice_split}
 use Rattle.std.specs.Str.{bytes_eq}
 use Rattle.std.specs.Cmp.Lexicographic.{pointwise}
@@ -20,6 +20,7 @@ use Rattle.ss_block.specs.declared.spoil.Spoil.TheVariants as spoils
 use Rattle.ss_block.specs.declared.reading.Reading.{Reading}
 use Rattle.ss_block.specs.declared.reading.Reading.TheVariants.{Plain, Unparsed, Signature, Certificate, Spoilt}
 use Rattle.ss_block.specs.Block as block
+use Rattle.ss_block.specs.Versions.{is_version, alg_of, hash_length}
 use Rattle.ss_payload.specs.StrictBase64.{octets_in}
 use Rattle.ss_block.specs.Number.{number, is_number}
 use Rattle.ss_block.specs.Ranges.{last_number, past_last_number}
@@ -48,17 +49,13 @@ abbrev pub first_cause : List (Bool × Spoil) → Option Spoil
 first_cause [] = None
 first_cause (row ∷ rows) = if row.0 then Some row.1 else first_cause rows
 
--- `0111` or `0121`
-abbrev pub is_version : List ℕ → Bool
-is_version text = if bytes_eq text (codes "0111") then true else bytes_eq text (codes "0121")
+abbrev pub hash_with : Alg → List ℕ → Hash
+hash_with algs.Sha1 octets = hashes.Sha1 octets
+hash_with algs.Sha256 octets = hashes.Sha256 octets
 
-abbrev pub alg_of : List ℕ → Alg
-alg_of text = if bytes_eq text (codes "0121") then algs.Sha256 else algs.Sha1
-
--- 20 octets for SHA-1, 32 for SHA-256
+-- the hash that these octets are, if there are as many as the algorithm makes
 abbrev pub hash_from : Alg → List ℕ → Option Hash
-hash_from algs.Sha1 octets = if length octets == 20 then Some (hashes.Sha1 octets) else None
-hash_from algs.Sha256 octets = if length octets == 32 then Some (hashes.Sha256 octets) else None
+hash_from alg octets = if length octets == hash_length alg then Some (hash_with alg octets) else None
 
 abbrev pub hash_decoded : Alg → Option (List ℕ) → Option Hash
 hash_decoded alg None = None

@@ -6,14 +6,13 @@ use Rattle.ss_frame.specs.Ascii.{sp}
 use Rattle.ss_message.specs.Raw.{escaped}
 use Rattle.ss_message.specs.Stamp.{Moment}
 use Rattle.ss_message.specs.Message.{ParameterValue, ElementValue, MessageValue, text}
-use Rattle.ss_block.specs.declared.hash.Alg.{Alg}
-use Rattle.ss_block.specs.declared.hash.Alg.TheVariants as algs
 use Rattle.ss_block.specs.declared.hash.Hash.{Hash}
 use Rattle.ss_block.specs.declared.hash.Hash.TheVariants as hashes
 use Rattle.ss_block.specs.declared.session.Session.{Session}
 use Rattle.ss_block.specs.Block as block
 use Rattle.ss_payload.specs.StrictBase64.{base64}
 use Rattle.ss_block.specs.Head.{HeadValue}
+use Rattle.ss_block.specs.Versions.{version_text}
 use Rattle.ss_block.specs.Session.{field_from}
 
 -- ---- parameters
@@ -21,11 +20,6 @@ use Rattle.ss_block.specs.Session.{field_from}
 -- the value is escaped
 abbrev pub parameter : List ℕ → List ℕ → ParameterValue
 parameter name value = record { name = name; raw = escaped value }
-
--- VER: protocol `01`, hash `1` or `2`, signature scheme `1`
-abbrev pub version_text : Alg → List ℕ
-version_text algs.Sha1 = codes "0111"
-version_text algs.Sha256 = codes "0121"
 
 abbrev pub hash_octets : Hash → List ℕ
 hash_octets (hashes.Sha1 octets) = octets

@@ -4,12 +4,14 @@ use Rattle.std.specs.List.{All}
 use Rattle.base64.specs.GeneralPurpose.{IsBytes}
 use Rattle.ss_message.specs.Stamp.{Moment}
 use Rattle.ss_message.specs.Message.{is_timestamp}
+use Rattle.ss_block.specs.declared.hash.Alg.TheVariants as algs
 use Rattle.ss_block.specs.declared.hash.Hash.{Hash}
 use Rattle.ss_block.specs.declared.hash.Hash.TheVariants as hashes
 use Rattle.ss_block.specs.declared.session.Session.{Session}
 use Rattle.ss_block.specs.declared.reading.Reading.{Reading}
 use Rattle.ss_block.specs.declared.reading.Reading.TheVariants as readings
 use Rattle.ss_block.specs.Block as block
+use Rattle.ss_block.specs.Versions.{hash_length}
 use Rattle.ss_block.specs.Head.{HeadValue, IsHead}
 use Rattle.ss_block.specs.Reading.{reading}
 use Rattle.ss_block.specs.Session.{session}
@@ -17,10 +19,10 @@ use Rattle.ss_block.specs.Signed.{signed}
 use Rattle.ss_block.specs.Writing.{unsigned_signature_text, signature_text, unsigned_certificate_text, certificate_text}
 use Rattle.ss_block.specs.Writing.{head_session}
 
--- 20 octets of SHA-1, 32 of SHA-256, each below 256, as every hash of a call has them
+-- as many octets as the algorithm makes, each below 256, as every hash of a call has them
 abbrev pub IsHash : Hash → Type 0
-IsHash (hashes.Sha1 octets) = (length octets ≡ 20) × IsBytes octets
-IsHash (hashes.Sha256 octets) = (length octets ≡ 32) × IsBytes octets
+IsHash (hashes.Sha1 octets) = (length octets ≡ hash_length algs.Sha1) × IsBytes octets
+IsHash (hashes.Sha256 octets) = (length octets ≡ hash_length algs.Sha256) × IsBytes octets
 
 -- The text is that of this block; what is signed of it are these octets, in this session.
 pub record IsBlockText (t : List ℕ) (r : Reading) (octets : List ℕ) (s : Session) : Type 0 where

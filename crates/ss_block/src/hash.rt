@@ -2,15 +2,16 @@
 ghost use Rattle.std.specs.Prelude.{◌≡◌};
 ghost use Rattle.ss_block.specs.Hashes.{pair, pair_hash, hash_of};
 
+use crate::version::{SHA1_OCTETS, SHA256_OCTETS};
 use sha1::Sha1;
 use sha2::{Digest, Sha256};
 
 /// The hash algorithm that VER names.
 #[derive(Clone, Copy, Debug, PartialEq, Eq, PartialOrd, Ord)]
 pub enum Alg {
-    /// VER `0111`.
+    /// SHA-1.
     Sha1,
-    /// VER `0121`.
+    /// SHA-256.
     Sha256,
 }
 
@@ -18,16 +19,16 @@ pub enum Alg {
 #[derive(Clone, Copy, Debug, PartialEq, Eq, PartialOrd, Ord)]
 pub enum Hash {
     /// SHA-1.
-    Sha1([u8; 20]),
+    Sha1([u8; SHA1_OCTETS]),
     /// SHA-256.
-    Sha256([u8; 32]),
+    Sha256([u8; SHA256_OCTETS]),
 }
 
 /// Both hashes of one message.
 #[derive(Clone, Copy, Debug, PartialEq, Eq, PartialOrd, Ord)]
 pub struct HashPair {
-    pub sha1: [u8; 20],
-    pub sha256: [u8; 32],
+    pub sha1: [u8; SHA1_OCTETS],
+    pub sha256: [u8; SHA256_OCTETS],
 }
 
 impl HashPair {

@@ -6,6 +6,7 @@ ghost use Rattle.ss_block.specs.Reading.{hash_in, hashes_in, pieces};
 
 use crate::hash::{Alg, Hash};
 use crate::hashes::Hashes;
+use crate::version::{SHA1_OCTETS, SHA256_OCTETS};
 use base64::engine::general_purpose::STANDARD;
 use ss_frame::cut_first;
 use ss_message::NoMemory;
@@ -29,13 +30,13 @@ fn hash_in(alg: Alg, text: &[u8]) -> Option<Hash>
 {
     match alg {
         Alg::Sha1 => {
-            let mut octets = [0; 20];
+            let mut octets = [0; SHA1_OCTETS];
             if fills(text, &mut octets) {
                 return Some(Hash::Sha1(octets));
             }
         }
         Alg::Sha256 => {
-            let mut octets = [0; 32];
+            let mut octets = [0; SHA256_OCTETS];
             if fills(text, &mut octets) {
                 return Some(Hash::Sha256(octets));
             }

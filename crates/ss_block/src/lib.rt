@@ -27,6 +27,7 @@ mod sound;
 mod spelling;
 mod spoil;
 mod texts;
+mod version;
 mod writing;
 
 pub use block::{CertBlock, Group, SigBlock};
@@ -43,4 +44,5 @@ pub use session::{Session, classify_with_session, session_of};
 pub use signed::signed_bytes;
 pub use spoil::Spoil;
 pub use ss_payload::{Cut, Cuts, JoinState, Joined, Joiner, Kind, LONGEST_PAYLOAD, Payload, cut};
+pub use version::versions;
 pub use writing::{unsigned_cert, unsigned_sig, write_cert, write_sig};

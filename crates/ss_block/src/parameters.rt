@@ -4,9 +4,10 @@ ghost use Rattle.ss_message.specs.Layout.{element_value};
 ghost use Rattle.ss_block.specs.declared.spoil.Spoil.TheVariants as spoils;
 ghost use Rattle.ss_block.specs.Number.{number, is_number};
 ghost use Rattle.ss_payload.specs.StrictBase64.{octets_in};
-ghost use Rattle.ss_block.specs.Reading.{text_at, is_version, alg_of, or_none};
+ghost use Rattle.ss_block.specs.Reading.{text_at, or_none};
 ghost use Rattle.ss_block.specs.Meanings.{HasNine};
 ghost use Rattle.ss_block.specs.Causes.{Tests};
+ghost use Rattle.ss_block.specs.Versions.{is_version, alg_of};
 
 use crate::hash::Alg;
 use crate::number::number_of;
@@ -18,16 +19,6 @@ use ss_message::Element;
 use ss_payload::strict_base64::decoded;
 use std::alloc::Global;
 
-fn alg_of(version: &[u8]) -> Option<Alg>
-    ensures { result ≡ (if is_version version.now then Some (alg_of version.now) else None) }
-{
-    match version {
-        b"0111" => Some(Alg::Sha1),
-        b"0121" => Some(Alg::Sha256),
-        _ => None,
-    }
-}
-
 /// VER's hash algorithm (RFC 5848, section 4.2.1).
 pub fn version(alloc: Global, source: &[u8], element: &Element) -> Result<Alg, Refusal>
     requires { HasNine source.now element.now }
@@ -35,7 +26,7 @@ pub fn version(alloc: Global, source: &[u8], element: &Element) -> Result<Alg, R
         (λ alg. alg ≡ alg_of (text_at (element_value source.now element.now) 0)) result }
 {
     let text = text_at(alloc, source, element, 0)?;
-    Ok(alg_of(text.as_slice()).ok_or(Spoil::Version)?)
+    Ok(Alg::of_version(text.as_slice()).ok_or(Spoil::Version)?)
 }
 
 /// The number, from `least` to `most`, that parameter number `i`, from 0, spells.

@@ -5,10 +5,11 @@ ghost use Rattle.ss_message.specs.Places.{ElementIsWithin};
 ghost use Rattle.ss_block.specs.declared.spoil.Spoil.TheVariants as spoils;
 ghost use Rattle.ss_block.specs.declared.reading.Reading.TheVariants.{Signature};
 ghost use Rattle.ss_block.specs.Number.{number};
-ghost use Rattle.ss_block.specs.Reading.{has_parameters, text_at, alg_of, pieces, hashes_in, signature_names};
-ghost use Rattle.ss_block.specs.Reading.{signature_texts, signature_numbers, signature_reading};
+ghost use Rattle.ss_block.specs.Reading.{has_parameters, text_at, pieces, hashes_in, signature_names, signature_texts};
+ghost use Rattle.ss_block.specs.Reading.{signature_numbers, signature_reading};
 ghost use Rattle.ss_block.specs.Meanings.{HasNine};
 ghost use Rattle.ss_block.specs.Causes.{Tests, Spoils, hash_causes, Reads, IsSignatureNumbers};
+ghost use Rattle.ss_block.specs.Versions.{alg_of};
 
 use crate::block::{Group, SigBlock};
 use crate::hash::Alg;

@@ -5,20 +5,21 @@ ghost use Rattle.base64.specs.GeneralPurpose.{IsBytes};
 ghost use Rattle.ss_block.specs.WritingLaws.{IsHash};
 
 use crate::hash::Hash;
+use crate::version::{SHA1_OCTETS, SHA256_OCTETS};
 
 /// Each octet is below 256.
 pub fn assure_octets(octets: &[u8])
     ensures { IsBytes octets.now }
 {}
 
-fn assure_sha1(octets: &[u8; 20])
+fn assure_sha1(octets: &[u8; SHA1_OCTETS])
     ensures count { length octets.now ≡ 20 }
     ensures octets { IsBytes octets.now }
 {
     assure_octets(octets);
 }
 
-fn assure_sha256(octets: &[u8; 32])
+fn assure_sha256(octets: &[u8; SHA256_OCTETS])
     ensures count { length octets.now ≡ 32 }
     ensures octets { IsBytes octets.now }
 {

@@ -1,23 +1,13 @@
 //! The values of a block's parameters, spelled (RFC 5848, sections 4.2 and 5.3.2).
 ghost use Rattle.std.specs.Prelude.{◌≡◌, decimal, IfOk};
 ghost use Rattle.ss_payload.specs.StrictBase64.{base64};
-ghost use Rattle.ss_block.specs.Writing.{version_text, hash_octets, hashes_text};
+ghost use Rattle.ss_block.specs.Writing.{hash_octets, hashes_text};
 
-use crate::hash::{Alg, Hash};
+use crate::hash::Hash;
 use base64::engine::general_purpose::STANDARD;
 use ss_frame::{Bytes, put_number};
 use ss_message::NoMemory;
 use std::alloc::Global;
-
-/// VER: protocol version 01, the hash algorithm and signature scheme 1.
-pub fn version_text(alg: Alg) -> &'static [u8]
-    ensures { result.now ≡ version_text alg }
-{
-    match alg {
-        Alg::Sha1 => b"0111",
-        Alg::Sha256 => b"0121",
-    }
-}
 
 /// The number in decimal.
 pub fn number_text(alloc: Global, number: u64) -> Result<Bytes, NoMemory>

@@ -1,6 +1,5 @@
 -- What the options of a command that signs say: their numbers and texts, and the settings that these spell.
 use Rattle.std.specs.Prelude.{◌≡◌, ℕ, ◌≤◌, Bool, true, false, ◌&&◌, not, List, Option, Some, None, Result, Ok, Err, nat_le, codes, is_some, option_and_then, if◌then◌else◌}
-use Rattle.std.specs.Str.{bytes_eq}
 use Rattle.clap.specs.Words.{first_value, found_of}
 use Rattle.clap.specs.declared.parser.matches.ArgMatches.{ArgMatches}
 use Rattle.ss_message.specs.Message.{is_field}
@@ -9,8 +8,7 @@ use Rattle.ss_message.specs.declared.draft.Field.{Field}
 use Rattle.ss_message.specs.Octets.{is_absent}
 use Rattle.ss_message.specs.StampReading.{◌>>=◌}
 use Rattle.ss_payload.specs.PayloadReading.{payload_in, stamp_in}
-use Rattle.ss_block.specs.declared.hash.Alg.{Alg}
-use Rattle.ss_block.specs.declared.hash.Alg.TheVariants.{Sha1, Sha256}
+use Rattle.ss_block.specs.Versions.{version_in}
 use Rattle.ss_block.specs.Head.{HeadValue}
 use Rattle.ssign.specs.CommandLine.{HasNumber}
 use Rattle.ssign.specs.GroupsText.{grouping_in}
@@ -24,12 +22,6 @@ use Rattle.ssign.specs.declared.text_option.TextOption.TheVariants.{Payload, Sta
 use Rattle.ss_block.specs.Ranges.{last_number}
 
 -- ---- what the texts spell
-
--- VER (RFC 5848, section 4.2.1)
-abbrev pub version_in : List ℕ → Option Alg
-version_in text =
-    if bytes_eq text (codes "0111") then Some Sha1
-    else (if bytes_eq text (codes "0121") then Some Sha256 else None)
 
 -- a field of the header (RFC 5424, section 6.2), absent where the text is `-`
 abbrev pub field_in : List ℕ → Option (List ℕ)

@@ -5,14 +5,15 @@ use Rattle.clap.specs.Words.{App, Rule, new_rule, with_rule}
 use Rattle.clap.specs.declared.builder.ArgAction.TheVariants.{Set}
 use Rattle.clap.specs.declared.builder.value_parser.ValueParser.TheVariants.{Names, Signed}
 use Rattle.ss_block.specs.Ranges.{last_number}
+use Rattle.ss_block.specs.Versions as version
 
 -- texts that the program keeps
 abbrev pub Kept : Type 0
 Kept = Bor (List (Bor (List ℕ)))
 
--- they are the two versions of blocks
+-- they are the versions of blocks
 abbrev pub AreVersions : Kept → Type 0
-AreVersions kept = map (λ text. text.now) kept.now ≡ codes "0111" ∷ codes "0121" ∷ []
+AreVersions kept = map (λ text. text.now) kept.now ≡ version.versions
 
 -- ---- rules
 

@@ -13,11 +13,12 @@ ghost use Rattle.ssign.specs.CommandLine.{with_commands, with_limits};
 
 use crate::asked::asked_of;
 use crate::signing::Signing;
-use crate::signing_options::{versions, with_signing_options};
+use crate::signing_options::with_signing_options;
 use crate::task::{Reporting, Task};
 use clap::builder::ValueParser;
 use clap::error::ErrorKind;
 use clap::{Arg, ArgAction, ArgMatches, Command, Error};
+use ss_block::versions;
 use ss_frame::{LONGEST_MESSAGE, Limits, MOST_MESSAGES};
 use ss_report::{Detail, ReportForm};
 use std::alloc::{AllocError, Global};

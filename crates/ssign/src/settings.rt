@@ -3,7 +3,7 @@ ghost use Rattle.std.specs.Prelude.{◌≡◌, ◌≤◌, ℕ, Option, Some, IfO
 ghost use Rattle.ss_message.specs.Draft.{drafted_field};
 ghost use Rattle.ssign.specs.CommandLine.{HasNumber};
 ghost use Rattle.ssign.specs.Settings.{HasChoices, HasNumberIn, HasTexts, IsRead};
-ghost use Rattle.ssign.specs.Settings.{FieldGives, Gives, HeadGives, field_in, version_in};
+ghost use Rattle.ssign.specs.Settings.{FieldGives, Gives, HeadGives, field_in};
 ghost use Rattle.ssign.specs.declared.choices.Choices.{Choices};
 ghost use Rattle.ssign.specs.declared.settings.Texts.{Texts};
 ghost use Rattle.ssign.specs.declared.settings.SettingsFault.TheVariants.{Memory};
@@ -86,7 +86,7 @@ fn choices_of(matches: &ArgMatches<'_>) -> Option<Choices>
     ensures only { (c : Choices) → HasChoices matches.now c → IsSome result }
 {
     Some(Choices {
-        alg: version_of(matches.get_str("ver")?)?,
+        alg: Alg::of_version(matches.get_str("ver")?.as_bytes())?,
         rsid: number_in(matches, "rsid", 0, LAST_NUMBER)?,
         pri: number_in(matches, "pri", 0, 191)? as u8,
         count: number_in(matches, "count", 1, 99)? as u8,
@@ -120,16 +120,6 @@ fn number_in(matches: &ArgMatches<'_>, option: &str, least: u64, most: u64) -> O
         return None;
     }
     Some(number)
-}
-
-fn version_of(text: &str) -> Option<Alg>
-    ensures { result ≡ version_in text.now }
-{
-    match text {
-        "0111" => Some(Alg::Sha1),
-        "0121" => Some(Alg::Sha256),
-        _ => None,
-    }
 }
 
 /// The settings that choices and texts say.

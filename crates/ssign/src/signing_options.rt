@@ -2,7 +2,7 @@
 ghost use Rattle.std.specs.Prelude.{◌≡◌, codes, false, IfOk};
 ghost use Rattle.clap.specs.Words.{App, Rule, rule_of, with_rule};
 ghost use Rattle.ssign.specs.CommandLine.{IsLocalApp};
-ghost use Rattle.ssign.specs.SigningOptions.{AreVersions, number_rule, required_rule, text_rule};
+ghost use Rattle.ssign.specs.SigningOptions.{number_rule, required_rule, text_rule};
 ghost use Rattle.ssign.specs.SigningOptions.{usual_rule, versions_rule};
 ghost use Rattle.ssign.specs.SigningOptions.{with_block_options, with_header_options, with_key_options, with_signing_options};
 
@@ -10,15 +10,6 @@ use clap::builder::ValueParser;
 use clap::{Arg, ArgAction, Command};
 use ss_block::LAST_NUMBER;
 use std::alloc::{AllocError, Global};
-
-static VERSIONS: [&str; 2] = ["0111", "0121"];
-
-/// The versions of blocks that `--ver` takes.
-pub fn versions<'a>() -> &'a [&'a str]
-    ensures { AreVersions result }
-{
-    &VERSIONS
-}
 
 /// The command with the options that say how a log is signed. Of the versions of blocks it takes those that are given.
 pub fn with_signing_options<'a>(

@@ -35,14 +35,6 @@ fn head_of(alloc: Global, pri: u8, line: &str) -> Result<Option<Head>, AllocErro
     Ok(Head::new(pri, hostname, app_name, procid, msgid))
 }
 
-fn alg_of(version: &str) -> Option<Alg> {
-    match version {
-        "0111" => Some(Alg::Sha1),
-        "0121" => Some(Alg::Sha256),
-        _ => None,
-    }
-}
-
 fn bounds_of(alloc: Global, text: &str) -> Result<Bounds, AllocError> {
     let mut bounds = Vec::new(alloc);
     for bound in text.split(',') {
@@ -83,7 +75,7 @@ struct Numbers {
 fn numbers_of(line: &str) -> Option<Numbers> {
     Some(Numbers {
         pri: word(line, 1).parse::<u8>().ok()?,
-        alg: alg_of(word(line, 6))?,
+        alg: Alg::of_version(word(line, 6).as_bytes())?,
         rsid: word(line, 7).parse::<u64>().ok()?,
         per_block: word(line, 9).parse::<u8>().ok()?,
         copies: word(line, 10).parse::<u8>().ok()?,

@@ -7,8 +7,9 @@ use Rattle.ss_block.specs.declared.spoil.Spoil.TheVariants as spoils
 use Rattle.ss_block.specs.declared.reading.Reading.TheVariants.{Certificate}
 use Rattle.ss_block.specs.Block as block
 use Rattle.ss_payload.specs.StrictBase64.{octets_in}
-use Rattle.ss_block.specs.Reading.{is_version, alg_of, or_none, certificate_texts, certificate_numbers, certificate_reading}
+use Rattle.ss_block.specs.Reading.{or_none, certificate_texts, certificate_numbers, certificate_reading}
 use Rattle.ss_block.specs.Causes.{Reads, IsCertificateNumbers}
+use Rattle.ss_block.specs.Versions.{is_version, alg_of}
 use Rattle.ss_block.proofs.Refusals.{refused}
 use Rattle.ss_block.proofs.CertificateCauses.{spoilt_version, spoilt_number, spoilt_sign}
 use Rattle.ss_block.proofs.CertificateBlocks.{IsTold, is_short, is_answered}

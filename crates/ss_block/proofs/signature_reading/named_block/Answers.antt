@@ -8,8 +8,9 @@ use Rattle.ss_block.specs.declared.spoil.Spoil.TheVariants as spoils
 use Rattle.ss_block.specs.declared.reading.Reading.TheVariants.{Signature}
 use Rattle.ss_block.specs.Block as block
 use Rattle.ss_payload.specs.StrictBase64.{octets_in}
-use Rattle.ss_block.specs.Reading.{is_version, alg_of, pieces, hashes_in, or_none, signature_texts, signature_numbers, signature_reading}
+use Rattle.ss_block.specs.Reading.{pieces, hashes_in, or_none, signature_texts, signature_numbers, signature_reading}
 use Rattle.ss_block.specs.Causes.{Reads, IsSignatureNumbers, hash_causes}
+use Rattle.ss_block.specs.Versions.{is_version, alg_of}
 use Rattle.ss_block.proofs.Refusals.{refused, refused_first}
 use Rattle.ss_block.proofs.SignatureCauses.{spoilt_version, spoilt_number, spoilt_hashes, spoilt_sign}
 use Rattle.ss_block.proofs.SignatureBlocks.{IsTold, is_answered}
