@@ -11,7 +11,7 @@ use Rattle.ss_message.specs.Message.{ParameterValue, ElementValue, MessageValue,
 use Rattle.ss_message.specs.Layout.{Layout, layout_of, value_of, parameter_value, parameter_values, element_values, value_at}
 use Rattle.ss_message.specs.Elements.{element_from}
 use Rattle.ss_message.specs.Places.{PartsLie}
-use Rattle.ss_block.specs.SignPlace.{block_id, ninth_parameter}
+use Rattle.ss_block.specs.SignPlace.{block_id, sign_parameter}
 use Rattle.ss_block.specs.Parsed.{IsRead}
 use Rattle.ss_block.specs.Reading.{value_reading}
 use Rattle.ss_block.specs.Signed.{is_block_id, unsigned_value, IsWithoutSign}
@@ -76,7 +76,7 @@ spelled_out front raw back = simp append_assoc
 
 -- ---- its place
 
-nine_found : (t id : List ℕ) (es : List Element) (n m : ℕ) (x : Element) (p : Parameter) → element_from 0 t id es ≡ Some (0 + n) → slice_get es n ≡ Some x → m ≡ 8 → slice_get x.parameters m ≡ Some p → ninth_parameter t id es ≡ Some p
+nine_found : (t id : List ℕ) (es : List Element) (n m : ℕ) (x : Element) (p : Parameter) → element_from 0 t id es ≡ Some (0 + n) → slice_get es n ≡ Some x → m ≡ 8 → slice_get x.parameters m ≡ Some p → sign_parameter t id es ≡ Some p
 nine_found t id es n m x p found there eight ninth =
     let k : 0 + n ≡ n = omega arith in
     let nine : slice_get x.parameters 8 ≡ Some p = rw eight at ninth in
@@ -93,7 +93,7 @@ block_named (Certificate b) id h = let same : codes "ssign-cert" ≡ id = cc in 
 -- the parameter that is cut, the front and the back
 record SignPlaced (t : List ℕ) (l : Layout) (id : List ℕ) : Type 0 where
   at : Parameter
-  found : ninth_parameter t id l.elements ≡ Some at
+  found : sign_parameter t id l.elements ≡ Some at
   front : List ℕ
   sign : List ℕ
   back : List ℕ
@@ -136,7 +136,7 @@ sign_placed t l id places valid spelled is_block =
       behind = omega (arith, p.lies.stands.ends, long, same_long (parameter_value t p.at) (sign_of b.raw) p.says);
       whole = spelled ∙ r.whole;
       left = r.left;
-      split = record { value = v; valid = valid; spelled = spelled; before = b.before; id = id; parameters = b.parameters; sign = b.raw; after = b.after; block = block_named (value_reading v) id is_block; eight = b.eight; elements = b.is; whole = spelled ∙ r.whole ∙ spelled_out front b.raw (back_of v b.after); left = refl };
+      split = record { value = v; valid = valid; spelled = spelled; before = b.before; id = id; parameters = b.parameters; sign = b.raw; after = b.after; block = block_named (value_reading v) id is_block; before_sign = b.eight; elements = b.is; whole = spelled ∙ r.whole ∙ spelled_out front b.raw (back_of v b.after); left = refl };
     }
 
 -- what is left of the text where it is cut from the SP before this parameter up to behind its `"`
@@ -163,15 +163,15 @@ cut_at t l id s =
       split = subst (IsWithoutSign t) (sym cut) s.split;
     }
 
-sign_cut : (t : List ℕ) (l : Layout) (id : List ℕ) (sign : Parameter) → SignPlaced t l id → Some sign ≡ ninth_parameter t id l.elements → SignCut t l sign
+sign_cut : (t : List ℕ) (l : Layout) (id : List ℕ) (sign : Parameter) → SignPlaced t l id → Some sign ≡ sign_parameter t id l.elements → SignCut t l sign
 sign_cut t l id sign s found =
     let told : Some s.at ≡ Some sign = sym s.found ∙ sym found in
     let same : s.at ≡ sign = cc in
     subst (SignCut t l) same (cut_at t l id s)
 
-never_none : (t : List ℕ) (l : Layout) (id : List ℕ) → SignPlaced t l id → None ≡ ninth_parameter t id l.elements → ⊥
+never_none : (t : List ℕ) (l : Layout) (id : List ℕ) → SignPlaced t l id → None ≡ sign_parameter t id l.elements → ⊥
 never_none t l id s none =
-    let found : ninth_parameter t id l.elements ≡ Some s.at = s.found in
+    let found : sign_parameter t id l.elements ≡ Some s.at = s.found in
     absurd cc
 
 -- ---- in a message as it was read
@@ -179,8 +179,8 @@ never_none t l id s none =
 placed : (m : Message) (id : List ℕ) → IsRead m → block_id (value_reading (value_of m)) ≡ Some id → SignPlaced m.source.now (layout_of m) id
 placed m id r is_block = sign_placed m.source.now (layout_of m) id r.places r.valid r.spelled is_block
 
-pub message_cut : (m : Message) (id : List ℕ) (sign : Parameter) → IsRead m → block_id (value_reading (value_of m)) ≡ Some id → Some sign ≡ ninth_parameter m.source.now id m.elements → SignCut m.source.now (layout_of m) sign
+pub message_cut : (m : Message) (id : List ℕ) (sign : Parameter) → IsRead m → block_id (value_reading (value_of m)) ≡ Some id → Some sign ≡ sign_parameter m.source.now id m.elements → SignCut m.source.now (layout_of m) sign
 message_cut m id sign r is_block found = sign_cut m.source.now (layout_of m) id sign (placed m id r is_block) found
 
-pub message_has_sign : (m : Message) (id : List ℕ) → IsRead m → block_id (value_reading (value_of m)) ≡ Some id → None ≡ ninth_parameter m.source.now id m.elements → ⊥
+pub message_has_sign : (m : Message) (id : List ℕ) → IsRead m → block_id (value_reading (value_of m)) ≡ Some id → None ≡ sign_parameter m.source.now id m.elements → ⊥
 message_has_sign m id r is_block none = never_none m.source.now (layout_of m) id (placed m id r is_block) none

@@ -2,6 +2,7 @@ pub mod Ranges
 pub mod Number
 pub mod Block
 pub mod Versions
+pub mod Parameters
 pub mod Hashes
 pub mod Reading
 pub mod Mark

@@ -15,11 +15,14 @@ use Rattle.ss_block.specs.declared.hash.Alg.{Alg}
 use Rattle.ss_block.specs.declared.hash.Alg.TheVariants as algs
 use Rattle.ss_block.specs.declared.hash.Hash.{Hash}
 use Rattle.ss_block.specs.declared.hash.Hash.TheVariants as hashes
+use Rattle.ss_block.specs.declared.block_parameter.BlockParameter.{BlockParameter}
+use Rattle.ss_block.specs.declared.block_parameter.BlockParameter.TheVariants as kinds
 use Rattle.ss_block.specs.declared.spoil.Spoil.{Spoil}
 use Rattle.ss_block.specs.declared.spoil.Spoil.TheVariants as spoils
 use Rattle.ss_block.specs.declared.reading.Reading.{Reading}
 use Rattle.ss_block.specs.declared.reading.Reading.TheVariants.{Plain, Unparsed, Signature, Certificate, Spoilt}
 use Rattle.ss_block.specs.Block as block
+use Rattle.ss_block.specs.Parameters.{names_in, place_of, signature_row, certificate_row}
 use Rattle.ss_block.specs.Versions.{is_version, alg_of, hash_length}
 use Rattle.ss_payload.specs.StrictBase64.{octets_in}
 use Rattle.ss_block.specs.Number.{number, is_number}
@@ -41,6 +44,10 @@ first_text (p ∷ ps) = meant p.raw
 -- what the value of parameter number i, from 0, stands for
 abbrev pub text_at : ElementValue → ℕ → List ℕ
 text_at e i = first_text (drop i e.parameters)
+
+-- what the value of this parameter stands for, in an element that has the parameters of its block
+abbrev pub text_of : ElementValue → BlockParameter → List ℕ
+text_of e p = text_at e (place_of p)
 
 -- ---- causes, in the order of their numbers
 
@@ -84,9 +91,7 @@ or_none (Some octets) = octets
 -- ---- the element `ssign` (RFC 5848, section 4.2)
 
 abbrev pub signature_names : List (List ℕ)
-signature_names =
-    codes "VER" ∷ codes "RSID" ∷ codes "SG" ∷ codes "SPRI" ∷ codes "GBC" ∷ codes "FMN" ∷ codes "CNT" ∷ codes "HB"
-    ∷ codes "SIGN" ∷ []
+signature_names = names_in signature_row
 
 pub record SignatureTexts : Type 0 where
   pub ver : List ℕ
@@ -102,15 +107,15 @@ pub record SignatureTexts : Type 0 where
 abbrev pub signature_texts : ElementValue → SignatureTexts
 signature_texts e =
     record {
-      ver = text_at e 0;
-      rsid = text_at e 1;
-      sg = text_at e 2;
-      spri = text_at e 3;
-      gbc = text_at e 4;
-      fmn = text_at e 5;
-      cnt = text_at e 6;
-      hb = text_at e 7;
-      sign = text_at e 8;
+      ver = text_of e kinds.Ver;
+      rsid = text_of e kinds.Rsid;
+      sg = text_of e kinds.Sg;
+      spri = text_of e kinds.Spri;
+      gbc = text_of e kinds.Gbc;
+      fmn = text_of e kinds.Fmn;
+      cnt = text_of e kinds.Cnt;
+      hb = text_of e kinds.Hb;
+      sign = text_of e kinds.Sign;
     }
 
 abbrev pub signature_numbers : SignatureTexts → Bool
@@ -154,9 +159,7 @@ signature_reading e =
 -- ---- the element `ssign-cert` (RFC 5848, section 5.3.2)
 
 abbrev pub certificate_names : List (List ℕ)
-certificate_names =
-    codes "VER" ∷ codes "RSID" ∷ codes "SG" ∷ codes "SPRI" ∷ codes "TPBL" ∷ codes "INDEX" ∷ codes "FLEN" ∷ codes "FRAG"
-    ∷ codes "SIGN" ∷ []
+certificate_names = names_in certificate_row
 
 pub record CertificateTexts : Type 0 where
   pub ver : List ℕ
@@ -172,15 +175,15 @@ pub record CertificateTexts : Type 0 where
 abbrev pub certificate_texts : ElementValue → CertificateTexts
 certificate_texts e =
     record {
-      ver = text_at e 0;
-      rsid = text_at e 1;
-      sg = text_at e 2;
-      spri = text_at e 3;
-      tpbl = text_at e 4;
-      index = text_at e 5;
-      flen = text_at e 6;
-      frag = text_at e 7;
-      sign = text_at e 8;
+      ver = text_of e kinds.Ver;
+      rsid = text_of e kinds.Rsid;
+      sg = text_of e kinds.Sg;
+      spri = text_of e kinds.Spri;
+      tpbl = text_of e kinds.Tpbl;
+      index = text_of e kinds.Index;
+      flen = text_of e kinds.Flen;
+      frag = text_of e kinds.Frag;
+      sign = text_of e kinds.Sign;
     }
 
 abbrev pub certificate_numbers : CertificateTexts → Bool

@@ -11,14 +11,17 @@ use Rattle.ss_message.specs.Layout.{Layout, value_at}
 use Rattle.ss_message.specs.Reading.{layout_at}
 use Rattle.ss_block.specs.declared.reading.Reading.{Reading}
 use Rattle.ss_block.specs.declared.reading.Reading.TheVariants.{Plain, Unparsed, Signature, Certificate, Spoilt}
+use Rattle.ss_block.specs.declared.block_parameter.BlockParameter.TheVariants as kinds
+use Rattle.ss_block.specs.Parameters.{name_of, place_of}
 use Rattle.ss_block.specs.Reading.{value_reading}
 
 abbrev pub is_block_id : List ℕ → Bool
 is_block_id id = bytes_eq id (codes "ssign") || bytes_eq id (codes "ssign-cert")
 
--- a block element without its ninth parameter, SIGN; any other element as it is
+-- a block element with the parameters before SIGN alone; any other element as it is
 abbrev pub unsigned_element : ElementValue → ElementValue
-unsigned_element e = if is_block_id e.id then record { id = e.id; parameters = take 8 e.parameters } else e
+unsigned_element e =
+    if is_block_id e.id then record { id = e.id; parameters = take (place_of kinds.Sign) e.parameters } else e
 
 abbrev pub unsigned_value : MessageValue → MessageValue
 unsigned_value v = record {
@@ -47,8 +50,8 @@ signed_from t (Err e) = None
 unfoldable pub signed : List ℕ → Option (List ℕ)
 signed t = signed_from t (layout_at t)
 
--- The text is that of a message with a block element, whose ninth parameter is SIGN, and these octets are what is left
--- of it without that parameter and the SP before it: all up to the first eight parameters of the element, and all from
+-- The text is that of a message with a block element, whose last parameter is SIGN, and these octets are what is left
+-- of it without that parameter and the SP before it: all up to the parameters of the element before it, and all from
 -- its `]` on.
 pub record IsWithoutSign (t octets : List ℕ) : Type 0 where
   pub value : MessageValue
@@ -60,9 +63,10 @@ pub record IsWithoutSign (t octets : List ℕ) : Type 0 where
   pub sign : List ℕ
   pub after : List ElementValue
   pub block : is_block_id id ≡ true
-  pub eight : length parameters ≡ 8
+  pub before_sign : length parameters ≡ place_of kinds.Sign
   pub elements : value.elements
-      ≡ before ++ record { id = id; parameters = parameters ++ record { name = codes "SIGN"; raw = sign } ∷ [] } ∷ after
+      ≡ before ++ record { id = id; parameters = parameters ++ record { name = name_of kinds.Sign; raw = sign } ∷ [] }
+      ∷ after
   pub whole : t
       ≡ (header_text value ++ flat_map element_text before ++ opening_bracket ∷ id
       ++ flat_map parameter_text parameters)

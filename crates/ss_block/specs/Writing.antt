@@ -6,12 +6,14 @@ use Rattle.ss_frame.specs.Ascii.{sp}
 use Rattle.ss_message.specs.Raw.{escaped}
 use Rattle.ss_message.specs.Stamp.{Moment}
 use Rattle.ss_message.specs.Message.{ParameterValue, ElementValue, MessageValue, text}
+use Rattle.ss_block.specs.declared.block_parameter.BlockParameter.TheVariants as kinds
 use Rattle.ss_block.specs.declared.hash.Hash.{Hash}
 use Rattle.ss_block.specs.declared.hash.Hash.TheVariants as hashes
 use Rattle.ss_block.specs.declared.session.Session.{Session}
 use Rattle.ss_block.specs.Block as block
 use Rattle.ss_payload.specs.StrictBase64.{base64}
 use Rattle.ss_block.specs.Head.{HeadValue}
+use Rattle.ss_block.specs.Parameters.{name_of}
 use Rattle.ss_block.specs.Versions.{version_text}
 use Rattle.ss_block.specs.Session.{field_from}
 
@@ -31,30 +33,30 @@ hashes_text hs = join_with_byte sp (map (λ h. base64 (hash_octets h)) hs)
 
 abbrev pub signature_parameters : block.Signature → List ParameterValue
 signature_parameters b =
-    parameter (codes "VER") (version_text b.alg)
-    ∷ parameter (codes "RSID") (decimal b.rsid)
-    ∷ parameter (codes "SG") (decimal b.group.sg)
-    ∷ parameter (codes "SPRI") (decimal b.group.spri)
-    ∷ parameter (codes "GBC") (decimal b.gbc)
-    ∷ parameter (codes "FMN") (decimal b.first)
-    ∷ parameter (codes "CNT") (decimal (length b.hashes))
-    ∷ parameter (codes "HB") (hashes_text b.hashes)
+    parameter (name_of kinds.Ver) (version_text b.alg)
+    ∷ parameter (name_of kinds.Rsid) (decimal b.rsid)
+    ∷ parameter (name_of kinds.Sg) (decimal b.group.sg)
+    ∷ parameter (name_of kinds.Spri) (decimal b.group.spri)
+    ∷ parameter (name_of kinds.Gbc) (decimal b.gbc)
+    ∷ parameter (name_of kinds.Fmn) (decimal b.first)
+    ∷ parameter (name_of kinds.Cnt) (decimal (length b.hashes))
+    ∷ parameter (name_of kinds.Hb) (hashes_text b.hashes)
     ∷ []
 
 abbrev pub certificate_parameters : block.Certificate → List ParameterValue
 certificate_parameters b =
-    parameter (codes "VER") (version_text b.alg)
-    ∷ parameter (codes "RSID") (decimal b.rsid)
-    ∷ parameter (codes "SG") (decimal b.group.sg)
-    ∷ parameter (codes "SPRI") (decimal b.group.spri)
-    ∷ parameter (codes "TPBL") (decimal b.total)
-    ∷ parameter (codes "INDEX") (decimal b.index)
-    ∷ parameter (codes "FLEN") (decimal (length b.fragment))
-    ∷ parameter (codes "FRAG") b.fragment
+    parameter (name_of kinds.Ver) (version_text b.alg)
+    ∷ parameter (name_of kinds.Rsid) (decimal b.rsid)
+    ∷ parameter (name_of kinds.Sg) (decimal b.group.sg)
+    ∷ parameter (name_of kinds.Spri) (decimal b.group.spri)
+    ∷ parameter (name_of kinds.Tpbl) (decimal b.total)
+    ∷ parameter (name_of kinds.Index) (decimal b.index)
+    ∷ parameter (name_of kinds.Flen) (decimal (length b.fragment))
+    ∷ parameter (name_of kinds.Frag) b.fragment
     ∷ []
 
 abbrev pub sign_parameter : List ℕ → ParameterValue
-sign_parameter signature = parameter (codes "SIGN") (base64 signature)
+sign_parameter signature = parameter (name_of kinds.Sign) (base64 signature)
 
 -- ---- messages
 

@@ -7,16 +7,17 @@ ghost use Rattle.ss_block.specs.declared.spoil.Spoil.TheVariants as spoils;
 ghost use Rattle.ss_block.specs.declared.reading.Reading.TheVariants.{Certificate};
 ghost use Rattle.ss_block.specs.Reading.{has_parameters, certificate_names, certificate_texts, certificate_numbers};
 ghost use Rattle.ss_block.specs.Reading.{certificate_reading};
-ghost use Rattle.ss_block.specs.Meanings.{HasNine};
+ghost use Rattle.ss_block.specs.Meanings.{HasAll};
 ghost use Rattle.ss_block.specs.Causes.{Tests, Reads, IsCertificateNumbers};
 
 use crate::block::{CertBlock, Group};
+use crate::block_parameter::{BlockParameter, CERTIFICATE};
 use crate::parameters::{number_at, sign, version};
 use crate::ranges::LAST_NUMBER;
 use crate::reading::Reading;
 use crate::refusal::Refusal;
 use crate::spoil::Spoil;
-use crate::texts::{has_parameters, text_at};
+use crate::texts::{has_parameters, text_of};
 use ss_message::{Element, NoMemory};
 use ss_payload::LONGEST_PAYLOAD;
 use std::alloc::Global;
@@ -33,16 +34,30 @@ pub struct CertificateNumbers {
 
 // RSID, SG, SPRI, TPBL, INDEX and FLEN.
 fn numbers(alloc: Global, source: &[u8], element: &Element) -> Result<CertificateNumbers, Refusal>
-    requires { HasNine source.now element.now }
+    requires { HasAll source.now element.now }
     ensures value { Tests spoils.Number (certificate_numbers (certificate_texts (element_value source.now element.now)))
         (IsCertificateNumbers (certificate_texts (element_value source.now element.now))) result }
 {
-    let rsid = number_at(alloc, source, element, 1, 0, LAST_NUMBER)?;
-    let sg = number_at(alloc, source, element, 2, 0, 3)? as u8;
-    let spri = number_at(alloc, source, element, 3, 0, 191)? as u8;
-    let total = number_at(alloc, source, element, 4, 1, u64::from(LONGEST_PAYLOAD))? as u32;
-    let index = number_at(alloc, source, element, 5, 1, u64::from(LONGEST_PAYLOAD))? as u32;
-    let octets = number_at(alloc, source, element, 6, 1, 9999)? as u32;
+    let rsid = number_at(alloc, source, element, BlockParameter::Rsid, 0, LAST_NUMBER)?;
+    let sg = number_at(alloc, source, element, BlockParameter::Sg, 0, 3)? as u8;
+    let spri = number_at(alloc, source, element, BlockParameter::Spri, 0, 191)? as u8;
+    let total = number_at(
+        alloc,
+        source,
+        element,
+        BlockParameter::Tpbl,
+        1,
+        u64::from(LONGEST_PAYLOAD),
+    )? as u32;
+    let index = number_at(
+        alloc,
+        source,
+        element,
+        BlockParameter::Index,
+        1,
+        u64::from(LONGEST_PAYLOAD),
+    )? as u32;
+    let octets = number_at(alloc, source, element, BlockParameter::Flen, 1, 9999)? as u32;
     let group = Group { sg, spri };
     Ok(CertificateNumbers {
         rsid,
@@ -53,9 +68,9 @@ fn numbers(alloc: Global, source: &[u8], element: &Element) -> Result<Certificat
     })
 }
 
-// The block of an element with the nine names.
+// The block of an element with the parameters of `ssign-cert`.
 fn named_block(alloc: Global, source: &[u8], element: &Element) -> Result<CertBlock, Refusal>
-    requires nine { HasNine source.now element.now }
+    requires all { HasAll source.now element.now }
     requires raws { has_raws (element_value source.now element.now) ≡ true }
     requires names { has_parameters certificate_names (element_value source.now element.now) ≡ true }
     ensures { Reads Certificate result (certificate_reading (element_value source.now element.now)) }
@@ -63,7 +78,7 @@ fn named_block(alloc: Global, source: &[u8], element: &Element) -> Result<CertBl
     let alg = version(alloc, source, element)?;
     let numbers = numbers(alloc, source, element)?;
     let signature = sign(alloc, source, element)?;
-    let fragment = text_at(alloc, source, element, 7)?.into_bytes(alloc)?;
+    let fragment = text_of(alloc, source, element, BlockParameter::Frag)?.into_bytes(alloc)?;
     if fragment.as_slice().len() as u64 != numbers.octets as u64 {
         return Err(Refusal::Spoilt(Spoil::Fragment));
     }
@@ -85,10 +100,7 @@ fn certificate_block(alloc: Global, source: &[u8], element: &Element) -> Result<
     requires raws { has_raws (element_value source.now element.now) ≡ true }
     ensures { Reads Certificate result (certificate_reading (element_value source.now element.now)) }
 {
-    let names: [&[u8]; 9] = [
-        b"VER", b"RSID", b"SG", b"SPRI", b"TPBL", b"INDEX", b"FLEN", b"FRAG", b"SIGN",
-    ];
-    if !has_parameters(source, element, &names) {
+    if !has_parameters(source, element, &CERTIFICATE) {
         return Err(Refusal::Spoilt(Spoil::Names));
     }
     named_block(alloc, source, element)

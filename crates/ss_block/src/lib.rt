@@ -3,6 +3,7 @@
 #![tactic(auto)]
 
 mod block;
+mod block_parameter;
 mod certificate_reading;
 mod copies;
 mod elements;

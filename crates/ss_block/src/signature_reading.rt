@@ -2,16 +2,18 @@
 ghost use Rattle.std.specs.Prelude.{◌≡◌, true, IfOk};
 ghost use Rattle.ss_message.specs.Layout.{element_value};
 ghost use Rattle.ss_message.specs.Places.{ElementIsWithin};
+ghost use Rattle.ss_block.specs.declared.block_parameter.BlockParameter.TheVariants as kinds;
 ghost use Rattle.ss_block.specs.declared.spoil.Spoil.TheVariants as spoils;
 ghost use Rattle.ss_block.specs.declared.reading.Reading.TheVariants.{Signature};
 ghost use Rattle.ss_block.specs.Number.{number};
-ghost use Rattle.ss_block.specs.Reading.{has_parameters, text_at, pieces, hashes_in, signature_names, signature_texts};
+ghost use Rattle.ss_block.specs.Reading.{has_parameters, text_of, pieces, hashes_in, signature_names, signature_texts};
 ghost use Rattle.ss_block.specs.Reading.{signature_numbers, signature_reading};
-ghost use Rattle.ss_block.specs.Meanings.{HasNine};
+ghost use Rattle.ss_block.specs.Meanings.{HasAll};
 ghost use Rattle.ss_block.specs.Causes.{Tests, Spoils, hash_causes, Reads, IsSignatureNumbers};
 ghost use Rattle.ss_block.specs.Versions.{alg_of};
 
 use crate::block::{Group, SigBlock};
+use crate::block_parameter::{BlockParameter, SIGNATURE};
 use crate::hash::Alg;
 use crate::hash_text::{count_pieces, hashes_of};
 use crate::hashes::Hashes;
@@ -20,7 +22,7 @@ use crate::ranges::LAST_NUMBER;
 use crate::reading::Reading;
 use crate::refusal::Refusal;
 use crate::spoil::Spoil;
-use crate::texts::{has_parameters, text_at};
+use crate::texts::{has_parameters, text_of};
 use ss_message::{Element, NoMemory};
 use std::alloc::Global;
 
@@ -36,16 +38,16 @@ pub struct SignatureNumbers {
 
 // RSID, SG, SPRI, GBC, FMN and CNT.
 fn numbers(alloc: Global, source: &[u8], element: &Element) -> Result<SignatureNumbers, Refusal>
-    requires { HasNine source.now element.now }
+    requires { HasAll source.now element.now }
     ensures value { Tests spoils.Number (signature_numbers (signature_texts (element_value source.now element.now)))
         (IsSignatureNumbers (signature_texts (element_value source.now element.now))) result }
 {
-    let rsid = number_at(alloc, source, element, 1, 0, LAST_NUMBER)?;
-    let sg = number_at(alloc, source, element, 2, 0, 3)? as u8;
-    let spri = number_at(alloc, source, element, 3, 0, 191)? as u8;
-    let gbc = number_at(alloc, source, element, 4, 0, LAST_NUMBER)?;
-    let first = number_at(alloc, source, element, 5, 1, LAST_NUMBER)?;
-    let count = number_at(alloc, source, element, 6, 1, 99)?;
+    let rsid = number_at(alloc, source, element, BlockParameter::Rsid, 0, LAST_NUMBER)?;
+    let sg = number_at(alloc, source, element, BlockParameter::Sg, 0, 3)? as u8;
+    let spri = number_at(alloc, source, element, BlockParameter::Spri, 0, 191)? as u8;
+    let gbc = number_at(alloc, source, element, BlockParameter::Gbc, 0, LAST_NUMBER)?;
+    let first = number_at(alloc, source, element, BlockParameter::Fmn, 1, LAST_NUMBER)?;
+    let count = number_at(alloc, source, element, BlockParameter::Cnt, 1, 99)?;
     let group = Group { sg, spri };
     Ok(SignatureNumbers {
         rsid,
@@ -64,13 +66,13 @@ fn hashes(
     alg: Alg,
     count: u64,
 ) -> Result<Hashes, Refusal>
-    requires nine { HasNine source.now element.now }
-    requires alg { alg ≡ alg_of (text_at (element_value source.now element.now) 0) }
-    requires count { count ≡ number (text_at (element_value source.now element.now) 6) }
+    requires all { HasAll source.now element.now }
+    requires alg { alg ≡ alg_of (text_of (element_value source.now element.now) kinds.Ver) }
+    requires count { count ≡ number (text_of (element_value source.now element.now) kinds.Cnt) }
     ensures { Spoils (hash_causes (signature_texts (element_value source.now element.now)))
-        (λ h. h ≡ hashes_in alg (pieces (text_at (element_value source.now element.now) 7))) result }
+        (λ h. h ≡ hashes_in alg (pieces (text_of (element_value source.now element.now) kinds.Hb))) result }
 {
-    let text = text_at(alloc, source, element, 7)?;
+    let text = text_of(alloc, source, element, BlockParameter::Hb)?;
     let text = text.as_slice();
     if count_pieces(text) as u64 != count {
         return Err(Refusal::Spoilt(Spoil::HashCount));
@@ -78,9 +80,9 @@ fn hashes(
     Ok(hashes_of(alloc, alg, text)?.ok_or(Spoil::Hash)?)
 }
 
-// The block of an element with the nine names.
+// The block of an element with the parameters of `ssign`.
 fn named_block(alloc: Global, source: &[u8], element: &Element) -> Result<SigBlock, Refusal>
-    requires nine { HasNine source.now element.now }
+    requires all { HasAll source.now element.now }
     requires names { has_parameters signature_names (element_value source.now element.now) ≡ true }
     ensures { Reads Signature result (signature_reading (element_value source.now element.now)) }
 {
@@ -105,10 +107,7 @@ fn signature_block(alloc: Global, source: &[u8], element: &Element) -> Result<Si
     requires { ElementIsWithin source.now element.now }
     ensures { Reads Signature result (signature_reading (element_value source.now element.now)) }
 {
-    let names: [&[u8]; 9] = [
-        b"VER", b"RSID", b"SG", b"SPRI", b"GBC", b"FMN", b"CNT", b"HB", b"SIGN",
-    ];
-    if !has_parameters(source, element, &names) {
+    if !has_parameters(source, element, &SIGNATURE) {
         return Err(Refusal::Spoilt(Spoil::Names));
     }
     named_block(alloc, source, element)

@@ -2,11 +2,12 @@
 ghost use Rattle.std.specs.Prelude.{◌≡◌, ◌≤◌, ◌++◌, Some, IfOk, IfSome, length, take, drop};
 ghost use Rattle.ss_message.specs.Layout.{value_of};
 ghost use Rattle.ss_message.specs.Message.{text};
-ghost use Rattle.ss_block.specs.SignPlace.{block_id, ninth_parameter};
+ghost use Rattle.ss_block.specs.SignPlace.{block_id, sign_parameter};
 ghost use Rattle.ss_block.specs.Parsed.{IsRead};
 ghost use Rattle.ss_block.specs.Reading.{value_reading};
 ghost use Rattle.ss_block.specs.Signed.{signed, signed_if_block, unsigned_value, IsWithoutSign};
 
+use crate::block_parameter::BlockParameter;
 use crate::reading::{Reading, read};
 use ss_frame::Bytes;
 use ss_message::{Message, NoMemory, Parameter};
@@ -24,13 +25,17 @@ fn without(alloc: Global, octets: &[u8], start: usize, end: usize) -> Result<Byt
     Ok(Bytes::from_vec(left))
 }
 
-// The ninth parameter of the element with this SD-ID.
-fn ninth_parameter(message: &Message<'_>, id: &[u8]) -> Option<Parameter>
-    ensures { result ≡ ninth_parameter message.now.source.now id.now message.now.elements }
+// The SIGN of the element with this SD-ID, if it is that of a block.
+fn sign_parameter(message: &Message<'_>, id: &[u8]) -> Option<Parameter>
+    ensures { result ≡ sign_parameter message.now.source.now id.now message.now.elements }
 {
     let place = message.element(id)?;
     let element = message.elements.as_slice().get(place)?;
-    element.parameters.as_slice().get(8).copied()
+    element
+        .parameters
+        .as_slice()
+        .get(BlockParameter::Sign.place())
+        .copied()
 }
 
 // A block message without the SIGN parameter of its block element, which has this SD-ID, and the SP before it.
@@ -40,7 +45,7 @@ fn without_sign(alloc: Global, message: &Message<'_>, id: &[u8]) -> Result<Optio
     ensures value { IfOk result (λ o. o ≡ Some (text (unsigned_value (value_of message.now)))) }
     ensures split { IfOk result (λ o. IfSome o (λ octets. IsWithoutSign message.now.source.now octets)) }
 {
-    let Some(sign) = ninth_parameter(message, id) else {
+    let Some(sign) = sign_parameter(message, id) else {
         return Ok(None);
     };
     let space = sign.name.start - 1;

@@ -1,5 +1,5 @@
 //! The parameters of a block element: their names, and what their values stand for.
-ghost use Rattle.std.specs.Prelude.{◌≡◌, ◌<◌, map, length, IfOk};
+ghost use Rattle.std.specs.Prelude.{◌≡◌, ◌<◌, length, IfOk};
 ghost use Rattle.std.specs.List.{All};
 ghost use Rattle.std.specs.Str.{bytes_eq};
 ghost use Rattle.ss_message.specs.Octets.{part_of};
@@ -7,8 +7,11 @@ ghost use Rattle.ss_message.specs.Raw.{meant};
 ghost use Rattle.ss_message.specs.Layout.{element_value};
 ghost use Rattle.ss_message.specs.Places.{ParameterIsWithin, ElementIsWithin};
 ghost use Rattle.ss_block.specs.Meanings.{octets_of, are_named};
-ghost use Rattle.ss_block.specs.Reading.{has_parameters, text_at};
+ghost use Rattle.ss_block.specs.Meanings.{HasAll};
+ghost use Rattle.ss_block.specs.Parameters.{names_in};
+ghost use Rattle.ss_block.specs.Reading.{has_parameters, text_at, text_of};
 
+use crate::block_parameter::BlockParameter;
 use crate::copies::copy_of;
 use ss_frame::Bytes;
 use ss_message::{Element, NoMemory, Parameter, value};
@@ -62,7 +65,7 @@ fn is_named(source: &[u8], parameter: &Parameter, name: &[u8]) -> bool
     parameter.name.of(source) == name
 }
 
-fn are_named(source: &[u8], parameters: &[Parameter], names: &[&[u8]]) -> bool
+fn are_named(source: &[u8], parameters: &[Parameter], names: &[BlockParameter]) -> bool
     requires { All (ParameterIsWithin source.now) parameters.now }
     ensures { result ≡ are_named source.now parameters.now names.now }
 {
@@ -70,23 +73,23 @@ fn are_named(source: &[u8], parameters: &[Parameter], names: &[&[u8]]) -> bool
         return false;
     }
     for (i, parameter) in parameters.iter().enumerate() {
-        if !is_named(source, parameter, names[i]) {
+        if !is_named(source, parameter, names[i].name()) {
             return false;
         }
     }
     true
 }
 
-/// Whether the names of the parameters are these, in this order, and no others.
-pub fn has_parameters(source: &[u8], element: &Element, names: &[&[u8]]) -> bool
+/// Whether the parameters are these, in this order, and no others.
+pub fn has_parameters(source: &[u8], element: &Element, names: &[BlockParameter]) -> bool
     requires { ElementIsWithin source.now element.now }
-    ensures { result ≡ has_parameters (map (λ n. n.now) names.now) (element_value source.now element.now) }
+    ensures { result ≡ has_parameters (names_in names.now) (element_value source.now element.now) }
 {
     are_named(source, element.parameters.as_slice(), names)
 }
 
 /// What the value of parameter number `i`, from 0, stands for.
-pub fn text_at<'a>(
+fn text_at<'a>(
     alloc: Global,
     source: &'a [u8],
     element: &Element,
@@ -98,4 +101,17 @@ pub fn text_at<'a>(
 {
     let parameter = element.parameters.as_slice()[i];
     meaning(alloc, parameter.value.of(source))
+}
+
+/// What the value of this parameter stands for, in an element that has as many as its block.
+pub fn text_of<'a>(
+    alloc: Global,
+    source: &'a [u8],
+    element: &Element,
+    parameter: BlockParameter,
+) -> Result<Meant<'a>, NoMemory>
+    requires { HasAll source.now element.now }
+    ensures { IfOk result (λ m. octets_of m ≡ text_of (element_value source.now element.now) parameter) }
+{
+    text_at(alloc, source, element, parameter.place())
 }

@@ -45,7 +45,7 @@ returns-then-as_slice-numbers c =
       numbers_are = c.in_ok-numbers.ensures.value.1;
       signed = c.in_ok-signature.ensures.0;
       sign_is = c.in_ok-signature.ensures.1;
-      fragment_is = c.in_ok-fragment.ensures ∙ c.in_ok-text_at.ensures;
+      fragment_is = c.in_ok-fragment.ensures ∙ c.in_ok-text_of.ensures;
     } in
     is_short e c.in_ok-alg.alg c.in_ok-numbers.numbers c.in_ok-signature.signature c.in_ok-fragment.fragment read
     (λ same. c.if-as_slice-numbers.true (ap length c.as_slice.ensures ∙ same))
@@ -62,7 +62,7 @@ returns c =
       numbers_are = c.in_ok-numbers.ensures.value.1;
       signed = c.in_ok-signature.ensures.0;
       sign_is = c.in_ok-signature.ensures.1;
-      fragment_is = c.in_ok-fragment.ensures ∙ c.in_ok-text_at.ensures;
+      fragment_is = c.in_ok-fragment.ensures ∙ c.in_ok-text_of.ensures;
     } in
     subst (λ (r : Result block.Certificate Refusal). Reads (λ (b : block.Certificate). Certificate b) r (certificate_reading e)) (sym c.ok_or.ensures.value)
     (is_answered e c.in_ok-alg.alg c.in_ok-numbers.numbers c.in_ok-signature.signature c.in_ok-fragment.fragment read

@@ -5,7 +5,7 @@ use Rattle.ss_block.proofs.signed.without_sign.Goals as goal
 
 pub returns-in_default-clause-value : goal.returns-in_default-clause-value
 returns-in_default-clause-value c =
-    absurd (message_has_sign c.args.message.now c.args.id.now c.requires.read c.requires.block (sym c.in_default.is ∙ c.ninth_parameter.ensures))
+    absurd (message_has_sign c.args.message.now c.args.id.now c.requires.read c.requires.block (sym c.in_default.is ∙ c.sign_parameter.ensures))
 
 pub overflow_sub-space : goal.overflow_sub-space
 overflow_sub-space c = (message_cut c.args.message.now c.args.id.now c.in-Some.sign c.requires.read c.requires.block c.in-Some.ensures).some_start
