@@ -8,12 +8,13 @@ use Rattle.ss_review.specs.Payloads.{is_disputed, cover, joined_text, stated_pay
 use Rattle.ss_review.specs.Report.{report_of}
 use Rattle.ss_review.specs.Verdict.{is_clean}
 use Rattle.ss_review.specs.Verified.{joined, is_verified}
-use Rattle.ss_block.specs.PayloadReading.{parts_at_space, stamp_in, stamp_and_rest_in, blob_in, payload_in}
+use Rattle.ss_block.specs.PayloadReading.{stamp_in, stamp_and_rest_in, blob_in, payload_in}
+use Rattle.ss_frame.specs.Cut.{parts_at}
 use Rattle.ss_review.proofs.CutRows.{session_kept, message_from_one_session, announcer_with_messages, message_from_two_sessions, halves_kept}
 use Rattle.ss_review.proofs.laws.parts.parts_are_these.Goals as goal
 
 pub returns : goal.returns
-unfolding rows keys pair_of_bearer places_with wanted rank assigned is_taken group_keys entries in_order is_disputed cover joined_text stated_payload report_of is_clean joined is_verified parts_at_space stamp_in stamp_and_rest_in blob_in payload_in
+unfolding rows keys pair_of_bearer places_with wanted rank assigned is_taken group_keys entries in_order is_disputed cover joined_text stated_payload report_of is_clean joined is_verified parts_at stamp_in stamp_and_rest_in blob_in payload_in
 returns c = record {
   session_cut_off_keeps = session_kept;
   session_cut_off = refl;
