@@ -32,15 +32,17 @@ use Rattle.ss_review.specs.Announcing.{Announces, IsAnnounced}
 use Rattle.ss_review.specs.Contents.{said_in, blocks}
 use Rattle.ss_review.specs.Delivered.{IsSentBlock, OwnBlocksAreSent, SentBlocksAreStored, JoinsOwnPayload, HasOneHash, KeysHaveBlocks}
 use Rattle.ss_review.specs.Delivery.{own_session}
-use Rattle.ss_review.specs.DeliveryLaws.{Case, IsCase, says, report_in, rows_in, IsListedAsJoined, HasBlock, message_of}
+use Rattle.ss_review.specs.DeliveryLaws.{Case, says, report_in, rows_in, IsListedAsJoined, HasBlock, message_of}
 use Rattle.ss_review.specs.Notes.{notes}
 use Rattle.ss_review.specs.Sessions.{of_session}
 use Rattle.ss_review.specs.Verified.{joined, state_in, is_valid_in, is_verified}
 use Rattle.ss_review.proofs.Announcements.{announced_row, announced_key, has-announced_key, from_has-hashes_for, has-hashes_for, hashes_for-rise, rows-rise, has-rows}
 use Rattle.ss_origin.proofs.Members.{Has, has_from_contains, contains_from_has}
+use Rattle.ss_review.proofs.Deliveries.{IsDelivery, of_case}
 use Rattle.ss_review.proofs.NotesTold.{block_read}
 use Rattle.ss_review.proofs.OneReport.{is_report}
 use Rattle.ss_review.proofs.Rising.{below_all, not_less_itself}
+use Rattle.ss_review.proofs.OwnPayload.{JoinsPayload}
 use Rattle.ss_review.proofs.Paired.{parted}
 use Rattle.ss_review.proofs.SentMessages.{sent_by}
 use Rattle.ss_review.proofs.StoredBlocks.{block_not_normal}
@@ -104,7 +106,7 @@ one_only (x ∷ y ∷ hs) h up i f =
 no_state : states.Incomplete ≡ states.Joined → ⊥
 no_state e = cc
 
-module _ (x : Case) (is : IsCase x) where
+module _ (x : Case) (is : IsDelivery x) where
   abbrev stored_blocks : List BlockMessage
   stored_blocks = blocks (notes x.log)
 
@@ -135,11 +137,11 @@ module _ (x : Case) (is : IsCase x) where
 
   -- ---- the block of an announced number
 
-  module _ (sent : OwnBlocksAreSent) (k : Key) (own : k.session ≡ own_session x.s) (h : Hash) (a : Announces (says x) stored_blocks k h) where
-    abbrev block_sent : IsSentBlock x a.message
-    block_sent = sent x is a.message a.stored (a.session_is ∙ own)
+  module _ (k : Key) (own : k.session ≡ own_session x.s) (h : Hash) (a : Announces (says x) stored_blocks k h) where
+    abbrev pub block_sent : IsSentBlock x a.message
+    block_sent = is.sent a.message a.stored (a.session_is ∙ own)
 
-    read_said : reading block_sent.message ≡ readings.Signature a.said
+    pub read_said : reading block_sent.message ≡ readings.Signature a.said
     read_said =
         said_signature (reading block_sent.message) a.said
         ((block_read a.message.place block_sent.message a.message block_sent.read).said_is ∙ ap (λ (s : Said). Some s) a.says_so)
@@ -172,10 +174,10 @@ module _ (x : Case) (is : IsCase x) where
     pub number : 1 ≤ k.number
     pub group : k.group.sg ≡ sg_of x.s.config.grouping
 
-  pub numbered : OwnBlocksAreSent → SentBlocksAreNumbered → (k : Key) (h : Hash) → k.session ≡ own_session x.s → Announces (says x) stored_blocks k h → IsNumbered k h
-  numbered sent of k h own a =
-      let b = block_sent sent k own h a in
-      let o = of_chain of x.s x.chain is.chain b.message b.sent a.said (read_said sent k own h a) in
+  pub numbered : IsChain x.s x.chain → SentBlocksAreNumbered → (k : Key) (h : Hash) → k.session ≡ own_session x.s → Announces (says x) stored_blocks k h → IsNumbered k h
+  numbered chained of k h own a =
+      let b = block_sent k own h a in
+      let o = of_chain of x.s x.chain chained b.message b.sent a.said (read_said k own h a) in
       let group : k.group ≡ group_of x.s.config.grouping o.spri = sym a.group_is ∙ o.group in
       let spri : k.group.spri ≡ o.spri = ap (λ (g : Group). g.spri) group in
       let m = numbered_message x.s.config (given_to x.s.config o.spri x.chain) a.said.first a.said.hashes o.numbered a.index h a.hash in
@@ -190,23 +192,23 @@ module _ (x : Case) (is : IsCase x) where
   -- ---- the number of a block
 
   -- a block of the session is verified where the session is joined under the originators' payload
-  pub verified_by : OwnBlocksAreSent → (b : BlockMessage) → Contains stored_blocks b → b.session ≡ own_session x.s → own_joined ≡ Ok (payload_text x.s.payload) → is_verified (says x) stored_blocks b ≡ true
+  pub verified_by : (b : BlockMessage) → Contains stored_blocks b → b.session ≡ own_session x.s → own_joined ≡ Ok (payload_text x.s.payload) → is_verified (says x) stored_blocks b ≡ true
   unfolding is_verified
-  verified_by sent b c own e =
+  verified_by b c own e =
       ap (λ s. is_valid_in (says x) (joined (says x) (of_session stored_blocks s)) b) own
       ∙ ap (λ r. is_valid_in (says x) r b) e
-      ∙ (sent x is b c own).valid
+      ∙ (is.sent b c own).valid
 
-  joined_under : JoinsOwnPayload → IsListedAsJoined x → own_joined ≡ Ok (payload_text x.s.payload)
+  joined_under : JoinsPayload x → IsListedAsJoined x → own_joined ≡ Ok (payload_text x.s.payload)
   joined_under joins l =
-      elim (joins x is) [
+      elim joins [
         | inl all ↦ all.1
         | inr some ↦ absurd (no_state (sym (ap state_in some.1) ∙ state_listed l))
       ]
 
-  announced_by : OwnBlocksAreSent → SentBlocksAreStored → JoinsOwnPayload → (k : Key) → k.session ≡ own_session x.s → IsListedAsJoined x → HasBlock x k → IsAnnounced (says x) stored_blocks k
-  announced_by sent stored joins k own l b =
-      let t = stored x is b.message b.stored b.sent (block_not_normal b.message (Hashes b.block) (ap said_in b.read)) in
+  pub announced_by : JoinsPayload x → (k : Key) → k.session ≡ own_session x.s → IsListedAsJoined x → HasBlock x k → IsAnnounced (says x) stored_blocks k
+  announced_by joins k own l b =
+      let t = is.stored b.message b.stored b.sent (block_not_normal b.message (Hashes b.block) (ap said_in b.read)) in
       let said : Hashes b.block ≡ t.stored_block.said
       = same_Some _ _ (sym (ap said_in b.read) ∙ (block_read t.stored_block.place b.message t.stored_block t.read).said_is) in
       let at : k.number ≡ b.block.first + (k.number - b.block.first) = omega (arith, b.first) in
@@ -215,7 +217,7 @@ module _ (x : Case) (is : IsCase x) where
         record {
           message = t.stored_block;
           stored = t.stored;
-          verified = verified_by sent t.stored_block t.stored t.own (joined_under joins l);
+          verified = verified_by t.stored_block t.stored t.own (joined_under joins l);
           session_is = t.own ∙ sym own;
           said = b.block;
           says_so = sym said;
@@ -228,16 +230,19 @@ module _ (x : Case) (is : IsCase x) where
 
   -- ---- both ways
 
+  pub announced_has_block : (k : Key) → k.session ≡ own_session x.s → IsAnnounced (says x) stored_blocks k → IsListedAsJoined x × HasBlock x k
+  announced_has_block k own a = (is_listed_as_joined k own a.0 a.1, has_block k own a.0 a.1)
+
   announced : (k : Key) → Contains (keys (rows_in x)) k → IsAnnounced (says x) stored_blocks k
   announced k c = announced_key (says x) stored_blocks k (has_from_contains (keys (rows_in x)) k c)
 
-  its_hash : OwnBlocksAreSent → SentBlocksAreNumbered → (k : Key) → k.session ≡ own_session x.s → Contains (keys (rows_in x)) k → HasOneHash x k
-  its_hash sent of k own c =
+  its_hash : IsChain x.s x.chain → SentBlocksAreNumbered → (k : Key) → k.session ≡ own_session x.s → Contains (keys (rows_in x)) k → HasOneHash x k
+  its_hash chained of k own c =
       let a = announced k c in
-      let n = numbered sent of k a.0 own a.1 in
+      let n = numbered chained of k a.0 own a.1 in
       let all_one : (g : Hash) → Has (hashes_for (rows_in x) k) g → g ≡ a.0
       = λ g i.
-      (let m = numbered sent of k g own (announced_row (says x) stored_blocks (record { key = k; hash = g }) (from_has-hashes_for (rows_in x) k g i)) in
+      (let m = numbered chained of k g own (announced_row (says x) stored_blocks (record { key = k; hash = g }) (from_has-hashes_for (rows_in x) k g i)) in
       let same : m.message ≡ n.message = same_Some m.message n.message (sym m.given ∙ n.given) in
       m.hash ∙ ap (hash_of x.s.config.alg) same ∙ sym n.hash) in
       record {
@@ -252,10 +257,11 @@ module _ (x : Case) (is : IsCase x) where
 
 -- a number is announced exactly where the session is joined and a block has a hash for it, and then with its message's
 pub keys_have_blocks : OwnBlocksAreSent → SentBlocksAreStored → JoinsOwnPayload → SentBlocksAreNumbered → KeysHaveBlocks
-keys_have_blocks sent stored joins of x is k own = (
-  (
-    λ c. (let a = announced x is k c in (is_listed_as_joined x is sent k own a.0 a.1, has_block x is sent k own a.0 a.1)),
-    λ b. contains_from_has (keys (rows_in x)) k (has-announced_key (says x) (blocks (notes x.log)) k (announced_by x is sent stored joins k own b.0 b.1)),
-  ),
-  its_hash x is sent of k own,
-)
+keys_have_blocks sent stored joins of x is k own =
+    let d = of_case sent stored x is in (
+      (
+        λ c. announced_has_block x d k own (announced x d k c),
+        λ b. contains_from_has (keys (rows_in x)) k (has-announced_key (says x) (blocks (notes x.log)) k (announced_by x d (joins x is) k own b.0 b.1)),
+      ),
+      its_hash x d is.chain of k own,
+    )

@@ -30,7 +30,7 @@ use Rattle.ss_review.proofs.SentMessages.{IsTurn, plain_first, from_has-copies}
 
 -- ---- the turn that begins
 
-begin_stamp : (call : Call) → is_begin call ≡ true → (stamp : Option Moment) × (call ≡ Begin stamp)
+pub begin_stamp : (call : Call) → is_begin call ≡ true → (stamp : Option Moment) × (call ≡ Begin stamp)
 begin_stamp (Begin stamp) e = (stamp, refl)
 begin_stamp (Submit message stamp) e = absurd (cc)
 begin_stamp (Flush stamp) e = absurd (cc)

@@ -1,6 +1,6 @@
 -- The session of originators is listed as joined exactly where their payload arrived.
 use Rattle.std.proofs.Common.{◌≡◌, inl, inr, ℕ, List, [], ◌∷◌, refl, sym, ap, ◌∙◌}
-use Rattle.std.specs.Prelude.{Ok, Err}
+use Rattle.std.specs.Prelude.{◌↔◌, Ok, Err}
 use Rattle.std.specs.List.{Contains}
 use Rattle.std.specs.Cmp.{Equal-is}
 use Rattle.std.proofs.lemmas.List.Elements.{All-contains}
@@ -17,10 +17,11 @@ use Rattle.ss_review.specs.Sessions.{same_session, of_session}
 use Rattle.ss_review.specs.Verified.{Answers, joined, state_in}
 use Rattle.ss_review.specs.Laws.{OneReport}
 use Rattle.ss_review.specs.Delivery.{own_session, HasPayload}
-use Rattle.ss_review.specs.DeliveryLaws.{Case, IsCase, says, report_in, IsListedAsJoined, JoinedByFragments}
+use Rattle.ss_review.specs.DeliveryLaws.{Case, says, report_in, IsListedAsJoined, JoinedByFragments}
 use Rattle.ss_review.specs.Delivered.{JoinsOwnPayload}
 use Rattle.ss_origin.proofs.Members.{Has, contains_from_has}
 use Rattle.ss_review.proofs.Members.{from_has-filter}
+use Rattle.ss_review.proofs.OwnPayload.{JoinsPayload}
 use Rattle.ss_review.proofs.Verifying.{unstated}
 
 -- a session of which no block is stored states no payload
@@ -28,7 +29,7 @@ some_stored : (says : Answers) (bs : List BlockMessage) (payload : List ℕ) →
 some_stored says [] payload e = absurd (let no : Err states.Incomplete ≡ Ok payload = sym (unstated says) ∙ e in cc)
 some_stored says (b ∷ bs) payload e = (b, inl refl)
 
-module _ (joins : JoinsOwnPayload) (one : OneReport) (x : Case) (is : IsCase x) where
+module _ (x : Case) (joins : JoinsPayload x) (one : OneReport) where
   abbrev stored : Session → List BlockMessage
   stored s = of_session (blocks (notes x.log)) s
 
@@ -41,7 +42,7 @@ module _ (joins : JoinsOwnPayload) (one : OneReport) (x : Case) (is : IsCase x) 
 
   listed_arrived : IsListedAsJoined x → HasPayload x.chain x.log
   listed_arrived l =
-      elim (joins x is) [
+      elim joins [
         | inl arrived ↦ arrived.0
         | inr lacking ↦ absurd (let no : states.Joined ≡ states.Incomplete = sym l.joined ∙ state_is l.entry l.of_report l.own ∙ ap state_in lacking.1 in cc)
       ]
@@ -57,10 +58,13 @@ module _ (joins : JoinsOwnPayload) (one : OneReport) (x : Case) (is : IsCase x) 
 
   arrived_listed : HasPayload x.chain x.log → IsListedAsJoined x
   arrived_listed p =
-      elim (joins x is) [
+      elim joins [
         | inl arrived ↦ listed arrived.1
         | inr lacking ↦ absurd (lacking.0 p)
       ]
 
+  pub joined_where_arrived : IsListedAsJoined x ↔ HasPayload x.chain x.log
+  joined_where_arrived = (listed_arrived, arrived_listed)
+
 pub joined_by_fragments : JoinsOwnPayload → OneReport → JoinedByFragments
-joined_by_fragments joins one x is = (listed_arrived joins one x is, arrived_listed joins one x is)
+joined_by_fragments joins one x is = joined_where_arrived x (joins x is) one

@@ -113,3 +113,4 @@ pub mod MovedReports
 pub mod MovedVerdicts
 pub mod PartLogs
 pub mod CutRows
+pub mod Deliveries

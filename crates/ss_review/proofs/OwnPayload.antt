@@ -1,5 +1,5 @@
 -- The payload that the certificate blocks of a session state in a log that delivers from its originators.
-use Rattle.std.proofs.Common.{◌≡◌, inl, inr, ℕ, ◌≤◌, true, false, cond, ◌&&◌, not, List, [], ◌∷◌, length, map, refl, sym, ap, ◌∙◌, subst, arith}
+use Rattle.std.proofs.Common.{◌≡◌, ◌⊎◌, inl, inr, ℕ, ◌≤◌, true, false, cond, ◌&&◌, not, List, [], ◌∷◌, length, map, refl, sym, ap, ◌∙◌, subst, arith}
 use Rattle.std.specs.Prelude.{Some, Ok, Err, nat_le}
 use Rattle.std.specs.List.{Contains, flat_map}
 use Rattle.std.specs.Ordering.{is_eq}
@@ -34,9 +34,10 @@ use Rattle.ss_review.specs.Payloads.{certificate_of, certificates, is_disputed, 
 use Rattle.ss_review.specs.Stated.{stated_in_turn}
 use Rattle.ss_review.specs.Verified.{is_valid, is_accepted, judged, joined}
 use Rattle.ss_review.specs.Delivery.{own_session, HasPayload}
-use Rattle.ss_review.specs.DeliveryLaws.{Case, IsCase, says}
+use Rattle.ss_review.specs.DeliveryLaws.{Case, says}
 use Rattle.ss_review.specs.Delivered.{OwnBlocksAreSent, SentBlocksAreStored, IsSentBlock, JoinsOwnPayload}
 use Rattle.ss_review.proofs.Beginnings.{IsBeginning, one_beginning, Beginning, beginning, certificate_begins, piece_of_message, is_piece, block_of_piece, one_message}
+use Rattle.ss_review.proofs.Deliveries.{IsDelivery, of_case}
 use Rattle.ss_origin.proofs.Members.{Has, has_from_contains, contains_from_has, has-map}
 use Rattle.ss_review.proofs.Members.{has-filter, from_has-filter, has-flat_map, has-filter_map, from_has-filter_map}
 use Rattle.ss_review.proofs.NotesTold.{block_read}
@@ -44,7 +45,7 @@ use Rattle.ss_review.proofs.Paired.{ArePaired}
 use Rattle.ss_review.proofs.PiecesStated.{IsPiece, cut_in, cut_is, undisputed, all_pieces, piece_there, covered, index_covered}
 use Rattle.ss_review.proofs.Rising.{all_below}
 use Rattle.ss_review.proofs.Sections.{keeps_all}
-use Rattle.ss_review.proofs.SentMessages.{turn_of_chain, sent_by}
+use Rattle.ss_review.proofs.SentMessages.{sent_by}
 use Rattle.ss_review.proofs.StatesTold.{fragment_of, payload_ok}
 use Rattle.ss_review.proofs.Stating.{not_disputed, not_lacking, whole_payload, stated_in_turn-IsStatedBy}
 use Rattle.ss_review.proofs.StoredBlocks.{block_not_normal}
@@ -75,9 +76,6 @@ said_certificate (readings.Spoilt cause) c e = absurd (cc)
 
 -- the laws that the proof rests on
 pub record Laws : Type 0 where
-  pub sent : OwnBlocksAreSent
-  pub stored : SentBlocksAreStored
-  pub begins_first : BeginsFirst
   pub within : PiecesLieWithin
   pub apart : PiecesAreApart
   pub stay : DisputesStay
@@ -85,7 +83,11 @@ pub record Laws : Type 0 where
   pub read : TextsAreRead
   pub octets : TextsHaveOctets
 
-module _ (laws : Laws) (x : Case) (is : IsCase x) where
+-- one turn of them began at most
+abbrev pub OneBegins : Case → Type 0
+OneBegins x = (t u : Turn) → IsBeginning x.chain t → IsBeginning x.chain u → t ≡ u
+
+module _ (laws : Laws) (x : Case) (is : IsDelivery x) (one : OneBegins x) where
   abbrev text : List ℕ
   text = payload_text x.s.payload
 
@@ -97,7 +99,7 @@ module _ (laws : Laws) (x : Case) (is : IsCase x) where
   own_certificates = certificates own_blocks
 
   some : (1 ≤ x.s.config.copies) × (1 ≤ x.s.config.frag)
-  some = some_of_each x.s.config is.chain.setting.fit.config
+  some = some_of_each x.s.config is.setting.fit.config
 
   octet : 1 ≤ length text
   octet = let three = laws.octets x.s.payload in omega arith
@@ -106,7 +108,7 @@ module _ (laws : Laws) (x : Case) (is : IsCase x) where
   own_block : (b : BlockMessage) → Has own_blocks b → IsSentBlock x b
   own_block b h =
       let f = from_has-filter (λ (d : BlockMessage). same_session d.session (own_session x.s)) (blocks (notes x.log)) b h in
-      laws.sent x is b (contains_from_has (blocks (notes x.log)) b f.0)
+      is.sent b (contains_from_has (blocks (notes x.log)) b f.0)
       (session_cmp_exact b.session (own_session x.s) ((Equal-is (session_cmp b.session (own_session x.s))).0 f.1))
 
   -- a message of the log, of the turn that began, with the certificate block
@@ -124,7 +126,7 @@ module _ (laws : Laws) (x : Case) (is : IsCase x) where
       let s = own_block w.0 w.1 in
       let read = said_certificate (reading s.message) c ((block_read w.0.place s.message w.0 s.read).said_is ∙ ap (λ (said : Said). Some said) (fragment_of w.0.said c w.2)) in
       let by = sent_by x.chain s.message s.sent in
-      let turn = turn_of_chain x.s x.chain by.turns by.turn is.chain.chained by.of_chain by.of_originator in
+      let turn = is.turns by.turns by.turn by.of_chain by.of_originator in
       record {
         message = s.message;
         turn = by.turn;
@@ -136,11 +138,11 @@ module _ (laws : Laws) (x : Case) (is : IsCase x) where
 
   module _ (t : Turn) (begun : IsBeginning x.chain t) where
     opening : Beginning x.s t.emitted
-    opening = beginning x.s t (turn_of_chain x.s x.chain begun.turns t is.chain.chained begun.of_chain begun.of_turns) begun.begins
+    opening = beginning x.s t (is.turns begun.turns t begun.of_chain begun.of_turns) begun.begins
 
     sent_by_it : (c : block.Certificate) (f : IsFromBeginning c) → Has t.emitted f.message
     sent_by_it c f =
-        subst (λ (u : Turn). Has u.emitted f.message) (one_beginning laws.begins_first x.s x.chain is.chain f.turn t f.is_beginning begun) f.in_turn
+        subst (λ (u : Turn). Has u.emitted f.message) (one f.turn t f.is_beginning begun) f.in_turn
 
     -- each certificate block has a piece of the payload
     each_piece : (c : block.Certificate) → Has own_certificates c → IsPiece text opening.cuts c
@@ -160,7 +162,7 @@ module _ (laws : Laws) (x : Case) (is : IsCase x) where
         let in_chain : Contains (emitted_by x.chain) m
         = contains_from_has (emitted_by x.chain) m (has-flat_map (λ (turns : List Turn). flat_map (λ (u : Turn). u.emitted) turns) x.chain begun.turns m begun.of_chain
         (has-flat_map (λ (u : Turn). u.emitted) begun.turns t m begun.of_turns w.1)) in
-        let s = laws.stored x is m (copies m in_turn) in_chain (block_not_normal m (Fragment w.2) (ap said_in w.3)) in
+        let s = is.stored m (copies m in_turn) in_chain (block_not_normal m (Fragment w.2) (ap said_in w.3)) in
         let said : s.stored_block.said ≡ Fragment w.2 = same_Some _ _ (sym (block_read s.stored_block.place m s.stored_block s.read).said_is ∙ ap said_in w.3) in
         let same : same_session s.stored_block.session (own_session x.s) ≡ true
         = ap (λ o. same_session o (own_session x.s)) s.own ∙ ap is_eq (tied_itself session_cmp_total (own_session x.s)) in
@@ -192,7 +194,7 @@ module _ (laws : Laws) (x : Case) (is : IsCase x) where
     text_stated each =
         let told = all_pieces laws.within text x.s.config.frag opening.cuts some.1 opening.are_cuts laws.whole octet own_certificates each_piece each in
         let by = stated_in_turn-IsStatedBy own_certificates in (
-          whole_payload own_certificates (stated_in_turn own_certificates) by told.0 text told.1 ∙ payload_ok text (x.s.payload, laws.read x.s.payload is.chain.setting.payload),
+          whole_payload own_certificates (stated_in_turn own_certificates) by told.0 text told.1 ∙ payload_ok text (x.s.payload, laws.read x.s.payload is.setting.payload),
           not_lacking own_certificates (stated_in_turn own_certificates) by told.0.1,
         )
 
@@ -265,9 +267,17 @@ module _ (laws : Laws) (x : Case) (is : IsCase x) where
       )
 
 -- the session is joined under its originators' payload where all of it arrived, and else incomplete
-pub joins_own_payload : Laws → JoinsOwnPayload
-joins_own_payload laws x is =
+abbrev pub JoinsPayload : Case → Type 0
+JoinsPayload x =
+    (HasPayload x.chain x.log × (joined (says x) (of_session (blocks (notes x.log)) (own_session x.s)) ≡ Ok (payload_text x.s.payload)))
+    ⊎ ((¬ (HasPayload x.chain x.log)) × (joined (says x) (of_session (blocks (notes x.log)) (own_session x.s)) ≡ Err states.Incomplete))
+
+pub joins_payload : Laws → (x : Case) → IsDelivery x → OneBegins x → JoinsPayload x
+joins_payload laws x is one =
     elim (cases_Bool (lacks_some (certificates (of_session (blocks (notes x.log)) (own_session x.s))))) [
-      | inl lacks ↦ inr (not_arrived laws x is lacks, incomplete laws x is lacks)
-      | inr whole ↦ inl (arrived laws x is whole)
+      | inl lacks ↦ inr (not_arrived laws x is one lacks, incomplete laws x is one lacks)
+      | inr whole ↦ inl (arrived laws x is one whole)
     ]
+
+pub joins_own_payload : Laws → OwnBlocksAreSent → SentBlocksAreStored → BeginsFirst → JoinsOwnPayload
+joins_own_payload laws sent stored first x is = joins_payload laws x (of_case sent stored x is) (one_beginning first x.s x.chain is.chain)

@@ -38,7 +38,7 @@ pub record IsTurn (s : Setting) (t : Turn) : Type 0 where
   pub emits : EmitsFrom s old t.call t.emitted
 
 -- each turn of an originator is one
-turn_of : (s : Setting) (start : Start) (turns : List Turn) (t : Turn) → AreTurns s start turns → Has turns t → IsTurn s t
+pub turn_of : (s : Setting) (start : Start) (turns : List Turn) (t : Turn) → AreTurns s start turns → Has turns t → IsTurn s t
 turn_of s start [] t are h = absurd h
 turn_of s start (u ∷ before) t are (inl e) =
     subst (IsTurn s) e (record { old = state s.config start (calls_of before); accepted = are.1; emits = are.2 })
@@ -49,6 +49,12 @@ pub turn_of_chain : (s : Setting) (chain : List (List Turn)) (turns : List Turn)
 turn_of_chain s [] turns t are h i = absurd h
 turn_of_chain s (first ∷ before) turns t are (inl e) i = turn_of s (start_behind s.config before) first t are.1 (subst (λ (ts : List Turn). Has ts t) (sym e) i)
 turn_of_chain s (first ∷ before) turns t are (inr h) i = turn_of_chain s before turns t are.0 h i
+
+abbrev pub AreAllTurns : Setting → List (List Turn) → Type 0
+AreAllTurns s chain = (turns : List Turn) (t : Turn) → Has chain turns → Has turns t → IsTurn s t
+
+pub turns_of_chain : (s : Setting) (chain : List (List Turn)) → IsChain s chain → AreAllTurns s chain
+turns_of_chain s chain is turns t h i = turn_of_chain s chain turns t is.chained h i
 
 -- a turn of the chain that sent the message
 pub record IsSentBy (chain : List (List Turn)) (m : List ℕ) : Type 0 where
@@ -171,9 +177,9 @@ module _ (s : Setting) (old : State) (m : List ℕ) where
         | inr r ↦ inr (own_block t.call t.emitted e (from_has-copies s.config.copies e.sent.messages m r))
       ]
 
--- what a chain sent has no block, or is one of its session
-pub sent_as : (s : Setting) (chain : List (List Turn)) (m : List ℕ) → IsChain s chain → Contains (emitted_by chain) m → (reading m ≡ readings.Plain) ⊎ IsOwnBlock s m
-sent_as s chain m is c =
+-- what turns sent has no block, or is one of their session
+pub sent_as : (s : Setting) (chain : List (List Turn)) (m : List ℕ) → AreAllTurns s chain → Contains (emitted_by chain) m → (reading m ≡ readings.Plain) ⊎ IsOwnBlock s m
+sent_as s chain m are c =
     let b = sent_by chain m c in
-    let is_turn = turn_of_chain s chain b.turns b.turn is.chained b.of_chain b.of_originator in
+    let is_turn = are b.turns b.turn b.of_chain b.of_originator in
     of_turn s is_turn.old m b.turn is_turn.emits is_turn.accepted b.sent

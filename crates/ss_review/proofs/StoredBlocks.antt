@@ -1,4 +1,4 @@
--- The blocks that are stored of a log are those that its chain sent.
+-- The blocks that are stored of a log are those that its originators sent.
 use Rattle.std.proofs.Common.{◌≡◌, inl, inr, ℕ, true, false, List, refl, sym, ap, ◌∙◌}
 use Rattle.std.specs.Prelude.{Option, Some, None, option_map, slice_get}
 use Rattle.std.specs.List.{Contains}
@@ -9,19 +9,19 @@ use Rattle.ss_block.specs.declared.session.Session.{Session}
 use Rattle.ss_block.specs.Reading.{reading}
 use Rattle.ss_payload.specs.Payload.{payload_text}
 use Rattle.ss_origin.specs.Setting.{Setting}
-use Rattle.ss_origin.specs.Chain.{Turn, IsChain, emitted_by}
+use Rattle.ss_origin.specs.Chain.{Turn, emitted_by}
 use Rattle.ss_review.specs.declared.keep.message.BlockMessage.{BlockMessage}
 use Rattle.ss_review.specs.declared.keep.message.Said.{Said}
 use Rattle.ss_review.specs.Notes.{Note, Block, noted, note, notes}
 use Rattle.ss_review.specs.Contents.{said_in, block_with, block_in, blocks}
 use Rattle.ss_review.specs.Verified.{signature_of, is_valid}
-use Rattle.ss_review.specs.Delivery.{own_session, is_normal, is_spoilt, IsDelivered, sent, normal, spoilt, other}
-use Rattle.ss_review.specs.DeliveryLaws.{Case, IsCase, says}
-use Rattle.ss_review.specs.Delivered.{IsSentBlock, OwnBlocksAreSent, SentBlocksAreStored}
+use Rattle.ss_review.specs.Delivery.{own_session, is_normal, is_spoilt, IsDelivered, sent, normal, spoilt, other, Delivers}
+use Rattle.ss_review.specs.DeliveryLaws.{Case, AcceptsSent, says}
+use Rattle.ss_review.specs.Delivered.{IsSentBlock, IsStoredBlock, OwnBlocksAreSent, SentBlocksAreStored}
 use Rattle.ss_review.proofs.Keyed.{has-slice_get, slice_get-has}
 use Rattle.ss_origin.proofs.Members.{has_from_contains, contains_from_has}
 use Rattle.ss_review.proofs.NotesTold.{IsBlockOf, has-block}
-use Rattle.ss_review.proofs.SentMessages.{IsOwnBlock, sent_as}
+use Rattle.ss_review.proofs.SentMessages.{AreAllTurns, turns_of_chain, IsOwnBlock, sent_as}
 use Rattle.ss_review.proofs.Witnesses.{stored_block}
 
 -- ---- what a reading is noted as
@@ -72,7 +72,7 @@ pub own_note : (s : Setting) (m : List ℕ) → IsOwnBlock s m → note m ≡ Bl
 unfolding note
 own_note s m is = noted_block m (reading m) is.said is.read
 
-plain_normal : (m : List ℕ) → reading m ≡ readings.Plain → is_normal (note m) ≡ true
+pub plain_normal : (m : List ℕ) → reading m ≡ readings.Plain → is_normal (note m) ≡ true
 unfolding note
 plain_normal m e = ap (λ r. is_normal (noted m r)) e
 
@@ -81,9 +81,9 @@ unfolding note
 plain_not_spoilt m e = ap (λ r. is_spoilt (noted m r)) e
 
 -- no message that was sent is spoilt
-pub none_spoilt : (s : Setting) (chain : List (List Turn)) (m : List ℕ) → IsChain s chain → Contains (emitted_by chain) m → is_spoilt (note m) ≡ false
-none_spoilt s chain m is c =
-    elim (sent_as s chain m is c) [
+pub none_spoilt : (s : Setting) (chain : List (List Turn)) (m : List ℕ) → AreAllTurns s chain → Contains (emitted_by chain) m → is_spoilt (note m) ≡ false
+none_spoilt s chain m are c =
+    elim (sent_as s chain m are c) [
       | inl plain ↦ plain_not_spoilt m plain
       | inr own ↦ ap is_spoilt (own_note s m own)
     ]
@@ -95,11 +95,11 @@ module _ (x : Case) (b : BlockMessage) (text : List ℕ) (told : IsBlockOf b.pla
   unfolding block_in
   read_of = λ i. block_with b.place (told.said_is i) (told.session_is i) (told.signed_is i)
 
-  valid_of : IsCase x → Contains x.log text → Contains (emitted_by x.chain) text → IsOwnBlock x.s text → is_valid (says x) (payload_text x.s.payload) b ≡ true
-  valid_of case stored c is =
+  valid_of : AcceptsSent x → Contains x.log text → Contains (emitted_by x.chain) text → IsOwnBlock x.s text → is_valid (says x) (payload_text x.s.payload) b ≡ true
+  valid_of accepts stored c is =
       let octets : is.octets ≡ b.signed = same_Some _ _ (sym is.signed_is ∙ told.signed_is) in
       let said : is.said ≡ b.said = same_Some _ _ (sym is.read ∙ told.said_is) in
-      sym (λ i. (says x).valid (payload_text x.s.payload) (octets i) (signature_of (said i))) ∙ case.accepts text is.octets is.said stored c is.read is.signed_is is.valid
+      sym (λ i. (says x).valid (payload_text x.s.payload) (octets i) (signature_of (said i))) ∙ accepts text is.octets is.said stored c is.read is.signed_is is.valid
 
   note_not_normal : is_normal (note text) ≡ true → ⊥
   unfolding note
@@ -112,27 +112,27 @@ module _ (x : Case) (b : BlockMessage) (text : List ℕ) (told : IsBlockOf b.pla
   not_plain : reading text ≡ readings.Plain → ⊥
   not_plain e = unsaid b.said (ap said_in (sym e) ∙ told.said_is)
 
-  of_delivered : IsCase x → Contains x.log text → b.session ≡ own_session x.s → IsDelivered x.s x.chain text → IsSentBlock x b
-  of_delivered is stored own (sent c) =
-      elim (sent_as x.s x.chain text is.chain c) [
+  of_delivered : AreAllTurns x.s x.chain → AcceptsSent x → Contains x.log text → b.session ≡ own_session x.s → IsDelivered x.s x.chain text → IsSentBlock x b
+  of_delivered are accepts stored own (sent c) =
+      elim (sent_as x.s x.chain text are c) [
         | inl plain ↦ absurd (not_plain plain)
-        | inr own_one ↦ record { message = text; stored = stored; sent = c; read = read_of; valid = valid_of is stored c own_one }
+        | inr own_one ↦ record { message = text; stored = stored; sent = c; read = read_of; valid = valid_of accepts stored c own_one }
       ]
-  of_delivered is stored own (normal n) = absurd (note_not_normal n)
-  of_delivered is stored own (spoilt n) = absurd (note_not_spoilt n)
-  of_delivered is stored own (other o e n) = absurd (n (same_Some o (own_session x.s) (sym e ∙ told.session_is ∙ ap (λ (p : Session). Some p) own)))
+  of_delivered are accepts stored own (normal n) = absurd (note_not_normal n)
+  of_delivered are accepts stored own (spoilt n) = absurd (note_not_spoilt n)
+  of_delivered are accepts stored own (other o e n) = absurd (n (same_Some o (own_session x.s) (sym e ∙ told.session_is ∙ ap (λ (p : Session). Some p) own)))
 
--- each stored block of the session is one that the chain sent
-pub own_blocks_are_sent : OwnBlocksAreSent
-own_blocks_are_sent x is b c own =
+-- a stored block of the session is one that was sent
+pub own_block_sent : (x : Case) → AreAllTurns x.s x.chain → Delivers x.s x.chain x.log → AcceptsSent x → (b : BlockMessage) → Contains (blocks (notes x.log)) b → b.session ≡ own_session x.s → IsSentBlock x b
+own_block_sent x are delivers accepts b c own =
     let w = stored_block x.log b (has_from_contains (blocks (notes x.log)) b c) in
     let stored : Contains x.log w.0 = contains_from_has x.log w.0 (has-slice_get x.log b.place w.0 w.1) in
-    of_delivered x b w.0 w.2 is stored own (is.delivers w.0 stored)
+    of_delivered x b w.0 w.2 are accepts stored own (delivers w.0 stored)
 
--- each block that the chain sent and that is in the log is stored as one of the session
-pub sent_blocks_are_stored : SentBlocksAreStored
-sent_blocks_are_stored x is m c sent_it n =
-    elim (sent_as x.s x.chain m is.chain sent_it) [
+-- a block that was sent and that is in the log is stored as one of the session
+pub sent_block_stored : (x : Case) → AreAllTurns x.s x.chain → (m : List ℕ) → Contains x.log m → Contains (emitted_by x.chain) m → is_normal (note m) ≡ false → IsStoredBlock x m
+sent_block_stored x are m c sent_it n =
+    elim (sent_as x.s x.chain m are sent_it) [
       | inl plain ↦ absurd (let no : true ≡ false = sym (plain_normal m plain) ∙ n in cc)
       | inr own ↦ (
           let at = slice_get-has x.log m (has_from_contains x.log m c) in
@@ -146,3 +146,11 @@ sent_blocks_are_stored x is m c sent_it n =
             own = refl;
           })
     ]
+
+-- each stored block of the session is one that the chain sent
+pub own_blocks_are_sent : OwnBlocksAreSent
+own_blocks_are_sent x is b c own = own_block_sent x (turns_of_chain x.s x.chain is.chain) is.delivers is.accepts b c own
+
+-- each block that the chain sent and that is in the log is stored as one of the session
+pub sent_blocks_are_stored : SentBlocksAreStored
+sent_blocks_are_stored x is m c sent_it n = sent_block_stored x (turns_of_chain x.s x.chain is.chain) m c sent_it n

@@ -22,6 +22,7 @@ use Rattle.ss_review.specs.Delivered.{HasOneHash, KeysHaveBlocks, EntriesAreByRa
 use Rattle.ss_review.proofs.Announcements.{announced_row, announced_key, has-announced_key, disputed_key, has-disputed_key, from_has-hashes_for, has-hashes_for, has-rows}
 use Rattle.ss_origin.proofs.Members.{Has, has_from_contains, contains_from_has}
 use Rattle.ss_review.proofs.OnePlaceOneKey.{assigned_cases, wanted_key}
+use Rattle.ss_review.proofs.SentMessages.{turns_of_chain}
 use Rattle.ss_review.proofs.StoredBlocks.{none_spoilt}
 
 -- ---- all reports
@@ -102,7 +103,7 @@ announced_by_blocks have told announced x is k own = (
 -- a gap for a dispute has two hashes, and each is that of the number's message
 pub nothing_is_disputed : OneReport → AnnouncedByBlocks → NothingIsDisputed
 nothing_is_disputed one by_blocks x is = (
-  λ m c. none_spoilt x.s x.chain m is.chain c,
+  λ m c. none_spoilt x.s x.chain m (turns_of_chain x.s x.chain is.chain) c,
   λ k own gap. (
       let its = (by_blocks x is k own).1 (inr (whys.Disputed, gap)) in
       let two = (((one.0 (says x) x.log).entries k.session k.group _).0 gap).2.0 refl in

@@ -16,11 +16,13 @@ use Rattle.ss_review.specs.DeliveryLaws.{Case, says}
 use Rattle.ss_review.specs.Delivered.{OwnBlocksAreSent, SentBlocksAreStored, JoinsOwnPayload}
 use Rattle.ss_review.specs.Whole.{IsWhole, PayloadsArrive, BlocksAreVerified, NothingIsSpoilt}
 use Rattle.ss_review.proofs.AnnouncedNumbers.{verified_by}
+use Rattle.ss_review.proofs.Deliveries.{of_case}
 use Rattle.ss_review.proofs.Keyed.{has-slice_get}
 use Rattle.ss_origin.proofs.Members.{Has, has_from_contains, contains_from_has}
 use Rattle.ss_review.proofs.NotesTold.{block_read, block_noted, spoilt_noted}
 use Rattle.ss_review.proofs.NumbersCovered.{sent_by_turn}
 use Rattle.ss_review.proofs.SentKinds.{begun_note}
+use Rattle.ss_review.proofs.SentMessages.{turns_of_chain}
 use Rattle.ss_review.proofs.StoredBlocks.{none_spoilt}
 use Rattle.ss_review.proofs.Witnesses.{got_map, note_block}
 
@@ -47,7 +49,7 @@ own_block sent_stored x w b h =
     ∙ as_block.own
 
 pub blocks_are_verified : PayloadsArrive → OwnBlocksAreSent → SentBlocksAreStored → JoinsOwnPayload → BlocksAreVerified
-blocks_are_verified arrive own_sent sent_stored joins x w b c = (own, verified_by x w.case own_sent b c own whole)
+blocks_are_verified arrive own_sent sent_stored joins x w b c = (own, verified_by x (of_case own_sent sent_stored x w.case) b c own whole)
   where
     own : b.session ≡ own_session x.s
     own = own_block sent_stored x w b (has_from_contains (blocks (notes x.log)) b c)
@@ -69,6 +71,6 @@ nothing_is_spoilt x w = none_of (spoilts (notes x.log)) not_there
     not_there p h =
         let got = got_map note x.log p.place (Spoilt p.cause) (spoilt_noted (notes x.log) p h) in
         let stored : Contains x.log got.0 = contains_from_has x.log got.0 (has-slice_get x.log p.place got.0 got.1) in
-        let not_so : is_spoilt (note got.0) ≡ false = none_spoilt x.s x.chain got.0 w.case.chain (w.delivered.sent got.0 stored) in
+        let not_so : is_spoilt (note got.0) ≡ false = none_spoilt x.s x.chain got.0 (turns_of_chain x.s x.chain w.case.chain) (w.delivered.sent got.0 stored) in
         let no : true ≡ false = sym (ap is_spoilt got.2) ∙ not_so in
         cc
