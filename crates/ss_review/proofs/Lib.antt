@@ -114,3 +114,5 @@ pub mod MovedVerdicts
 pub mod PartLogs
 pub mod CutRows
 pub mod Deliveries
+pub mod GivenAhead
+pub mod CasesAhead

@@ -48,3 +48,4 @@ pub mod Parts
 pub mod PartLaws
 pub mod PartRows
 pub mod FaultText
+pub mod AheadDelivery

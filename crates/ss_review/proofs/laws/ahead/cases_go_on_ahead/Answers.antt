@@ -1,0 +1,5 @@
+use Rattle.ss_review.proofs.CasesAhead.{cases_go_on_ahead}
+use Rattle.ss_review.proofs.laws.ahead.cases_go_on_ahead.Goals as goal
+
+pub returns : goal.returns
+returns c = cases_go_on_ahead c.chains_go_on_ahead.ensures

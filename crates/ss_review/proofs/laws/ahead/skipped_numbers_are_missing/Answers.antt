@@ -1,0 +1,5 @@
+use Rattle.ss_review.proofs.CasesAhead.{skipped_are_missing}
+use Rattle.ss_review.proofs.laws.ahead.skipped_numbers_are_missing.Goals as goal
+
+pub returns : goal.returns
+returns c = skipped_are_missing c.skipped_numbers_are_in_holes.ensures c.every_number_is_told.ensures
