@@ -114,5 +114,7 @@ pub mod MovedVerdicts
 pub mod PartLogs
 pub mod CutRows
 pub mod Deliveries
+pub mod DigestOctets
 pub mod GivenAhead
 pub mod CasesAhead
+pub mod SmallChains

@@ -49,3 +49,4 @@ pub mod PartLaws
 pub mod PartRows
 pub mod FaultText
 pub mod AheadDelivery
+pub mod SmallChains
