@@ -1,0 +1,10 @@
+pub mod Fragments
+pub mod SameStates
+pub mod LeftBlocks
+pub mod NightBlocks
+pub mod StayingPayloads
+pub mod AnnouncedNights
+pub mod RefusedNights
+pub mod EachItsOwn
+pub mod SettledRows
+pub mod SoFar

@@ -1,0 +1,4 @@
+pub mod Nights
+pub mod NightLaws
+pub mod Together
+pub mod NightRows

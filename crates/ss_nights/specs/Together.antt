@@ -1,0 +1,79 @@
+-- When the nights together say what one review of their files says.
+use Rattle.std.specs.Prelude.{◌≡◌, ◌≢◌, ◌↔◌, ◌⊎◌, ◌+◌, ◌<◌, ◌≤◌, ◌&&◌, ℕ, true, false, count_by, Contains, None}
+use Rattle.std.specs.List.{sum_by, range_with_len}
+use Rattle.std.specs.declared.cmp.Ordering.TheVariants.{Less}
+use Rattle.ss_block.specs.declared.hash.Hash.{Hash}
+use Rattle.ss_block.specs.declared.hash.HashPair.{HashPair}
+use Rattle.ss_review.specs.declared.keep.message.BlockMessage.{BlockMessage}
+use Rattle.ss_review.specs.declared.keep.spoilt.SpoiltPlace.{SpoiltPlace}
+use Rattle.ss_review.specs.Contents.{Contents}
+use Rattle.ss_review.specs.Verified.{Answers, is_verified}
+use Rattle.ss_review.specs.Announced.{Key, key_cmp}
+use Rattle.ss_review.specs.Assigned.{has_hash}
+use Rattle.ss_review.specs.Announcing.{Announces, IsDisputedKey}
+use Rattle.ss_review.specs.Listing.{Wants}
+use Rattle.ss_review.specs.Report.{refused}
+use Rattle.ss_nights.specs.Nights.{Nights, is_reviewed, night_log, so_far, AreContents, IsJoined, listed, LeaveEnough, IsSettled, IsSettledBefore, HasPair}
+
+-- ---- premises
+
+-- something is announced for the key, undisputed, and it is listed nowhere
+pub record IsLost (says : Answers) (log : Contents) (k : Key) (h : Hash) : Type 0 where
+  pub announced : Announces says log.blocks k h
+  pub undisputed : ¬ IsDisputedKey says log.blocks k
+  pub unlisted : listed says log k ≡ None
+
+-- the messages of a file stand behind those of the files before
+abbrev pub FilesFollow : Nights → Type 0
+FilesFollow x = (place other : ℕ) → place < other → other < x.whole.count → x.file place ≤ x.file other
+
+-- no session is disputed in the end of which a night left a verified block behind
+abbrev pub JoinedStay : Answers → Nights → ℕ → Type 0
+JoinedStay says x last =
+    (night : ℕ) (b : BlockMessage) → night < last → Contains (night_log x night).blocks b
+    → is_verified says (night_log x night).blocks b ≡ true → x.left night b.place ≡ false
+    → IsJoined says (night_log x last).blocks b.session
+
+-- what has to hold of the nights up to the last one
+pub record AgreeLater (says : Answers) (x : Nights) (last : ℕ) : Type 0 where
+  pub joined : JoinedStay says x last
+  -- no settled number is announced later with another hash
+  pub hash : (night later : ℕ) (k : Key) (place : ℕ) (g h : Hash) → night < later → later ≤ last → IsSettled says x night k place
+      → Announces says (night_log x night).blocks k g → Announces says (night_log x later).blocks k h → g ≡ h
+  -- no settled number is listed later
+  pub again : (night later : ℕ) (k : Key) (place : ℕ) → night < later → later ≤ last → IsSettled says x night k place
+      → listed says (night_log x later) k ≡ None
+  -- no number that is lost in the end, and unsettled, comes before a settled one whose message has the hash that is lost
+  pub lost : (night : ℕ) (k : Key) (place : ℕ) (p : HashPair) (j : Key) (h : Hash) → night < last → IsSettled says x night k place
+      → HasPair x.whole place p → IsLost says (night_log x last) j h → ¬ IsSettledBefore says x last j
+      → has_hash h p ≡ true → key_cmp j k ≢ Less
+  -- no number wants another message later, with the hash of a settled one that stands before it
+  pub collision : (night later : ℕ) (k : Key) (place : ℕ) (p : HashPair) (j : Key) (q : HashPair) (w : Wants says (night_log x later) j q)
+      → night < later → later ≤ last → IsSettled says x night k place → HasPair x.whole place p
+      → place < w.bearer.place → has_hash w.hash p ≡ true → p ≡ q
+
+-- ---- what the nights together say
+
+-- the block at the place is refused in the last night, or one before refused it and left it behind
+abbrev pub IsRefusedInNights : Answers → Nights → ℕ → ℕ → Type 0
+IsRefusedInNights says x last place =
+    Contains (refused says (night_log x last).blocks) place
+    ⊎ ((night : ℕ) × (night < last) × Contains (refused says (night_log x night).blocks) place × (x.left night place ≡ false))
+
+-- how many messages the night leaves over of those that it reviewed
+abbrev pub left_count : Nights → ℕ → ℕ
+left_count x night = count_by (λ place. is_reviewed x night place && x.left night place) (range_with_len 0 x.whole.count)
+
+-- each place of another kind is told by some night, and none twice
+pub record TellPlaces (says : Answers) (x : Nights) (last : ℕ) : Type 0 where
+  pub refused : (place : ℕ) → Contains (refused says (so_far x last).blocks) place ↔ IsRefusedInNights says x last place
+  pub spoilt : (s : SpoiltPlace) → Contains (so_far x last).spoilt s ↔ ((night : ℕ) × (night ≤ last) × Contains (night_log x night).spoilt s)
+  pub spoilt_once : (s : SpoiltPlace) (night other : ℕ) → night ≤ last → other ≤ last
+      → Contains (night_log x night).spoilt s → Contains (night_log x other).spoilt s → night ≡ other
+  pub count : (so_far x last).count + sum_by (left_count x) (range_with_len 0 last)
+      ≡ sum_by (λ night. (night_log x night).count) (range_with_len 0 (last + 1))
+
+abbrev pub PlacesOfNights : Type 0
+PlacesOfNights =
+    (says : Answers) (x : Nights) (last : ℕ) → AreContents x.whole → LeaveEnough says x last → JoinedStay says x last
+    → TellPlaces says x last

@@ -1,0 +1,52 @@
+//! What holds of every log that is reviewed night by night, where each night leaves enough over for the next one.
+ghost use Rattle.ss_nights.specs.NightLaws.{AnnouncedOfNights, FilesAreTheWhole, NightsAreLogs, StatesOfNights, VerifiedStays};
+ghost use Rattle.ss_nights.specs.Together.{PlacesOfNights};
+ghost use Rattle.ss_nights.specs.NightRows.{NightsAreThese};
+
+use ss_block::laws::readings::blocks_are_in_range;
+
+/// What is said of a night's log is what the report on it says: that of the messages that the night reviews, with the
+/// places as those in the whole.
+pub fn nights_are_logs()
+    ensures { NightsAreLogs }
+{}
+
+/// The files so far are the whole log, where no place belongs to a later one.
+pub fn files_are_the_whole()
+    ensures { FilesAreTheWhole }
+{}
+
+/// After each night a session has the state that it has in one review of all files so far.
+pub fn states_of_nights()
+    ensures { StatesOfNights }
+{
+    blocks_are_in_range();
+}
+
+/// What a night verified is verified in each later night that reviews it, if its session is joined in the end.
+pub fn verified_stay()
+    ensures { VerifiedStays }
+{
+    blocks_are_in_range();
+}
+
+/// What is announced in one review of all files so far is what some night announced, of sessions that are joined there.
+pub fn announced_of_nights()
+    ensures { AnnouncedOfNights }
+{
+    blocks_are_in_range();
+}
+
+/// What one review of all files so far refuses, calls spoilt and counts is what the nights do, put together. The premise
+/// is that no session is disputed in the end of which a night left a verified block behind.
+pub fn places_of_nights()
+    ensures { PlacesOfNights }
+{
+    blocks_are_in_range();
+}
+
+/// Small logs of two nights, and the reports on them, computed: one that meets the premises of the law on what the nights
+/// say together, and for each premise one that doesn't, and where they say something else than the whole.
+pub fn nights_are_these()
+    ensures { NightsAreThese }
+{}
