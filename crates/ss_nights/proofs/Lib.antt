@@ -8,3 +8,11 @@ pub mod RefusedNights
 pub mod EachItsOwn
 pub mod SettledRows
 pub mod SoFar
+pub mod Matching
+pub mod PairedCounts
+pub mod OnePair
+pub mod SettledKeys
+pub mod SettledCounts
+pub mod KeysStay
+pub mod WholeBearers
+pub mod NumbersTogether

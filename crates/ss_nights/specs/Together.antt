@@ -1,5 +1,5 @@
 -- When the nights together say what one review of their files says.
-use Rattle.std.specs.Prelude.{◌≡◌, ◌≢◌, ◌↔◌, ◌⊎◌, ◌+◌, ◌<◌, ◌≤◌, ◌&&◌, ℕ, true, false, count_by, Contains, None}
+use Rattle.std.specs.Prelude.{◌≡◌, ◌≢◌, ◌↔◌, ◌⊎◌, ◌+◌, ◌<◌, ◌≤◌, ◌&&◌, ℕ, not, true, false, count_by, Contains, Some, None}
 use Rattle.std.specs.List.{sum_by, range_with_len}
 use Rattle.std.specs.declared.cmp.Ordering.TheVariants.{Less}
 use Rattle.ss_block.specs.declared.hash.Hash.{Hash}
@@ -8,8 +8,8 @@ use Rattle.ss_review.specs.declared.keep.message.BlockMessage.{BlockMessage}
 use Rattle.ss_review.specs.declared.keep.spoilt.SpoiltPlace.{SpoiltPlace}
 use Rattle.ss_review.specs.Contents.{Contents}
 use Rattle.ss_review.specs.Verified.{Answers, is_verified}
-use Rattle.ss_review.specs.Announced.{Key, key_cmp}
-use Rattle.ss_review.specs.Assigned.{has_hash}
+use Rattle.ss_review.specs.Announced.{Key, key_cmp, rows}
+use Rattle.ss_review.specs.Assigned.{has_hash, same_pair, is_taken}
 use Rattle.ss_review.specs.Announcing.{Announces, IsDisputedKey}
 use Rattle.ss_review.specs.Listing.{Wants}
 use Rattle.ss_review.specs.Report.{refused}
@@ -54,6 +54,18 @@ pub record AgreeLater (says : Answers) (x : Nights) (last : ℕ) : Type 0 where
 
 -- ---- what the nights together say
 
+-- the log lists the key with a message of these hashes
+abbrev pub IsListedWith : Answers → Contents → Key → HashPair → Type 0
+IsListedWith says log k p = (place : ℕ) × (listed says log k ≡ Some place) × HasPair log place p
+
+-- some night before settled the key with a message of these hashes
+abbrev pub IsSettledWith : Answers → Nights → ℕ → Key → HashPair → Type 0
+IsSettledWith says x last k p = (night : ℕ) × (place : ℕ) × (night < last) × IsSettled says x night k place × HasPair x.whole place p
+
+-- how many messages with these hashes are listed nowhere
+abbrev pub unlisted_with : Answers → Contents → HashPair → ℕ
+unlisted_with says log p = count_by (λ m. same_pair m.pair p && not (is_taken log.normal (rows says log.blocks) m.place)) log.normal
+
 -- the block at the place is refused in the last night, or one before refused it and left it behind
 abbrev pub IsRefusedInNights : Answers → Nights → ℕ → ℕ → Type 0
 IsRefusedInNights says x last place =
@@ -73,7 +85,22 @@ pub record TellPlaces (says : Answers) (x : Nights) (last : ℕ) : Type 0 where
   pub count : (so_far x last).count + sum_by (left_count x) (range_with_len 0 last)
       ≡ sum_by (λ night. (night_log x night).count) (range_with_len 0 (last + 1))
 
+-- the nights up to the last one list what a review of all their files lists, and lack what it lacks
+pub record TellNumbers (says : Answers) (x : Nights) (last : ℕ) : Type 0 where
+  pub listed : (k : Key) (p : HashPair)
+      → IsListedWith says (so_far x last) k p ↔ (IsListedWith says (night_log x last) k p ⊎ IsSettledWith says x last k p)
+  pub disputed : (k : Key) → IsDisputedKey says (so_far x last).blocks k
+      ↔ (IsDisputedKey says (night_log x last).blocks k × (¬ IsSettledBefore says x last k))
+  pub lost : (k : Key) (h : Hash) → IsLost says (so_far x last) k h
+      ↔ (IsLost says (night_log x last) k h × (¬ IsSettledBefore says x last k))
+  pub unlisted : (p : HashPair) → unlisted_with says (so_far x last) p ≡ unlisted_with says (night_log x last) p
+
 abbrev pub PlacesOfNights : Type 0
 PlacesOfNights =
     (says : Answers) (x : Nights) (last : ℕ) → AreContents x.whole → LeaveEnough says x last → JoinedStay says x last
     → TellPlaces says x last
+
+abbrev pub NumbersOfNights : Type 0
+NumbersOfNights =
+    (says : Answers) (x : Nights) (last : ℕ) → AreContents x.whole → FilesFollow x → LeaveEnough says x last → AgreeLater says x last
+    → TellNumbers says x last

@@ -1,6 +1,6 @@
 //! What holds of every log that is reviewed night by night, where each night leaves enough over for the next one.
 ghost use Rattle.ss_nights.specs.NightLaws.{AnnouncedOfNights, FilesAreTheWhole, NightsAreLogs, StatesOfNights, VerifiedStays};
-ghost use Rattle.ss_nights.specs.Together.{PlacesOfNights};
+ghost use Rattle.ss_nights.specs.Together.{NumbersOfNights, PlacesOfNights};
 ghost use Rattle.ss_nights.specs.NightRows.{NightsAreThese};
 
 use ss_block::laws::readings::blocks_are_in_range;
@@ -43,6 +43,18 @@ pub fn places_of_nights()
     ensures { PlacesOfNights }
 {
     blocks_are_in_range();
+}
+
+/// What one review of all files so far says of numbers and unlisted messages is what the nights say together. It lists a
+/// number exactly where the last night lists it or some night settled it, with an equal message. Its gaps are those of the
+/// last night that aren't settled, with the same reasons. As many copies of each message are unlisted as in the last night.
+/// The premises are that the files follow one another, and those of `AgreeLater`.
+pub fn numbers_of_nights()
+    ensures { NumbersOfNights }
+{
+    states_of_nights();
+    verified_stay();
+    announced_of_nights();
 }
 
 /// Small logs of two nights, and the reports on them, computed: one that meets the premises of the law on what the nights

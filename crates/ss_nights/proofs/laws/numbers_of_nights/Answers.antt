@@ -1,0 +1,14 @@
+use Rattle.ss_nights.proofs.NumbersTogether.{listed_together, disputed_together, lost_together, unlisted_together}
+use Rattle.ss_nights.proofs.laws.numbers_of_nights.Goals as goal
+
+pub returns : goal.returns
+returns c = λ says x last are follow leave agree.
+    (let stays = c.verified_stay.ensures in
+    let states = c.states_of_nights.ensures in
+    let announced = c.announced_of_nights.ensures in
+    record {
+      listed = λ k p. listed_together x says are follow stays states announced last leave agree p k;
+      disputed = disputed_together x says are follow stays states announced last leave agree;
+      lost = lost_together x says are follow stays states announced last leave agree;
+      unlisted = unlisted_together x says are follow stays states announced last leave agree;
+    })
