@@ -24,9 +24,8 @@ use Rattle.ss_review.proofs.Rising.{same_members}
 use Rattle.ss_review.proofs.TotalOrders.{row_cmp_total, row_cmp_exact}
 use Rattle.ss_nights.specs.Nights.{Nights, night_log, so_far, AreContents, IsJoined, listed, LeavesEnough, LeaveEnough, IsSettled, IsSettledBefore}
 use Rattle.ss_nights.specs.NightLaws.{StatesOfNights, AnnouncedOfNights, VerifiedStays}
-use Rattle.ss_nights.specs.Together.{AgreeLater}
 use Rattle.ss_nights.proofs.NightBlocks.{from_night, has-night, left_reviewed}
-use Rattle.ss_nights.proofs.SettledKeys.{night_rows, lists_one, settled_if}
+use Rattle.ss_nights.proofs.SettledKeys.{AgreeButLost, night_rows, lists_one, settled_if}
 
 -- ---- what is announced
 
@@ -50,7 +49,7 @@ module _ (says : Answers) (bs : List BlockMessage) where
   joined_if b (Ok payload) e v = (payload, e)
   joined_if b (Err state) e v = absurd (cc)
 
-  verified_joined : (b : BlockMessage) → is_verified says bs b ≡ true → IsJoined says bs b.session
+  pub verified_joined : (b : BlockMessage) → is_verified says bs b ≡ true → IsJoined says bs b.session
   unfolding is_verified
   verified_joined b v = joined_if b (joined says (of_session bs b.session)) refl v
 
@@ -146,7 +145,7 @@ module _ (x : Nights) (says : Answers) (are : AreContents x.whole) (stays : Veri
 -- ---- one review of all files so far
 
 module _ (x : Nights) (says : Answers) (are : AreContents x.whole) (stays : VerifiedStays) (states : StatesOfNights) (announced : AnnouncedOfNights)
-    (last : ℕ) (leave : LeaveEnough says x last) (agree : AgreeLater says x last) where
+    (last : ℕ) (leave : LeaveEnough says x last) (agree : AgreeButLost says x last) where
   abbrev pub TellsAlike : ℕ → Key → Type 0
   TellsAlike night k = (h : Hash) → Announces says (so_far x last).blocks k h ↔ Announces says (night_log x night).blocks k h
 

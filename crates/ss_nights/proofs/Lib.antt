@@ -16,3 +16,4 @@ pub mod SettledCounts
 pub mod KeysStay
 pub mod WholeBearers
 pub mod NumbersTogether
+pub mod ReportsShow

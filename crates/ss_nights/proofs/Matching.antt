@@ -7,7 +7,7 @@ use Rattle.std.specs.declared.cmp.Ordering.TheVariants.{Less}
 use Rattle.std.specs.Ordering.{is_lt}
 use Rattle.std.specs.Cmp.{IsTotalOrder}
 use Rattle.std.specs.List.Sorted.{IsStrictlySortedBy}
-use Rattle.std.proofs.lemmas.Bool.{and_parts, and_from, cases_Bool, false_from_ne_true, lt-ltb, ltb-true, ltb-false, or_left, or_right, or_cases}
+use Rattle.std.proofs.lemmas.Bool.{cases_eq, and_parts, and_from, cases_Bool, false_from_ne_true, lt-ltb, ltb-true, ltb-false, or_left, or_right, or_cases}
 use Rattle.std.proofs.lemmas.Cmp.{tied_itself}
 use Rattle.std.proofs.lemmas.List.{append_assoc}
 use Rattle.ss_origin.proofs.Members.{Has}
@@ -106,8 +106,7 @@ module _ {K : Type 0} {R : K → K → Ordering} (o : IsTotalOrder R) where
       (messages : many ≡ left + count_by settled whole)
       (got_wants : (k : K) → gets R last later left k ≡ true → wants k ≡ true)
       (got_unsettled : (k : K) → gets R last later left k ≡ true → settled k ≡ false)
-      (wants_later : (k : K) → wants k ≡ true → settled k ≡ false → (later k ≡ true) ⊎ (left ≡ 0))
-      (lost_behind : (k : K) → wants k ≡ true → settled k ≡ false → gets R last later left k ≡ false → (j : K) → settled j ≡ true → R j k ≡ Less) where
+      (wants_later : (k : K) → wants k ≡ true → settled k ≡ false → (later k ≡ true) ⊎ (left ≡ 0)) where
     abbrev got : K → Bool
     got k = gets R last later left k
 
@@ -162,97 +161,149 @@ module _ {K : Type 0} {R : K → K → Ordering} (o : IsTotalOrder R) where
     got_few : count_by got last ≤ left
     got_few = let all = count-gets last vp later left in omega (arith, all)
 
-    -- ---- each that gets one in the whole was settled, or gets one in the end
+    -- ---- how many get one
 
-    -- one that neither was settled nor gets one has all settled ones and all that get one before it
-    full : (k : K) → wants k ≡ true → settled k ≡ false → got k ≡ false → many ≤ rank_of R whole wants many k
-    full k w s g =
-        omega (arith, messages, settled_below, parts, among, left_below)
+    -- those that want one and weren't settled
+    abbrev wants_new : K → Bool
+    wants_new k = not (settled k) && wants k
+
+    count-wants : count_by wants whole ≡ count_by settled whole + count_by wants_new whole
+    count-wants =
+        count_by-parts wants settled whole
+        ∙ ap (λ n. n + count_by wants_new whole)
+        (count_by-same (λ k. settled k && wants k) settled whole (λ k h. by (settled k) (wants k) (settled_wants k)))
       where
-        parts : count_by (λ j. is_lt (R j k) && both j) whole ≡ count_by (λ j. is_lt (R j k) && settled j) whole + count_by (λ j. is_lt (R j k) && got j) last
-        parts = split (λ j. is_lt (R j k))
+        by : (s w : Bool) → (s ≡ true → w ≡ true) → (s && w) ≡ s
+        by true w f = f refl
+        by false w f = refl
 
-        wants_one : (j : K) → both j ≡ true → wants j ≡ true
-        wants_one j b = elim (or_cases (settled j) (got j) b) [ inl t ↦ settled_wants j t | inr t ↦ got_wants j t ]
+    not_settled : (b : Bool) → not b ≡ true → b ≡ false
+    not_settled true e = absurd (cc)
+    not_settled false e = refl
 
-        among : count_by (λ j. is_lt (R j k) && both j) whole ≤ rank_of R whole wants many k
-        among =
-            count_by-weaker (λ j. is_lt (R j k) && both j) (λ j. is_lt (R j k) && wants j)
-            (λ j t. (let p = and_parts (is_lt (R j k)) (both j) t in and_from (is_lt (R j k)) (wants j) p.0 (wants_one j p.1))) whole
+    got_new : count_by got last ≤ count_by wants_new whole
+    got_new =
+        let more : count_by got whole ≤ count_by wants_new whole
+        = count_by-weaker got wants_new (λ k g. and_from (not (settled k)) (wants k) (ap not (got_unsettled k g)) (got_wants k g)) whole in
+        let same = same_got (λ k. true) in
+        omega (arith, more, same)
 
-        settled_below : count_by settled whole ≤ count_by (λ j. is_lt (R j k) && settled j) whole
-        settled_below =
-            count_by-weaker settled (λ j. is_lt (R j k) && settled j)
-            (λ j t. and_from (is_lt (R j k)) (settled j) (ap is_lt (lost_behind k w s g j t)) t) whole
-
-        by_rank : nat_lt (rank_of R last later left k) left ≡ false → left ≤ count_by (λ j. is_lt (R j k) && got j) last
-        by_rank f =
-            let above = ltb-false (rank_of R last later left k) left f in
-            let all = count-gets_below last vp later left k in
-            omega (arith, above, all)
-
-        not_got : later k ≡ true → nat_lt (rank_of R last later left k) left ≡ false
-        not_got t = ap (λ b. b && nat_lt (rank_of R last later left k) left) (sym t) ∙ g
-
-        left_below : left ≤ count_by (λ j. is_lt (R j k) && got j) last
-        left_below = elim (wants_later k w s) [ inl t ↦ by_rank (not_got t) | inr e ↦ omega (arith, e) ]
-
-    got_before : (k : K) → gets R whole wants many k ≡ true → both k ≡ true
-    got_before k g =
-        elim (cases_Bool (both k)) [ inl t ↦ t | inr f ↦ absurd (none f) ]
+    -- where there are any, each of these wants one in the end
+    new_later : (left ≡ 0 → ⊥) → count_by wants_new whole ≤ count_by later last
+    new_later some =
+        let same : count_by wants_new whole ≡ count_by wants_new last
+        = same_count o wants_new wants_new whole last up vp
+        (λ k h t. (later_there k (wanting k t), t))
+        (λ k h t. (all_there k (and_parts (not (settled k)) (wants k) t).1, t)) in
+        let more = count_by-weaker wants_new later wanting last in
+        omega (arith, same, more)
       where
-        none : both k ≡ false → ⊥
-        none f =
-            let p = and_parts (wants k) (nat_lt (rank_of R whole wants many k) many) g in
-            let below = ltb-true (rank_of R whole wants many k) many p.1 in
-            let s = false_from_ne_true (settled k) (λ t. (let no : false ≡ true = sym f ∙ or_left (settled k) (got k) t in cc)) in
-            let n = false_from_ne_true (got k) (λ t. (let no : false ≡ true = sym f ∙ or_right (settled k) (got k) t in cc)) in
-            let above = full k p.0 s n in
-            omega (arith, below, above)
+        wanting : (k : K) → wants_new k ≡ true → later k ≡ true
+        wanting k t =
+            let both = and_parts (not (settled k)) (wants k) t in
+            elim (wants_later k both.1 (not_settled (settled k) both.0)) [ inl l ↦ l | inr e ↦ absurd (some e) ]
 
-    -- ---- and each of those gets one in the whole
-
-    -- where one of them wants one, each smaller that wants one is one of them
-    smaller_both : (j k : K) → R j k ≡ Less → both k ≡ true → wants j ≡ true → both j ≡ true
-    smaller_both j k less b w =
-        elim (cases_Bool (both j)) [ inl t ↦ t | inr f ↦ absurd (none f) ]
-      where
-        none : both j ≡ false → ⊥
-        none f =
-            let s = false_from_ne_true (settled j) (λ t. (let no : false ≡ true = sym f ∙ or_left (settled j) (got j) t in cc)) in
-            let n = false_from_ne_true (got j) (λ t. (let no : false ≡ true = sym f ∙ or_right (settled j) (got j) t in cc)) in
-            elim (or_cases (settled k) (got k) b) [
-              | inl t ↦ not_less_itself o j (o.trans j k j less (lost_behind j w s n k t))
-              | inr t ↦ (let below = ltb-true (rank_of R last later left k) left (and_parts (later k) (nat_lt (rank_of R last later left k) left) t).1 in
-                  elim (wants_later j w s) [
-                    | inl l ↦ (let no : false ≡ true = sym n ∙ smaller_gets last vp later left j k less l t in cc)
-                    | inr e ↦ omega (arith, below, e)
-                  ])
-            ]
-
-    both_gets : (k : K) → both k ≡ true → gets R whole wants many k ≡ true
-    both_gets k b = and_from (wants k) (nat_lt (rank_of R whole wants many k) many) w (lt-ltb (rank_of R whole wants many k) many below)
-      where
-        w : wants k ≡ true
-        w = elim (or_cases (settled k) (got k) b) [ inl t ↦ settled_wants k t | inr t ↦ got_wants k t ]
-
-        among : rank_of R whole wants many k ≤ count_by (λ j. is_lt (R j k) && both j) whole
-        among =
-            count_by-weaker (λ j. is_lt (R j k) && wants j) (λ j. is_lt (R j k) && both j)
-            (λ j t. (let p = and_parts (is_lt (R j k)) (wants j) t in and_from (is_lt (R j k)) (both j) p.0 (smaller_both j k (less_is (R j k) p.0) b p.1))) whole
-
-        fewer : count_by (λ j. is_lt (R j k) && both j) whole < count_by both whole
-        fewer =
-            count_by-fewer (λ j. is_lt (R j k) && both j) both (λ j t. (and_parts (is_lt (R j k)) (both j) t).1) whole k (all_there k w)
-            (ap (λ c. is_lt c && both k) (tied_itself o k)) b
-
-        below : rank_of R whole wants many k < many
-        below = omega (arith, among, fewer, count-both, got_few, messages)
-
-    -- ---- so the whole is what was settled and what gets one in the end
-
-    pub gets_are : (k : K) → gets R whole wants many k ≡ (settled k || gets R last later left k)
-    gets_are k = one_test (gets R whole wants many k) (both k) (got_before k) (both_gets k)
-
+    -- as many get one in the whole as were settled and get one in the end
     pub count_gets_are : count_by (gets R whole wants many) whole ≡ count_by settled whole + count_by (gets R last later left) last
-    count_gets_are = count_by-same (gets R whole wants many) both whole (λ k h. gets_are k) ∙ count-both
+    count_gets_are =
+        let all = count-gets whole up wants many in
+        let own = count-gets last vp later left in
+        elim (cases_eq left 0) [
+          | inl none ↦ omega (arith, all, own, count-wants, messages, none)
+          | inr some ↦ (let fewer = new_later some in omega (arith, all, own, count-wants, messages, got_new, fewer))
+        ]
+
+    -- ---- who gets one, where those that get none stand behind all settled ones
+
+    module _ (lost_behind : (k : K) → wants k ≡ true → settled k ≡ false → gets R last later left k ≡ false → (j : K) → settled j ≡ true → R j k ≡ Less) where
+      -- ---- each that gets one in the whole was settled, or gets one in the end
+
+      -- one that neither was settled nor gets one has all settled ones and all that get one before it
+      full : (k : K) → wants k ≡ true → settled k ≡ false → got k ≡ false → many ≤ rank_of R whole wants many k
+      full k w s g =
+          omega (arith, messages, settled_below, parts, among, left_below)
+        where
+          parts : count_by (λ j. is_lt (R j k) && both j) whole ≡ count_by (λ j. is_lt (R j k) && settled j) whole + count_by (λ j. is_lt (R j k) && got j) last
+          parts = split (λ j. is_lt (R j k))
+
+          wants_one : (j : K) → both j ≡ true → wants j ≡ true
+          wants_one j b = elim (or_cases (settled j) (got j) b) [ inl t ↦ settled_wants j t | inr t ↦ got_wants j t ]
+
+          among : count_by (λ j. is_lt (R j k) && both j) whole ≤ rank_of R whole wants many k
+          among =
+              count_by-weaker (λ j. is_lt (R j k) && both j) (λ j. is_lt (R j k) && wants j)
+              (λ j t. (let p = and_parts (is_lt (R j k)) (both j) t in and_from (is_lt (R j k)) (wants j) p.0 (wants_one j p.1))) whole
+
+          settled_below : count_by settled whole ≤ count_by (λ j. is_lt (R j k) && settled j) whole
+          settled_below =
+              count_by-weaker settled (λ j. is_lt (R j k) && settled j)
+              (λ j t. and_from (is_lt (R j k)) (settled j) (ap is_lt (lost_behind k w s g j t)) t) whole
+
+          by_rank : nat_lt (rank_of R last later left k) left ≡ false → left ≤ count_by (λ j. is_lt (R j k) && got j) last
+          by_rank f =
+              let above = ltb-false (rank_of R last later left k) left f in
+              let all = count-gets_below last vp later left k in
+              omega (arith, above, all)
+
+          not_got : later k ≡ true → nat_lt (rank_of R last later left k) left ≡ false
+          not_got t = ap (λ b. b && nat_lt (rank_of R last later left k) left) (sym t) ∙ g
+
+          left_below : left ≤ count_by (λ j. is_lt (R j k) && got j) last
+          left_below = elim (wants_later k w s) [ inl t ↦ by_rank (not_got t) | inr e ↦ omega (arith, e) ]
+
+      got_before : (k : K) → gets R whole wants many k ≡ true → both k ≡ true
+      got_before k g =
+          elim (cases_Bool (both k)) [ inl t ↦ t | inr f ↦ absurd (none f) ]
+        where
+          none : both k ≡ false → ⊥
+          none f =
+              let p = and_parts (wants k) (nat_lt (rank_of R whole wants many k) many) g in
+              let below = ltb-true (rank_of R whole wants many k) many p.1 in
+              let s = false_from_ne_true (settled k) (λ t. (let no : false ≡ true = sym f ∙ or_left (settled k) (got k) t in cc)) in
+              let n = false_from_ne_true (got k) (λ t. (let no : false ≡ true = sym f ∙ or_right (settled k) (got k) t in cc)) in
+              let above = full k p.0 s n in
+              omega (arith, below, above)
+
+      -- ---- and each of those gets one in the whole
+
+      -- where one of them wants one, each smaller that wants one is one of them
+      smaller_both : (j k : K) → R j k ≡ Less → both k ≡ true → wants j ≡ true → both j ≡ true
+      smaller_both j k less b w =
+          elim (cases_Bool (both j)) [ inl t ↦ t | inr f ↦ absurd (none f) ]
+        where
+          none : both j ≡ false → ⊥
+          none f =
+              let s = false_from_ne_true (settled j) (λ t. (let no : false ≡ true = sym f ∙ or_left (settled j) (got j) t in cc)) in
+              let n = false_from_ne_true (got j) (λ t. (let no : false ≡ true = sym f ∙ or_right (settled j) (got j) t in cc)) in
+              elim (or_cases (settled k) (got k) b) [
+                | inl t ↦ not_less_itself o j (o.trans j k j less (lost_behind j w s n k t))
+                | inr t ↦ (let below = ltb-true (rank_of R last later left k) left (and_parts (later k) (nat_lt (rank_of R last later left k) left) t).1 in
+                    elim (wants_later j w s) [
+                      | inl l ↦ (let no : false ≡ true = sym n ∙ smaller_gets last vp later left j k less l t in cc)
+                      | inr e ↦ omega (arith, below, e)
+                    ])
+              ]
+
+      both_gets : (k : K) → both k ≡ true → gets R whole wants many k ≡ true
+      both_gets k b = and_from (wants k) (nat_lt (rank_of R whole wants many k) many) w (lt-ltb (rank_of R whole wants many k) many below)
+        where
+          w : wants k ≡ true
+          w = elim (or_cases (settled k) (got k) b) [ inl t ↦ settled_wants k t | inr t ↦ got_wants k t ]
+
+          among : rank_of R whole wants many k ≤ count_by (λ j. is_lt (R j k) && both j) whole
+          among =
+              count_by-weaker (λ j. is_lt (R j k) && wants j) (λ j. is_lt (R j k) && both j)
+              (λ j t. (let p = and_parts (is_lt (R j k)) (wants j) t in and_from (is_lt (R j k)) (both j) p.0 (smaller_both j k (less_is (R j k) p.0) b p.1))) whole
+
+          fewer : count_by (λ j. is_lt (R j k) && both j) whole < count_by both whole
+          fewer =
+              count_by-fewer (λ j. is_lt (R j k) && both j) both (λ j t. (and_parts (is_lt (R j k)) (both j) t).1) whole k (all_there k w)
+              (ap (λ c. is_lt c && both k) (tied_itself o k)) b
+
+          below : rank_of R whole wants many k < many
+          below = omega (arith, among, fewer, count-both, got_few, messages)
+
+      -- ---- so the whole is what was settled and what gets one in the end
+
+      pub gets_are : (k : K) → gets R whole wants many k ≡ (settled k || gets R last later left k)
+      gets_are k = one_test (gets R whole wants many k) (both k) (got_before k) (both_gets k)

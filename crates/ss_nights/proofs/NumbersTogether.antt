@@ -19,12 +19,12 @@ use Rattle.ss_review.proofs.Rising.{reversed}
 use Rattle.ss_review.proofs.TotalOrders.{key_cmp_total, key_cmp_exact}
 use Rattle.ss_nights.specs.Nights.{Nights, night_log, so_far, AreContents, listed, LeaveEnough, IsSettledBefore}
 use Rattle.ss_nights.specs.NightLaws.{StatesOfNights, AnnouncedOfNights, VerifiedStays}
-use Rattle.ss_nights.specs.Together.{IsLost, FilesFollow, AgreeLater, IsListedWith, IsSettledWith, unlisted_with}
+use Rattle.ss_nights.specs.Together.{IsLost, FilesFollow, LostStandBehind, IsListedWith, IsSettledWith, unlisted_with}
 use Rattle.ss_nights.proofs.KeysStay.{one_hash, unsettled_alike, settled_alike}
 use Rattle.ss_nights.proofs.Matching.{gets_are, count_gets_are}
 use Rattle.ss_nights.proofs.OnePair.{PlacesRise, is_pair-is, is_pair-some, wants_pair, many_with, gets_pair, got_one, assigned_one, one_got, count-untaken}
 use Rattle.ss_nights.proofs.SettledCounts.{same_message, night_rise, so_far_rise, pair_settled, count-messages}
-use Rattle.ss_nights.proofs.SettledKeys.{night_rows, from_night_normal, unsettled_before, SettledOne, settled_one, SettledWith, settled_with, has-settled_pair}
+use Rattle.ss_nights.proofs.SettledKeys.{AgreeButLost, night_rows, from_night_normal, unsettled_before, SettledOne, settled_one, SettledWith, settled_with, has-settled_pair}
 use Rattle.ss_nights.proofs.WholeBearers.{contents_rise, wanted_in_files, wants_by_hash, wanted_at_last}
 
 -- ---- one log
@@ -49,7 +49,7 @@ module _ (says : Answers) (log : Contents) (up : PlacesRise log.normal) (k : Key
   got_somewhere g e = let no : None ≡ Some (got_listed g).0 = sym e ∙ (got_listed g).1 in cc
 
 module _ (x : Nights) (says : Answers) (are : AreContents x.whole) (follow : FilesFollow x) (stays : VerifiedStays) (states : StatesOfNights) (announced : AnnouncedOfNights)
-    (last : ℕ) (leave : LeaveEnough says x last) (agree : AgreeLater says x last) where
+    (last : ℕ) (leave : LeaveEnough says x last) (agree : AgreeButLost says x last) where
   abbrev up : PlacesRise x.whole.normal
   up = contents_rise x.whole are
 
@@ -163,8 +163,8 @@ module _ (x : Nights) (says : Answers) (are : AreContents x.whole) (follow : Fil
             let no : false ≡ true = sym f ∙ subst (λ q. gets_pair ms rs q k ≡ true) same a.2 in
             absurd (cc)
 
-    lost_behind : (k : Key) → wants k ≡ true → settled k ≡ false → got k ≡ false → (j : Key) → settled j ≡ true → key_cmp j k ≡ Less
-    lost_behind k w f g j t = by (key_cmp k j) refl
+    lost_behind : LostStandBehind says x last → (k : Key) → wants k ≡ true → settled k ≡ false → got k ≡ false → (j : Key) → settled j ≡ true → key_cmp j k ≡ Less
+    lost_behind behind k w f g j t = by (key_cmp k j) refl
       where
         n : IsUnsettled k
         n = unsettled_is k w f
@@ -178,7 +178,7 @@ module _ (x : Nights) (says : Answers) (are : AreContents x.whole) (follow : Fil
             let o = s.one in
             let lost : IsLost says (night_log x last) k b.hash
             = record { announced = b.announced; undisputed = b.undisputed; unlisted = not_listed k n w g } in
-            agree.lost o.night j o.place p k b.hash o.before o.is
+            behind o.night j o.place p k b.hash o.before o.is
             (record {
               message = o.one.message;
               stored = contains_from_has x.whole.normal o.one.message (from_night_normal x o.night o.one.message o.one.stored).0;
@@ -202,15 +202,15 @@ module _ (x : Nights) (says : Answers) (are : AreContents x.whole) (follow : Fil
     there_later k w = wanted_key ms rs k p (is_pair-is p (wanted ms rs k) w)
 
     -- who gets a message in one review of all files was settled with one, or gets one in the last night
-    got_together : (k : Key) → gets_pair all all_rows p k ≡ (settled k || got k)
-    got_together =
+    got_together : LostStandBehind says x last → (k : Key) → gets_pair all all_rows p k ≡ (settled k || got k)
+    got_together behind =
         gets_are key_cmp_total (keys all_rows) (keys rs) (keys-rise all_rows) (keys-rise rs) wants later settled (many_with all all_rows p) (many_with ms rs p)
-        there there_later wants_settled messages wants_got got_apart wants_later lost_behind
+        there there_later wants_settled messages wants_got got_apart wants_later (lost_behind behind)
 
     count_together : count_by (gets_pair all all_rows p) (keys all_rows) ≡ count_by settled (keys all_rows) + count_by got (keys rs)
     count_together =
         count_gets_are key_cmp_total (keys all_rows) (keys rs) (keys-rise all_rows) (keys-rise rs) wants later settled (many_with all all_rows p) (many_with ms rs p)
-        there there_later wants_settled messages wants_got got_apart wants_later lost_behind
+        there there_later wants_settled messages wants_got got_apart wants_later
 
     -- so as many messages with these hashes are left in both
     pub unlisted_together : unlisted_with says (so_far x last) p ≡ unlisted_with says (night_log x last) p
@@ -247,21 +247,21 @@ module _ (x : Nights) (says : Answers) (are : AreContents x.whole) (follow : Fil
         = same_message x up o.one.message m (from_night_normal x o.night o.one.message o.one.stored).0 (has_from_contains x.whole.normal m s.4.stored) (o.one.place_is ∙ sym s.4.place_is) in
         is_pair-some p (its_pair k) (pair_of_settled k o ∙ ap (λ (n : NormalMessage). Some n.pair) same ∙ ap (λ (q : HashPair). Some q) s.4.pair_is)
 
-    pub listed_together : (k : Key) → IsListedWith says (so_far x last) k p ↔ (IsListedWith says (night_log x last) k p ⊎ IsSettledWith says x last k p)
-    listed_together k = (apart, back)
+    pub listed_together : LostStandBehind says x last → (k : Key) → IsListedWith says (so_far x last) k p ↔ (IsListedWith says (night_log x last) k p ⊎ IsSettledWith says x last k p)
+    listed_together behind k = (apart, back)
       where
         apart : IsListedWith says (so_far x last) k p → IsListedWith says (night_log x last) k p ⊎ IsSettledWith says x last k p
         apart l =
-            elim (or_cases (settled k) (got k) (sym (got_together k) ∙ listed_got says (so_far x last) (so_far_rise x up last) k p l)) [
+            elim (or_cases (settled k) (got k) (sym (got_together behind k) ∙ listed_got says (so_far x last) (so_far_rise x up last) k p l)) [
               | inl t ↦ inr (settled_is_with k t)
               | inr g ↦ inl (got_listed says (night_log x last) (night_rise x up last) k p g)
             ]
 
         back : IsListedWith says (night_log x last) k p ⊎ IsSettledWith says x last k p → IsListedWith says (so_far x last) k p
         back (inl l) =
-            got_listed says (so_far x last) (so_far_rise x up last) k p (got_together k ∙ or_right (settled k) (got k) (listed_got says (night_log x last) (night_rise x up last) k p l))
+            got_listed says (so_far x last) (so_far_rise x up last) k p (got_together behind k ∙ or_right (settled k) (got k) (listed_got says (night_log x last) (night_rise x up last) k p l))
         back (inr s) =
-            got_listed says (so_far x last) (so_far_rise x up last) k p (got_together k ∙ or_left (settled k) (got k) (with_is_settled k s))
+            got_listed says (so_far x last) (so_far_rise x up last) k p (got_together behind k ∙ or_left (settled k) (got k) (with_is_settled k s))
 
   -- ---- gaps
 
@@ -278,12 +278,12 @@ module _ (x : Nights) (says : Answers) (are : AreContents x.whole) (follow : Fil
           let n = not_settled d in
           ((d.0, d.1, (alike_last k n d.0).0 d.2, (alike_last k n d.1).0 d.3, d.4), n)
 
-  pub lost_together : (k : Key) (h : Hash) → IsLost says (so_far x last) k h ↔ (IsLost says (night_log x last) k h × (¬ IsSettledBefore says x last k))
-  lost_together k h = (apart, back)
+  pub lost_together : LostStandBehind says x last → (k : Key) (h : Hash) → IsLost says (so_far x last) k h ↔ (IsLost says (night_log x last) k h × (¬ IsSettledBefore says x last k))
+  lost_together behind k h = (apart, back)
     where
       -- what is listed in the last night or was settled is listed in one review of all files
       listed_too : (p : HashPair) → (settled p k || got p k) ≡ true → listed says (so_far x last) k ≡ None → ⊥
-      listed_too p t e = got_somewhere says (so_far x last) (so_far_rise x up last) k p (got_together p k ∙ t) e
+      listed_too p t e = got_somewhere says (so_far x last) (so_far_rise x up last) k p (got_together p behind k ∙ t) e
 
       not_settled : IsLost says (so_far x last) k h → IsUnsettled k
       not_settled l s =
@@ -312,7 +312,7 @@ module _ (x : Nights) (says : Answers) (are : AreContents x.whole) (follow : Fil
       unlisted_all l n None e = e
       unlisted_all l n (Some place) e =
           let a = assigned_one all all_rows k place e in
-          absurd (elim (or_cases (settled a.0 k) (got a.0 k) (sym (got_together a.0 k) ∙ a.2)) [
+          absurd (elim (or_cases (settled a.0 k) (got a.0 k) (sym (got_together a.0 behind k) ∙ a.2)) [
             | inl t ↦ settled_unsettled a.0 k t n
             | inr g ↦ got_somewhere says (night_log x last) (night_rise x up last) k a.0 g l.unlisted
           ])

@@ -21,10 +21,10 @@ use Rattle.ss_review.proofs.OnePlaceOneKey.{one_key}
 use Rattle.ss_review.proofs.OnesInOrder.{rise_by_key}
 use Rattle.ss_review.proofs.TotalOrders.{key_cmp_total}
 use Rattle.ss_nights.specs.Nights.{Nights, is_reviewed, night_log, so_far, listed, LeaveEnough, IsSettled}
-use Rattle.ss_nights.specs.Together.{AgreeLater}
 use Rattle.ss_nights.proofs.OnePair.{PlacesRise, is_pair-is, is_pair-some}
 use Rattle.ss_nights.proofs.PairedCounts.{distinct_rising, distinct_by_key, count-paired}
 use Rattle.ss_nights.proofs.SettledKeys.{
+  AgreeButLost,
   left_behind,
   dropped,
   from_night_normal,
@@ -57,7 +57,7 @@ module _ (x : Nights) (up : PlacesRise x.whole.normal) where
   rises : (ms : List NormalMessage) → PlacesRise ms → IsStrictlySortedBy (λ (m n : NormalMessage). nat_cmp m.place n.place) ms
   rises ms rise = rise_by_key (λ (m : NormalMessage). m.place) nat_cmp ms rise
 
-  module _ (says : Answers) (last : ℕ) (leave : LeaveEnough says x last) (agree : AgreeLater says x last) where
+  module _ (says : Answers) (last : ℕ) (leave : LeaveEnough says x last) (agree : AgreeButLost says x last) where
     abbrev pub pair_settled : Key → Option HashPair
     pair_settled = settled_pair x says last leave agree
 

@@ -11,9 +11,16 @@ use Rattle.ss_origin.proofs.Members.{Has, contains_from_has}
 use Rattle.ss_review.proofs.Members.{has-filter, from_has-filter}
 use Rattle.ss_review.proofs.Leftovers.{taken_by}
 use Rattle.ss_nights.specs.Nights.{Nights, is_reviewed, night_log, so_far, listed, LeavesEnough, LeaveEnough, IsSettled, IsSettledBefore, HasPair}
-use Rattle.ss_nights.specs.Together.{AgreeLater}
+use Rattle.ss_nights.specs.Together.{JoinedStay, HashesStay, NoneListedAgain, NoOtherWanted}
 use Rattle.ss_nights.proofs.NightBlocks.{own_reviewed, left_reviewed, reviewed_cases, reviewed_file}
 use Rattle.ss_nights.proofs.OnePair.{assigned_one}
+
+-- the premises but that on lost numbers
+pub record AgreeButLost (says : Answers) (x : Nights) (last : ℕ) : Type 0 where
+  pub joined : JoinedStay says x last
+  pub hash : HashesStay says x last
+  pub again : NoneListedAgain says x last
+  pub collision : NoOtherWanted says x last
 
 -- ---- places
 
@@ -154,7 +161,7 @@ module _ (x : Nights) where
           ])
         ]
 
-    module _ (last : ℕ) (leave : LeaveEnough says x last) (agree : AgreeLater says x last) where
+    module _ (last : ℕ) (leave : LeaveEnough says x last) (agree : AgreeButLost says x last) where
       -- a number that is listed in a night isn't settled before
       pub unsettled_before : (night : ℕ) (k : Key) (place : ℕ) → night ≤ last → listed says (night_log x night) k ≡ Some place → IsSettledBefore says x night k → ⊥
       unsettled_before night k place low e s =

@@ -23,12 +23,12 @@ use Rattle.ss_review.proofs.NotesTold.{normal_place}
 use Rattle.ss_review.proofs.OnePlaceOneKey.{only_one}
 use Rattle.ss_review.proofs.PlacesRise.{normals_rise}
 use Rattle.ss_nights.specs.Nights.{Nights, is_reviewed, night_log, so_far, AreContents, LeaveEnough}
-use Rattle.ss_nights.specs.Together.{FilesFollow, AgreeLater}
+use Rattle.ss_nights.specs.Together.{FilesFollow}
 use Rattle.ss_nights.proofs.KeysStay.{announced_for, one_hash, hashes_alike}
 use Rattle.ss_nights.proofs.NightBlocks.{reviewed_file}
 use Rattle.ss_nights.proofs.OnePair.{PlacesRise}
 use Rattle.ss_nights.proofs.SettledCounts.{same_message, night_rise, so_far_rise}
-use Rattle.ss_nights.proofs.SettledKeys.{night_rows, dropped, from_night_normal, has-night_normal, from_so_far_normal, night_so_far, left_settled}
+use Rattle.ss_nights.proofs.SettledKeys.{AgreeButLost, night_rows, dropped, from_night_normal, has-night_normal, from_so_far_normal, night_so_far, left_settled}
 
 -- ---- the contents of a log
 
@@ -118,7 +118,7 @@ module _ (x : Nights) (says : Answers) (up : PlacesRise x.whole.normal) (night :
   }
 
 module _ (x : Nights) (says : Answers) (are : AreContents x.whole) (follow : FilesFollow x)
-    (last : ℕ) (leave : LeaveEnough says x last) (agree : AgreeLater says x last) where
+    (last : ℕ) (leave : LeaveEnough says x last) (agree : AgreeButLost says x last) where
   abbrev up : PlacesRise x.whole.normal
   up = contents_rise x.whole are
 

@@ -4,13 +4,14 @@ use Rattle.std.specs.List.{sum_by, range_with_len}
 use Rattle.std.specs.declared.cmp.Ordering.TheVariants.{Less}
 use Rattle.ss_block.specs.declared.hash.Hash.{Hash}
 use Rattle.ss_block.specs.declared.hash.HashPair.{HashPair}
+use Rattle.ss_block.specs.declared.session.Session.{Session}
 use Rattle.ss_review.specs.declared.keep.message.BlockMessage.{BlockMessage}
 use Rattle.ss_review.specs.declared.keep.spoilt.SpoiltPlace.{SpoiltPlace}
 use Rattle.ss_review.specs.Contents.{Contents}
 use Rattle.ss_review.specs.Verified.{Answers, is_verified}
 use Rattle.ss_review.specs.Announced.{Key, key_cmp, rows}
 use Rattle.ss_review.specs.Assigned.{has_hash, same_pair, is_taken}
-use Rattle.ss_review.specs.Announcing.{Announces, IsDisputedKey}
+use Rattle.ss_review.specs.Announcing.{Announces, IsAnnounced, IsDisputedKey}
 use Rattle.ss_review.specs.Listing.{Wants}
 use Rattle.ss_review.specs.Report.{refused}
 use Rattle.ss_nights.specs.Nights.{Nights, is_reviewed, night_log, so_far, AreContents, IsJoined, listed, LeaveEnough, IsSettled, IsSettledBefore, HasPair}
@@ -34,23 +35,48 @@ JoinedStay says x last =
     → is_verified says (night_log x night).blocks b ≡ true → x.left night b.place ≡ false
     → IsJoined says (night_log x last).blocks b.session
 
+-- no settled number is announced later with another hash
+abbrev pub HashesStay : Answers → Nights → ℕ → Type 0
+HashesStay says x last =
+    (night later : ℕ) (k : Key) (place : ℕ) (g h : Hash) → night < later → later ≤ last → IsSettled says x night k place
+    → Announces says (night_log x night).blocks k g → Announces says (night_log x later).blocks k h → g ≡ h
+
+-- no settled number is listed later
+abbrev pub NoneListedAgain : Answers → Nights → ℕ → Type 0
+NoneListedAgain says x last =
+    (night later : ℕ) (k : Key) (place : ℕ) → night < later → later ≤ last → IsSettled says x night k place
+    → listed says (night_log x later) k ≡ None
+
+-- no number that is lost in the end, and unsettled, comes before a settled one whose message has the hash that is lost
+abbrev pub LostStandBehind : Answers → Nights → ℕ → Type 0
+LostStandBehind says x last =
+    (night : ℕ) (k : Key) (place : ℕ) (p : HashPair) (j : Key) (h : Hash) → night < last → IsSettled says x night k place
+    → HasPair x.whole place p → IsLost says (night_log x last) j h → ¬ IsSettledBefore says x last j
+    → has_hash h p ≡ true → key_cmp j k ≢ Less
+
+-- no number wants another message later, with the hash of a settled one that stands before it
+abbrev pub NoOtherWanted : Answers → Nights → ℕ → Type 0
+NoOtherWanted says x last =
+    (night later : ℕ) (k : Key) (place : ℕ) (p : HashPair) (j : Key) (q : HashPair) (w : Wants says (night_log x later) j q)
+    → night < later → later ≤ last → IsSettled says x night k place → HasPair x.whole place p
+    → place < w.bearer.place → has_hash w.hash p ≡ true → p ≡ q
+
 -- what has to hold of the nights up to the last one
 pub record AgreeLater (says : Answers) (x : Nights) (last : ℕ) : Type 0 where
   pub joined : JoinedStay says x last
-  -- no settled number is announced later with another hash
-  pub hash : (night later : ℕ) (k : Key) (place : ℕ) (g h : Hash) → night < later → later ≤ last → IsSettled says x night k place
-      → Announces says (night_log x night).blocks k g → Announces says (night_log x later).blocks k h → g ≡ h
-  -- no settled number is listed later
-  pub again : (night later : ℕ) (k : Key) (place : ℕ) → night < later → later ≤ last → IsSettled says x night k place
-      → listed says (night_log x later) k ≡ None
-  -- no number that is lost in the end, and unsettled, comes before a settled one whose message has the hash that is lost
-  pub lost : (night : ℕ) (k : Key) (place : ℕ) (p : HashPair) (j : Key) (h : Hash) → night < last → IsSettled says x night k place
-      → HasPair x.whole place p → IsLost says (night_log x last) j h → ¬ IsSettledBefore says x last j
-      → has_hash h p ≡ true → key_cmp j k ≢ Less
-  -- no number wants another message later, with the hash of a settled one that stands before it
-  pub collision : (night later : ℕ) (k : Key) (place : ℕ) (p : HashPair) (j : Key) (q : HashPair) (w : Wants says (night_log x later) j q)
-      → night < later → later ≤ last → IsSettled says x night k place → HasPair x.whole place p
-      → place < w.bearer.place → has_hash w.hash p ≡ true → p ≡ q
+  pub hash : HashesStay says x last
+  pub again : NoneListedAgain says x last
+  pub lost : LostStandBehind says x last
+  pub collision : NoOtherWanted says x last
+
+-- What the reports of the nights alone may show: a session that is joined stays joined, no settled number is announced
+-- again, and none is lost in the end.
+pub record ReportsShow (says : Answers) (x : Nights) (last : ℕ) : Type 0 where
+  pub joined : (night later : ℕ) (s : Session) → night < later → later ≤ last
+      → IsJoined says (night_log x night).blocks s → IsJoined says (night_log x later).blocks s
+  pub unannounced : (night later : ℕ) (k : Key) (place : ℕ) → night < later → later ≤ last → IsSettled says x night k place
+      → ¬ IsAnnounced says (night_log x later).blocks k
+  pub none_lost : (k : Key) (h : Hash) → ¬ IsLost says (night_log x last) k h
 
 -- ---- what the nights together say
 
@@ -104,3 +130,15 @@ abbrev pub NumbersOfNights : Type 0
 NumbersOfNights =
     (says : Answers) (x : Nights) (last : ℕ) → AreContents x.whole → FilesFollow x → LeaveEnough says x last → AgreeLater says x last
     → TellNumbers says x last
+
+-- where lost numbers may stand anywhere, as many messages with given hashes are still unlisted as in the last night
+abbrev pub UnlistedOfNights : Type 0
+UnlistedOfNights =
+    (says : Answers) (x : Nights) (last : ℕ) → AreContents x.whole → FilesFollow x → LeaveEnough says x last
+    → JoinedStay says x last → HashesStay says x last → NoneListedAgain says x last → NoOtherWanted says x last
+    → (p : HashPair) → unlisted_with says (so_far x last) p ≡ unlisted_with says (night_log x last) p
+
+-- so the reports alone are enough for all premises but the one on two messages with one hash
+abbrev pub ReportsAreEnough : Type 0
+ReportsAreEnough =
+    (says : Answers) (x : Nights) (last : ℕ) → ReportsShow says x last → NoOtherWanted says x last → AgreeLater says x last

@@ -1,6 +1,6 @@
 //! What holds of every log that is reviewed night by night, where each night leaves enough over for the next one.
 ghost use Rattle.ss_nights.specs.NightLaws.{AnnouncedOfNights, FilesAreTheWhole, NightsAreLogs, StatesOfNights, VerifiedStays};
-ghost use Rattle.ss_nights.specs.Together.{NumbersOfNights, PlacesOfNights};
+ghost use Rattle.ss_nights.specs.Together.{NumbersOfNights, PlacesOfNights, ReportsAreEnough, UnlistedOfNights};
 ghost use Rattle.ss_nights.specs.NightRows.{NightsAreThese};
 
 use ss_block::laws::readings::blocks_are_in_range;
@@ -56,6 +56,22 @@ pub fn numbers_of_nights()
     verified_stay();
     announced_of_nights();
 }
+
+/// As many copies of each message are unlisted in one review of all files so far as in the last night, wherever lost
+/// numbers stand. So each message is listed for as many numbers as the nights together list it for.
+pub fn unlisted_of_nights()
+    ensures { UnlistedOfNights }
+{
+    states_of_nights();
+    verified_stay();
+    announced_of_nights();
+}
+
+/// Reports alone show all premises of `numbers_of_nights` but that on two messages with one hash. For this each joined
+/// session has to stay joined, no settled number may be told again, and none may be lost in the end.
+pub fn reports_are_enough()
+    ensures { ReportsAreEnough }
+{}
 
 /// Small logs of two nights, and the reports on them, computed: one that meets the premises of the law on what the nights
 /// say together, and for each premise one that doesn't, and where they say something else than the whole.
