@@ -5,7 +5,8 @@ use Rattle.std.proofs.lemmas.Bool.{ltb-true, lt-ltb, true≢false}
 use Rattle.ss_block.specs.declared.hash.Hash.{Hash}
 use Rattle.ss_block.specs.declared.hash.Hash.TheVariants as hashes
 use Rattle.ss_block.specs.declared.hash.HashPair.{HashPair}
-use Rattle.ss_block.specs.PayloadReading.{parts_at_space, stamp_in, stamp_and_rest_in, blob_in, payload_in}
+use Rattle.ss_block.specs.PayloadReading.{stamp_in, stamp_and_rest_in, blob_in, payload_in}
+use Rattle.ss_frame.specs.Cut.{parts_at}
 use Rattle.ss_review.specs.declared.keep.message.NormalMessage.{NormalMessage}
 use Rattle.ss_review.specs.declared.keep.message.BlockMessage.{BlockMessage}
 use Rattle.ss_review.specs.Ordered.{in_order}
@@ -40,7 +41,7 @@ night_1 = night_log each_its_own 1
 -- ---- the first night
 
 joined_0 : IsJoined yes night_0.blocks (sent_by host 1)
-unfolding joined is_disputed cover joined_text stated_payload parts_at_space stamp_in stamp_and_rest_in blob_in payload_in
+unfolding joined is_disputed cover joined_text stated_payload parts_at stamp_in stamp_and_rest_in blob_in payload_in
 joined_0 = (45 ∷ 32 ∷ 78 ∷ [], refl)
 
 session_0 : (b : BlockMessage) → Has night_0.blocks b → sent_by host 1 ≡ b.session
@@ -49,22 +50,22 @@ session_0 b (inr (inl e)) = ap (λ (d : BlockMessage). d.session) e
 session_0 b (inr (inr h)) = absurd h
 
 verified_0 : (b : BlockMessage) → Has night_0.blocks b → is_verified yes night_0.blocks b ≡ true
-unfolding is_verified joined is_disputed cover joined_text stated_payload parts_at_space stamp_in stamp_and_rest_in blob_in payload_in
+unfolding is_verified joined is_disputed cover joined_text stated_payload parts_at stamp_in stamp_and_rest_in blob_in payload_in
 verified_0 b (inl e) = subst (λ (d : BlockMessage). is_verified yes night_0.blocks d ≡ true) e refl
 verified_0 b (inr (inl e)) = subst (λ (d : BlockMessage). is_verified yes night_0.blocks d ≡ true) e refl
 verified_0 b (inr (inr h)) = absurd h
 
 key_0 : (k : Key) → Has (keys (rows yes night_0.blocks)) k → number_of host 1 ≡ k
-unfolding rows keys in_order is_verified joined is_disputed cover joined_text stated_payload parts_at_space stamp_in stamp_and_rest_in blob_in payload_in
+unfolding rows keys in_order is_verified joined is_disputed cover joined_text stated_payload parts_at stamp_in stamp_and_rest_in blob_in payload_in
 key_0 k (inl e) = e
 key_0 k (inr h) = absurd h
 
 listed_0 : listed yes night_0 (number_of host 1) ≡ Some 1
-unfolding rows keys pair_of_bearer places_with wanted rank assigned in_order is_verified joined is_disputed cover joined_text stated_payload parts_at_space stamp_in stamp_and_rest_in blob_in payload_in
+unfolding rows keys pair_of_bearer places_with wanted rank assigned in_order is_verified joined is_disputed cover joined_text stated_payload parts_at stamp_in stamp_and_rest_in blob_in payload_in
 listed_0 = refl
 
 taken_0 : is_taken night_0.normal (rows yes night_0.blocks) 1 ≡ true
-unfolding rows keys pair_of_bearer places_with wanted rank assigned is_taken in_order is_verified joined is_disputed cover joined_text stated_payload parts_at_space stamp_in stamp_and_rest_in blob_in payload_in
+unfolding rows keys pair_of_bearer places_with wanted rank assigned is_taken in_order is_verified joined is_disputed cover joined_text stated_payload parts_at stamp_in stamp_and_rest_in blob_in payload_in
 taken_0 = refl
 
 -- what announces in the first night isn't left over
@@ -133,20 +134,20 @@ its_own_follow place other low below =
 -- ---- the second night
 
 row_1 : (r : Row) → Has (rows yes night_1.blocks) r → record { key = number_of host 2; hash = hashes.Sha1 (2 ∷ []) } ≡ r
-unfolding rows keys in_order is_verified joined is_disputed cover joined_text stated_payload parts_at_space stamp_in stamp_and_rest_in blob_in payload_in
+unfolding rows keys in_order is_verified joined is_disputed cover joined_text stated_payload parts_at stamp_in stamp_and_rest_in blob_in payload_in
 row_1 r (inl e) = e
 row_1 r (inr h) = absurd h
 
 joined_1 : IsJoined yes night_1.blocks (sent_by host 1)
-unfolding joined is_disputed cover joined_text stated_payload parts_at_space stamp_in stamp_and_rest_in blob_in payload_in
+unfolding joined is_disputed cover joined_text stated_payload parts_at stamp_in stamp_and_rest_in blob_in payload_in
 joined_1 = (45 ∷ 32 ∷ 78 ∷ [], refl)
 
 listed_1 : listed yes night_1 (number_of host 2) ≡ Some 3
-unfolding rows keys pair_of_bearer places_with wanted rank assigned in_order is_verified joined is_disputed cover joined_text stated_payload parts_at_space stamp_in stamp_and_rest_in blob_in payload_in
+unfolding rows keys pair_of_bearer places_with wanted rank assigned in_order is_verified joined is_disputed cover joined_text stated_payload parts_at stamp_in stamp_and_rest_in blob_in payload_in
 listed_1 = refl
 
 unlisted_1 : listed yes night_1 (number_of host 1) ≡ None
-unfolding rows keys pair_of_bearer places_with wanted rank assigned in_order is_verified joined is_disputed cover joined_text stated_payload parts_at_space stamp_in stamp_and_rest_in blob_in payload_in
+unfolding rows keys pair_of_bearer places_with wanted rank assigned in_order is_verified joined is_disputed cover joined_text stated_payload parts_at stamp_in stamp_and_rest_in blob_in payload_in
 unlisted_1 = refl
 
 announced_1 : (k : Key) (h : Hash) → Announces yes night_1.blocks k h → (number_of host 2 ≡ k) × (hashes.Sha1 (2 ∷ []) ≡ h)

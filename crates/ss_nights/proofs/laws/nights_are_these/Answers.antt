@@ -7,13 +7,14 @@ use Rattle.ss_review.specs.Ordered.{in_order}
 use Rattle.ss_review.specs.Payloads.{is_disputed, cover, joined_text, stated_payload}
 use Rattle.ss_review.specs.Report.{report_of}
 use Rattle.ss_review.specs.Verified.{joined, is_verified}
-use Rattle.ss_block.specs.PayloadReading.{parts_at_space, stamp_in, stamp_and_rest_in, blob_in, payload_in}
+use Rattle.ss_block.specs.PayloadReading.{stamp_in, stamp_and_rest_in, blob_in, payload_in}
+use Rattle.ss_frame.specs.Cut.{parts_at}
 use Rattle.ss_nights.proofs.EachItsOwn.{its_own_leave, its_own_follow, its_own_agree, its_own_settled}
 use Rattle.ss_nights.proofs.SettledRows.{disputed_unkept, hash_unkept, again_unkept, lost_unkept, twins_unkept}
 use Rattle.ss_nights.proofs.laws.nights_are_these.Goals as goal
 
 pub returns : goal.returns
-unfolding rows keys pair_of_bearer places_with wanted rank assigned is_taken group_keys entries in_order is_disputed cover joined_text stated_payload report_of joined is_verified parts_at_space stamp_in stamp_and_rest_in blob_in payload_in
+unfolding rows keys pair_of_bearer places_with wanted rank assigned is_taken group_keys entries in_order is_disputed cover joined_text stated_payload report_of joined is_verified parts_at stamp_in stamp_and_rest_in blob_in payload_in
 returns c = record {
   its_own_leave = its_own_leave;
   its_own_follow = its_own_follow;
