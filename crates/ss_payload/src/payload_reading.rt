@@ -1,5 +1,6 @@
 //! Payload blocks read from the left (RFC 5848, section 5.2).
-ghost use Rattle.std.specs.Prelude.{◌≡◌, ◌≢◌, ◌∷◌, ℕ, List, Option, Some, None, option_and_then, IfOk, IfSome, option_map};
+ghost use Rattle.std.specs.Prelude.{◌≡◌, ◌≢◌, ◌∷◌, ℕ, List, Option, Some, None, option_and_then, IfOk, IfSome};
+ghost use Rattle.std.specs.Prelude.{option_map};
 ghost use Rattle.ss_frame.specs.Ascii.{sp};
 ghost use Rattle.ss_message.specs.Stamp.{Moment};
 ghost use Rattle.ss_message.specs.StampReading.{past, stamp_of};

@@ -1,4 +1,5 @@
-//! Blocks (RFC 5848, sections 4 and 5): what a message is read as, what is signed of it, payloads, and fragments joined.
+//! Blocks (RFC 5848, sections 4 and 5): what a message is read as, what is signed of it, payloads, and fragments
+//! joined.
 mod causes;
 pub mod elements;
 mod fields;

@@ -5,11 +5,13 @@ use ss_message::{Field, NoMemory, Part};
 use std::process::Abort;
 
 const CERTIFICATE: &[u8] =
-    b"<110>1 - h s - - [ssign-cert VER=\"0111\" RSID=\"1\" SG=\"0\" SPRI=\"0\" TPBL=\"27\" INDEX=\"1\" FLEN=\"27\" FRAG=\"2009-05-03T14:00:39Z K S0VZ\" SIGN=\"AAAA\"]";
+    b"<110>1 - h s - - [ssign-cert VER=\"0111\" RSID=\"1\" SG=\"0\" SPRI=\"0\" TPBL=\"27\" INDEX=\"1\" FLEN=\"27\" \
+        FRAG=\"2009-05-03T14:00:39Z K S0VZ\" SIGN=\"AAAA\"]";
 
 /// A signature block, and a MSG that looks like one.
 const SIGNATURE: &[u8] =
-    b"<110>1 - h s 7 - [ssign VER=\"0111\" RSID=\"9\" SG=\"0\" SPRI=\"0\" GBC=\"0\" FMN=\"1\" CNT=\"1\" HB=\"qZk+NkcGgWq6PiVxeFDCbJzQ2J0=\" SIGN=\"AAAA\"] hello SIGN=\"AAAA\"";
+    b"<110>1 - h s 7 - [ssign VER=\"0111\" RSID=\"9\" SG=\"0\" SPRI=\"0\" GBC=\"0\" FMN=\"1\" CNT=\"1\" \
+        HB=\"qZk+NkcGgWq6PiVxeFDCbJzQ2J0=\" SIGN=\"AAAA\"] hello SIGN=\"AAAA\"";
 
 /// The octets of a field; none where it is absent.
 fn octets(field: &Field) -> Option<&[u8]> {

@@ -185,7 +185,8 @@ fn add_again(
     }
 }
 
-/// Whether the joiner has this state, and its payload, which is asked for once more where memory ran out, is that of it.
+/// Whether the joiner has this state, and its payload, which is asked for once more where memory ran out, is that of
+/// it.
 fn is_then(joiner: &Joiner, then: Then) -> Result<bool, NoMemory> {
     let payload = match joiner.payload() {
         Ok(payload) => payload,
@@ -334,8 +335,8 @@ fn sees_falling(rt: &(impl Abort + AllocGlobal)) -> Result<(), NoMemory> {
     Ok(())
 }
 
-/// One octet at each odd index, rising and then falling again: each is a run of its own for whoever keeps runs. And one at
-/// each index, falling: whole with the last that comes, and not before.
+/// One octet at each odd index, rising and then falling again: each is a run of its own for whoever keeps runs. And one
+/// at each index, falling: whole with the last that comes, and not before.
 #[test]
 fn ten_thousand_octets(rt: HostRuntime) -> Result<(), Fail> {
     sees_odd(&rt)?;

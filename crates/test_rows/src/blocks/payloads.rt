@@ -127,7 +127,8 @@ fn texts(rt: HostRuntime) -> Result<(), Fail> {
     Ok(())
 }
 
-/// A kind, a blob, and whether they make a payload: a predistributed key comes without a blob, every other key with one.
+/// A kind, a blob, and whether they make a payload: a predistributed key comes without a blob, every other key with
+/// one.
 const MADE: [(Kind, &[u8], bool); 10] = [
     (Kind::N, b"KEY", false),
     (Kind::N, b"", true),

@@ -1,5 +1,5 @@
-//! How much room a call takes for a message, by the most that the process has had at once: numbers that a message states
-//! reserve nothing.
+//! How much room a call takes for a message, by the most that the process has had at once: numbers that a message
+//! states reserve nothing.
 use super::joining::add;
 use ss_block::{Joiner, Payload, classify, session_of, signed_bytes};
 use ss_message::{Fault, NoMemory, parse, value};
@@ -11,11 +11,18 @@ use std::test::Fail;
 
 /// Messages that state the largest numbers, and such numbers alone; the largest first.
 const HOSTILE: [&[u8]; 8] = [
-    b"<110>1 - h s - - [ssign-cert VER=\"0111\" RSID=\"9999999999\" SG=\"3\" SPRI=\"191\" TPBL=\"99999999\" INDEX=\"99999999\" FLEN=\"1\" FRAG=\"x\" SIGN=\"AAAA\"]",
-    b"<110>1 - h s - - [ssign-cert VER=\"0121\" RSID=\"9999999999\" SG=\"3\" SPRI=\"191\" TPBL=\"99999999\" INDEX=\"1\" FLEN=\"9999\" FRAG=\"x\" SIGN=\"AAAA\"]",
-    b"<110>1 - h s - - [ssign VER=\"0121\" RSID=\"9999999999\" SG=\"3\" SPRI=\"191\" GBC=\"9999999999\" FMN=\"9999999901\" CNT=\"99\" HB=\"qZk+\" SIGN=\"AAAA\"]",
-    b"<110>1 - h s - - [ssign VER=\"0111\" RSID=\"9999999999\" SG=\"3\" SPRI=\"191\" GBC=\"9999999999\" FMN=\"9999999999\" CNT=\"1\" HB=\"qZk+NkcGgWq6PiVxeFDCbJzQ2J0=\" SIGN=\"AAAA\"]",
-    b"<110>1 - h s - - [ssign VER=\"0111\" RSID=\"9999999999\" SG=\"3\" SPRI=\"191\" GBC=\"9999999999\" FMN=\"9999999999\" CNT=\"99\" HB=\"                                                                                                  \" SIGN=\"\"]",
+    b"<110>1 - h s - - [ssign-cert VER=\"0111\" RSID=\"9999999999\" SG=\"3\" SPRI=\"191\" TPBL=\"99999999\" \
+        INDEX=\"99999999\" FLEN=\"1\" FRAG=\"x\" SIGN=\"AAAA\"]",
+    b"<110>1 - h s - - [ssign-cert VER=\"0121\" RSID=\"9999999999\" SG=\"3\" SPRI=\"191\" TPBL=\"99999999\" \
+        INDEX=\"1\" FLEN=\"9999\" FRAG=\"x\" SIGN=\"AAAA\"]",
+    b"<110>1 - h s - - [ssign VER=\"0121\" RSID=\"9999999999\" SG=\"3\" SPRI=\"191\" GBC=\"9999999999\" \
+        FMN=\"9999999901\" CNT=\"99\" HB=\"qZk+\" SIGN=\"AAAA\"]",
+    b"<110>1 - h s - - [ssign VER=\"0111\" RSID=\"9999999999\" SG=\"3\" SPRI=\"191\" GBC=\"9999999999\" \
+        FMN=\"9999999999\" CNT=\"1\" HB=\"qZk+NkcGgWq6PiVxeFDCbJzQ2J0=\" SIGN=\"AAAA\"]",
+    b"<110>1 - h s - - [ssign VER=\"0111\" RSID=\"9999999999\" SG=\"3\" SPRI=\"191\" GBC=\"9999999999\" \
+        FMN=\"9999999999\" CNT=\"99\" HB=\
+        \"                                                                                                  \" \
+        SIGN=\"\"]",
     b"<99999999999999999999>1 - h s - - -",
     b"18446744073709551615 <110>1 9999-12-31T23:59:59.999999+23:59 h s - - -",
     b"9999-12-31T23:59:59.999999+23:59 C 99999999",
@@ -101,8 +108,8 @@ fn peak<R: Files + AllocGlobal>(rt: &R) -> Result<u64, Fail> {
     Ok(peak_of(&status).ok_or("no VmPeak")?)
 }
 
-/// The first call that has more than 32 octets at once for an octet of the text and a quarter of a mebibyte, with how many
-/// KiB it had.
+/// The first call that has more than 32 octets at once for an octet of the text and a quarter of a mebibyte, with how
+/// many KiB it had.
 fn first_over<R: Files + AllocGlobal>(rt: &R, text: &[u8]) -> Result<Option<(Call, u64)>, Fail> {
     let allowed = 256 + text.len() as u64 / 32;
     for call in &CALLS {
@@ -182,8 +189,8 @@ fn sees_peak<R: Files + Abort + AllocGlobal>(rt: &R) -> Result<(), Fail> {
     Ok(())
 }
 
-/// Stated numbers reserve nothing, and long texts take room by their octets. A list of 33,000,000 octets, a third of the
-/// largest number there is, would be seen.
+/// Stated numbers reserve nothing, and long texts take room by their octets. A list of 33,000,000 octets, a third of
+/// the largest number there is, would be seen.
 #[test]
 fn room(rt: HostRuntime) -> Result<(), Fail> {
     for text in &HOSTILE {

@@ -8,45 +8,57 @@ use std::test::Fail;
 
 /// A certificate block, and what is signed of it.
 const CERTIFICATE: &[u8] =
-    b"<110>1 - h s - - [ssign-cert VER=\"0111\" RSID=\"1\" SG=\"0\" SPRI=\"0\" TPBL=\"27\" INDEX=\"1\" FLEN=\"27\" FRAG=\"2009-05-03T14:00:39Z K S0VZ\" SIGN=\"AAAA\"]";
+    b"<110>1 - h s - - [ssign-cert VER=\"0111\" RSID=\"1\" SG=\"0\" SPRI=\"0\" TPBL=\"27\" INDEX=\"1\" FLEN=\"27\" \
+        FRAG=\"2009-05-03T14:00:39Z K S0VZ\" SIGN=\"AAAA\"]";
 
 const CERTIFICATE_SIGNED: &[u8] =
-    b"<110>1 - h s - - [ssign-cert VER=\"0111\" RSID=\"1\" SG=\"0\" SPRI=\"0\" TPBL=\"27\" INDEX=\"1\" FLEN=\"27\" FRAG=\"2009-05-03T14:00:39Z K S0VZ\"]";
+    b"<110>1 - h s - - [ssign-cert VER=\"0111\" RSID=\"1\" SG=\"0\" SPRI=\"0\" TPBL=\"27\" INDEX=\"1\" FLEN=\"27\" \
+        FRAG=\"2009-05-03T14:00:39Z K S0VZ\"]";
 
 /// A signature block, and what is signed of it.
 const SIGNATURE: &[u8] =
-    b"<110>1 - h s - - [ssign VER=\"0111\" RSID=\"1\" SG=\"0\" SPRI=\"0\" GBC=\"0\" FMN=\"1\" CNT=\"2\" HB=\"qZk+NkcGgWq6PiVxeFDCbJzQ2J0= hJg+RBw70m66rkqh+VEp5eVGcPE=\" SIGN=\"AAAA\"]";
+    b"<110>1 - h s - - [ssign VER=\"0111\" RSID=\"1\" SG=\"0\" SPRI=\"0\" GBC=\"0\" FMN=\"1\" CNT=\"2\" \
+        HB=\"qZk+NkcGgWq6PiVxeFDCbJzQ2J0= hJg+RBw70m66rkqh+VEp5eVGcPE=\" SIGN=\"AAAA\"]";
 
 const SIGNATURE_SIGNED: &[u8] =
-    b"<110>1 - h s - - [ssign VER=\"0111\" RSID=\"1\" SG=\"0\" SPRI=\"0\" GBC=\"0\" FMN=\"1\" CNT=\"2\" HB=\"qZk+NkcGgWq6PiVxeFDCbJzQ2J0= hJg+RBw70m66rkqh+VEp5eVGcPE=\"]";
+    b"<110>1 - h s - - [ssign VER=\"0111\" RSID=\"1\" SG=\"0\" SPRI=\"0\" GBC=\"0\" FMN=\"1\" CNT=\"2\" \
+        HB=\"qZk+NkcGgWq6PiVxeFDCbJzQ2J0= hJg+RBw70m66rkqh+VEp5eVGcPE=\"]";
 
 /// A signature block between two elements, the first of them with a SIGN too, and a MSG that looks like one.
 const AMONG_OTHERS: &[u8] =
-    b"<110>1 - h s - - [x@1 SIGN=\"AAAA\"][ssign VER=\"0111\" RSID=\"1\" SG=\"0\" SPRI=\"0\" GBC=\"0\" FMN=\"1\" CNT=\"1\" HB=\"qZk+NkcGgWq6PiVxeFDCbJzQ2J0=\" SIGN=\"AAAA\"][y@1 a=\"\\]\"] hello SIGN=\"AAAA\"";
+    b"<110>1 - h s - - [x@1 SIGN=\"AAAA\"][ssign VER=\"0111\" RSID=\"1\" SG=\"0\" SPRI=\"0\" GBC=\"0\" FMN=\"1\" \
+        CNT=\"1\" HB=\"qZk+NkcGgWq6PiVxeFDCbJzQ2J0=\" SIGN=\"AAAA\"][y@1 a=\"\\]\"] hello SIGN=\"AAAA\"";
 
 const AMONG_OTHERS_SIGNED: &[u8] =
-    b"<110>1 - h s - - [x@1 SIGN=\"AAAA\"][ssign VER=\"0111\" RSID=\"1\" SG=\"0\" SPRI=\"0\" GBC=\"0\" FMN=\"1\" CNT=\"1\" HB=\"qZk+NkcGgWq6PiVxeFDCbJzQ2J0=\"][y@1 a=\"\\]\"] hello SIGN=\"AAAA\"";
+    b"<110>1 - h s - - [x@1 SIGN=\"AAAA\"][ssign VER=\"0111\" RSID=\"1\" SG=\"0\" SPRI=\"0\" GBC=\"0\" FMN=\"1\" \
+        CNT=\"1\" HB=\"qZk+NkcGgWq6PiVxeFDCbJzQ2J0=\"][y@1 a=\"\\]\"] hello SIGN=\"AAAA\"";
 
 /// The same with an empty MSG, and an element with a SIGN behind the block.
 const BEFORE_OTHERS: &[u8] =
-    b"<110>1 - h s - - [ssign VER=\"0111\" RSID=\"1\" SG=\"0\" SPRI=\"0\" GBC=\"0\" FMN=\"1\" CNT=\"1\" HB=\"qZk+NkcGgWq6PiVxeFDCbJzQ2J0=\" SIGN=\"AAAA\"][y@1 SIGN=\"BBBB\"] ";
+    b"<110>1 - h s - - [ssign VER=\"0111\" RSID=\"1\" SG=\"0\" SPRI=\"0\" GBC=\"0\" FMN=\"1\" CNT=\"1\" \
+        HB=\"qZk+NkcGgWq6PiVxeFDCbJzQ2J0=\" SIGN=\"AAAA\"][y@1 SIGN=\"BBBB\"] ";
 
 const BEFORE_OTHERS_SIGNED: &[u8] =
-    b"<110>1 - h s - - [ssign VER=\"0111\" RSID=\"1\" SG=\"0\" SPRI=\"0\" GBC=\"0\" FMN=\"1\" CNT=\"1\" HB=\"qZk+NkcGgWq6PiVxeFDCbJzQ2J0=\"][y@1 SIGN=\"BBBB\"] ";
+    b"<110>1 - h s - - [ssign VER=\"0111\" RSID=\"1\" SG=\"0\" SPRI=\"0\" GBC=\"0\" FMN=\"1\" CNT=\"1\" \
+        HB=\"qZk+NkcGgWq6PiVxeFDCbJzQ2J0=\"][y@1 SIGN=\"BBBB\"] ";
 
 /// Values that hold an escaped SIGN, in the block's element too.
 pub const ESCAPED: &[u8] =
-    b"<110>1 - - - 7 - [x@1 a=\" SIGN=\\\"x\\\"\"][ssign-cert VER=\"0121\" RSID=\"9\" SG=\"0\" SPRI=\"0\" TPBL=\"9\" INDEX=\"1\" FLEN=\"9\" FRAG=\" SIGN=\\\"x\\\"\" SIGN=\"AAAA\"]";
+    b"<110>1 - - - 7 - [x@1 a=\" SIGN=\\\"x\\\"\"][ssign-cert VER=\"0121\" RSID=\"9\" SG=\"0\" SPRI=\"0\" TPBL=\"9\" \
+        INDEX=\"1\" FLEN=\"9\" FRAG=\" SIGN=\\\"x\\\"\" SIGN=\"AAAA\"]";
 
 pub const ESCAPED_SIGNED: &[u8] =
-    b"<110>1 - - - 7 - [x@1 a=\" SIGN=\\\"x\\\"\"][ssign-cert VER=\"0121\" RSID=\"9\" SG=\"0\" SPRI=\"0\" TPBL=\"9\" INDEX=\"1\" FLEN=\"9\" FRAG=\" SIGN=\\\"x\\\"\"]";
+    b"<110>1 - - - 7 - [x@1 a=\" SIGN=\\\"x\\\"\"][ssign-cert VER=\"0121\" RSID=\"9\" SG=\"0\" SPRI=\"0\" TPBL=\"9\" \
+        INDEX=\"1\" FLEN=\"9\" FRAG=\" SIGN=\\\"x\\\"\"]";
 
 /// Blocks whose last message has a number of eleven digits, and with a CNT that is another than HB has hashes.
 const LAST_NUMBER: &[u8] =
-    b"<110>1 - h s - - [ssign VER=\"0111\" RSID=\"1\" SG=\"0\" SPRI=\"0\" GBC=\"0\" FMN=\"9999999999\" CNT=\"2\" HB=\"qZk+NkcGgWq6PiVxeFDCbJzQ2J0= hJg+RBw70m66rkqh+VEp5eVGcPE=\" SIGN=\"AAAA\"]";
+    b"<110>1 - h s - - [ssign VER=\"0111\" RSID=\"1\" SG=\"0\" SPRI=\"0\" GBC=\"0\" FMN=\"9999999999\" CNT=\"2\" \
+        HB=\"qZk+NkcGgWq6PiVxeFDCbJzQ2J0= hJg+RBw70m66rkqh+VEp5eVGcPE=\" SIGN=\"AAAA\"]";
 
 const HASH_COUNT: &[u8] =
-    b"<110>1 - h s - - [ssign VER=\"0111\" RSID=\"1\" SG=\"0\" SPRI=\"0\" GBC=\"0\" FMN=\"1\" CNT=\"3\" HB=\"qZk+NkcGgWq6PiVxeFDCbJzQ2J0= hJg+RBw70m66rkqh+VEp5eVGcPE=\" SIGN=\"AAAA\"]";
+    b"<110>1 - h s - - [ssign VER=\"0111\" RSID=\"1\" SG=\"0\" SPRI=\"0\" GBC=\"0\" FMN=\"1\" CNT=\"3\" \
+        HB=\"qZk+NkcGgWq6PiVxeFDCbJzQ2J0= hJg+RBw70m66rkqh+VEp5eVGcPE=\" SIGN=\"AAAA\"]";
 
 /// HOSTNAME, APP-NAME and PROCID, none where absent, and RSID.
 type Sender = ([Option<&'static [u8]>; 3], u64);

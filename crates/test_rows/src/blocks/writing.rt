@@ -10,29 +10,36 @@ use std::test::Fail;
 
 /// A signature block's message, and what is signed of it.
 const SIGNATURE: &[u8] =
-    b"<110>1 - h s - - [ssign VER=\"0111\" RSID=\"1\" SG=\"0\" SPRI=\"0\" GBC=\"0\" FMN=\"1\" CNT=\"2\" HB=\"qZk+NkcGgWq6PiVxeFDCbJzQ2J0= hJg+RBw70m66rkqh+VEp5eVGcPE=\" SIGN=\"AAAA\"]";
+    b"<110>1 - h s - - [ssign VER=\"0111\" RSID=\"1\" SG=\"0\" SPRI=\"0\" GBC=\"0\" FMN=\"1\" CNT=\"2\" \
+        HB=\"qZk+NkcGgWq6PiVxeFDCbJzQ2J0= hJg+RBw70m66rkqh+VEp5eVGcPE=\" SIGN=\"AAAA\"]";
 
 const SIGNATURE_SIGNED: &[u8] =
-    b"<110>1 - h s - - [ssign VER=\"0111\" RSID=\"1\" SG=\"0\" SPRI=\"0\" GBC=\"0\" FMN=\"1\" CNT=\"2\" HB=\"qZk+NkcGgWq6PiVxeFDCbJzQ2J0= hJg+RBw70m66rkqh+VEp5eVGcPE=\"]";
+    b"<110>1 - h s - - [ssign VER=\"0111\" RSID=\"1\" SG=\"0\" SPRI=\"0\" GBC=\"0\" FMN=\"1\" CNT=\"2\" \
+        HB=\"qZk+NkcGgWq6PiVxeFDCbJzQ2J0= hJg+RBw70m66rkqh+VEp5eVGcPE=\"]";
 
 /// A certificate block's message, and what is signed of it.
 const CERTIFICATE: &[u8] =
-    b"<110>1 - h s - - [ssign-cert VER=\"0111\" RSID=\"1\" SG=\"0\" SPRI=\"0\" TPBL=\"27\" INDEX=\"1\" FLEN=\"27\" FRAG=\"2009-05-03T14:00:39Z K S0VZ\" SIGN=\"AAAA\"]";
+    b"<110>1 - h s - - [ssign-cert VER=\"0111\" RSID=\"1\" SG=\"0\" SPRI=\"0\" TPBL=\"27\" INDEX=\"1\" FLEN=\"27\" \
+        FRAG=\"2009-05-03T14:00:39Z K S0VZ\" SIGN=\"AAAA\"]";
 
 const CERTIFICATE_SIGNED: &[u8] =
-    b"<110>1 - h s - - [ssign-cert VER=\"0111\" RSID=\"1\" SG=\"0\" SPRI=\"0\" TPBL=\"27\" INDEX=\"1\" FLEN=\"27\" FRAG=\"2009-05-03T14:00:39Z K S0VZ\"]";
+    b"<110>1 - h s - - [ssign-cert VER=\"0111\" RSID=\"1\" SG=\"0\" SPRI=\"0\" TPBL=\"27\" INDEX=\"1\" FLEN=\"27\" \
+        FRAG=\"2009-05-03T14:00:39Z K S0VZ\"]";
 
 /// What is signed of the signature block with a stamp and a MSGID.
 const STAMPED: &[u8] =
-    b"<110>1 2009-05-03T14:00:39Z h s - m [ssign VER=\"0111\" RSID=\"1\" SG=\"0\" SPRI=\"0\" GBC=\"0\" FMN=\"1\" CNT=\"2\" HB=\"qZk+NkcGgWq6PiVxeFDCbJzQ2J0= hJg+RBw70m66rkqh+VEp5eVGcPE=\"]";
+    b"<110>1 2009-05-03T14:00:39Z h s - m [ssign VER=\"0111\" RSID=\"1\" SG=\"0\" SPRI=\"0\" GBC=\"0\" FMN=\"1\" \
+        CNT=\"2\" HB=\"qZk+NkcGgWq6PiVxeFDCbJzQ2J0= hJg+RBw70m66rkqh+VEp5eVGcPE=\"]";
 
 /// A signature block with one hash of SHA-256, and all numbers at their ends.
 const LAST_NUMBERS: &[u8] =
-    b"<0>1 - - - - - [ssign VER=\"0121\" RSID=\"9999999999\" SG=\"3\" SPRI=\"191\" GBC=\"9999999999\" FMN=\"9999999999\" CNT=\"1\" HB=\"ungWv48Bz+pBQUDeXa4iI7ADYaOWF3qctBD/YfIAFa0=\"]";
+    b"<0>1 - - - - - [ssign VER=\"0121\" RSID=\"9999999999\" SG=\"3\" SPRI=\"191\" GBC=\"9999999999\" \
+        FMN=\"9999999999\" CNT=\"1\" HB=\"ungWv48Bz+pBQUDeXa4iI7ADYaOWF3qctBD/YfIAFa0=\"]";
 
 /// What is signed of a certificate block whose fragment has octets to be escaped.
 const ESCAPED: &[u8] =
-    b"<110>1 - h s - - [ssign-cert VER=\"0121\" RSID=\"0\" SG=\"1\" SPRI=\"110\" TPBL=\"9\" INDEX=\"3\" FLEN=\"5\" FRAG=\"a\\\"\\\\\\]b\"]";
+    b"<110>1 - h s - - [ssign-cert VER=\"0121\" RSID=\"0\" SG=\"1\" SPRI=\"110\" TPBL=\"9\" INDEX=\"3\" FLEN=\"5\" \
+        FRAG=\"a\\\"\\\\\\]b\"]";
 
 /// PRI, and HOSTNAME, APP-NAME, PROCID and MSGID, which are absent where they have no octet.
 type HeadFields = (u8, [&'static [u8]; 4]);

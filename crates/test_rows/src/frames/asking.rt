@@ -86,8 +86,8 @@ fn ask(
     assert_eq!(rt; failed, want.failures(), "{name}: at {offset}");
 }
 
-/// Asks for all frames of `pieces`. Each answer is wanted with the octets that are then taken. The last is an end, and two
-/// more calls after it read nothing.
+/// Asks for all frames of `pieces`. Each answer is wanted with the octets that are then taken. The last is an end, and
+/// two more calls after it read nothing.
 pub(crate) fn ask_all(
     rt: &(impl Abort + AllocGlobal),
     name: &str,

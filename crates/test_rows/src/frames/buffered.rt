@@ -56,8 +56,8 @@ fn sees_fault<R: Read>(
     assert!(rt; reader.failed() && frames.failed());
 }
 
-/// Reads the units of `row` up to the octets that come before the read that fails. All of them are used, and the fault is
-/// told once.
+/// Reads the units of `row` up to the octets that come before the read that fails. All of them are used, and the fault
+/// is told once.
 fn sees_row(
     rt: &(impl Abort + AllocGlobal),
     row: &Row,

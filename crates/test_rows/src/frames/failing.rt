@@ -130,8 +130,8 @@ fn sees_lines(rt: &(impl Abort + AllocGlobal)) {
     sees_stream(rt, lines, &stream, &[usize::MAX, 1], &wants);
 }
 
-/// `tests/memory.sh` refuses each allocation of this test in turn, and it passes each time: after F4 the octets that were
-/// taken are kept, and the next call goes on. The other tests take F4 for a wrong answer.
+/// `tests/memory.sh` refuses each allocation of this test in turn, and it passes each time: after F4 the octets that
+/// were taken are kept, and the next call goes on. The other tests take F4 for a wrong answer.
 #[test]
 fn goes_on_after_want_of_memory(rt: HostRuntime) {
     sees_frames(&rt);
