@@ -11,3 +11,4 @@ pub mod LikelyCause
 pub mod Remark
 pub mod Progress
 pub mod ReadBack
+pub mod FaultText

@@ -18,6 +18,7 @@ use ss_message::{Field, NoMemory, Stamp};
 use ss_origin::Config;
 use ss_payload::stamp_of;
 use std::alloc::Global;
+use std::fmt;
 use thiserror::Error;
 
 /// The texts that the options give.
@@ -47,11 +48,23 @@ pub struct Settings {
 #[derive(Clone, Copy, Debug, PartialEq, Eq, Error)]
 pub enum SettingsFault {
     /// P2: the text of this option is out of its form.
-    #[error("P2")]
     OutOfForm(TextOption),
     /// W2: memory ran out.
-    #[error("W2")]
     Memory,
+}
+
+impl fmt::Display for SettingsFault {
+    ghost use Rattle.std.specs.Prelude.{Some};
+    ghost use Rattle.ssign.specs.FaultText.{settings_fault_text};
+
+    ghost output = { λ fault. Some (settings_fault_text fault) };
+
+    fn fmt<W: fmt::Write>(&self, f: &mut fmt::Formatter<W>) -> fmt::Result {
+        match self {
+            SettingsFault::OutOfForm(_) => f.write_str("P2"),
+            SettingsFault::Memory => f.write_str("W2"),
+        }
+    }
 }
 
 impl From<NoMemory> for SettingsFault {
