@@ -36,6 +36,27 @@ const NO_MEMORY: Job = Job::Sign(Seal::FaultFor(SealFault::Memory, SECOND));
 /// The signature of a block of the second message alone has no octet.
 const EMPTY: Job = Job::Sign(Seal::EmptyFor(SECOND));
 
+/// A run over a log in this form, and what it writes.
+#[derive(Clone, Copy)]
+struct Made {
+    job: Job,
+    form: Form,
+    log: &'static [u8],
+    sizes: Sizes,
+    text: &'static [u8],
+}
+
+/// A run over a log in this form that writes nothing: why, and how that is printed.
+#[derive(Clone, Copy)]
+struct Refused {
+    job: Job,
+    form: Form,
+    log: &'static [u8],
+    sizes: Sizes,
+    fault: SignFault,
+    code: &'static str,
+}
+
 /// A block for ten messages, sent once.
 const USUAL: Sizes = (10, 1);
 
@@ -47,251 +68,329 @@ const FRAMES: &[u8] = b"19 <13>1 - - - - - - a19 <14>1 - - - - - - b";
 
 const LINES: &[u8] = b"<13>1 - - - - - - a\n<14>1 - - - - - - b\n";
 
-/// What is made of a log: a run, the form of the log and the log, the sizes, and what is written.
-const MADE: [(Job, Form, &[u8], Sizes, &[u8]); 11] = [
-    (SIGN, Frames, b"", USUAL, CERTIFICATE_FRAME),
-    (Job::Plan, Frames, b"", USUAL, CERTIFICATE_WANT),
-    (SIGN, Lines, b"", USUAL, CERTIFICATE_FRAME),
-    (Job::Plan, Lines, b"", USUAL, CERTIFICATE_WANT),
-    (SIGN, Frames, FRAMES, USUAL, BOTH_FRAMES),
-    (Job::Plan, Frames, FRAMES, USUAL, BOTH_WANTS),
-    (SIGN, Lines, LINES, USUAL, BOTH_FRAMES),
-    (Job::Sign(Seal::Zero), Lines, LINES, USUAL, ONE_OCTET_FRAMES),
-    (Job::Plan, Lines, LINES, USUAL, BOTH_WANTS),
-    (SIGN, Frames, FRAMES, TWICE, TWICE_FRAMES),
-    (Job::Plan, Lines, LINES, TWICE, TWICE_WANTS),
+const MADE: [Made; 11] = [
+    Made {
+        job: SIGN,
+        form: Frames,
+        log: b"",
+        sizes: USUAL,
+        text: CERTIFICATE_FRAME,
+    },
+    Made {
+        job: Job::Plan,
+        form: Frames,
+        log: b"",
+        sizes: USUAL,
+        text: CERTIFICATE_WANT,
+    },
+    Made {
+        job: SIGN,
+        form: Lines,
+        log: b"",
+        sizes: USUAL,
+        text: CERTIFICATE_FRAME,
+    },
+    Made {
+        job: Job::Plan,
+        form: Lines,
+        log: b"",
+        sizes: USUAL,
+        text: CERTIFICATE_WANT,
+    },
+    Made {
+        job: SIGN,
+        form: Frames,
+        log: FRAMES,
+        sizes: USUAL,
+        text: BOTH_FRAMES,
+    },
+    Made {
+        job: Job::Plan,
+        form: Frames,
+        log: FRAMES,
+        sizes: USUAL,
+        text: BOTH_WANTS,
+    },
+    Made {
+        job: SIGN,
+        form: Lines,
+        log: LINES,
+        sizes: USUAL,
+        text: BOTH_FRAMES,
+    },
+    Made {
+        job: Job::Sign(Seal::Zero),
+        form: Lines,
+        log: LINES,
+        sizes: USUAL,
+        text: ONE_OCTET_FRAMES,
+    },
+    Made {
+        job: Job::Plan,
+        form: Lines,
+        log: LINES,
+        sizes: USUAL,
+        text: BOTH_WANTS,
+    },
+    Made {
+        job: SIGN,
+        form: Frames,
+        log: FRAMES,
+        sizes: TWICE,
+        text: TWICE_FRAMES,
+    },
+    Made {
+        job: Job::Plan,
+        form: Lines,
+        log: LINES,
+        sizes: TWICE,
+        text: TWICE_WANTS,
+    },
 ];
 
-/// What is refused, and how that is printed.
-const REFUSED: [(Job, Form, &[u8], Sizes, SignFault, &str); 24] = [
-    (
-        NOT_BEGUN,
-        Frames,
-        b"",
-        USUAL,
-        Origin {
+const REFUSED: [Refused; 24] = [
+    Refused {
+        job: NOT_BEGUN,
+        form: Frames,
+        log: b"",
+        sizes: USUAL,
+        fault: Origin {
             fault: OriginFault::SealRefused,
             place: None,
         },
-        "O6",
-    ),
-    (
-        Job::Sign(Seal::FaultFor(SealFault::Memory, CERTIFICATE)),
-        Frames,
-        b"",
-        USUAL,
-        Origin {
+        code: "O6",
+    },
+    Refused {
+        job: Job::Sign(Seal::FaultFor(SealFault::Memory, CERTIFICATE)),
+        form: Frames,
+        log: b"",
+        sizes: USUAL,
+        fault: Origin {
             fault: OriginFault::Memory,
             place: None,
         },
-        "O10",
-    ),
-    (SIGN, Frames, b"3 ab", USUAL, TornInput { pos: 0 }, "P1 0"),
-    (
-        Job::Plan,
-        Frames,
-        b"3 ab",
-        USUAL,
-        TornInput { pos: 0 },
-        "P1 0",
-    ),
-    (
-        SIGN,
-        Frames,
-        b"3 abc",
-        USUAL,
-        Origin {
+        code: "O10",
+    },
+    Refused {
+        job: SIGN,
+        form: Frames,
+        log: b"3 ab",
+        sizes: USUAL,
+        fault: TornInput { pos: 0 },
+        code: "P1 0",
+    },
+    Refused {
+        job: Job::Plan,
+        form: Frames,
+        log: b"3 ab",
+        sizes: USUAL,
+        fault: TornInput { pos: 0 },
+        code: "P1 0",
+    },
+    Refused {
+        job: SIGN,
+        form: Frames,
+        log: b"3 abc",
+        sizes: USUAL,
+        fault: Origin {
             fault: OriginFault::NotSyslog,
             place: Some(0),
         },
-        "O2 0",
-    ),
-    (
-        Job::Plan,
-        Frames,
-        b"3 abc",
-        USUAL,
-        Origin {
+        code: "O2 0",
+    },
+    Refused {
+        job: Job::Plan,
+        form: Frames,
+        log: b"3 abc",
+        sizes: USUAL,
+        fault: Origin {
             fault: OriginFault::NotSyslog,
             place: Some(0),
         },
-        "O2 0",
-    ),
-    (
-        SIGN,
-        Lines,
-        b"<13>1 - - - - - - a\nabc\nabcd\n",
-        USUAL,
-        Origin {
+        code: "O2 0",
+    },
+    Refused {
+        job: SIGN,
+        form: Lines,
+        log: b"<13>1 - - - - - - a\nabc\nabcd\n",
+        sizes: USUAL,
+        fault: Origin {
             fault: OriginFault::NotSyslog,
             place: Some(1),
         },
-        "O2 1",
-    ),
-    (
-        Job::Plan,
-        Lines,
-        b"<13>1 - - - - - - a\n<14>1 - - - - - [ssign]\n",
-        USUAL,
-        Origin {
+        code: "O2 1",
+    },
+    Refused {
+        job: Job::Plan,
+        form: Lines,
+        log: b"<13>1 - - - - - - a\n<14>1 - - - - - [ssign]\n",
+        sizes: USUAL,
+        fault: Origin {
             fault: OriginFault::HasBlock,
             place: Some(1),
         },
-        "O3 1",
-    ),
-    (
-        SIGN,
-        Lines,
-        b"<13>1 - - - - - - a\n<14>1 - - - - - - b",
-        USUAL,
-        TornInput { pos: 20 },
-        "P1 20",
-    ),
-    (
-        Job::Plan,
-        Lines,
-        b"<13>1 - - - - - - a\n<14>1 - - - - - - b",
-        USUAL,
-        TornInput { pos: 20 },
-        "P1 20",
-    ),
-    (
-        SIGN,
-        Frames,
-        b"",
-        (0, 1),
-        Origin {
+        code: "O3 1",
+    },
+    Refused {
+        job: SIGN,
+        form: Lines,
+        log: b"<13>1 - - - - - - a\n<14>1 - - - - - - b",
+        sizes: USUAL,
+        fault: TornInput { pos: 20 },
+        code: "P1 20",
+    },
+    Refused {
+        job: Job::Plan,
+        form: Lines,
+        log: b"<13>1 - - - - - - a\n<14>1 - - - - - - b",
+        sizes: USUAL,
+        fault: TornInput { pos: 20 },
+        code: "P1 20",
+    },
+    Refused {
+        job: SIGN,
+        form: Frames,
+        log: b"",
+        sizes: (0, 1),
+        fault: Origin {
             fault: OriginFault::BadConfig,
             place: None,
         },
-        "O1",
-    ),
-    (
-        SIGN,
-        Frames,
-        b"",
-        (10, 0),
-        Origin {
+        code: "O1",
+    },
+    Refused {
+        job: SIGN,
+        form: Frames,
+        log: b"",
+        sizes: (10, 0),
+        fault: Origin {
             fault: OriginFault::BadConfig,
             place: None,
         },
-        "O1",
-    ),
-    (
-        Job::Plan,
-        Frames,
-        b"",
-        (100, 1),
-        Origin {
+        code: "O1",
+    },
+    Refused {
+        job: Job::Plan,
+        form: Frames,
+        log: b"",
+        sizes: (100, 1),
+        fault: Origin {
             fault: OriginFault::BadConfig,
             place: None,
         },
-        "O1",
-    ),
+        code: "O1",
+    },
     // The log comes before the originator, and its messages in their order.
-    (SIGN, Frames, b"3 ab", (0, 1), TornInput { pos: 0 }, "P1 0"),
-    (
-        SIGN,
-        Frames,
-        b"3 abcx",
-        (0, 1),
-        Run(RunFault::Frame(FrameFault::BadLength { pos: 5 })),
-        "F1 5",
-    ),
-    (
-        Job::Plan,
-        Frames,
-        b"3 abc12",
-        USUAL,
-        TornInput { pos: 5 },
-        "P1 5",
-    ),
-    (
-        Job::Plan,
-        Lines,
-        b"abc\n\n",
-        USUAL,
-        Run(RunFault::Frame(FrameFault::EmptyLine { pos: 4 })),
-        "F9 4",
-    ),
-    (
-        NOT_BEGUN,
-        Frames,
-        b"3 abc",
-        USUAL,
-        Origin {
+    Refused {
+        job: SIGN,
+        form: Frames,
+        log: b"3 ab",
+        sizes: (0, 1),
+        fault: TornInput { pos: 0 },
+        code: "P1 0",
+    },
+    Refused {
+        job: SIGN,
+        form: Frames,
+        log: b"3 abcx",
+        sizes: (0, 1),
+        fault: Run(RunFault::Frame(FrameFault::BadLength { pos: 5 })),
+        code: "F1 5",
+    },
+    Refused {
+        job: Job::Plan,
+        form: Frames,
+        log: b"3 abc12",
+        sizes: USUAL,
+        fault: TornInput { pos: 5 },
+        code: "P1 5",
+    },
+    Refused {
+        job: Job::Plan,
+        form: Lines,
+        log: b"abc\n\n",
+        sizes: USUAL,
+        fault: Run(RunFault::Frame(FrameFault::EmptyLine { pos: 4 })),
+        code: "F9 4",
+    },
+    Refused {
+        job: NOT_BEGUN,
+        form: Frames,
+        log: b"3 abc",
+        sizes: USUAL,
+        fault: Origin {
             fault: OriginFault::SealRefused,
             place: None,
         },
-        "O6",
-    ),
+        code: "O6",
+    },
     // A block that a message fills, and one that is left to the flush.
-    (
-        NOT_FLUSHED,
-        Lines,
-        LINES,
-        (1, 1),
-        Origin {
+    Refused {
+        job: NOT_FLUSHED,
+        form: Lines,
+        log: LINES,
+        sizes: (1, 1),
+        fault: Origin {
             fault: OriginFault::SealRefused,
             place: Some(1),
         },
-        "O6 1",
-    ),
-    (
-        NOT_FLUSHED,
-        Lines,
-        b"<14>1 - - - - - - b\n",
-        USUAL,
-        Origin {
+        code: "O6 1",
+    },
+    Refused {
+        job: NOT_FLUSHED,
+        form: Lines,
+        log: b"<14>1 - - - - - - b\n",
+        sizes: USUAL,
+        fault: Origin {
             fault: OriginFault::SealRefused,
             place: None,
         },
-        "O6",
-    ),
-    (
-        EMPTY,
-        Lines,
-        LINES,
-        (1, 1),
-        Origin {
+        code: "O6",
+    },
+    Refused {
+        job: EMPTY,
+        form: Lines,
+        log: LINES,
+        sizes: (1, 1),
+        fault: Origin {
             fault: OriginFault::SignatureLength,
             place: Some(1),
         },
-        "O7 1",
-    ),
-    (
-        EMPTY,
-        Lines,
-        b"<14>1 - - - - - - b\n",
-        USUAL,
-        Origin {
+        code: "O7 1",
+    },
+    Refused {
+        job: EMPTY,
+        form: Lines,
+        log: b"<14>1 - - - - - - b\n",
+        sizes: USUAL,
+        fault: Origin {
             fault: OriginFault::SignatureLength,
             place: None,
         },
-        "O7",
-    ),
-    (
-        NO_MEMORY,
-        Lines,
-        LINES,
-        (1, 1),
-        Origin {
+        code: "O7",
+    },
+    Refused {
+        job: NO_MEMORY,
+        form: Lines,
+        log: LINES,
+        sizes: (1, 1),
+        fault: Origin {
             fault: OriginFault::Memory,
             place: Some(1),
         },
-        "O10 1",
-    ),
-    (
-        NO_MEMORY,
-        Lines,
-        b"<14>1 - - - - - - b\n",
-        USUAL,
-        Origin {
+        code: "O10 1",
+    },
+    Refused {
+        job: NO_MEMORY,
+        form: Lines,
+        log: b"<14>1 - - - - - - b\n",
+        sizes: USUAL,
+        fault: Origin {
             fault: OriginFault::Memory,
             place: None,
         },
-        "O10",
-    ),
+        code: "O10",
+    },
 ];
 
 /// The greatest limits in that form.
@@ -303,8 +402,14 @@ fn limits_of(form: Form) -> Limits {
 }
 
 /// The run succeeds where a read and a write take so many octets at most, and writes the text.
-fn sees_text(rt: &(impl Abort + AllocGlobal), row: &(Job, Form, &[u8], Sizes, &[u8]), most: usize) {
-    let (job, form, log, sizes, text) = *row;
+fn sees_text(rt: &(impl Abort + AllocGlobal), row: &Made, most: usize) {
+    let Made {
+        job,
+        form,
+        log,
+        sizes,
+        text,
+    } = *row;
     let source = Pieces::new(log, most);
     let paper = Paper::new(most);
     let done = run(rt.alloc(), job, source, paper, sizes, limits_of(form));
@@ -321,11 +426,15 @@ fn makes(rt: HostRuntime) {
 }
 
 /// Nothing was written, and no device has failed.
-fn sees_refusal(
-    rt: &(impl Abort + AllocGlobal),
-    row: &(Job, Form, &[u8], Sizes, SignFault, &str),
-) -> Result<(), AllocError> {
-    let (job, form, log, sizes, fault, printed) = *row;
+fn sees_refusal(rt: &(impl Abort + AllocGlobal), row: &Refused) -> Result<(), AllocError> {
+    let Refused {
+        job,
+        form,
+        log,
+        sizes,
+        fault,
+        code,
+    } = *row;
     let source = Pieces::new(log, 1);
     let done = run(
         rt.alloc(),
@@ -339,7 +448,7 @@ fn sees_refusal(
     assert_eq!(rt; done.paper.writes, 0, "{job:?} of {log:?}");
     assert!(rt; !done.read_failed && !done.write_failed, "{job:?}");
     let spelled = format!(in rt.alloc(); "{fault}")?;
-    assert_eq!(rt; spelled.as_str(), printed);
+    assert_eq!(rt; spelled.as_str(), code);
     Ok(())
 }
 
