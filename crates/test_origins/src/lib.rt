@@ -4,6 +4,8 @@
 #[cfg(test)]
 mod examples;
 #[cfg(test)]
+mod printing;
+#[cfg(test)]
 mod scripts;
 #[cfg(test)]
 mod sealing;

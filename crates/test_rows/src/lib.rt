@@ -13,3 +13,5 @@ mod full_readings;
 mod memory;
 #[cfg(test)]
 mod messages;
+#[cfg(test)]
+mod printing;

@@ -1,0 +1,85 @@
+//! Faults printed, each variant once.
+use ss_frame::{FrameFault, WriteFault};
+use ss_message::{DraftFault, Fault, NoMemory, Part};
+use std::alloc::AllocError;
+use std::fmt::Display;
+use std::process::Abort;
+use std::test::Fail;
+
+/// The fault is printed so.
+fn prints<F: Display>(
+    rt: &(impl Abort + AllocGlobal),
+    fault: &F,
+    text: &str,
+) -> Result<(), AllocError> {
+    let printed = format!(in rt.alloc(); "{fault}")?;
+    assert_eq!(rt; printed.as_str(), text);
+    Ok(())
+}
+
+const FRAMES: [(FrameFault, &str); 7] = [
+    (FrameFault::BadLength { pos: 0 }, "F1 0"),
+    (FrameFault::TooLong { pos: 17 }, "F2 17"),
+    (FrameFault::Read, "F3"),
+    (FrameFault::Memory, "F4"),
+    (
+        FrameFault::TooManyMessages { pos: u64::MAX },
+        "F5 18446744073709551615",
+    ),
+    (FrameFault::Failed, "F6"),
+    (FrameFault::EmptyLine { pos: 9 }, "F9 9"),
+];
+
+const WRITES: [(WriteFault, &str); 2] = [(WriteFault::Write, "F7"), (WriteFault::Empty, "F8")];
+
+const PARTS: [(Part, &str); 12] = [
+    (Part::Pri, "Pri"),
+    (Part::Version, "Version"),
+    (Part::Timestamp, "Timestamp"),
+    (Part::Hostname, "Hostname"),
+    (Part::AppName, "AppName"),
+    (Part::ProcId, "ProcId"),
+    (Part::MsgId, "MsgId"),
+    (Part::Syntax, "Syntax"),
+    (Part::Name, "Name"),
+    (Part::Value, "Value"),
+    (Part::RepeatedId, "RepeatedId"),
+    (Part::Msg, "Msg"),
+];
+
+const MESSAGES: [(Fault, &str); 2] = [
+    (
+        Fault::Bad {
+            part: Part::Msg,
+            pos: 40,
+        },
+        "Msg at 40",
+    ),
+    (Fault::Memory, "out of memory"),
+];
+
+const DRAFTS: [(DraftFault, &str); 2] = [
+    (DraftFault::Bad { part: Part::Name }, "Name"),
+    (DraftFault::Memory, "out of memory"),
+];
+
+#[test]
+fn faults(rt: HostRuntime) -> Result<(), Fail> {
+    for (fault, text) in &FRAMES {
+        prints(&rt, fault, text)?;
+    }
+    for (fault, text) in &WRITES {
+        prints(&rt, fault, text)?;
+    }
+    for (part, text) in &PARTS {
+        prints(&rt, part, text)?;
+    }
+    for (fault, text) in &MESSAGES {
+        prints(&rt, fault, text)?;
+    }
+    for (fault, text) in &DRAFTS {
+        prints(&rt, fault, text)?;
+    }
+    prints(&rt, &NoMemory, "out of memory")?;
+    Ok(())
+}
