@@ -17,3 +17,4 @@ pub mod KeysStay
 pub mod WholeBearers
 pub mod NumbersTogether
 pub mod ReportsShow
+pub mod ReportsTogether

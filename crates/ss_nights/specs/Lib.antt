@@ -2,3 +2,4 @@ pub mod Nights
 pub mod NightLaws
 pub mod Together
 pub mod NightRows
+pub mod Reports

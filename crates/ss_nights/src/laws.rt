@@ -2,6 +2,7 @@
 ghost use Rattle.ss_nights.specs.NightLaws.{AnnouncedOfNights, FilesAreTheWhole, NightsAreLogs, StatesOfNights, VerifiedStays};
 ghost use Rattle.ss_nights.specs.Together.{NumbersOfNights, PlacesOfNights, ReportsAreEnough, UnlistedOfNights};
 ghost use Rattle.ss_nights.specs.NightRows.{NightsAreThese};
+ghost use Rattle.ss_nights.specs.Reports.{NightsAreTheWhole, SettledAreListed};
 
 use ss_block::laws::readings::blocks_are_in_range;
 
@@ -72,6 +73,23 @@ pub fn unlisted_of_nights()
 pub fn reports_are_enough()
     ensures { ReportsAreEnough }
 {}
+
+/// What a night lists is what its report lists.
+pub fn settled_are_listed()
+    ensures { SettledAreListed }
+{}
+
+/// The report of a whole log is put together from the reports of its nights: sessions and states, listed numbers, gaps,
+/// holes, unlisted, refused and spoilt messages, and the count. Only equal messages may be exchanged. The premises are
+/// that each place belongs to the file of a night, that the files follow one another, and those of `AgreeLater`.
+pub fn nights_are_the_whole()
+    ensures { NightsAreTheWhole }
+{
+    states_of_nights();
+    numbers_of_nights();
+    places_of_nights();
+    files_are_the_whole();
+}
 
 /// Small logs of two nights, and the reports on them, computed: one that meets the premises of the law on what the nights
 /// say together, and for each premise one that doesn't, and where they say something else than the whole.
