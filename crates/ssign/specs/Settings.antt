@@ -19,7 +19,19 @@ use Rattle.ssign.specs.declared.settings.SettingsFault.{SettingsFault}
 use Rattle.ssign.specs.declared.settings.SettingsFault.TheVariants.{OutOfForm, Memory}
 use Rattle.ssign.specs.declared.text_option.TextOption.{TextOption}
 use Rattle.ssign.specs.declared.text_option.TextOption.TheVariants.{Payload, Stamp, Groups, Host, App, Procid, Msgid}
-use Rattle.ss_block.specs.Ranges.{last_number}
+use Rattle.ssign.specs.declared.options.app.TheConstants as app
+use Rattle.ssign.specs.declared.options.copies.TheConstants as copies
+use Rattle.ssign.specs.declared.options.count.TheConstants as count
+use Rattle.ssign.specs.declared.options.frag.TheConstants as frag
+use Rattle.ssign.specs.declared.options.groups.TheConstants as groups
+use Rattle.ssign.specs.declared.options.host.TheConstants as host
+use Rattle.ssign.specs.declared.options.msgid.TheConstants as msgid
+use Rattle.ssign.specs.declared.options.payload.TheConstants as payload
+use Rattle.ssign.specs.declared.options.pri.TheConstants as pri
+use Rattle.ssign.specs.declared.options.procid.TheConstants as procid
+use Rattle.ssign.specs.declared.options.rsid.TheConstants as rsid
+use Rattle.ssign.specs.declared.options.stamp.TheConstants as stamp
+use Rattle.ssign.specs.declared.options.ver.TheConstants as ver
 
 -- ---- what the texts spell
 
@@ -39,7 +51,8 @@ header_in c t = record {
 -- PRI and the fields are in their ranges
 abbrev pub is_head : HeadValue → Bool
 is_head h =
-    nat_le h.pri 191 && is_field 255 h.hostname && is_field 48 h.app_name && is_field 128 h.procid && is_field 32 h.msgid
+    nat_le h.pri pri.MOST && is_field host.LONGEST h.hostname && is_field app.LONGEST h.app_name
+    && is_field procid.LONGEST h.procid && is_field msgid.LONGEST h.msgid
 
 abbrev pub head_in : Choices → Texts → Option HeadValue
 head_in c t = if is_head (header_in c t) then Some (header_in c t) else None
@@ -68,21 +81,21 @@ settings_in c t = do
 -- ---- which text is out of its form
 
 abbrev pub option_name : TextOption → List ℕ
-option_name Payload = codes "payload"
-option_name Stamp = codes "stamp"
-option_name Groups = codes "groups"
-option_name Host = codes "host"
-option_name App = codes "app"
-option_name Procid = codes "procid"
-option_name Msgid = codes "msgid"
+option_name Payload = payload.NAME.now
+option_name Stamp = stamp.NAME.now
+option_name Groups = groups.NAME.now
+option_name Host = host.NAME.now
+option_name App = app.NAME.now
+option_name Procid = procid.NAME.now
+option_name Msgid = msgid.NAME.now
 
 -- the first option of a field of the header whose text is out of its form
 abbrev pub refused_field : Texts → Option TextOption
 refused_field t =
-    if not (is_field 255 (field_in t.host.now)) then Some Host
-    else (if not (is_field 48 (field_in t.app.now)) then Some App
-    else (if not (is_field 128 (field_in t.procid.now)) then Some Procid
-    else (if not (is_field 32 (field_in t.msgid.now)) then Some Msgid
+    if not (is_field host.LONGEST (field_in t.host.now)) then Some Host
+    else (if not (is_field app.LONGEST (field_in t.app.now)) then Some App
+    else (if not (is_field procid.LONGEST (field_in t.procid.now)) then Some Procid
+    else (if not (is_field msgid.LONGEST (field_in t.msgid.now)) then Some Msgid
     else None)))
 
 -- the first option, in this order, whose text is read as nothing
@@ -115,22 +128,22 @@ pub record HasNumberIn (matches : ArgMatches) (option : List ℕ) (least most n 
 
 -- the version and the numbers
 pub record HasChoices (matches : ArgMatches) (c : Choices) : Type 0 where
-  pub alg : option_and_then version_in (first_value (found_of matches) (codes "ver")) ≡ Some c.alg
-  pub rsid : HasNumberIn matches (codes "rsid") 0 last_number c.rsid
-  pub pri : HasNumberIn matches (codes "pri") 0 191 c.pri
-  pub count : HasNumberIn matches (codes "count") 1 99 c.count
-  pub frag : HasNumberIn matches (codes "frag") 1 9999 c.frag
-  pub copies : HasNumberIn matches (codes "copies") 1 9 c.copies
+  pub alg : option_and_then version_in (first_value (found_of matches) ver.NAME.now) ≡ Some c.alg
+  pub rsid : HasNumberIn matches rsid.NAME.now rsid.LEAST rsid.MOST c.rsid
+  pub pri : HasNumberIn matches pri.NAME.now pri.LEAST pri.MOST c.pri
+  pub count : HasNumberIn matches count.NAME.now count.LEAST count.MOST c.count
+  pub frag : HasNumberIn matches frag.NAME.now frag.LEAST frag.MOST c.frag
+  pub copies : HasNumberIn matches copies.NAME.now copies.LEAST copies.MOST c.copies
 
 -- the texts
 pub record HasTexts (matches : ArgMatches) (t : Texts) : Type 0 where
-  pub payload : first_value (found_of matches) (codes "payload") ≡ Some t.payload.now
-  pub stamp : first_value (found_of matches) (codes "stamp") ≡ Some t.stamp.now
-  pub host : first_value (found_of matches) (codes "host") ≡ Some t.host.now
-  pub app : first_value (found_of matches) (codes "app") ≡ Some t.app.now
-  pub procid : first_value (found_of matches) (codes "procid") ≡ Some t.procid.now
-  pub msgid : first_value (found_of matches) (codes "msgid") ≡ Some t.msgid.now
-  pub groups : first_value (found_of matches) (codes "groups") ≡ Some t.groups.now
+  pub payload : first_value (found_of matches) payload.NAME.now ≡ Some t.payload.now
+  pub stamp : first_value (found_of matches) stamp.NAME.now ≡ Some t.stamp.now
+  pub host : first_value (found_of matches) host.NAME.now ≡ Some t.host.now
+  pub app : first_value (found_of matches) app.NAME.now ≡ Some t.app.now
+  pub procid : first_value (found_of matches) procid.NAME.now ≡ Some t.procid.now
+  pub msgid : first_value (found_of matches) msgid.NAME.now ≡ Some t.msgid.now
+  pub groups : first_value (found_of matches) groups.NAME.now ≡ Some t.groups.now
 
 -- the settings, or that there are none, and the first option whose text is out of its form
 abbrev pub Gives : Choices → Texts → Result Settings SettingsFault → Type 0

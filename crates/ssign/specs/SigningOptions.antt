@@ -4,8 +4,20 @@ use Rattle.std.specs.Borrow.{Bor}
 use Rattle.clap.specs.Words.{App, Rule, new_rule, with_rule}
 use Rattle.clap.specs.declared.builder.ArgAction.TheVariants.{Set}
 use Rattle.clap.specs.declared.builder.value_parser.ValueParser.TheVariants.{Names, Signed}
-use Rattle.ss_block.specs.Ranges.{last_number}
 use Rattle.ss_block.specs.Versions as version
+use Rattle.ssign.specs.declared.options.app.TheConstants as app
+use Rattle.ssign.specs.declared.options.copies.TheConstants as copies
+use Rattle.ssign.specs.declared.options.count.TheConstants as count
+use Rattle.ssign.specs.declared.options.frag.TheConstants as frag
+use Rattle.ssign.specs.declared.options.groups.TheConstants as groups
+use Rattle.ssign.specs.declared.options.host.TheConstants as host
+use Rattle.ssign.specs.declared.options.msgid.TheConstants as msgid
+use Rattle.ssign.specs.declared.options.payload.TheConstants as payload
+use Rattle.ssign.specs.declared.options.pri.TheConstants as pri
+use Rattle.ssign.specs.declared.options.procid.TheConstants as procid
+use Rattle.ssign.specs.declared.options.rsid.TheConstants as rsid
+use Rattle.ssign.specs.declared.options.stamp.TheConstants as stamp
+use Rattle.ssign.specs.declared.options.ver.TheConstants as ver
 
 -- texts that the program keeps
 abbrev pub Kept : Type 0
@@ -37,33 +49,59 @@ required_rule rule = record rule { required = true }
 abbrev pub usual_rule : Rule → List ℕ → Rule
 usual_rule rule usual = record rule { defaults = usual ∷ [] }
 
--- ---- the options
+-- ---- each option
+
+abbrev pub payload_rule : Rule
+payload_rule = required_rule (text_rule payload.NAME.now)
+
+abbrev pub rsid_rule : Rule
+rsid_rule = required_rule (number_rule rsid.NAME.now (pos rsid.LEAST) (pos rsid.MOST))
+
+abbrev pub stamp_rule : Rule
+stamp_rule = usual_rule (text_rule stamp.NAME.now) stamp.USUAL.now
+
+abbrev pub pri_rule : Rule
+pri_rule = usual_rule (number_rule pri.NAME.now (pos pri.LEAST) (pos pri.MOST)) pri.USUAL.now
+
+abbrev pub host_rule : Rule
+host_rule = usual_rule (text_rule host.NAME.now) host.USUAL.now
+
+abbrev pub app_rule : Rule
+app_rule = usual_rule (text_rule app.NAME.now) app.USUAL.now
+
+abbrev pub procid_rule : Rule
+procid_rule = usual_rule (text_rule procid.NAME.now) procid.USUAL.now
+
+abbrev pub msgid_rule : Rule
+msgid_rule = usual_rule (text_rule msgid.NAME.now) msgid.USUAL.now
+
+abbrev pub ver_rule : Kept → Rule
+ver_rule versions = usual_rule (versions_rule ver.NAME.now versions) ver.USUAL.now
+
+abbrev pub groups_rule : Rule
+groups_rule = usual_rule (text_rule groups.NAME.now) groups.USUAL.now
+
+abbrev pub count_rule : Rule
+count_rule = usual_rule (number_rule count.NAME.now (pos count.LEAST) (pos count.MOST)) count.USUAL.now
+
+abbrev pub frag_rule : Rule
+frag_rule = usual_rule (number_rule frag.NAME.now (pos frag.LEAST) (pos frag.MOST)) frag.USUAL.now
+
+abbrev pub copies_rule : Rule
+copies_rule = usual_rule (number_rule copies.NAME.now (pos copies.LEAST) (pos copies.MOST)) copies.USUAL.now
+
+-- ---- the options, in their order
 
 abbrev pub with_key_options : App → App
-with_key_options app =
-    let payload = required_rule (text_rule (codes "payload")) in
-    let rsid = required_rule (number_rule (codes "rsid") (pos 0) (pos last_number)) in
-    let stamp = usual_rule (text_rule (codes "stamp")) (codes "-") in
-    with_rule (with_rule (with_rule app payload) rsid) stamp
+with_key_options a = with_rule (with_rule (with_rule a payload_rule) rsid_rule) stamp_rule
 
 abbrev pub with_header_options : App → App
-with_header_options app =
-    let pri = usual_rule (number_rule (codes "pri") (pos 0) (pos 191)) (codes "110") in
-    let host = usual_rule (text_rule (codes "host")) (codes "-") in
-    let name = usual_rule (text_rule (codes "app")) (codes "-") in
-    let procid = usual_rule (text_rule (codes "procid")) (codes "-") in
-    let msgid = usual_rule (text_rule (codes "msgid")) (codes "-") in
-    with_rule (with_rule (with_rule (with_rule (with_rule app pri) host) name) procid) msgid
+with_header_options a = with_rule (with_rule (with_rule (with_rule (with_rule a pri_rule) host_rule) app_rule) procid_rule) msgid_rule
 
 abbrev pub with_block_options : Kept → App → App
-with_block_options versions app =
-    let ver = usual_rule (versions_rule (codes "ver") versions) (codes "0111") in
-    let groups = usual_rule (text_rule (codes "groups")) (codes "one") in
-    let count = usual_rule (number_rule (codes "count") (pos 1) (pos 99)) (codes "10") in
-    let frag = usual_rule (number_rule (codes "frag") (pos 1) (pos 9999)) (codes "500") in
-    let copies = usual_rule (number_rule (codes "copies") (pos 1) (pos 9)) (codes "1") in
-    with_rule (with_rule (with_rule (with_rule (with_rule app ver) groups) count) frag) copies
+with_block_options versions a =
+    with_rule (with_rule (with_rule (with_rule (with_rule a (ver_rule versions)) groups_rule) count_rule) frag_rule) copies_rule
 
 -- the options in their order
 abbrev pub with_signing_options : Kept → App → App
-with_signing_options versions app = with_block_options versions (with_header_options (with_key_options app))
+with_signing_options versions a = with_block_options versions (with_header_options (with_key_options a))

@@ -14,6 +14,7 @@ mod message_count;
 mod negatives;
 mod nobody;
 mod opening;
+mod options;
 mod program;
 mod progress;
 mod refusing;

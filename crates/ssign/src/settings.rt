@@ -10,9 +10,12 @@ ghost use Rattle.ssign.specs.declared.settings.SettingsFault.TheVariants.{Memory
 
 use crate::choices::Choices;
 use crate::groups_text::grouping_of;
+use crate::options::{
+    app, copies, count, frag, groups, host, msgid, payload, pri, procid, rsid, stamp, ver,
+};
 use crate::text_option::TextOption;
 use clap::ArgMatches;
-use ss_block::{Alg, Head, LAST_NUMBER, Payload};
+use ss_block::{Alg, Head, Payload};
 use ss_frame::Bytes;
 use ss_message::{Field, NoMemory, Stamp};
 use ss_origin::Config;
@@ -99,12 +102,12 @@ fn choices_of(matches: &ArgMatches<'_>) -> Option<Choices>
     ensures only { (c : Choices) → HasChoices matches.now c → IsSome result }
 {
     Some(Choices {
-        alg: Alg::of_version(matches.get_str("ver")?.as_bytes())?,
-        rsid: number_in(matches, "rsid", 0, LAST_NUMBER)?,
-        pri: number_in(matches, "pri", 0, 191)? as u8,
-        count: number_in(matches, "count", 1, 99)? as u8,
-        frag: number_in(matches, "frag", 1, 9_999)? as u16,
-        copies: number_in(matches, "copies", 1, 9)? as u8,
+        alg: Alg::of_version(matches.get_str(ver::NAME)?.as_bytes())?,
+        rsid: number_in(matches, rsid::NAME, rsid::LEAST, rsid::MOST)?,
+        pri: number_in(matches, pri::NAME, pri::LEAST, pri::MOST)? as u8,
+        count: number_in(matches, count::NAME, count::LEAST, count::MOST)? as u8,
+        frag: number_in(matches, frag::NAME, frag::LEAST, frag::MOST)? as u16,
+        copies: number_in(matches, copies::NAME, copies::LEAST, copies::MOST)? as u8,
     })
 }
 
@@ -113,13 +116,13 @@ fn texts_of<'a>(matches: &ArgMatches<'a>) -> Option<Texts<'a>>
     ensures only { (t : Texts) → HasTexts matches.now t → IsSome result }
 {
     Some(Texts {
-        payload: matches.get_str("payload")?,
-        stamp: matches.get_str("stamp")?,
-        host: matches.get_str("host")?,
-        app: matches.get_str("app")?,
-        procid: matches.get_str("procid")?,
-        msgid: matches.get_str("msgid")?,
-        groups: matches.get_str("groups")?,
+        payload: matches.get_str(payload::NAME)?,
+        stamp: matches.get_str(stamp::NAME)?,
+        host: matches.get_str(host::NAME)?,
+        app: matches.get_str(app::NAME)?,
+        procid: matches.get_str(procid::NAME)?,
+        msgid: matches.get_str(msgid::NAME)?,
+        groups: matches.get_str(groups::NAME)?,
     })
 }
 
@@ -202,10 +205,10 @@ fn fitting_field(
 fn head_of(alloc: Global, choices: Choices, texts: &Texts<'_>) -> Result<Head, SettingsFault>
     ensures { HeadGives choices texts.now result }
 {
-    let host = fitting_field(alloc, texts.host, 255, TextOption::Host)?;
-    let app = fitting_field(alloc, texts.app, 48, TextOption::App)?;
-    let procid = fitting_field(alloc, texts.procid, 128, TextOption::Procid)?;
-    let msgid = fitting_field(alloc, texts.msgid, 32, TextOption::Msgid)?;
+    let host = fitting_field(alloc, texts.host, host::LONGEST, TextOption::Host)?;
+    let app = fitting_field(alloc, texts.app, app::LONGEST, TextOption::App)?;
+    let procid = fitting_field(alloc, texts.procid, procid::LONGEST, TextOption::Procid)?;
+    let msgid = fitting_field(alloc, texts.msgid, msgid::LONGEST, TextOption::Msgid)?;
     let Some(head) = Head::new(choices.pri, host, app, procid, msgid) else {
         unreachable!();
     };

@@ -1,14 +1,16 @@
 //! The options that say how a log is signed.
-ghost use Rattle.std.specs.Prelude.{◌≡◌, codes, false, IfOk};
+ghost use Rattle.std.specs.Prelude.{◌≡◌, false, IfOk};
 ghost use Rattle.clap.specs.Words.{App, Rule, rule_of, with_rule};
 ghost use Rattle.ssign.specs.CommandLine.{IsLocalApp};
 ghost use Rattle.ssign.specs.SigningOptions.{number_rule, required_rule, text_rule};
-ghost use Rattle.ssign.specs.SigningOptions.{usual_rule, versions_rule};
+ghost use Rattle.ssign.specs.SigningOptions.{usual_rule, ver_rule};
 ghost use Rattle.ssign.specs.SigningOptions.{with_block_options, with_header_options, with_key_options, with_signing_options};
 
+use crate::options::{
+    app, copies, count, frag, groups, host, msgid, payload, pri, procid, rsid, stamp, ver,
+};
 use clap::builder::ValueParser;
 use clap::{Arg, ArgAction, Command};
-use ss_block::LAST_NUMBER;
 use std::alloc::{AllocError, Global};
 
 /// The command with the options that say how a log is signed. Of the versions of blocks it takes those that are given.
@@ -27,39 +29,27 @@ pub fn with_signing_options<'a>(
 fn with_key_options<'a>(alloc: Global, command: Command<'a>) -> Result<Command<'a>, AllocError>
     ensures { (app : App) → IsLocalApp command.entry app → IfOk result (λ c. IsLocalApp c (with_key_options app)) }
 {
-    let payload = text(alloc, "payload", "TEXT");
-    let help =
-        "The text of the payload block, not the name of its file, as in --payload \"$(cat keys/payload)\": a time stamp \
-            or -, the type of the key, and the key in base64, with one space between two";
-    let command = with_required(command, payload, help)?;
-    let rsid = number(alloc, "rsid", 0, LAST_NUMBER as i64);
-    let help =
-        "The number of the session, 0 to 9999999999: give each log that you sign a greater one";
-    let command = with_required(command, rsid, help)?;
-    let stamp = text(alloc, "stamp", "TEXT");
-    let help = "The time stamp of all block messages, as in 2009-05-03T14:00:39Z, or - for none";
-    with_usual(command, stamp, "-", help)
+    let option = text(alloc, payload::NAME, "TEXT");
+    let command = with_required(command, option, payload::HELP)?;
+    let option = number(alloc, rsid::NAME, rsid::LEAST as i64, rsid::MOST as i64);
+    let command = with_required(command, option, rsid::HELP)?;
+    let option = text(alloc, stamp::NAME, "TEXT");
+    with_usual(command, option, stamp::USUAL, stamp::HELP)
 }
 
 fn with_header_options<'a>(alloc: Global, command: Command<'a>) -> Result<Command<'a>, AllocError>
     ensures { (app : App) → IsLocalApp command.entry app → IfOk result (λ c. IsLocalApp c (with_header_options app)) }
 {
-    let pri = number(alloc, "pri", 0, 191);
-    let help = "The PRI of the block messages, 0 to 191";
-    let command = with_usual(command, pri, "110", help)?;
-    let host = text(alloc, "host", "TEXT");
-    let help =
-        "The HOSTNAME of the block messages, at most 255 visible ASCII octets, or - for none";
-    let command = with_usual(command, host, "-", help)?;
-    let app = text(alloc, "app", "TEXT");
-    let help = "The APP-NAME of the block messages, at most 48 visible ASCII octets, or - for none";
-    let command = with_usual(command, app, "-", help)?;
-    let procid = text(alloc, "procid", "TEXT");
-    let help = "The PROCID of the block messages, at most 128 visible ASCII octets, or - for none";
-    let command = with_usual(command, procid, "-", help)?;
-    let msgid = text(alloc, "msgid", "TEXT");
-    let help = "The MSGID of the block messages, at most 32 visible ASCII octets, or - for none";
-    with_usual(command, msgid, "-", help)
+    let option = number(alloc, pri::NAME, pri::LEAST as i64, pri::MOST as i64);
+    let command = with_usual(command, option, pri::USUAL, pri::HELP)?;
+    let option = text(alloc, host::NAME, "TEXT");
+    let command = with_usual(command, option, host::USUAL, host::HELP)?;
+    let option = text(alloc, app::NAME, "TEXT");
+    let command = with_usual(command, option, app::USUAL, app::HELP)?;
+    let option = text(alloc, procid::NAME, "TEXT");
+    let command = with_usual(command, option, procid::USUAL, procid::HELP)?;
+    let option = text(alloc, msgid::NAME, "TEXT");
+    with_usual(command, option, msgid::USUAL, msgid::HELP)
 }
 
 fn with_block_options<'a>(
@@ -70,20 +60,19 @@ fn with_block_options<'a>(
     ensures { (app : App) → IsLocalApp command.entry app → IfOk result (λ c. IsLocalApp c (with_block_options versions.entry app)) }
 {
     let command = with_version(alloc, command, versions)?;
-    let groups = text(alloc, "groups", "TEXT");
-    let help =
-        "Which messages share a signature group: one (all of them), pri (those of one PRI), or the highest PRI of \
-            each range, as in 63,127,191";
-    let command = with_usual(command, groups, "one", help)?;
-    let count = number(alloc, "count", 1, 99);
-    let help = "How many messages one signature block announces at most, 1 to 99";
-    let command = with_usual(command, count, "10", help)?;
-    let frag = number(alloc, "frag", 1, 9_999);
-    let help = "How many octets of the payload one certificate block carries at most, 1 to 9999";
-    let command = with_usual(command, frag, "500", help)?;
-    let copies = number(alloc, "copies", 1, 9);
-    let help = "How many times each block message is written, 1 to 9; a plan lists each once";
-    with_usual(command, copies, "1", help)
+    let option = text(alloc, groups::NAME, "TEXT");
+    let command = with_usual(command, option, groups::USUAL, groups::HELP)?;
+    let option = number(alloc, count::NAME, count::LEAST as i64, count::MOST as i64);
+    let command = with_usual(command, option, count::USUAL, count::HELP)?;
+    let option = number(alloc, frag::NAME, frag::LEAST as i64, frag::MOST as i64);
+    let command = with_usual(command, option, frag::USUAL, frag::HELP)?;
+    let option = number(
+        alloc,
+        copies::NAME,
+        copies::LEAST as i64,
+        copies::MOST as i64,
+    );
+    with_usual(command, option, copies::USUAL, copies::HELP)
 }
 
 /// The command with the option of the version of the blocks.
@@ -93,13 +82,12 @@ fn with_version<'a>(
     versions: &'a [&'a str],
 ) -> Result<Command<'a>, AllocError>
     ensures { (app : App) → IsLocalApp command.entry app → IfOk result (λ c.
-        let version = usual_rule (versions_rule (codes "ver") versions.entry) (codes "0111") in
-        IsLocalApp c (with_rule app version)) }
+        IsLocalApp c (with_rule app (ver_rule versions.entry))) }
 {
-    let version = text(alloc, "ver", "VER")
+    let version = text(alloc, ver::NAME, "VER")
         .value_parser(versions)
-        .default_value("0111")
-        .help("The hash algorithm, as the version of the blocks: 0111 is SHA-1, 0121 is SHA-256");
+        .default_value(ver::USUAL)
+        .help(ver::HELP);
     command.arg(version)
 }
 

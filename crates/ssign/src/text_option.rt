@@ -3,6 +3,7 @@ ghost use Rattle.std.specs.Prelude.{◌≡◌, option_map};
 ghost use Rattle.clap.specs.Words.{first_value, found_of};
 ghost use Rattle.ssign.specs.Settings.{option_name};
 
+use crate::options::{app, groups, host, msgid, payload, procid, stamp};
 use clap::ArgMatches;
 
 /// An option of a command that signs, whose value is a text of its own form.
@@ -30,13 +31,13 @@ impl TextOption {
         ensures { result.now ≡ option_name self }
     {
         match self {
-            TextOption::Payload => "payload",
-            TextOption::Stamp => "stamp",
-            TextOption::Groups => "groups",
-            TextOption::Host => "host",
-            TextOption::App => "app",
-            TextOption::Procid => "procid",
-            TextOption::Msgid => "msgid",
+            TextOption::Payload => payload::NAME,
+            TextOption::Stamp => stamp::NAME,
+            TextOption::Groups => groups::NAME,
+            TextOption::Host => host::NAME,
+            TextOption::App => app::NAME,
+            TextOption::Procid => procid::NAME,
+            TextOption::Msgid => msgid::NAME,
         }
     }
 

@@ -1,0 +1,12 @@
+//! `--copies`: how many times each block message is written.
+/// Its name, behind two hyphens.
+pub const NAME: &str = "copies";
+/// The least.
+pub const LEAST: u64 = 1;
+/// The greatest.
+pub const MOST: u64 = 9;
+/// Its value where it isn't given.
+pub const USUAL: &str = "1";
+/// What the help says of it.
+pub const HELP: &str =
+    "How many times each block message is written, 1 to 9; a plan lists each once";

@@ -1,0 +1,11 @@
+//! `--pri`: PRI of the block messages (RFC 5424, section 6.2.1).
+/// Its name, behind two hyphens.
+pub const NAME: &str = "pri";
+/// The least.
+pub const LEAST: u64 = 0;
+/// The greatest.
+pub const MOST: u64 = 191;
+/// Its value where it isn't given.
+pub const USUAL: &str = "110";
+/// What the help says of it.
+pub const HELP: &str = "The PRI of the block messages, 0 to 191";
