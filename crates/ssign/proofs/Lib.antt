@@ -1,5 +1,5 @@
-mod Commands
-mod Options
+mod FoundCommands
+mod OptionValues
 mod Flags
 mod Spaces
 mod ReadBounds

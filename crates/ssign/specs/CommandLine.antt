@@ -11,6 +11,14 @@ use Rattle.clap.specs.declared.parser.matches.ArgMatches.{ArgMatches}
 use Rattle.ss_frame.specs.Limits.{Allowance, longest_message, most_messages}
 use Rattle.ss_frame.specs.declared.limits.Form.{Form}
 use Rattle.ss_frame.specs.declared.limits.Form.TheVariants.{Frames, Lines}
+use Rattle.ssign.specs.declared.commands.counters.TheConstants as counters
+use Rattle.ssign.specs.declared.commands.explain.TheConstants as explain
+use Rattle.ssign.specs.declared.commands.extract.TheConstants as extract
+use Rattle.ssign.specs.declared.commands.inspect.TheConstants as inspect
+use Rattle.ssign.specs.declared.commands.plan.TheConstants as plan
+use Rattle.ssign.specs.declared.commands.questions.TheConstants as questions
+use Rattle.ssign.specs.declared.commands.review.TheConstants as review
+use Rattle.ssign.specs.declared.commands.sign.TheConstants as sign
 use Rattle.ssign.specs.declared.command_line.Order.{Order}
 use Rattle.ssign.specs.declared.command_line.Order.TheVariants.{Log, Sent, Explain}
 use Rattle.ssign.specs.declared.task.Reporting.{Reporting}
@@ -130,28 +138,28 @@ with_limits a = with_rule (with_rule (with_rule a lines_rule) max_len_rule) max_
 abbrev pub review_app : App
 review_app =
     with_limits
-    (with_rule (with_rule (with_rule (with_rule (with_rule (with_rule (new_app (codes "review")) answers_rule) findings_rule) json_rule) whole_rule) tally_rule) kept_rule)
+    (with_rule (with_rule (with_rule (with_rule (with_rule (with_rule (new_app review.NAME.now) answers_rule) findings_rule) json_rule) whole_rule) tally_rule) kept_rule)
 
 abbrev pub questions_app : App
-questions_app = with_limits (with_rule (new_app (codes "questions")) json_rule)
+questions_app = with_limits (with_rule (new_app questions.NAME.now) json_rule)
 
 abbrev pub extract_app : App
-extract_app = with_limits (with_rule (with_rule (with_rule (with_rule (new_app (codes "extract")) answers_rule) unlisted_rule) place_rule) lines_out_rule)
+extract_app = with_limits (with_rule (with_rule (with_rule (with_rule (new_app extract.NAME.now) answers_rule) unlisted_rule) place_rule) lines_out_rule)
 
 abbrev pub inspect_app : App
-inspect_app = with_limits (with_rule (with_rule (new_app (codes "inspect")) findings_rule) json_rule)
+inspect_app = with_limits (with_rule (with_rule (new_app inspect.NAME.now) findings_rule) json_rule)
 
 abbrev pub plan_app : Kept → App
-plan_app versions = with_limits (with_signing_options versions (new_app (codes "plan")))
+plan_app versions = with_limits (with_signing_options versions (new_app plan.NAME.now))
 
 abbrev pub sign_app : Kept → App
-sign_app versions = with_limits (with_signing_options versions (with_rule (new_app (codes "sign")) answers_rule))
+sign_app versions = with_limits (with_signing_options versions (with_rule (new_app sign.NAME.now) answers_rule))
 
 abbrev pub counters_app : App
-counters_app = with_limits (with_rule (with_rule (new_app (codes "counters")) answers_rule) json_rule)
+counters_app = with_limits (with_rule (with_rule (new_app counters.NAME.now) answers_rule) json_rule)
 
 abbrev pub explain_app : App
-explain_app = with_rule (new_app (codes "explain")) code_rule
+explain_app = with_rule (new_app explain.NAME.now) code_rule
 
 -- the program, which has a version, wants a command, and shows its help where it is given no word at all
 abbrev pub bare_app : App
@@ -176,25 +184,25 @@ pub record IsLocalApp (command : Command) (app : App) : Type 0 where
 -- ---- the names of the commands
 
 abbrev pub task_name : Task → List ℕ
-task_name Review = codes "review"
-task_name Questions = codes "questions"
-task_name Extract = codes "extract"
-task_name Inspect = codes "inspect"
-task_name Counters = codes "counters"
+task_name Review = review.NAME.now
+task_name Questions = questions.NAME.now
+task_name Extract = extract.NAME.now
+task_name Inspect = inspect.NAME.now
+task_name Counters = counters.NAME.now
 
 abbrev pub signing_name : Signing → List ℕ
-signing_name Plan = codes "plan"
-signing_name Sign = codes "sign"
+signing_name Plan = plan.NAME.now
+signing_name Sign = sign.NAME.now
 
 abbrev pub name_of : Order → List ℕ
 name_of (Log task) = task_name task
 name_of (Sent signing) = signing_name signing
-name_of Explain = codes "explain"
+name_of Explain = explain.NAME.now
 
 -- no command has this name
 abbrev pub IsNoCommand : List ℕ → Type 0
-IsNoCommand name = (name ≢ codes "review") × (name ≢ codes "questions") × (name ≢ codes "extract")
-    × (name ≢ codes "inspect") × (name ≢ codes "plan") × (name ≢ codes "sign") × (name ≢ codes "counters") × (name ≢ codes "explain")
+IsNoCommand name = (name ≢ review.NAME.now) × (name ≢ questions.NAME.now) × (name ≢ extract.NAME.now)
+    × (name ≢ inspect.NAME.now) × (name ≢ plan.NAME.now) × (name ≢ sign.NAME.now) × (name ≢ counters.NAME.now) × (name ≢ explain.NAME.now)
 
 -- ---- the exit status
 

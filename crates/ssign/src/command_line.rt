@@ -12,6 +12,7 @@ ghost use Rattle.ssign.specs.CommandLine.{FlagIs, HasNumber, IsLocalApp, IsNoCom
 ghost use Rattle.ssign.specs.CommandLine.{with_commands, with_limits};
 
 use crate::asked::asked_of;
+use crate::commands;
 use crate::signing::Signing;
 use crate::signing_options::with_signing_options;
 use crate::task::{Reporting, Task};
@@ -35,12 +36,6 @@ const SEALED: &str =
 const LISTED: &str = "Leaves out the ok lines; the status stays as it is";
 /// What the findings of an inspection leave out.
 const PLAIN: &str = "Leaves out the plain lines; the status stays as it is";
-/// How a code is asked about.
-const EXAMPLES: &str = "Examples:
-  ssign explain F1
-  ssign explain 'ssign: F1 0'
-  ssign explain gap
-  ssign explain m8";
 
 /// The options of a number.
 const NUMBERS: [&str; 8] = [
@@ -183,10 +178,13 @@ fn bare<'a>(alloc: Global) -> Command<'a>
 fn review<'a>(alloc: Global) -> Result<Command<'a>, AllocError>
     ensures { IfOk result (λ c. IsLocalApp c review_app) }
 {
-    let about =
-        "Reports which messages of the log on standard input are exactly those that their sender signed";
-    let usage = "ssign review [OPTIONS] < FILE";
-    let review = over_log(alloc, "review", about, usage).arg(answers(alloc, CHECKED))?;
+    let review = over_log(
+        alloc,
+        commands::review::NAME,
+        commands::review::ABOUT,
+        commands::review::USAGE,
+    )
+    .arg(answers(alloc, CHECKED))?;
     let review = review.arg(findings(alloc, LISTED))?.arg(json(alloc))?;
     let review = review.arg(whole(alloc))?.arg(tally(alloc))?;
     limited(alloc, review.arg(kept(alloc))?)
@@ -195,21 +193,25 @@ fn review<'a>(alloc: Global) -> Result<Command<'a>, AllocError>
 fn questions<'a>(alloc: Global) -> Result<Command<'a>, AllocError>
     ensures { IfOk result (λ c. IsLocalApp c questions_app) }
 {
-    let about =
-        "Writes lines that are questions: used as answers unchecked, they make any forged log pass. \
-        A signature checker leaves out each line that it can't confirm; the rest are answers";
-    let usage = "ssign questions [OPTIONS] < FILE";
-    let questions = over_log(alloc, "questions", about, usage);
+    let questions = over_log(
+        alloc,
+        commands::questions::NAME,
+        commands::questions::ABOUT,
+        commands::questions::USAGE,
+    );
     limited(alloc, questions.arg(json(alloc))?)
 }
 
 fn extract<'a>(alloc: Global) -> Result<Command<'a>, AllocError>
     ensures { IfOk result (λ c. IsLocalApp c extract_app) }
 {
-    let about =
-        "Writes messages of the log as octet-counted frames: those that a review lists, or others";
-    let usage = "ssign extract [OPTIONS] < FILE";
-    let extract = over_log(alloc, "extract", about, usage).arg(answers(alloc, CHECKED))?;
+    let extract = over_log(
+        alloc,
+        commands::extract::NAME,
+        commands::extract::ABOUT,
+        commands::extract::USAGE,
+    )
+    .arg(answers(alloc, CHECKED))?;
     let extract = extract.arg(unlisted(alloc))?.arg(place(alloc))?;
     limited(alloc, extract.arg(lines_out(alloc))?)
 }
@@ -217,49 +219,60 @@ fn extract<'a>(alloc: Global) -> Result<Command<'a>, AllocError>
 fn inspect<'a>(alloc: Global) -> Result<Command<'a>, AllocError>
     ensures { IfOk result (λ c. IsLocalApp c inspect_app) }
 {
-    let about = "Writes what each message of the log is: plain, a block, or unparsed, and why";
-    let usage = "ssign inspect [OPTIONS] < FILE";
-    let inspect = over_log(alloc, "inspect", about, usage).arg(findings(alloc, PLAIN))?;
+    let inspect = over_log(
+        alloc,
+        commands::inspect::NAME,
+        commands::inspect::ABOUT,
+        commands::inspect::USAGE,
+    )
+    .arg(findings(alloc, PLAIN))?;
     limited(alloc, inspect.arg(json(alloc))?)
 }
 
 fn plan<'a>(alloc: Global, versions: &'a [&'a str]) -> Result<Command<'a>, AllocError>
     ensures { IfOk result (λ c. IsLocalApp c (plan_app versions.entry)) }
 {
-    let about =
-        "Writes what has to be signed for the log on standard input: a line want OCTETS for each block";
-    let usage = "ssign plan --payload TEXT --rsid N [OPTIONS] < FILE";
-    let plan = over_log(alloc, "plan", about, usage);
+    let plan = over_log(
+        alloc,
+        commands::plan::NAME,
+        commands::plan::ABOUT,
+        commands::plan::USAGE,
+    );
     limited(alloc, with_signing_options(alloc, plan, versions)?)
 }
 
 fn sign<'a>(alloc: Global, versions: &'a [&'a str]) -> Result<Command<'a>, AllocError>
     ensures { IfOk result (λ c. IsLocalApp c (sign_app versions.entry)) }
 {
-    let about =
-        "Writes the log on standard input with the blocks that sign it, as octet-counted frames";
-    let usage = "ssign sign --answers FILE --payload TEXT --rsid N [OPTIONS] < FILE";
-    let sign = over_log(alloc, "sign", about, usage).arg(answers(alloc, SEALED))?;
+    let sign = over_log(
+        alloc,
+        commands::sign::NAME,
+        commands::sign::ABOUT,
+        commands::sign::USAGE,
+    )
+    .arg(answers(alloc, SEALED))?;
     limited(alloc, with_signing_options(alloc, sign, versions)?)
 }
 
 fn counters<'a>(alloc: Global) -> Result<Command<'a>, AllocError>
     ensures { IfOk result (λ c. IsLocalApp c counters_app) }
 {
-    let about =
-        "Writes how far the signature blocks of the log reach: the next GBC of each joined session, \
-        and the next number of each of its groups";
-    let usage = "ssign counters [OPTIONS] < FILE";
-    let counters = over_log(alloc, "counters", about, usage).arg(answers(alloc, CHECKED))?;
+    let counters = over_log(
+        alloc,
+        commands::counters::NAME,
+        commands::counters::ABOUT,
+        commands::counters::USAGE,
+    )
+    .arg(answers(alloc, CHECKED))?;
     limited(alloc, counters.arg(json(alloc))?)
 }
 
 fn explain<'a>(alloc: Global) -> Result<Command<'a>, AllocError>
     ensures { IfOk result (λ c. IsLocalApp c explain_app) }
 {
-    Command::new(alloc, "explain")
-        .about("Explains a refusal or a word of the output: what it means, and what to do")
-        .after_help(EXAMPLES)
+    Command::new(alloc, commands::explain::NAME)
+        .about(commands::explain::ABOUT)
+        .after_help(commands::explain::EXAMPLES)
         .arg(code(alloc))
 }
 
@@ -460,14 +473,14 @@ pub fn order_of(name: &str) -> Option<Order>
     ensures { MatchOption result (IsNoCommand name.now) (λ order. name.now ≡ name_of order) }
 {
     match name {
-        "review" => Some(Order::Log(Task::Review)),
-        "questions" => Some(Order::Log(Task::Questions)),
-        "extract" => Some(Order::Log(Task::Extract)),
-        "inspect" => Some(Order::Log(Task::Inspect)),
-        "counters" => Some(Order::Log(Task::Counters)),
-        "plan" => Some(Order::Sent(Signing::Plan)),
-        "sign" => Some(Order::Sent(Signing::Sign)),
-        "explain" => Some(Order::Explain),
+        commands::review::NAME => Some(Order::Log(Task::Review)),
+        commands::questions::NAME => Some(Order::Log(Task::Questions)),
+        commands::extract::NAME => Some(Order::Log(Task::Extract)),
+        commands::inspect::NAME => Some(Order::Log(Task::Inspect)),
+        commands::counters::NAME => Some(Order::Log(Task::Counters)),
+        commands::plan::NAME => Some(Order::Sent(Signing::Plan)),
+        commands::sign::NAME => Some(Order::Sent(Signing::Sign)),
+        commands::explain::NAME => Some(Order::Explain),
         _ => None,
     }
 }

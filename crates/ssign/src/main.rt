@@ -4,6 +4,7 @@
 mod asked;
 mod choices;
 mod command_line;
+mod commands;
 mod explain;
 mod explanations;
 mod extraction;

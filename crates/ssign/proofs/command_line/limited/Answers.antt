@@ -1,5 +1,5 @@
 use Rattle.std.proofs.lemmas.Result.{IfOk-weaker}
-use Rattle.ssign.proofs.Commands.{with_argument}
+use Rattle.ssign.proofs.FoundCommands.{with_argument}
 use Rattle.ssign.proofs.command_line.limited.Goals as goal
 
 pub returns : goal.returns

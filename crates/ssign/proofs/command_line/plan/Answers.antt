@@ -1,3 +1,4 @@
+use Rattle.ssign.specs.declared.commands.plan.TheConstants as plan
 use Rattle.std.proofs.Common.{codes}
 use Rattle.clap.specs.Words.{new_app}
 use Rattle.ssign.specs.SigningOptions.{with_signing_options}
@@ -5,5 +6,5 @@ use Rattle.ssign.proofs.command_line.plan.Goals as goal
 
 pub returns : goal.returns
 returns c =
-    let plan = c.in_ok-with_signing_options.ensures (new_app (codes "plan")) c.over_log-plan.ensures in
-    c.limited.ensures (with_signing_options c.args.versions (new_app (codes "plan"))) plan
+    let plan = c.in_ok-with_signing_options.ensures (new_app plan.NAME.now) c.over_log-plan.ensures in
+    c.limited.ensures (with_signing_options c.args.versions (new_app plan.NAME.now)) plan

@@ -1,7 +1,8 @@
+use Rattle.ssign.specs.declared.commands.review.TheConstants as review
 use Rattle.std.proofs.Common.{codes}
 use Rattle.clap.specs.Words.{new_app, with_rule}
 use Rattle.ssign.specs.CommandLine.{answers_rule, findings_rule, json_rule, kept_rule, tally_rule, whole_rule}
-use Rattle.ssign.proofs.Commands.{with_argument}
+use Rattle.ssign.proofs.FoundCommands.{with_argument}
 use Rattle.ssign.proofs.command_line.review.Goals as goal
 
 pub returns : goal.returns
@@ -13,4 +14,4 @@ returns c =
     let five = with_argument c.in_ok-review-3.ensures four c.tally.ensures.rule c.tally.ensures.local in
     let six = with_argument c.in_ok-arg-3.ensures five c.kept.ensures.rule c.kept.ensures.local in
     c.limited.ensures
-    (with_rule (with_rule (with_rule (with_rule (with_rule (with_rule (new_app (codes "review")) answers_rule) findings_rule) json_rule) whole_rule) tally_rule) kept_rule) six
+    (with_rule (with_rule (with_rule (with_rule (with_rule (with_rule (new_app review.NAME.now) answers_rule) findings_rule) json_rule) whole_rule) tally_rule) kept_rule) six

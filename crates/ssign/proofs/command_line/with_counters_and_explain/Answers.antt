@@ -1,5 +1,5 @@
 use Rattle.std.proofs.lemmas.Result.{IfOk-weaker}
-use Rattle.ssign.proofs.Commands.{with_command}
+use Rattle.ssign.proofs.FoundCommands.{with_command}
 use Rattle.ssign.proofs.command_line.with_counters_and_explain.Goals as goal
 
 pub returns : goal.returns

@@ -1,5 +1,5 @@
 use Rattle.std.proofs.lemmas.Result.{IfOk-weaker}
-use Rattle.ssign.proofs.Commands.{with_command}
+use Rattle.ssign.proofs.FoundCommands.{with_command}
 use Rattle.ssign.proofs.command_line.with_review_and_questions.Goals as goal
 
 pub returns : goal.returns

@@ -1,5 +1,5 @@
 use Rattle.std.proofs.lemmas.Result.{IfOk-weaker}
-use Rattle.ssign.proofs.Options.{adds, required}
+use Rattle.ssign.proofs.OptionValues.{adds, required}
 use Rattle.ssign.proofs.signing_options.with_required.Goals as goal
 
 pub returns : goal.returns

@@ -1,5 +1,5 @@
 use Rattle.std.proofs.lemmas.Result.{IfOk-weaker}
-use Rattle.ssign.proofs.Options.{adds, usual}
+use Rattle.ssign.proofs.OptionValues.{adds, usual}
 use Rattle.ssign.proofs.signing_options.with_usual.Goals as goal
 
 pub returns : goal.returns

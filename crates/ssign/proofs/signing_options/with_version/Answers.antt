@@ -1,5 +1,5 @@
 use Rattle.std.proofs.lemmas.Result.{IfOk-weaker}
-use Rattle.ssign.proofs.Options.{adds, among}
+use Rattle.ssign.proofs.OptionValues.{adds, among}
 use Rattle.ssign.proofs.signing_options.with_version.Goals as goal
 
 pub returns : goal.returns

@@ -9,7 +9,7 @@ use Rattle.clap.specs.declared.builder.value_parser.ValueParser.{ValueParser}
 use Rattle.clap.specs.declared.builder.value_parser.ValueParser.TheVariants.{Names}
 use Rattle.ssign.specs.CommandLine.{IsLocalApp}
 use Rattle.ssign.specs.SigningOptions.{Kept, required_rule, text_rule, usual_rule, versions_rule}
-use Rattle.ssign.proofs.Commands.{with_argument}
+use Rattle.ssign.proofs.FoundCommands.{with_argument}
 
 -- an argument has this rule, and isn't global
 pub record IsLocalArg (arg : Arg) (rule : Rule) : Type 0 where
