@@ -25,6 +25,8 @@ pub mod Announced
 pub mod Beginning
 pub mod Sealed
 pub mod Sending
+pub mod Asking
+pub mod Listed
 pub mod Due
 pub mod Starting
 pub mod PendingRuns

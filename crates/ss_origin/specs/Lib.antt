@@ -7,6 +7,7 @@ pub mod Step
 pub mod Blocks
 pub mod Setting
 pub mod Sealing
+pub mod Asking
 pub mod Emission
 pub mod Refusals
 pub mod Admission
@@ -14,9 +15,11 @@ pub mod Signing
 pub mod Slots
 pub mod Pending
 pub mod Originator
+pub mod Asked
 pub mod Chain
 pub mod GroupLaws
 pub mod RunLaws
+pub mod AskedLaws
 pub mod ChainLaws
 pub mod BlockLaws
 pub mod CoverLaws

@@ -7,7 +7,8 @@ use std::alloc::{AllocError, AllocFailed};
 use std::fmt;
 use thiserror::Error;
 
-/// Why an originator isn't made, or refuses a call. It is unchanged then, and emitted nothing.
+/// Why an originator isn't made, or refuses a call. It is unchanged then, but for what its sealer knows of being asked,
+/// and emitted nothing.
 #[derive(Clone, Copy, Debug, PartialEq, Eq, Error)]
 pub enum OriginFault {
     /// O1: the configuration, the counters or the length of the payload's text is out of range.

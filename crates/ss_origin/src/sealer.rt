@@ -3,6 +3,7 @@ ghost use Rattle.std.specs.Prelude.{◌≡◌, List, ℕ, Bool, true, Result, If
 ghost use Rattle.ss_payload.specs.Payload.{PayloadValue, payload_text};
 ghost use Rattle.ss_origin.specs.declared.sealer.SealFault.{SealFault};
 ghost use Rattle.ss_origin.specs.Sealing.{answer_of};
+ghost use Rattle.ss_origin.specs.Asking.{IsSameKey};
 
 use ss_block::{Payload, Scheme};
 use std::alloc::Global;
@@ -32,7 +33,8 @@ impl fmt::Display for SealFault {
     }
 }
 
-/// Whoever signs for an originator, with the key of its payload block (RFC 5848, sections 4.2.8 and 5.2).
+/// Whoever signs for an originator, with the key of its payload block (RFC 5848, sections 4.2.8 and 5.2). It may know what
+/// it was asked: it is another value behind each question, as `asked` says, and of the same key.
 pub trait Seals: Drop {
     /// It may be asked to sign anything, and the signatures that it gives are valid.
     ghost sound: { Self → Type 0 };
@@ -46,15 +48,21 @@ pub trait Seals: Drop {
     /// What it may answer of octets: a signature, or why there is none.
     ghost answers: { Self → List ℕ → Result (List ℕ) SealFault → Type 0 };
 
+    /// How it goes on: asked to sign these octets, it may answer so, and be this one then.
+    ghost asked: { Self → List ℕ → Result (List ℕ) SealFault → Self → Type 0 };
+
     /// What the originator says of its key.
     fn payload_block(&self) -> &Payload
         ensures { result.now ≡ payload self.now };
 
     /// A signature of the octets, which is valid under the payload's text.
-    fn seal(&self, alloc: Global, octets: &[u8]) -> Result<Vec<u8>, SealFault>
-        requires { sound self.now }
-        ensures valid { IfOk result (λ v. valid self.now (payload_text (payload self.now)) octets.now v.items ≡ true) }
-        ensures answer { answers self.now octets.now (answer_of result) };
+    fn seal(&mut self, alloc: Global, octets: &[u8]) -> Result<Vec<u8>, SealFault>
+        requires { sound self.old }
+        ensures sound { sound self.new }
+        ensures same { IsSameKey payload valid answers self.old self.new }
+        ensures valid { IfOk result (λ v. valid self.old (payload_text (payload self.old)) octets.now v.items ≡ true) }
+        ensures answer { answers self.old octets.now (answer_of result) }
+        ensures asked { asked self.old octets.now (answer_of result) self.new };
 }
 
 /// Signs for a scheme by a closure: it is given octets, and answers a signature of them. An originator asks that the
@@ -96,11 +104,14 @@ impl<'s, S: Scheme, F: Fn(Global, &[u8]) -> Result<Vec<u8>, SealFault> + Drop> S
 
     ghost answers = { λ s octets answer. (a p x : _) × F.post s.seal a p x × (p.now ≡ octets) × (answer_of x ≡ answer) };
 
+    // A closure is the same behind each call.
+    ghost asked = { λ old octets answer new. (new ≡ old) × ((a p x : _) × F.post old.seal a p x × (p.now ≡ octets) × (answer_of x ≡ answer)) };
+
     fn payload_block(&self) -> &Payload {
         &self.payload
     }
 
-    fn seal(&self, alloc: Global, octets: &[u8]) -> Result<Vec<u8>, SealFault> {
+    fn seal(&mut self, alloc: Global, octets: &[u8]) -> Result<Vec<u8>, SealFault> {
         (self.seal)(alloc, octets)
     }
 }

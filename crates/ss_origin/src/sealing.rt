@@ -4,6 +4,8 @@ ghost use Rattle.std.specs.List.{All};
 ghost use Rattle.ss_payload.specs.Payload.{payload_text};
 ghost use Rattle.ss_origin.specs.Blocks.{unsigned_text};
 ghost use Rattle.ss_origin.specs.declared.fault.OriginFault.TheVariants.{Memory};
+ghost use Rattle.ss_origin.specs.Asking.{IsSameKey};
+ghost use Rattle.ss_origin.specs.Asked.{AskedFor, AskedForOne, AskedForAll};
 ghost use Rattle.ss_origin.specs.Emission.{IsSealed, AreSent};
 ghost use Rattle.ss_origin.specs.Signing.{AsksFor, AsksForAll, HasSession};
 
@@ -17,10 +19,13 @@ use ss_message::Stamp;
 use std::alloc::Global;
 
 // A signature of the octets that may stand in a block message.
-fn signature<J: Seals>(alloc: Global, sealer: &J, octets: &[u8]) -> Result<Bytes, OriginFault>
-    requires { J.sound sealer.now }
-    ensures asks { AsksFor (J.answers sealer.now) octets.now result }
-    ensures valid { IfOk result (λ s. J.valid sealer.now (payload_text (J.payload sealer.now)) octets.now s ≡ true) }
+fn signature<J: Seals>(alloc: Global, sealer: &mut J, octets: &[u8]) -> Result<Bytes, OriginFault>
+    requires { J.sound sealer.old }
+    ensures sound { J.sound sealer.new }
+    ensures same { IsSameKey J.payload J.valid J.answers sealer.old sealer.new }
+    ensures asked { AskedFor J.asked octets.now result sealer.old sealer.new }
+    ensures asks { AsksFor (J.answers sealer.old) octets.now result }
+    ensures valid { IfOk result (λ s. J.valid sealer.old (payload_text (J.payload sealer.old)) octets.now s ≡ true) }
     ensures some_octet { IfOk result (λ s. 1 ≤ length s) }
     ensures at_most_1024 { IfOk result (λ s. length s ≤ 1024) }
 {
@@ -40,15 +45,18 @@ fn signature<J: Seals>(alloc: Global, sealer: &J, octets: &[u8]) -> Result<Bytes
 // The message of a block, with a signature.
 fn sealed<J: Seals>(
     alloc: Global,
-    sealer: &J,
+    sealer: &mut J,
     config: &Config,
     stamp: &Option<Stamp>,
     due: Unsigned,
 ) -> Result<Bytes, OriginFault>
-    requires sound { J.sound sealer.now }
+    requires sound { J.sound sealer.old }
     requires session { HasSession config.now due }
-    ensures asks { AsksFor (J.answers sealer.now) (unsigned_text config.now.head stamp.now due) result }
-    ensures sealed { IfOk result (IsSealed (record { config = config.now; payload = J.payload sealer.now; valid = J.valid sealer.now }) stamp.now due) }
+    ensures sound { J.sound sealer.new }
+    ensures same { IsSameKey J.payload J.valid J.answers sealer.old sealer.new }
+    ensures asked { AskedForOne J.asked config.now stamp.now due result sealer.old sealer.new }
+    ensures asks { AsksFor (J.answers sealer.old) (unsigned_text config.now.head stamp.now due) result }
+    ensures sealed { IfOk result (IsSealed (record { config = config.now; payload = J.payload sealer.old; valid = J.valid sealer.old }) stamp.now due) }
 {
     match due {
         Unsigned::Signature(block) => {
@@ -86,20 +94,23 @@ fn push_copies(
 }
 
 /// Puts the messages of all blocks that are due behind the others, each signed and as often as the configuration says.
-/// The blocks are signed in their order, up to the first that isn't.
+/// The blocks are signed in their order, each once, up to the first that isn't, and the sealer is asked nothing else.
 pub fn seal_all<J: Seals>(
     alloc: Global,
-    sealer: &J,
+    sealer: &mut J,
     config: &Config,
     stamp: &Option<Stamp>,
     due: Vec<Unsigned>,
     messages: &mut Vec<Bytes>,
 ) -> Result<(), OriginFault>
-    requires sound { J.sound sealer.now }
+    requires sound { J.sound sealer.old }
     requires copies { 1 ≤ config.now.copies }
     requires session { All (HasSession config.now) due.items }
-    ensures asks { AsksForAll (J.answers sealer.now) (unsigned_text config.now.head stamp.now) due.items result }
-    ensures sent { OnOk result (AreSent (record { config = config.now; payload = J.payload sealer.now; valid = J.valid sealer.now }) stamp.now due.items messages.old.items messages.new.items) }
+    ensures sound { J.sound sealer.new }
+    ensures same { IsSameKey J.payload J.valid J.answers sealer.old sealer.new }
+    ensures asked { AskedForAll J.asked config.now stamp.now due.items messages.old.items messages.new.items result sealer.old sealer.new }
+    ensures asks { AsksForAll (J.answers sealer.old) (unsigned_text config.now.head stamp.now) due.items result }
+    ensures sent { OnOk result (AreSent (record { config = config.now; payload = J.payload sealer.old; valid = J.valid sealer.old }) stamp.now due.items messages.old.items messages.new.items) }
 {
     for block in due {
         let message = sealed(alloc, sealer, config, stamp, block)?;
