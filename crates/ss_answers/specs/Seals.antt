@@ -1,6 +1,7 @@
 -- Which signatures an answers file gives.
-use Rattle.std.specs.Prelude.{◌≡◌, ◌≢◌, ℕ, Bool, false, List, Option, Some, None, Ok, Err}
+use Rattle.std.specs.Prelude.{◌≡◌, ◌≢◌, ℕ, Bool, false, List, Option, Some, None, Result, Ok, Err}
 use Rattle.std.specs.Str.{bytes_eq}
+use Rattle.ss_origin.specs.declared.sealer.SealFault.{SealFault}
 use Rattle.ss_origin.specs.declared.sealer.SealFault.TheVariants.{Refused, Memory}
 use Rattle.ss_origin.specs.Sealing.{Answers}
 use Rattle.ss_answers.specs.Answers.{Answer, seal_of}
@@ -12,6 +13,10 @@ seals_of None octets answer = answer ≡ Err Refused
 seals_of (Some lines) octets (Ok signature) = seal_of lines octets ≡ Some signature
 seals_of (Some lines) octets (Err Refused) = seal_of lines octets ≡ None
 seals_of (Some lines) octets (Err Memory) = seal_of lines octets ≢ None
+
+-- asked for octets, a sealer with these lines answers so, and is the same then
+abbrev pub asked_of : {J : Type 0} → Option (List Answer) → List ℕ → Result (List ℕ) SealFault → (old new : J) → Type 0
+asked_of lines octets answer old new = (new ≡ old) × seals_of lines octets answer
 
 -- the octets are given this signature: the first `seal` line with them has it
 abbrev pub is_signature : List ℕ → Option (List ℕ) → Bool

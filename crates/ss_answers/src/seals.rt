@@ -25,7 +25,7 @@ impl GivenSeals {
 }
 
 impl Seals for GivenSeals {
-    ghost use Rattle.ss_answers.specs.Seals.{is_given, seals_of};
+    ghost use Rattle.ss_answers.specs.Seals.{is_given, seals_of, asked_of};
 
     ghost sound = { λ _. Unit {0} };
 
@@ -35,11 +35,13 @@ impl Seals for GivenSeals {
 
     ghost answers = { λ s octets answer. seals_of s.answers octets answer };
 
+    ghost asked = { λ old octets answer new. asked_of old.answers octets answer old new };
+
     fn payload_block(&self) -> &Payload {
         &self.payload
     }
 
-    fn seal(&self, alloc: Global, octets: &[u8]) -> Result<Vec<u8>, SealFault> {
+    fn seal(&mut self, alloc: Global, octets: &[u8]) -> Result<Vec<u8>, SealFault> {
         match &self.answers {
             Some(answers) => answers.seal(alloc, octets),
             None => Err(SealFault::Refused),
