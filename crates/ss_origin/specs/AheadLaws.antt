@@ -34,18 +34,21 @@ pub record IsGiven (lives : List Life) (message : List ℕ) : Type 0 where
 -- the group that came before it.
 abbrev pub number_given : {lives : List Life} {message : List ℕ} → Config → IsGiven lives message → ℕ
 number_given {message = message} c g =
-    let spri = spri_in c.grouping message in number_in g.life.start.counters.groups spri + length (messages_of c.grouping spri (calls_of g.earlier))
+    let spri = spri_in c.grouping message
+    in number_in g.life.start.counters.groups spri + length (messages_of c.grouping spri (calls_of g.earlier))
 
 -- Each message that an originator of such a chain was given, and that isn't pending at its end, is signed under the
 -- number that it got.
 abbrev pub MessagesAheadAreSigned : Type 0
-MessagesAheadAreSigned = (s : Setting) (lives : List Life) → IsChainAhead s lives → (message : List ℕ) (g : IsGiven lives message)
+MessagesAheadAreSigned = (s : Setting) (lives : List Life) → IsChainAhead s lives
+    → (message : List ℕ) (g : IsGiven lives message)
     → ¬ IsPending s.config g.later g.turn g.earlier message → IsSigned s g.life.turns message (number_given s.config g)
 
 -- No number of a group is given twice: two messages that got one number are one, accepted in one call. It has as many
 -- originators before it, and as many turns of its own originator.
 abbrev pub NumbersAreGivenOnce : Type 0
-NumbersAreGivenOnce = (s : Setting) (lives : List Life) → IsChainAhead s lives → (m n : List ℕ) (g : IsGiven lives m) (h : IsGiven lives n)
+NumbersAreGivenOnce = (s : Setting) (lives : List Life) → IsChainAhead s lives
+    → (m n : List ℕ) (g : IsGiven lives m) (h : IsGiven lives n)
     → spri_in s.config.grouping m ≡ spri_in s.config.grouping n → number_given s.config g ≡ number_given s.config h
     → (m ≡ n) × (length g.older ≡ length h.older) × (length g.earlier ≡ length h.earlier)
 

@@ -14,7 +14,8 @@ use Rattle.ss_origin.specs.State.{State}
 -- whatever it answers, its list grows by the octets
 abbrev pub Lists : {J : Type 0} → Asking J → (J → List (List ℕ)) → Type 0
 Lists {J} asked list =
-    (old new : J) (octets : List ℕ) (answer : Result (List ℕ) SealFault) → asked old octets answer new → list new ≡ list old ++ octets ∷ []
+    (old new : J) (octets : List ℕ) (answer : Result (List ℕ) SealFault) → asked old octets answer new
+    → list new ≡ list old ++ octets ∷ []
 
 -- what is signed of these blocks, in order
 abbrev pub texts_of : Setting → Call → List Unsigned → List (List ℕ)
@@ -34,4 +35,5 @@ ListsTheFirstDue {J} asked =
     (list : J → List (List ℕ)) → Lists asked list
     → (s : Setting) (state : State) (call : Call) (fault : OriginFault) (old new : J)
     → StopsDue s asked state call fault old new
-    → (first behind : List Unsigned) × AreDue s state call (first ++ behind) × (list new ≡ list old ++ texts_of s call first)
+    → (first behind : List Unsigned) × AreDue s state call (first ++ behind)
+    × (list new ≡ list old ++ texts_of s call first)

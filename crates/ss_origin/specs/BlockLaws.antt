@@ -22,5 +22,6 @@ abbrev pub RunsAreNumbered : Type 0
 RunsAreNumbered = (c : Config) (newer older : List (List Turn)) (later earlier : List Turn) (t : Turn)
     → let s = state c (start_behind c older) (calls_of earlier) in
     AllByRecursion
-    (λ r. r.spri < 192 → AreNumbered c (given_to c r.spri (newer ++ (later ++ t ∷ earlier) ∷ older)) (first_pending s r.spri) r.hashes)
+    (λ r. r.spri < 192
+    → AreNumbered c (given_to c r.spri (newer ++ (later ++ t ∷ earlier) ∷ older)) (first_pending s r.spri) r.hashes)
     (runs_closed c (pending_in s) t.call)

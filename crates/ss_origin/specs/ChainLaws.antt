@@ -9,7 +9,8 @@ use Rattle.ss_origin.specs.State.{state, counters_of}
 use Rattle.ss_origin.specs.Setting.{Setting}
 use Rattle.ss_origin.specs.Chain.{Turn, calls_of, AreTurns, start_behind, IsChain, given_to}
 
--- Behind the originators of a chain, the next number of a group is one more than how many messages they were given for it.
+-- Behind the originators of a chain, the next number of a group is one more than how many messages they were given for
+-- it.
 abbrev pub NumbersGoOn : Type 0
 NumbersGoOn = (c : Config) (chain : List (List Turn)) (spri : ℕ) → spri < 192
     → number_in (start_behind c chain).counters.groups spri ≡ 1 + length (given_to c spri chain)
@@ -27,5 +28,6 @@ ChainsCanBeResumed = (s : Setting) (chain : List (List Turn)) → IsChain s chai
 
 -- `begin` is accepted as the first call of the first originator alone.
 abbrev pub BeginsFirst : Type 0
-BeginsFirst = (s : Setting) (newer older : List (List Turn)) (later earlier : List Turn) (t : Turn) (stamp : Option Moment)
+BeginsFirst =
+    (s : Setting) (newer older : List (List Turn)) (later earlier : List Turn) (t : Turn) (stamp : Option Moment)
     → IsChain s (newer ++ (later ++ t ∷ earlier) ∷ older) → t.call ≡ Begin stamp → (older ≡ []) × (earlier ≡ [])

@@ -30,7 +30,8 @@ HasGbc numbered = (b : block.Signature) × (reading numbered.1 ≡ readings.Sign
 -- them has the GBC 0, and each next one a GBC that is one greater. The chain's next GBC is how many they are.
 pub record AreCounted (s : Setting) (chain : List (List Turn)) : Type 0 where
   pub messages : List (List ℕ)
-  pub sent : filter (λ m. is_signature (reading m)) (sent_in_order chain) ≡ flat_map (λ m. replicate s.config.copies m) messages
+  pub sent : filter (λ m. is_signature (reading m)) (sent_in_order chain) ≡ flat_map (λ m.
+      replicate s.config.copies m) messages
   pub counted : AllByRecursion HasGbc (enumerate_from 0 messages)
   pub next : (start_behind s.config chain).counters.gbc ≡ length messages
 

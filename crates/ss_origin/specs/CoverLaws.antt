@@ -9,13 +9,15 @@ use Rattle.ss_origin.specs.State.{runs_closed}
 -- the runs of a group that calls closed, the oldest first
 abbrev pub runs_of : Config → ℕ → List Call → List Run
 runs_of c spri [] = []
-runs_of c spri (call ∷ before) = runs_of c spri before ++ filter (λ r. r.spri == spri) (runs_closed c (pending_hashes c before) call)
+runs_of c spri (call ∷ before) =
+    runs_of c spri before ++ filter (λ r. r.spri == spri) (runs_closed c (pending_hashes c before) call)
 
--- The messages of a group are those of its runs, one behind the other, and then those that are pending. So each is in one
--- run, or pending.
+-- The messages of a group are those of its runs, one behind the other, and then those that are pending. So each is in
+-- one run, or pending.
 abbrev pub MessagesFallIntoRuns : Type 0
 MessagesFallIntoRuns = (c : Config) (calls : List Call) (spri : ℕ) → 1 ≤ c.per_block → spri < 192
-    → map (hash_of c.alg) (messages_of c.grouping spri calls) ≡ flat_map (λ r. r.hashes) (runs_of c spri calls) ++ pending_hashes c calls spri
+    → map (hash_of c.alg) (messages_of c.grouping spri calls) ≡ flat_map (λ r.
+    r.hashes) (runs_of c spri calls) ++ pending_hashes c calls spri
 
 -- One of the calls closes a run of the group in which the message number j, from 0, is.
 pub record IsInRun (c : Config) (calls : List Call) (spri j : ℕ) : Type 0 where

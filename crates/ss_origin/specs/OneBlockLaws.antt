@@ -18,8 +18,10 @@ pub record Covers (b : block.Signature) (group : Group) (number : ℕ) : Type 0 
 -- Of these messages, two that are read as signature blocks with a hash for one number of a group are one message: a
 -- block and its copies.
 abbrev pub HaveOneBlockANumber : List (List ℕ) → Type 0
-HaveOneBlockANumber sent = (m n : List ℕ) (a b : block.Signature) (group : Group) (number : ℕ) → Contains sent m → Contains sent n
-    → reading m ≡ readings.Signature a → reading n ≡ readings.Signature b → Covers a group number → Covers b group number → m ≡ n
+HaveOneBlockANumber sent = (m n : List ℕ) (a b : block.Signature) (group : Group) (number : ℕ) → Contains sent m
+    → Contains sent n
+    → reading m ≡ readings.Signature a → reading n ≡ readings.Signature b → Covers a group number
+    → Covers b group number → m ≡ n
 
 -- And so are two with one GBC.
 abbrev pub HaveOneBlockAGbc : List (List ℕ) → Type 0
@@ -28,8 +30,10 @@ HaveOneBlockAGbc sent = (m n : List ℕ) (a b : block.Signature) → Contains se
 
 -- what a chain sent is so
 abbrev pub NumbersAreInOneBlock : Type 0
-NumbersAreInOneBlock = (s : Setting) (chain : List (List Turn)) → IsChain s chain → HaveOneBlockANumber (emitted_by chain) × HaveOneBlockAGbc (emitted_by chain)
+NumbersAreInOneBlock = (s : Setting) (chain : List (List Turn)) → IsChain s chain
+    → HaveOneBlockANumber (emitted_by chain) × HaveOneBlockAGbc (emitted_by chain)
 
 -- and what a chain sent that goes on ahead
 abbrev pub NumbersAheadAreInOneBlock : Type 0
-NumbersAheadAreInOneBlock = (s : Setting) (lives : List Life) → IsChainAhead s lives → HaveOneBlockANumber (sent_by lives) × HaveOneBlockAGbc (sent_by lives)
+NumbersAheadAreInOneBlock = (s : Setting) (lives : List Life) → IsChainAhead s lives
+    → HaveOneBlockANumber (sent_by lives) × HaveOneBlockAGbc (sent_by lives)

@@ -45,7 +45,16 @@ blocks_in c call before = blocks_of c (state c anew before) call
 
 -- a block of these messages
 abbrev pub block : ℕ → ℕ → ℕ → List (List ℕ) → Unsigned
-block spri gbc first messages = Signature (record { alg = algs.Sha1; rsid = 1; group = record { sg = 1; spri = spri }; gbc = gbc; first = first; hashes = map (hash_of algs.Sha1) messages; signature = [] })
+block spri gbc first messages =
+    Signature (record {
+      alg = algs.Sha1;
+      rsid = 1;
+      group = record { sg = 1; spri = spri };
+      gbc = gbc;
+      first = first;
+      hashes = map (hash_of algs.Sha1) messages;
+      signature = [];
+    })
 
 abbrev pub begin : Call
 begin = Begin None
@@ -60,18 +69,24 @@ flush = Flush None
 pub record AreTheRows (a b c d e : List ℕ) : Type 0 where
   pub one : blocks_in in_twos (submit a) (begin ∷ []) ≡ []
   pub full : blocks_in in_twos (submit c) (submit b ∷ submit a ∷ begin ∷ []) ≡ block 13 0 1 (a ∷ c ∷ []) ∷ []
-  pub told : counters_behind in_twos (submit c ∷ submit b ∷ submit a ∷ begin ∷ []) ≡ record { gbc = 1; groups = record { spri = 13; number = 3 } ∷ record { spri = 14; number = 2 } ∷ [] }
-  pub other_group : blocks_in in_twos (submit d) (submit c ∷ submit b ∷ submit a ∷ begin ∷ []) ≡ block 14 1 1 (b ∷ d ∷ []) ∷ []
+  pub told : counters_behind in_twos (submit c ∷ submit b ∷ submit a ∷ begin ∷ [])
+      ≡ record { gbc = 1; groups = record { spri = 13; number = 3 } ∷ record { spri = 14; number = 2 } ∷ [] }
+  pub other_group : blocks_in in_twos (submit d) (submit c ∷ submit b ∷ submit a ∷ begin ∷ [])
+      ≡ block 14 1 1 (b ∷ d ∷ []) ∷ []
   pub nothing_pending : blocks_in in_twos flush (submit d ∷ submit c ∷ submit b ∷ submit a ∷ begin ∷ []) ≡ []
-  pub last : blocks_in in_twos flush (submit e ∷ flush ∷ submit d ∷ submit c ∷ submit b ∷ submit a ∷ begin ∷ []) ≡ block 13 2 3 (e ∷ []) ∷ []
-  pub all_told : counters_behind in_twos (flush ∷ submit e ∷ flush ∷ submit d ∷ submit c ∷ submit b ∷ submit a ∷ begin ∷ [])
+  pub last : blocks_in in_twos flush (submit e ∷ flush ∷ submit d ∷ submit c ∷ submit b ∷ submit a ∷ begin ∷ [])
+      ≡ block 13 2 3 (e ∷ []) ∷ []
+  pub all_told : counters_behind in_twos (flush ∷ submit e ∷ flush ∷ submit d ∷ submit c ∷ submit b ∷ submit a ∷ begin
+      ∷ [])
       ≡ record { gbc = 3; groups = record { spri = 13; number = 4 } ∷ record { spri = 14; number = 3 } ∷ [] }
   pub flushed : blocks_in in_twos flush (submit a ∷ begin ∷ []) ≡ block 13 0 1 (a ∷ []) ∷ []
-  pub behind_flush : blocks_in in_twos (submit e) (submit c ∷ flush ∷ submit a ∷ begin ∷ []) ≡ block 13 1 2 (c ∷ e ∷ []) ∷ []
+  pub behind_flush : blocks_in in_twos (submit e) (submit c ∷ flush ∷ submit a ∷ begin ∷ [])
+      ≡ block 13 1 2 (c ∷ e ∷ []) ∷ []
   pub counted_once : blocks_in in_ones (submit b) (submit a ∷ begin ∷ []) ≡ block 14 1 1 (b ∷ []) ∷ []
 
 abbrev pub RowsAreThese : Type 0
-RowsAreThese = (a b c d e : List ℕ) → pri_of a ≡ 13 → pri_of b ≡ 14 → pri_of c ≡ 13 → pri_of d ≡ 14 → pri_of e ≡ 13 → AreTheRows a b c d e
+RowsAreThese = (a b c d e : List ℕ) → pri_of a ≡ 13 → pri_of b ≡ 14 → pri_of c ≡ 13 → pri_of d ≡ 14 → pri_of e ≡ 13
+    → AreTheRows a b c d e
 
 -- ---- refusals
 
@@ -95,4 +110,5 @@ pub record AreTheRefusals (a b : List ℕ) : Type 0 where
   pub no_block_due : fault_of in_twos (resumed_at in_twos 10000000000 []) (submit a) ≡ None
 
 abbrev pub RefusalsAreThese : Type 0
-RefusalsAreThese = (a b : List ℕ) → pri_of a ≡ 13 → pri_of b ≡ 14 → reading a ≡ Plain → reading b ≡ Plain → AreTheRefusals a b
+RefusalsAreThese = (a b : List ℕ) → pri_of a ≡ 13 → pri_of b ≡ 14 → reading a ≡ Plain → reading b ≡ Plain
+    → AreTheRefusals a b

@@ -17,13 +17,16 @@ pub record IsLastRun (c : Config) (calls : List Call) (call : Call) (r : Run) : 
   pub hashes : r.hashes ≡ map (hash_of c.alg) run
 
 abbrev pub RunsAreLast : Type 0
-RunsAreLast = (c : Config) (calls : List Call) (call : Call) → AllByRecursion (IsLastRun c calls call) (runs_closed c (pending_hashes c calls) call)
+RunsAreLast = (c : Config) (calls : List Call) (call : Call)
+    → AllByRecursion (IsLastRun c calls call) (runs_closed c (pending_hashes c calls) call)
 
 -- a run has 1 to `per_block` messages
 abbrev pub RunsFitBlocks : Type 0
 RunsFitBlocks = (c : Config) (calls : List Call) (call : Call) → 1 ≤ c.per_block
-    → AllByRecursion (λ r. (1 ≤ length r.hashes) × (length r.hashes ≤ c.per_block)) (runs_closed c (pending_hashes c calls) call)
+    → AllByRecursion (λ r.
+    (1 ≤ length r.hashes) × (length r.hashes ≤ c.per_block)) (runs_closed c (pending_hashes c calls) call)
 
 -- the SPRI of a run is below 192
 abbrev pub RunsHaveSmallSpris : Type 0
-RunsHaveSmallSpris = (c : Config) (pending : ℕ → List Hash) (call : Call) → is_grouping c.grouping ≡ true → AllByRecursion (λ r. r.spri < 192) (runs_closed c pending call)
+RunsHaveSmallSpris = (c : Config) (pending : ℕ → List Hash) (call : Call) → is_grouping c.grouping ≡ true
+    → AllByRecursion (λ r. r.spri < 192) (runs_closed c pending call)

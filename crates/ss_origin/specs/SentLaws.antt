@@ -10,8 +10,8 @@ use Rattle.ss_origin.specs.Setting.{Setting}
 use Rattle.ss_origin.specs.Chain.{Turn, calls_of, IsChain, given_to}
 use Rattle.ss_origin.specs.BlockLaws.{AreNumbered}
 
--- The block is of the chain's configuration, and has the hashes of the messages that the chain was given for the block's
--- group, from the block's first number on.
+-- The block is of the chain's configuration, and has the hashes of the messages that the chain was given for the
+-- block's group, from the block's first number on.
 pub record IsOfChain (s : Setting) (chain : List (List Turn)) (b : block.Signature) : Type 0 where
   pub spri : ℕ
   pub small : spri < 192
@@ -24,7 +24,8 @@ pub record IsOfChain (s : Setting) (chain : List (List Turn)) (b : block.Signatu
 abbrev pub SentBlocksAreNumbered : Type 0
 SentBlocksAreNumbered = (s : Setting) (newer older : List (List Turn)) (later earlier : List Turn) (t : Turn)
     → let chain = newer ++ (later ++ t ∷ earlier) ∷ older in
-    IsChain s chain → AllByRecursion (λ m. (b : block.Signature) → reading m ≡ readings.Signature b → IsOfChain s chain b) t.emitted
+    IsChain s chain → AllByRecursion (λ m.
+    (b : block.Signature) → reading m ≡ readings.Signature b → IsOfChain s chain b) t.emitted
 
 -- One of the turns sent a signature block of the group with a hash for this number.
 pub record HasSentBlock (s : Setting) (turns : List Turn) (spri number : ℕ) : Type 0 where
@@ -42,5 +43,7 @@ pub record HasSentBlock (s : Setting) (turns : List Turn) (spri number : ℕ) : 
 -- block that this originator sent. It is told by its number there, from 0.
 abbrev pub OthersAreSent : Type 0
 OthersAreSent = (s : Setting) (newer older : List (List Turn)) (turns : List Turn) → IsChain s (newer ++ turns ∷ older)
-    → (spri j : ℕ) → spri < 192 → j + length (pending_of s.config spri (calls_of turns)) < length (messages_of s.config.grouping spri (calls_of turns))
+    → (spri j : ℕ) → spri < 192
+    → j + length (pending_of s.config spri (calls_of turns))
+    < length (messages_of s.config.grouping spri (calls_of turns))
     → HasSentBlock s turns spri (1 + length (given_to s.config spri older) + j)

@@ -53,11 +53,15 @@ pub record IsSigned (s : Setting) (turns : List Turn) (message : List ℕ) (numb
 
 -- Each message that an originator of a chain was given, and that isn't pending at its end, is signed under its number.
 abbrev pub MessagesAreSigned : Type 0
-MessagesAreSigned = (s : Setting) (newer older : List (List Turn)) (later earlier : List Turn) (t : Turn) (message : List ℕ) (stamp : Option Moment)
-    → IsChain s (newer ++ (later ++ t ∷ earlier) ∷ older) → t.call ≡ Submit message stamp → ¬ IsPending s.config later t earlier message
+MessagesAreSigned =
+    (s : Setting) (newer older : List (List Turn)) (later earlier : List Turn) (t : Turn) (message : List ℕ)
+    (stamp : Option Moment)
+    → IsChain s (newer ++ (later ++ t ∷ earlier) ∷ older) → t.call ≡ Submit message stamp
+    → ¬ IsPending s.config later t earlier message
     → IsSigned s (later ++ t ∷ earlier) message (number_behind s.config older earlier message)
 
 -- A message behind which a flush was accepted isn't pending, whatever came behind the flush.
 abbrev pub FlushedMessagesAreNotPending : Type 0
-FlushedMessagesAreNotPending = (c : Config) (newer between earlier : List Turn) (flush t : Turn) (message : List ℕ) (stamp : Option Moment)
+FlushedMessagesAreNotPending =
+    (c : Config) (newer between earlier : List Turn) (flush t : Turn) (message : List ℕ) (stamp : Option Moment)
     → flush.call ≡ Flush stamp → ¬ IsPending c (newer ++ flush ∷ between) t earlier message

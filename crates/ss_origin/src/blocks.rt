@@ -184,7 +184,10 @@ pub fn full_block(
     requires gbc { gbc < past_last_number }
     requires number { slot.now.number < past_last_number }
     requires hash { is_of config.now.alg hash ≡ true }
-    ensures { IfOk result (λ v. v.items ≡ Signature (signature_in config.now spri gbc (slot.now.number - length slot.now.pending) (slot.now.pending ++ hash ∷ [])) ∷ []) }
+    ensures { IfOk result (λ v.
+        v.items ≡ Signature
+        (signature_in config.now spri gbc (slot.now.number - length slot.now.pending) (slot.now.pending ++ hash ∷ []))
+        ∷ []) }
 {
     let pending = slot.pending();
     let first = slot.number() - pending.len() as u64;

@@ -1,5 +1,5 @@
-//! The originator of signed messages (RFC 5848, section 4): messages go in, and the same messages come out in order, with
-//! the certificate blocks of a session in front and a signature block behind each run of a group.
+//! The originator of signed messages (RFC 5848, section 4): messages go in, and the same messages come out in order,
+//! with the certificate blocks of a session in front and a signature block behind each run of a group.
 #![tactic(auto)]
 
 mod blocks;

@@ -82,7 +82,8 @@ fn rises(numbers: &[NextNumber]) -> bool
 }
 
 fn are_in_range(grouping: &Grouping, numbers: &[NextNumber]) -> bool
-    ensures { result ≡ list_all (λ n. has_group grouping.now n.spri && is_between 1 past_last_number n.number) numbers.now }
+    ensures { result ≡ list_all (λ n.
+        has_group grouping.now n.spri && is_between 1 past_last_number n.number) numbers.now }
 {
     for next in numbers {
         if !has_group(grouping, next.spri) || next.number < 1 || next.number > PAST_LAST_NUMBER {

@@ -33,8 +33,8 @@ impl fmt::Display for SealFault {
     }
 }
 
-/// Whoever signs for an originator, with the key of its payload block (RFC 5848, sections 4.2.8 and 5.2). It may know what
-/// it was asked: it is another value behind each question, as `asked` says, and of the same key.
+/// Whoever signs for an originator, with the key of its payload block (RFC 5848, sections 4.2.8 and 5.2). It may know
+/// what it was asked: it is another value behind each question, as `asked` says, and of the same key.
 pub trait Seals: Drop {
     /// It may be asked to sign anything, and the signatures that it gives are valid.
     ghost sound: { Self → Type 0 };
@@ -96,7 +96,8 @@ impl<'s, S: Scheme, F: Fn(Global, &[u8]) -> Result<Vec<u8>, SealFault> + Drop> S
     ghost use Rattle.ss_payload.specs.Payload.{payload_text};
 
     ghost sound = { λ s. F.IsAlwaysCallable s.seal
-        × ((a p x : _) → F.post s.seal a p x → (v : _) → x ≡ Ok v → S.valid s.scheme.now (payload_text s.payload) p.now v.items ≡ true) };
+        × ((a p x : _) → F.post s.seal a p x → (v : _) → x ≡ Ok v
+        → S.valid s.scheme.now (payload_text s.payload) p.now v.items ≡ true) };
 
     ghost payload = { λ s. s.payload };
 
@@ -105,7 +106,8 @@ impl<'s, S: Scheme, F: Fn(Global, &[u8]) -> Result<Vec<u8>, SealFault> + Drop> S
     ghost answers = { λ s octets answer. (a p x : _) × F.post s.seal a p x × (p.now ≡ octets) × (answer_of x ≡ answer) };
 
     // A closure is the same behind each call.
-    ghost asked = { λ old octets answer new. (new ≡ old) × ((a p x : _) × F.post old.seal a p x × (p.now ≡ octets) × (answer_of x ≡ answer)) };
+    ghost asked = { λ old octets answer new.
+        (new ≡ old) × ((a p x : _) × F.post old.seal a p x × (p.now ≡ octets) × (answer_of x ≡ answer)) };
 
     fn payload_block(&self) -> &Payload {
         &self.payload

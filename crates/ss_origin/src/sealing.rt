@@ -56,7 +56,12 @@ fn sealed<J: Seals>(
     ensures same { IsSameKey J.payload J.valid J.answers sealer.old sealer.new }
     ensures asked { AskedForOne J.asked config.now stamp.now due result sealer.old sealer.new }
     ensures asks { AsksFor (J.answers sealer.old) (unsigned_text config.now.head stamp.now due) result }
-    ensures sealed { IfOk result (IsSealed (record { config = config.now; payload = J.payload sealer.old; valid = J.valid sealer.old }) stamp.now due) }
+    ensures sealed { IfOk result (IsSealed (record {
+      config = config.now;
+      payload = J.payload sealer.old;
+      valid =
+          J.valid sealer.old;
+    }) stamp.now due) }
 {
     match due {
         Unsigned::Signature(block) => {
@@ -108,9 +113,15 @@ pub fn seal_all<J: Seals>(
     requires session { All (HasSession config.now) due.items }
     ensures sound { J.sound sealer.new }
     ensures same { IsSameKey J.payload J.valid J.answers sealer.old sealer.new }
-    ensures asked { AskedForAll J.asked config.now stamp.now due.items messages.old.items messages.new.items result sealer.old sealer.new }
+    ensures asked { AskedForAll J.asked config.now stamp.now due.items messages.old.items messages.new.items result
+        sealer.old sealer.new }
     ensures asks { AsksForAll (J.answers sealer.old) (unsigned_text config.now.head stamp.now) due.items result }
-    ensures sent { OnOk result (AreSent (record { config = config.now; payload = J.payload sealer.old; valid = J.valid sealer.old }) stamp.now due.items messages.old.items messages.new.items) }
+    ensures sent { OnOk result (AreSent (record {
+      config = config.now;
+      payload = J.payload sealer.old;
+      valid =
+          J.valid sealer.old;
+    }) stamp.now due.items messages.old.items messages.new.items) }
 {
     for block in due {
         let message = sealed(alloc, sealer, config, stamp, block)?;

@@ -1,5 +1,6 @@
 //! The groups of an originator, one for each SPRI.
-ghost use Rattle.std.specs.Prelude.{◌≡◌, ◌==◌, ◌<◌, ◌+◌, ◌++◌, ◌∷◌, [], length, map, slice_set, vec_len, vec_capacity, IfOk, OnOk, OnErr, is_ok, if◌then◌else◌};
+ghost use Rattle.std.specs.Prelude.{◌≡◌, ◌==◌, ◌<◌, ◌+◌, ◌++◌, ◌∷◌, [], length, map, slice_set, vec_len, vec_capacity};
+ghost use Rattle.std.specs.Prelude.{IfOk, OnOk, OnErr, is_ok, if◌then◌else◌};
 ghost use Rattle.ss_origin.specs.State.{spris};
 ghost use Rattle.ss_origin.specs.Step.{group_flushed};
 ghost use Rattle.ss_origin.specs.Slots.{IsRoom, slot_in, slot_from, slot_with, number_if_known, next_numbers};
@@ -214,7 +215,10 @@ impl Slots {
         requires spri { spri < 192 }
         requires number { (slot_in self.old spri).number < past_last_number }
         requires few { length (slot_in self.old spri).pending < 98 }
-        ensures { self.new ≡ (if is_ok result then slice_set self.old spri (slot_with (slot_in self.old spri) ((slot_in self.old spri).pending ++ hash ∷ [])) else self.old) }
+        ensures { self.new
+            ≡ (if is_ok result
+            then slice_set self.old spri (slot_with (slot_in self.old spri) ((slot_in self.old spri).pending ++ hash
+            ∷ [])) else self.old) }
     {
         self.slots[usize::from(spri)].push(hash)
     }

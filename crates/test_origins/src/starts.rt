@@ -8,8 +8,8 @@ use std::alloc::Global;
 use std::process::Abort;
 use std::test::Fail;
 
-/// RSID, the grouping, how many hashes a block has, how many copies are sent, how many octets a piece has, and whether an
-/// originator is made.
+/// RSID, the grouping, how many hashes a block has, how many copies are sent, how many octets a piece has, and whether
+/// an originator is made.
 type Row = (u64, Groups, u8, u8, u16, bool);
 
 const SETTINGS: [Row; 29] = [

@@ -5,13 +5,13 @@
 //!   next. GROUPS is `one:SPRI`, `pri`, or `ranges:` and bounds joined by `,`; PAYLOAD is the text of a payload block.
 //! - `new`, or `resume GBC SPRI:NUMBER ..`: an originator, which takes the place of the one before where it is made.
 //! - `behind`: one that is resumed at the counters of the one before.
-//! - `begin STAMP COUNT THEN`, `flush STAMP COUNT THEN`, `submit STAMP COUNT THEN MESSAGE`: the sealer signs so many times
-//!   in the call with 32 octets, and each further time answers as the letter says that `signer.rt` tells of.
+//! - `begin STAMP COUNT THEN`, `flush STAMP COUNT THEN`, `submit STAMP COUNT THEN MESSAGE`: the sealer signs so many
+//!   times in the call with 32 octets, and each further time answers as the letter says that `signer.rt` tells of.
 //! - `.`: the end of a script. The next begins without an originator.
 //!
-//! A call is answered by the messages that are sent or the number of its refusal, and how often the sealer was asked; what
-//! makes an originator, by the session or the number. Then the counters follow. A call without an originator is answered by
-//! `none`, the end by `end`, and `config` by nothing.
+//! A call is answered by the messages that are sent or the number of its refusal, and how often the sealer was asked;
+//! what makes an originator, by the session or the number. Then the counters follow. A call without an originator is
+//! answered by `none`, the end by `end`, and `config` by nothing.
 #![tactic(auto)]
 
 mod script;

@@ -1,5 +1,6 @@
 //! The originators of a session, where counters may have been saved ahead of what was sent.
-ghost use Rattle.ss_origin.specs.AheadLaws.{ChainsGoOnAhead, MessagesAheadAreSigned, NumbersAreGivenOnce, SkippedNumbersAreInNoBlock};
+ghost use Rattle.ss_origin.specs.AheadLaws.{ChainsGoOnAhead, MessagesAheadAreSigned, NumbersAreGivenOnce};
+ghost use Rattle.ss_origin.specs.AheadLaws.{SkippedNumbersAreInNoBlock};
 ghost use Rattle.ss_origin.specs.OneBlockLaws.{NumbersAheadAreInOneBlock};
 
 use ss_message::laws::faults_are_of_no_message;

@@ -9,7 +9,8 @@ ghost use Rattle.ss_origin.specs.SignedLaws.{FlushedMessagesAreNotPending, Messa
 
 use ss_message::laws::faults_are_of_no_message;
 
-/// Behind the originators of a chain, the next number of a group is one more than how many messages they were given for it.
+/// Behind the originators of a chain, the next number of a group is one more than how many messages they were given for
+/// it.
 pub fn numbers_go_on()
     ensures { NumbersGoOn }
 {}
@@ -28,8 +29,8 @@ pub fn chains_can_be_resumed()
     faults_are_of_no_message();
 }
 
-/// A run that a call closes holds the hashes of the messages that the chain was given for its group, from the number on that
-/// its block says is the first.
+/// A run that a call closes holds the hashes of the messages that the chain was given for its group, from the number on
+/// that its block says is the first.
 pub fn runs_are_numbered()
     ensures { RunsAreNumbered }
 {}
@@ -42,8 +43,8 @@ pub fn sent_blocks_are_numbered()
     faults_are_of_no_message();
 }
 
-/// Each message that an originator of a chain was given, and that isn't pending at its end, has a hash in a block that was
-/// sent, at its number.
+/// Each message that an originator of a chain was given, and that isn't pending at its end, has a hash in a block that
+/// was sent, at its number.
 pub fn others_are_sent()
     ensures { OthersAreSent }
 {}
