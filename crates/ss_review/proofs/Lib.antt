@@ -118,3 +118,4 @@ pub mod DigestOctets
 pub mod GivenAhead
 pub mod CasesAhead
 pub mod SmallChains
+pub mod SmallReports

@@ -288,12 +288,22 @@ module _ (laws : Laws) where
 
   -- ---- messages of the logs
 
+  abbrev before_end : State
+  before_end = state small.config anew (calls_of (chains.given 49 ∷ begun ∷ []))
+
+  sealed_whole : IsSealed small None (block_of small.config before_end (0, record { spri = 0; hashes = hash_of algs.Sha256 (message 49) ∷ [] })) (text_of 0 (first_pending before_end 0) (hash_of algs.Sha256 (message 49) ∷ []))
+  unfolding pending_of
+  sealed_whole = of_one before_end 0 49 (omega arith) (omega arith) (omega arith)
+
   abbrev whole_block : List ℕ
   whole_block = chains.block 0 1 (message 49 ∷ [])
 
+  abbrev read_whole : block.Signature
+  read_whole = record (signature_in small.config 0 0 1 (hash_of algs.Sha256 (message 49) ∷ [])) { signature = sealed_whole.signature }
+
   block_reads : (b : block.Signature) × (reading whole_block ≡ readings.Signature b)
   unfolding pending_of
-  block_reads = (_, (of_one (state small.config anew (calls_of (chains.given 49 ∷ begun ∷ []))) 0 49 (omega arith) (omega arith) (omega arith)).read.read)
+  block_reads = (read_whole, sealed_whole.read.read)
 
   certificate_reads : (b : block.Certificate) × (reading certificate ≡ readings.Certificate b)
   certificate_reads = (_, (certificate_sealed laws.certificates).read.read)
@@ -391,6 +401,38 @@ module _ (laws : Laws) where
     messages = λ m c. as_often m (has_from_contains (submitted_to whole.chain) m c);
     blocks = λ m c n. c;
   }
+
+  pub block_whole : deliveries.HasBlock whole (own_number whole 0 1)
+  unfolding pending_of
+  block_whole = record {
+    message = whole_block;
+    block = read_whole;
+    stored = contains_from_has whole.log whole_block (inl refl);
+    sent = contains_from_has (emitted_by whole.chain) whole_block (inl refl);
+    read = sealed_whole.read.read;
+    group = refl;
+    first = omega arith;
+    last = omega arith;
+  }
+
+  -- the one signature block in the log has the GBC 0
+  pub gbc_whole : (m : List ℕ) (b : block.Signature) → Has whole.log m → reading m ≡ readings.Signature b → b.gbc ≡ 0
+  unfolding pending_of
+  gbc_whole m b (inl e) read =
+      let own : readings.Signature read_whole ≡ readings.Signature b = sym sealed_whole.read.read ∙ ap reading e ∙ read in
+      let same : read_whole ≡ b = cc in
+      sym (ap (λ (d : block.Signature). d.gbc) same)
+  gbc_whole m b (inr (inl e)) read =
+      let no : readings.Plain ≡ readings.Signature b = sym (plain_message laws.values 49 refl) ∙ ap reading e ∙ read in
+      absurd (cc)
+  gbc_whole m b (inr (inr (inl e))) read =
+      let c = certificate_reads in
+      let no : readings.Certificate c.0 ≡ readings.Signature b = sym c.1 ∙ ap reading e ∙ read in
+      absurd (cc)
+  gbc_whole m b (inr (inr (inr h))) read = absurd h
+
+  pub message_whole : deliveries.IsStored whole (message 49)
+  message_whole = record { message = message 49; stored = contains_from_has whole.log (message 49) (inr (inl refl)); no_block = plain_at 49 refl; pair_is = refl }
 
   -- the one message without a block in the log is the one that was submitted
   the_message : (n : List ℕ) → Has whole.log n → is_normal (note n) ≡ true → message 49 ≡ n

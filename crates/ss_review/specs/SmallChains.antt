@@ -1,5 +1,5 @@
 -- Small chains of originators, and logs that deliver from them. A message is told by its one octet of MSG.
-use Rattle.std.specs.Prelude.{◌≢◌, ℕ, true, List, [], ◌∷◌, map, Some, None}
+use Rattle.std.specs.Prelude.{◌≡◌, ◌≢◌, ℕ, true, List, [], ◌∷◌, map, Some, None}
 use Rattle.std.specs.List.{AllPairs}
 use Rattle.std.specs.Str.{bytes_eq}
 use Rattle.ss_message.specs.Message.{text}
@@ -15,14 +15,15 @@ use Rattle.ss_origin.specs.Setting.{Setting}
 use Rattle.ss_origin.specs.Emission.{certificate_in, signature_in}
 use Rattle.ss_origin.specs.Chain.{Turn}
 use Rattle.ss_origin.specs.SignedLaws.{IsPending}
-use Rattle.ss_origin.specs.Ahead.{Life}
+use Rattle.ss_origin.specs.Ahead.{Life, lives_of}
 use Rattle.ss_origin.specs.AheadLaws.{IsGiven}
 use Rattle.ss_review.specs.Verified.{Answers}
 use Rattle.ss_review.specs.Delivery.{submitted_to, HasBegun, HasPayload, NothingPending, IsWholeDelivery}
 use Rattle.ss_review.specs.Meaning.{IsTold}
+use Rattle.ss_review.specs.Verdict.{is_clean}
 use Rattle.ss_review.specs.Delivered.{own_number}
-use Rattle.ss_review.specs.DeliveryLaws.{Case, IsCase, report_in, HashesTellPairs, OthersWantOthers}
-use Rattle.ss_review.specs.KeptLaws.{IsInHole, IsLost}
+use Rattle.ss_review.specs.DeliveryLaws.{Case, IsCase, report_in, HashesTellPairs, OthersWantOthers, HasMessage}
+use Rattle.ss_review.specs.KeptLaws.{shortfalls_of, IsInHole, NothingIsMissing, log_counters, IsLost}
 use Rattle.ss_review.specs.AheadDelivery.{IsCaseAhead, IsSkipped}
 
 -- ---- the originators
@@ -79,10 +80,11 @@ filling octet filled = turn (Submit (message octet) None) (message octet ∷ fil
 abbrev pub flushed : List ℕ → Turn
 flushed last = turn (Flush None) (last ∷ [])
 
--- the first originator got three messages, of which the last stays pending
+-- the first originator got two messages, and signed them
 abbrev pub turns_before : List Turn
 turns_before = filling 50 (block 0 1 (message 49 ∷ message 50 ∷ [])) ∷ given 49 ∷ begun ∷ []
 
+-- and a third one, which stays pending
 abbrev pub first_turns : List Turn
 first_turns = given 51 ∷ turns_before
 
@@ -100,8 +102,8 @@ whole_turns = flushed (block 0 1 (message 49 ∷ [])) ∷ given 49 ∷ begun ∷
 abbrev pub accepting : Answers
 accepting = record { trusted = λ payload. true; valid = small.valid }
 
--- One message of the first originator is left, and stands twice, behind the last block. Its block and the two others are
--- lost; one message is of somebody else.
+-- The last block stands first and once more, and one message twice. The other messages and the first block are lost. One
+-- message is of nobody of the chain.
 abbrev pub lossy : Case
 lossy = record {
   s = small;
@@ -126,7 +128,7 @@ ahead_lives =
     ∷ record { start = anew; turns = first_turns }
     ∷ []
 
--- The messages of both are lost, and the block of the first one.
+-- All messages are lost, and the block of the first one.
 abbrev pub ahead : Case
 ahead = record {
   s = small;
@@ -170,3 +172,11 @@ pub record PremisesAheadAreMet : Type 0 where
   pub greater_is_told : IsTold (report_in ahead) (own_number ahead 0 6)
   pub first_is_in_hole : IsInHole (report_in ahead) (own_number ahead 0 4)
   pub last_is_in_hole : IsInHole (report_in ahead) (own_number ahead 0 5)
+
+-- What holds of the report of the whole log: premises of laws that rest on reports.
+pub record WholeIsReported : Type 0 where
+  pub is_told : IsTold (report_in whole) (own_number whole 0 1)
+  pub has_message : HasMessage (report_in whole) (own_number whole 0 1)
+  pub clean : is_clean (report_in whole) ≡ true
+  pub nothing_is_missing : NothingIsMissing (shortfalls_of accepting whole.log (log_counters accepting whole.log))
+  pub goes_on_ahead : IsCaseAhead whole (lives_of small.config whole.chain)
