@@ -18,3 +18,4 @@ pub mod WholeBearers
 pub mod NumbersTogether
 pub mod ReportsShow
 pub mod ReportsTogether
+pub mod ListedAnnounced

@@ -1,7 +1,8 @@
 -- The report of a whole log, put together from the reports of its nights.
-use Rattle.std.specs.Prelude.{◌≡◌, ◌↔◌, ◌⊎◌, ◌+◌, ◌<◌, ◌≤◌, ◌==◌, ◌&&◌, ℕ, false, List, map, count_by, Contains, Some}
+use Rattle.std.specs.Prelude.{◌≡◌, ◌↔◌, ◌⊎◌, ◌+◌, ◌<◌, ◌≤◌, ◌==◌, ◌&&◌, ℕ, true, false, List, map, count_by, Contains, Some}
 use Rattle.std.specs.List.{sum_by, list_any, range_with_len}
 use Rattle.ss_block.specs.declared.block.Group.{Group}
+use Rattle.ss_block.specs.declared.hash.Hash.{Hash}
 use Rattle.ss_block.specs.declared.hash.HashPair.{HashPair}
 use Rattle.ss_block.specs.declared.session.Session.{Session}
 use Rattle.ss_review.specs.declared.keep.spoilt.SpoiltPlace.{SpoiltPlace}
@@ -14,10 +15,11 @@ use Rattle.ss_review.specs.Notes.{notes}
 use Rattle.ss_review.specs.Contents.{Contents, contents}
 use Rattle.ss_review.specs.Verified.{Answers}
 use Rattle.ss_review.specs.Announced.{Key}
-use Rattle.ss_review.specs.Assigned.{same_pair}
+use Rattle.ss_review.specs.Assigned.{has_hash, same_pair}
+use Rattle.ss_review.specs.Announcing.{Announces}
 use Rattle.ss_review.specs.Meaning.{IsHole, Tells, IsListed, IsGap, IsTold}
 use Rattle.ss_review.specs.Report.{report_of, report}
-use Rattle.ss_nights.specs.Nights.{Nights, night_log, listed, LeaveEnough, IsSettledBefore, HasPair}
+use Rattle.ss_nights.specs.Nights.{Nights, night_log, so_far, AreContents, IsJoined, listed, LeaveEnough, IsSettledBefore, HasPair}
 use Rattle.ss_nights.specs.Together.{FilesFollow, AgreeLater, IsSettledWith, left_count}
 
 -- ---- reports
@@ -43,6 +45,15 @@ abbrev pub SettledAreListed : Type 0
 SettledAreListed =
     (says : Answers) (x : Nights) (night : ℕ) (k : Key) (place : ℕ)
     → (listed says (night_log x night) k ≡ Some place) ↔ IsListed (night_report says x night) k place
+
+-- whatever a night lists under a number, one review of all files so far has a hash of it announced for that number, if it
+-- joins the session
+abbrev pub ListedAreAnnounced : Type 0
+ListedAreAnnounced =
+    (says : Answers) (x : Nights) (last : ℕ) → AreContents x.whole → LeaveEnough says x last
+    → (night : ℕ) (k : Key) (place : ℕ) (p : HashPair) → night ≤ last → IsListed (night_report says x night) k place
+    → HasPair x.whole place p → IsJoined says (so_far x last).blocks k.session
+    → (h : Hash) × Announces says (so_far x last).blocks k h × (has_hash h p ≡ true)
 
 -- ---- one report of all
 

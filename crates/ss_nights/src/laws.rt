@@ -2,7 +2,7 @@
 ghost use Rattle.ss_nights.specs.NightLaws.{AnnouncedOfNights, FilesAreTheWhole, NightsAreLogs, StatesOfNights, VerifiedStays};
 ghost use Rattle.ss_nights.specs.Together.{NumbersOfNights, PlacesOfNights, ReportsAreEnough, UnlistedOfNights};
 ghost use Rattle.ss_nights.specs.NightRows.{NightsAreThese};
-ghost use Rattle.ss_nights.specs.Reports.{NightsAreTheWhole, SettledAreListed};
+ghost use Rattle.ss_nights.specs.Reports.{ListedAreAnnounced, NightsAreTheWhole, SettledAreListed};
 
 use ss_block::laws::readings::blocks_are_in_range;
 
@@ -78,6 +78,14 @@ pub fn reports_are_enough()
 pub fn settled_are_listed()
     ensures { SettledAreListed }
 {}
+
+/// Whatever a night lists under a number, a hash of it is announced for that number in one review of all files so far, if
+/// this joins the session.
+pub fn listed_are_announced()
+    ensures { ListedAreAnnounced }
+{
+    announced_of_nights();
+}
 
 /// The report of a whole log is put together from the reports of its nights: sessions and states, listed numbers, gaps,
 /// holes, unlisted, refused and spoilt messages, and the count. Only equal messages may be exchanged. The premises are
