@@ -8,7 +8,7 @@ use Rattle.ss_review.specs.Rows.{yes}
 use Rattle.ss_origin.proofs.Members.{Has, has_from_contains}
 use Rattle.ss_block.specs.Block as block
 use Rattle.ss_nights.specs.Nights.{Nights, night_log, IsKept}
-use Rattle.ss_nights.specs.NightRows.{number_of, disputed_later, another_hash, listed_again, lost_before, twins}
+use Rattle.ss_nights.specs.NightRows.{number_of, disputed_later, another_hash, listed_again, lost_before, twins, twins_wanted}
 
 -- each block is a certificate block, or isn't left over
 abbrev IsDropped : Nights → BlockMessage → Type 0
@@ -47,6 +47,11 @@ twins_dropped b (inl e) said s = absurd (says_hashes _ said (ap (λ (d : BlockMe
 twins_dropped b (inr (inl e)) said s = subst (λ (d : BlockMessage). twins.left 0 d.place ≡ false) e refl
 twins_dropped b (inr (inr h)) said s = absurd h
 
+wanted_dropped : (b : BlockMessage) → Has (night_log twins_wanted 0).blocks b → IsDropped twins_wanted b
+wanted_dropped b (inl e) said s = absurd (says_hashes _ said (ap (λ (d : BlockMessage). d.said) e ∙ s))
+wanted_dropped b (inr (inl e)) said s = subst (λ (d : BlockMessage). twins_wanted.left 0 d.place ≡ false) e refl
+wanted_dropped b (inr (inr h)) said s = absurd h
+
 pub disputed_unkept : IsKept yes (night_log disputed_later 0) (disputed_later.left 0) (number_of (104 ∷ []) 1) → ⊥
 disputed_unkept = dropped disputed_later disputed_dropped (number_of (104 ∷ []) 1)
 
@@ -61,3 +66,6 @@ lost_unkept = dropped lost_before lost_dropped (number_of (105 ∷ []) 1)
 
 pub twins_unkept : IsKept yes (night_log twins 0) (twins.left 0) (number_of (104 ∷ []) 1) → ⊥
 twins_unkept = dropped twins twins_dropped (number_of (104 ∷ []) 1)
+
+pub wanted_unkept : IsKept yes (night_log twins_wanted 0) (twins_wanted.left 0) (number_of (104 ∷ []) 1) → ⊥
+wanted_unkept = dropped twins_wanted wanted_dropped (number_of (104 ∷ []) 1)

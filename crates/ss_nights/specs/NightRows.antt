@@ -82,6 +82,13 @@ twins =
     two_nights 3 (0 ∷ []) 5 (message 1 first ∷ message 3 third ∷ [])
     (payload_at 0 (104 ∷ []) ∷ number_at 2 (104 ∷ []) 1 1 ∷ number_at 4 (104 ∷ []) 2 1 ∷ [])
 
+-- the second night has that message too, under a number of its own, and the first one again, for a third number
+abbrev pub twins_wanted : Nights
+twins_wanted =
+    two_nights 3 (0 ∷ []) 7 (message 1 first ∷ message 3 third ∷ message 4 first ∷ [])
+    (payload_at 0 (104 ∷ []) ∷ number_at 2 (104 ∷ []) 1 1 ∷ hashes_of 5 (sent_by (104 ∷ []) 1) algs.Sha256 2 (hashes.Sha256 (103 ∷ []) ∷ [])
+    ∷ number_at 6 (104 ∷ []) 3 1 ∷ [])
+
 -- ---- what is told
 
 -- the first night settles number 1 of the host with the message at place 1
@@ -124,3 +131,9 @@ pub record NightsAreThese : Type 0 where
   pub twins_settled : SettlesFirst twins (104 ∷ [])
   pub twins_last : report_of yes (night_log twins 1) ≡ told_of (listed_in (104 ∷ []) (entry.Hole 1 1 ∷ entry.Listed 2 3 ∷ [])) [] [] 3
   pub twins_whole : report_of yes (so_far twins 1) ≡ told_of (listed_in (104 ∷ []) (entry.Listed 1 1 ∷ entry.Gap 2 whys.Lost ∷ [])) (3 ∷ []) [] 5
+  -- and the second one is listed under no number with that hash
+  pub wanted_settled : SettlesFirst twins_wanted (104 ∷ [])
+  pub wanted_last : report_of yes (night_log twins_wanted 1)
+      ≡ told_of (listed_in (104 ∷ []) (entry.Hole 1 1 ∷ entry.Listed 2 3 ∷ entry.Gap 3 whys.Lost ∷ [])) (4 ∷ []) [] 5
+  pub wanted_whole : report_of yes (so_far twins_wanted 1)
+      ≡ told_of (listed_in (104 ∷ []) (entry.Listed 1 1 ∷ entry.Listed 2 3 ∷ entry.Listed 3 4 ∷ [])) [] [] 7

@@ -10,7 +10,7 @@ use Rattle.ss_review.specs.Verified.{joined, is_verified}
 use Rattle.ss_block.specs.PayloadReading.{stamp_in, stamp_and_rest_in, blob_in, payload_in}
 use Rattle.ss_frame.specs.Cut.{parts_at}
 use Rattle.ss_nights.proofs.EachItsOwn.{its_own_leave, its_own_follow, its_own_agree, its_own_settled}
-use Rattle.ss_nights.proofs.SettledRows.{disputed_unkept, hash_unkept, again_unkept, lost_unkept, twins_unkept}
+use Rattle.ss_nights.proofs.SettledRows.{disputed_unkept, hash_unkept, again_unkept, lost_unkept, twins_unkept, wanted_unkept}
 use Rattle.ss_nights.proofs.laws.nights_are_these.Goals as goal
 
 pub returns : goal.returns
@@ -38,4 +38,7 @@ returns c = record {
   twins_settled = record { listed = refl; unkept = twins_unkept };
   twins_last = refl;
   twins_whole = refl;
+  wanted_settled = record { listed = refl; unkept = wanted_unkept };
+  wanted_last = refl;
+  wanted_whole = refl;
 }
