@@ -9,8 +9,8 @@ use Rattle.ss_block.specs.declared.session.Session.{Session}
 use Rattle.ss_review.specs.declared.counted.counter.Counter.{Counter}
 use Rattle.ss_review.specs.declared.counted.counter.Counts.{Counts}
 use Rattle.ss_review.specs.declared.counted.counter.Counts.TheVariants.{Blocks, Messages}
-use Rattle.ss_review.specs.CounterRange.{IsCounter, IsName, IsNext, IsSession}
-use Rattle.ss_review.specs.CounterText.{counter_line, counter_text, lines_of_counters, field_word, session_words}
+use Rattle.ss_review.specs.counted.CounterRange.{IsCounter, IsName, IsNext, IsSession}
+use Rattle.ss_review.specs.counted.CounterText.{counter_line, counter_text, lines_of_counters, field_word, session_words}
 use Rattle.ss_answers.specs.CounterLine.{BadCounterIsDetermined, BeginsWithNoSession, BeginsWithSession, CountersAreDetermined, HasCounters, IsNoCounter, LinesHaveTheirCounters, NoCountersAreGoodAndBad, SpellsCounter, SpellsNext, SpellsNoNext, next_text, session_text}
 use Rattle.ss_answers.proofs.CounterWords.{Clear-decimal, Clear-text, is_text-word, next_once, session_once}
 use Rattle.ss_answers.proofs.LineLaws as laws

@@ -20,8 +20,8 @@ use Rattle.ss_block.proofs.Values.{in_range}
 use Rattle.ss_payload.proofs.Base64Text.{Clear, Clear-append}
 use Rattle.ss_review.specs.declared.counted.counter.Counts.{Counts}
 use Rattle.ss_review.specs.declared.counted.counter.Counts.TheVariants.{Blocks, Messages}
-use Rattle.ss_review.specs.CounterRange.{IsName}
-use Rattle.ss_review.specs.CounterText.{field_word}
+use Rattle.ss_review.specs.counted.CounterRange.{IsName}
+use Rattle.ss_review.specs.counted.CounterText.{field_word}
 use Rattle.ss_answers.specs.CounterLine.{BeginsWithNoNumber, BeginsWithNoSession, BeginsWithNoWord, BeginsWithNumber, BeginsWithSession, BeginsWithWord, SpellsNext, SpellsNoGroup, SpellsNoNext, field_by}
 use Rattle.ss_answers.specs.Lines.{Lacks}
 use Rattle.ss_answers.proofs.Cuts.{cut_clear, nowhere}

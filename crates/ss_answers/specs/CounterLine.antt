@@ -10,8 +10,8 @@ use Rattle.ss_block.specs.Session.{field_from}
 use Rattle.ss_review.specs.declared.counted.counter.Counter.{Counter}
 use Rattle.ss_review.specs.declared.counted.counter.Counts.{Counts}
 use Rattle.ss_review.specs.declared.counted.counter.Counts.TheVariants.{Blocks, Messages}
-use Rattle.ss_review.specs.CounterRange.{IsSession, IsNext, IsCounter}
-use Rattle.ss_review.specs.CounterText.{counter_line, lines_of_counters, field_word}
+use Rattle.ss_review.specs.counted.CounterRange.{IsSession, IsNext, IsCounter}
+use Rattle.ss_review.specs.counted.CounterText.{counter_line, lines_of_counters, field_word}
 use Rattle.ss_answers.specs.declared.counters.words.CounterWords.{CounterWords}
 use Rattle.ss_answers.specs.declared.counters.words.SessionWords.{SessionWords}
 use Rattle.ss_answers.specs.Lines.{AreLines, IsFirstBad, SpellsNone}

@@ -7,13 +7,13 @@ use Rattle.ss_block.specs.declared.session.Session.{Session}
 use Rattle.ss_block.specs.OrderLaws.{session_cmp_total, session_cmp_exact}
 use Rattle.ss_review.specs.declared.report.session_report.SessionState.{SessionState}
 use Rattle.ss_review.specs.declared.keep.message.BlockMessage.{BlockMessage}
-use Rattle.ss_review.specs.Sessions.{sessions, of_session}
-use Rattle.ss_review.specs.Verified.{Answers, joined, is_valid, is_valid_in, is_verified}
-use Rattle.ss_review.specs.Announced.{Key}
-use Rattle.ss_review.specs.Announcing.{Announces}
+use Rattle.ss_review.specs.sessions.Sessions.{sessions, of_session}
+use Rattle.ss_review.specs.sessions.Verified.{Answers, joined, is_valid, is_valid_in, is_verified}
+use Rattle.ss_review.specs.announced.Announced.{Key}
+use Rattle.ss_review.specs.announced.Announcing.{Announces}
 use Rattle.ss_origin.proofs.Members.{Has, has_from_contains, contains_from_has}
-use Rattle.ss_review.proofs.PartBlocks.{has-sessions, from_has-sessions}
-use Rattle.ss_review.proofs.Rising.{same_members, rises-in_order}
+use Rattle.ss_review.proofs.of_parts.PartBlocks.{has-sessions, from_has-sessions}
+use Rattle.ss_review.proofs.of_lists.Rising.{same_members, rises-in_order}
 use Rattle.ss_nights.specs.Nights.{Nights, night_log, so_far, IsJoined, LeaveEnough}
 use Rattle.ss_nights.proofs.LeftBlocks.{AreInRange, joins_or_not}
 use Rattle.ss_nights.proofs.NightBlocks.{from_of_session, has-of_session, valid_of, verified_of, from_night, has-night, from_so_far, has-so_far, own_reviewed, left_reviewed, reviewed_file, in_night, in_files, alike_at, joined_at}

@@ -10,21 +10,21 @@ use Rattle.ss_frame.specs.Cut.{parts_at}
 use Rattle.ss_review.specs.declared.keep.message.NormalMessage.{NormalMessage}
 use Rattle.ss_review.specs.declared.keep.message.BlockMessage.{BlockMessage}
 use Rattle.ss_review.specs.Ordered.{in_order}
-use Rattle.ss_review.specs.Payloads.{is_disputed, cover, joined_text, stated_payload}
-use Rattle.ss_review.specs.Verified.{joined, is_verified}
-use Rattle.ss_review.specs.Announced.{Key, Row, rows, keys}
-use Rattle.ss_review.specs.Announcing.{Announces}
-use Rattle.ss_review.specs.Assigned.{has_hash, pair_of_bearer, places_with, wanted, rank, assigned, is_taken}
-use Rattle.ss_review.specs.Listing.{Wants}
-use Rattle.ss_review.specs.Rows.{first, yes, sent_by}
+use Rattle.ss_review.specs.sessions.Payloads.{is_disputed, cover, joined_text, stated_payload}
+use Rattle.ss_review.specs.sessions.Verified.{joined, is_verified}
+use Rattle.ss_review.specs.announced.Announced.{Key, Row, rows, keys}
+use Rattle.ss_review.specs.announced.Announcing.{Announces}
+use Rattle.ss_review.specs.assign.Assigned.{has_hash, pair_of_bearer, places_with, wanted, rank, assigned, is_taken}
+use Rattle.ss_review.specs.assign.Listing.{Wants}
+use Rattle.ss_review.specs.report.Rows.{first, yes, sent_by}
 use Rattle.ss_origin.proofs.Members.{Has, has_from_contains}
-use Rattle.ss_review.proofs.Announcements.{has-rows, has-announced_key}
-use Rattle.ss_review.proofs.Keyed.{has-slice_get}
-use Rattle.ss_review.proofs.OnePlaceOneKey.{wanted_key, assigned_cases, from_has-places_with}
+use Rattle.ss_review.proofs.of_numbers.Announcements.{has-rows, has-announced_key}
+use Rattle.ss_review.proofs.of_lists.Keyed.{has-slice_get}
+use Rattle.ss_review.proofs.of_assignment.OnePlaceOneKey.{wanted_key, assigned_cases, from_has-places_with}
 use Rattle.ss_nights.specs.Nights.{night_log, IsJoined, HasVerifiedOctet, listed, IsKept, LeavesEnough, LeaveEnough, IsSettled, HasPair}
 use Rattle.ss_nights.specs.Together.{FilesFollow, IsLost, AgreeLater}
 use Rattle.ss_nights.specs.NightRows.{number_of, each_its_own, SettlesFirst}
-use Rattle.ss_review.specs.Contents.{Contents}
+use Rattle.ss_review.specs.keep.Contents.{Contents}
 
 no_place : (place : ℕ) → Some place ≡ None → ⊥
 no_place place e = cc

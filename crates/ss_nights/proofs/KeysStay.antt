@@ -12,16 +12,16 @@ use Rattle.ss_block.specs.OrderLaws.{hash_cmp_total}
 use Rattle.ss_review.specs.declared.report.session_report.SessionState.{SessionState}
 use Rattle.ss_review.specs.declared.keep.message.NormalMessage.{NormalMessage}
 use Rattle.ss_review.specs.declared.keep.message.BlockMessage.{BlockMessage}
-use Rattle.ss_review.specs.Sessions.{of_session}
-use Rattle.ss_review.specs.Verified.{Answers, joined, is_valid_in, is_verified}
-use Rattle.ss_review.specs.Announced.{Key, Row, row_cmp, rows, hashes_for}
-use Rattle.ss_review.specs.Assigned.{wanted}
-use Rattle.ss_review.specs.Announcing.{Announces}
+use Rattle.ss_review.specs.sessions.Sessions.{of_session}
+use Rattle.ss_review.specs.sessions.Verified.{Answers, joined, is_valid_in, is_verified}
+use Rattle.ss_review.specs.announced.Announced.{Key, Row, row_cmp, rows, hashes_for}
+use Rattle.ss_review.specs.assign.Assigned.{wanted}
+use Rattle.ss_review.specs.announced.Announcing.{Announces}
 use Rattle.ss_origin.proofs.Members.{Has, has_from_contains, contains_from_has}
-use Rattle.ss_review.proofs.Announcements.{announced_row, has-rows, rows-rise, from_has-hashes_for, has-hashes_for, hashes_for-rise}
-use Rattle.ss_review.proofs.OnePlaceOneKey.{only_one}
-use Rattle.ss_review.proofs.Rising.{same_members}
-use Rattle.ss_review.proofs.TotalOrders.{row_cmp_total, row_cmp_exact}
+use Rattle.ss_review.proofs.of_numbers.Announcements.{announced_row, has-rows, rows-rise, from_has-hashes_for, has-hashes_for, hashes_for-rise}
+use Rattle.ss_review.proofs.of_assignment.OnePlaceOneKey.{only_one}
+use Rattle.ss_review.proofs.of_lists.Rising.{same_members}
+use Rattle.ss_review.proofs.of_lists.TotalOrders.{row_cmp_total, row_cmp_exact}
 use Rattle.ss_nights.specs.Nights.{Nights, night_log, so_far, AreContents, IsJoined, listed, LeavesEnough, LeaveEnough, IsSettled, IsSettledBefore}
 use Rattle.ss_nights.specs.NightLaws.{StatesOfNights, AnnouncedOfNights, VerifiedStays}
 use Rattle.ss_nights.proofs.NightBlocks.{from_night, has-night, left_reviewed}

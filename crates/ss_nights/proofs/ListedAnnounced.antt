@@ -3,13 +3,13 @@ use Rattle.std.proofs.Common.{◌≡◌, inl, ℕ, true, refl, sym, ap, ◌∙�
 use Rattle.ss_block.specs.declared.hash.Hash.{Hash}
 use Rattle.ss_block.specs.declared.hash.HashPair.{HashPair}
 use Rattle.ss_review.specs.declared.keep.message.NormalMessage.{NormalMessage}
-use Rattle.ss_review.specs.Verified.{Answers}
-use Rattle.ss_review.specs.Announced.{Key}
-use Rattle.ss_review.specs.Assigned.{has_hash}
-use Rattle.ss_review.specs.Announcing.{Announces}
-use Rattle.ss_review.specs.Meaning.{IsListed}
+use Rattle.ss_review.specs.sessions.Verified.{Answers}
+use Rattle.ss_review.specs.announced.Announced.{Key}
+use Rattle.ss_review.specs.assign.Assigned.{has_hash}
+use Rattle.ss_review.specs.announced.Announcing.{Announces}
+use Rattle.ss_review.specs.report.Meaning.{IsListed}
 use Rattle.ss_origin.proofs.Members.{Has, has_from_contains}
-use Rattle.ss_review.proofs.Listings.{listed_assigned}
+use Rattle.ss_review.proofs.of_reports.Listings.{listed_assigned}
 use Rattle.ss_nights.specs.Nights.{Nights, night_log, HasPair}
 use Rattle.ss_nights.specs.Reports.{night_report}
 use Rattle.ss_nights.proofs.KeysStay.{announced_for}

@@ -11,13 +11,13 @@ use Rattle.std.proofs.lemmas.Bool.{cases_eq, and_parts, and_from, cases_Bool, fa
 use Rattle.std.proofs.lemmas.Cmp.{tied_itself}
 use Rattle.std.proofs.lemmas.List.{append_assoc}
 use Rattle.ss_origin.proofs.Members.{Has}
-use Rattle.ss_review.proofs.Rising.{not_less_itself}
-use Rattle.ss_review.proofs.Counting.{count_by-cons, count_by-push, count_below}
-use Rattle.ss_review.proofs.Sums.{count_by-same}
-use Rattle.ss_review.proofs.EqualCounts.{count_by-parts}
-use Rattle.ss_review.proofs.FilteredAlike.{one_test, same_count}
-use Rattle.ss_review.proofs.OnePlaceOneKey.{count_by-weaker, count_by-fewer}
-use Rattle.ss_review.proofs.TotalOrders.{less_is}
+use Rattle.ss_review.proofs.of_lists.Rising.{not_less_itself}
+use Rattle.ss_review.proofs.of_lists.Counting.{count_by-cons, count_by-push, count_below}
+use Rattle.ss_review.proofs.of_lists.Sums.{count_by-same}
+use Rattle.ss_review.proofs.of_lists.EqualCounts.{count_by-parts}
+use Rattle.ss_review.proofs.of_lists.FilteredAlike.{one_test, same_count}
+use Rattle.ss_review.proofs.of_assignment.OnePlaceOneKey.{count_by-weaker, count_by-fewer}
+use Rattle.ss_review.proofs.of_lists.TotalOrders.{less_is}
 
 module _ {K : Type 0} (R : K → K → Ordering) (ks : List K) (wants : K → Bool) (many : ℕ) where
   -- how many smaller keys want one

@@ -14,15 +14,15 @@ use Rattle.ss_block.specs.ReadingLaws.{BlocksAreInRange}
 use Rattle.ss_review.specs.declared.keep.message.BlockMessage.{BlockMessage}
 use Rattle.ss_review.specs.declared.keep.message.Said.{Said}
 use Rattle.ss_review.specs.declared.keep.message.Said.TheVariants.{Fragment}
-use Rattle.ss_review.specs.Notes.{notes}
-use Rattle.ss_review.specs.Contents.{Contents, said_in, blocks}
-use Rattle.ss_review.specs.Sessions.{same_session, of_session}
-use Rattle.ss_review.specs.Verified.{Answers, signature_of, is_valid, joined, is_valid_in, is_verified}
-use Rattle.ss_review.specs.States.{HasValidOctet}
+use Rattle.ss_review.specs.keep.Notes.{notes}
+use Rattle.ss_review.specs.keep.Contents.{Contents, said_in, blocks}
+use Rattle.ss_review.specs.sessions.Sessions.{same_session, of_session}
+use Rattle.ss_review.specs.sessions.Verified.{Answers, signature_of, is_valid, joined, is_valid_in, is_verified}
+use Rattle.ss_review.specs.sessions.States.{HasValidOctet}
 use Rattle.ss_origin.proofs.Members.{Has, has_from_contains, contains_from_has}
-use Rattle.ss_review.proofs.Members.{has-filter, from_has-filter}
-use Rattle.ss_review.proofs.PartBlocks.{session_is}
-use Rattle.ss_review.proofs.Witnesses.{stored_block}
+use Rattle.ss_review.proofs.of_lists.Members.{has-filter, from_has-filter}
+use Rattle.ss_review.proofs.of_parts.PartBlocks.{session_is}
+use Rattle.ss_review.proofs.of_reports.Witnesses.{stored_block}
 use Rattle.ss_nights.specs.Nights.{Nights, is_reviewed, night_log, so_far, AreContents, HasVerifiedOctet, LeavesEnough, LeaveEnough}
 use Rattle.ss_nights.proofs.Fragments.{fragment_in}
 use Rattle.ss_nights.proofs.SameStates.{Alike, alike_same, same_joined}

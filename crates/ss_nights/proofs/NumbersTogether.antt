@@ -7,16 +7,16 @@ use Rattle.std.proofs.lemmas.Bool.{false_from_ne_true, or_cases, or_left, or_rig
 use Rattle.ss_block.specs.declared.hash.Hash.{Hash}
 use Rattle.ss_block.specs.declared.hash.HashPair.{HashPair}
 use Rattle.ss_review.specs.declared.keep.message.NormalMessage.{NormalMessage}
-use Rattle.ss_review.specs.Contents.{Contents}
-use Rattle.ss_review.specs.Verified.{Answers}
-use Rattle.ss_review.specs.Announced.{Key, Row, key_cmp, rows, keys}
-use Rattle.ss_review.specs.Assigned.{is_pair, wanted}
-use Rattle.ss_review.specs.Announcing.{Announces, IsDisputedKey}
+use Rattle.ss_review.specs.keep.Contents.{Contents}
+use Rattle.ss_review.specs.sessions.Verified.{Answers}
+use Rattle.ss_review.specs.announced.Announced.{Key, Row, key_cmp, rows, keys}
+use Rattle.ss_review.specs.assign.Assigned.{is_pair, wanted}
+use Rattle.ss_review.specs.announced.Announcing.{Announces, IsDisputedKey}
 use Rattle.ss_origin.proofs.Members.{Has, has_from_contains, contains_from_has}
-use Rattle.ss_review.proofs.Announcements.{keys-rise}
-use Rattle.ss_review.proofs.OnePlaceOneKey.{wanted_key}
-use Rattle.ss_review.proofs.Rising.{reversed}
-use Rattle.ss_review.proofs.TotalOrders.{key_cmp_total, key_cmp_exact}
+use Rattle.ss_review.proofs.of_numbers.Announcements.{keys-rise}
+use Rattle.ss_review.proofs.of_assignment.OnePlaceOneKey.{wanted_key}
+use Rattle.ss_review.proofs.of_lists.Rising.{reversed}
+use Rattle.ss_review.proofs.of_lists.TotalOrders.{key_cmp_total, key_cmp_exact}
 use Rattle.ss_nights.specs.Nights.{Nights, night_log, so_far, AreContents, listed, LeaveEnough, IsSettledBefore}
 use Rattle.ss_nights.specs.NightLaws.{StatesOfNights, AnnouncedOfNights, VerifiedStays}
 use Rattle.ss_nights.specs.Together.{IsLost, FilesFollow, LostStandBehind, IsListedWith, IsSettledWith, unlisted_with}

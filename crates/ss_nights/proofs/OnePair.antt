@@ -11,17 +11,17 @@ use Rattle.std.proofs.lemmas.Map.Lookups.{exact_unsigned}
 use Rattle.std.proofs.lemmas.Option.{slice_get_cases, slice_get_within}
 use Rattle.ss_block.specs.declared.hash.HashPair.{HashPair}
 use Rattle.ss_review.specs.declared.keep.message.NormalMessage.{NormalMessage}
-use Rattle.ss_review.specs.Announced.{Key, Row, key_cmp, keys}
-use Rattle.ss_review.specs.Assigned.{same_pair, is_pair, places_with, wanted, rank, place_of, assigned, is_taken}
+use Rattle.ss_review.specs.announced.Announced.{Key, Row, key_cmp, keys}
+use Rattle.ss_review.specs.assign.Assigned.{same_pair, is_pair, places_with, wanted, rank, place_of, assigned, is_taken}
 use Rattle.ss_origin.proofs.Members.{Has}
-use Rattle.ss_review.proofs.Announcements.{keys-rise}
-use Rattle.ss_review.proofs.Counting.{same_pair-is, same_itself}
-use Rattle.ss_review.proofs.EqualCounts.{count_by-parts}
-use Rattle.ss_review.proofs.Keyed.{has-slice_get, one_of_key}
-use Rattle.ss_review.proofs.Leftovers.{taken_by, takes}
-use Rattle.ss_review.proofs.OnePlaceOneKey.{wanted_key, assigned_cases, from_has-places_with, one_key}
-use Rattle.ss_review.proofs.Sums.{count_by-same}
-use Rattle.ss_review.proofs.TotalOrders.{key_cmp_total}
+use Rattle.ss_review.proofs.of_numbers.Announcements.{keys-rise}
+use Rattle.ss_review.proofs.of_lists.Counting.{same_pair-is, same_itself}
+use Rattle.ss_review.proofs.of_lists.EqualCounts.{count_by-parts}
+use Rattle.ss_review.proofs.of_lists.Keyed.{has-slice_get, one_of_key}
+use Rattle.ss_review.proofs.of_reports.Leftovers.{taken_by, takes}
+use Rattle.ss_review.proofs.of_assignment.OnePlaceOneKey.{wanted_key, assigned_cases, from_has-places_with, one_key}
+use Rattle.ss_review.proofs.of_lists.Sums.{count_by-same}
+use Rattle.ss_review.proofs.of_lists.TotalOrders.{key_cmp_total}
 use Rattle.ss_nights.proofs.Matching.{gets, rank_of}
 use Rattle.ss_nights.proofs.PairedCounts.{distinct_rising, distinct_by_key, count-paired}
 

@@ -7,11 +7,11 @@ use Rattle.std.specs.Cmp.{IsTotalOrder}
 use Rattle.std.specs.List.Sorted.{IsStrictlySortedBy}
 use Rattle.std.proofs.lemmas.Bool.{cases_Bool}
 use Rattle.ss_origin.proofs.Members.{Has, has_split, has-append_left, has-append_right, has-map}
-use Rattle.ss_review.proofs.Members.{has-append_cases}
-use Rattle.ss_review.proofs.Rising.{below_all, not_less_itself}
-use Rattle.ss_review.proofs.Counting.{count_by-cons}
-use Rattle.ss_review.proofs.Sums.{count_by-append}
-use Rattle.ss_review.proofs.FullPlaces.{AreDistinct}
+use Rattle.ss_review.proofs.of_lists.Members.{has-append_cases}
+use Rattle.ss_review.proofs.of_lists.Rising.{below_all, not_less_itself}
+use Rattle.ss_review.proofs.of_lists.Counting.{count_by-cons}
+use Rattle.ss_review.proofs.of_lists.Sums.{count_by-append}
+use Rattle.ss_review.proofs.of_assignment.FullPlaces.{AreDistinct}
 
 -- ---- lists that rise have each member once
 

@@ -6,12 +6,12 @@ use Rattle.std.proofs.lemmas.Bool.{cases_Bool, true≢false, cases_eq, eqb-true,
 use Rattle.std.proofs.lemmas.List.Sums.{sum_by_push}
 use Rattle.ss_review.specs.declared.keep.message.BlockMessage.{BlockMessage}
 use Rattle.ss_review.specs.declared.keep.spoilt.SpoiltPlace.{SpoiltPlace}
-use Rattle.ss_review.specs.Verified.{Answers, joined, is_verified}
-use Rattle.ss_review.specs.Report.{refused}
+use Rattle.ss_review.specs.sessions.Verified.{Answers, joined, is_verified}
+use Rattle.ss_review.specs.report.Report.{refused}
 use Rattle.ss_origin.proofs.Members.{Has, has_from_contains, contains_from_has, has-map, from_has-map}
-use Rattle.ss_review.proofs.Members.{has-filter, from_has-filter}
-use Rattle.ss_review.proofs.FilteredAlike.{one_test}
-use Rattle.ss_review.proofs.Sums.{sum_by-added, sum_by-same, count_by-same}
+use Rattle.ss_review.proofs.of_lists.Members.{has-filter, from_has-filter}
+use Rattle.ss_review.proofs.of_lists.FilteredAlike.{one_test}
+use Rattle.ss_review.proofs.of_lists.Sums.{sum_by-added, sum_by-same, count_by-same}
 use Rattle.ss_nights.specs.Nights.{Nights, is_reviewed, night_log, so_far, IsJoined, LeaveEnough}
 use Rattle.ss_nights.specs.Together.{JoinedStay, IsRefusedInNights, left_count}
 use Rattle.ss_nights.proofs.LeftBlocks.{AreInRange, joins_or_not}

@@ -1,11 +1,11 @@
 -- What the reports of the nights alone show of the premises.
 use Rattle.std.proofs.Common.{◌≡◌, ℕ, refl, arith}
 use Rattle.std.specs.Prelude.{Option, Some, None}
-use Rattle.ss_review.specs.Verified.{Answers}
-use Rattle.ss_review.specs.Announced.{Key, rows}
-use Rattle.ss_review.specs.Announcing.{IsAnnounced}
-use Rattle.ss_review.proofs.Announcements.{announced_key}
-use Rattle.ss_review.proofs.OnePlaceOneKey.{assigned_cases, wanted_key}
+use Rattle.ss_review.specs.sessions.Verified.{Answers}
+use Rattle.ss_review.specs.announced.Announced.{Key, rows}
+use Rattle.ss_review.specs.announced.Announcing.{IsAnnounced}
+use Rattle.ss_review.proofs.of_numbers.Announcements.{announced_key}
+use Rattle.ss_review.proofs.of_assignment.OnePlaceOneKey.{assigned_cases, wanted_key}
 use Rattle.ss_nights.specs.Nights.{Nights, night_log, listed}
 use Rattle.ss_nights.specs.Together.{AgreeLater, NoOtherWanted, ReportsShow}
 use Rattle.ss_nights.proofs.KeysStay.{verified_joined}

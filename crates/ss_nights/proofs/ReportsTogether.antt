@@ -17,23 +17,23 @@ use Rattle.ss_review.specs.declared.report.entry.Entry.TheVariants as entry
 use Rattle.ss_review.specs.declared.report.session_report.SessionReport.{SessionReport}
 use Rattle.ss_review.specs.declared.report.report.Report.{Report}
 use Rattle.ss_review.specs.declared.keep.message.NormalMessage.{NormalMessage}
-use Rattle.ss_review.specs.Contents.{Contents}
-use Rattle.ss_review.specs.Sessions.{sessions, of_session}
-use Rattle.ss_review.specs.Verified.{Answers, joined, state_in}
-use Rattle.ss_review.specs.Announced.{Key, rows}
-use Rattle.ss_review.specs.Assigned.{same_pair, is_taken}
-use Rattle.ss_review.specs.Announcing.{IsAnnounced, IsDisputedKey}
-use Rattle.ss_review.specs.Meaning.{IsHole, Tells, IsGap, IsTold}
-use Rattle.ss_review.specs.Report.{session_report, unlisted, report_of}
+use Rattle.ss_review.specs.keep.Contents.{Contents}
+use Rattle.ss_review.specs.sessions.Sessions.{sessions, of_session}
+use Rattle.ss_review.specs.sessions.Verified.{Answers, joined, state_in}
+use Rattle.ss_review.specs.announced.Announced.{Key, rows}
+use Rattle.ss_review.specs.assign.Assigned.{same_pair, is_taken}
+use Rattle.ss_review.specs.announced.Announcing.{IsAnnounced, IsDisputedKey}
+use Rattle.ss_review.specs.report.Meaning.{IsHole, Tells, IsGap, IsTold}
+use Rattle.ss_review.specs.report.Report.{session_report, unlisted, report_of}
 use Rattle.ss_origin.proofs.Members.{Has, has_from_contains, contains_from_has, has-map}
-use Rattle.ss_review.proofs.Announcements.{announced_key}
-use Rattle.ss_review.proofs.EntriesMeant.{entry_told, entry_tells}
-use Rattle.ss_review.proofs.FilteredAlike.{same_count}
-use Rattle.ss_review.proofs.Listings.{listed_assigned, assigned_listed, gaps_are}
-use Rattle.ss_review.proofs.Members.{from_has-map, has-filter, from_has-filter}
-use Rattle.ss_review.proofs.OnePlaceOneKey.{assigned_cases, wanted_key}
-use Rattle.ss_review.proofs.OnesInOrder.{rise_by_key}
-use Rattle.ss_review.proofs.Tests.{any_member, member_any}
+use Rattle.ss_review.proofs.of_numbers.Announcements.{announced_key}
+use Rattle.ss_review.proofs.of_reports.EntriesMeant.{entry_told, entry_tells}
+use Rattle.ss_review.proofs.of_lists.FilteredAlike.{same_count}
+use Rattle.ss_review.proofs.of_reports.Listings.{listed_assigned, assigned_listed, gaps_are}
+use Rattle.ss_review.proofs.of_lists.Members.{from_has-map, has-filter, from_has-filter}
+use Rattle.ss_review.proofs.of_assignment.OnePlaceOneKey.{assigned_cases, wanted_key}
+use Rattle.ss_review.proofs.of_lists.OnesInOrder.{rise_by_key}
+use Rattle.ss_review.proofs.of_lists.Tests.{any_member, member_any}
 use Rattle.ss_nights.specs.Nights.{Nights, night_log, so_far, listed, LeaveEnough, IsSettledBefore}
 use Rattle.ss_nights.specs.Together.{IsLost, IsListedWith, IsSettledWith, unlisted_with, TellPlaces, TellNumbers}
 use Rattle.ss_nights.specs.Reports.{night_report, states_told, ListsWith, unlisted_in, IsPutTogether}

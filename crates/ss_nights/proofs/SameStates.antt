@@ -5,11 +5,11 @@ use Rattle.ss_block.specs.Joining.{Stated, IsDisputed, HasGap}
 use Rattle.ss_review.specs.declared.report.session_report.SessionState.{SessionState}
 use Rattle.ss_review.specs.declared.report.session_report.SessionState.TheVariants as states
 use Rattle.ss_review.specs.declared.keep.message.BlockMessage.{BlockMessage}
-use Rattle.ss_review.specs.Payloads.{certificates}
-use Rattle.ss_review.specs.Verified.{Answers, joined, state_in}
-use Rattle.ss_review.specs.States.{stated_by, StatesText, HasValidOctet, IsCovered, IsJoinedUnder, IsInState}
+use Rattle.ss_review.specs.sessions.Payloads.{certificates}
+use Rattle.ss_review.specs.sessions.Verified.{Answers, joined, state_in}
+use Rattle.ss_review.specs.sessions.States.{stated_by, StatesText, HasValidOctet, IsCovered, IsJoinedUnder, IsInState}
 use Rattle.ss_origin.proofs.Members.{Has, has_from_contains, contains_from_has}
-use Rattle.ss_review.proofs.StatesTold.{joined_under, in_state, state_told, payload_told}
+use Rattle.ss_review.proofs.of_sessions.StatesTold.{joined_under, in_state, state_told, payload_told}
 use Rattle.ss_nights.proofs.Fragments.{StatesTotal, StatesOctet, total_of, has-total, octet_of, has-octet, fragment_in, same_stated, Fits, fits_stated}
 
 -- the first blocks are among the others, and state and cover what those do

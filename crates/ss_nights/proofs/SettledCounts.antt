@@ -8,18 +8,18 @@ use Rattle.std.proofs.lemmas.Cmp.{nat_cmp_total, on_total}
 use Rattle.std.proofs.lemmas.Map.Lookups.{exact_unsigned}
 use Rattle.ss_block.specs.declared.hash.HashPair.{HashPair}
 use Rattle.ss_review.specs.declared.keep.message.NormalMessage.{NormalMessage}
-use Rattle.ss_review.specs.Verified.{Answers}
-use Rattle.ss_review.specs.Announced.{Key, rows, keys}
-use Rattle.ss_review.specs.Assigned.{same_pair, is_pair}
+use Rattle.ss_review.specs.sessions.Verified.{Answers}
+use Rattle.ss_review.specs.announced.Announced.{Key, rows, keys}
+use Rattle.ss_review.specs.assign.Assigned.{same_pair, is_pair}
 use Rattle.ss_origin.proofs.Members.{Has}
-use Rattle.ss_review.proofs.Announcements.{keys-rise}
-use Rattle.ss_review.proofs.Counting.{same_pair-is, same_itself}
-use Rattle.ss_review.proofs.EqualCounts.{count_by-parts}
-use Rattle.ss_review.proofs.FilteredAlike.{same_count}
-use Rattle.ss_review.proofs.Keyed.{one_of_key, keys_rise-filter}
-use Rattle.ss_review.proofs.OnePlaceOneKey.{one_key}
-use Rattle.ss_review.proofs.OnesInOrder.{rise_by_key}
-use Rattle.ss_review.proofs.TotalOrders.{key_cmp_total}
+use Rattle.ss_review.proofs.of_numbers.Announcements.{keys-rise}
+use Rattle.ss_review.proofs.of_lists.Counting.{same_pair-is, same_itself}
+use Rattle.ss_review.proofs.of_lists.EqualCounts.{count_by-parts}
+use Rattle.ss_review.proofs.of_lists.FilteredAlike.{same_count}
+use Rattle.ss_review.proofs.of_lists.Keyed.{one_of_key, keys_rise-filter}
+use Rattle.ss_review.proofs.of_assignment.OnePlaceOneKey.{one_key}
+use Rattle.ss_review.proofs.of_lists.OnesInOrder.{rise_by_key}
+use Rattle.ss_review.proofs.of_lists.TotalOrders.{key_cmp_total}
 use Rattle.ss_nights.specs.Nights.{Nights, is_reviewed, night_log, so_far, listed, LeaveEnough, IsSettled}
 use Rattle.ss_nights.proofs.OnePair.{PlacesRise, is_pair-is, is_pair-some}
 use Rattle.ss_nights.proofs.PairedCounts.{distinct_rising, distinct_by_key, count-paired}

@@ -4,12 +4,12 @@ use Rattle.std.specs.Prelude.{Option, Some, None, nat_le}
 use Rattle.std.proofs.lemmas.Bool.{cases_Bool, cases_eq, cases_order, le-leb, leb-true}
 use Rattle.ss_block.specs.declared.hash.HashPair.{HashPair}
 use Rattle.ss_review.specs.declared.keep.message.NormalMessage.{NormalMessage}
-use Rattle.ss_review.specs.Verified.{Answers}
-use Rattle.ss_review.specs.Announced.{Key, Row, rows}
-use Rattle.ss_review.specs.Assigned.{wanted, is_taken}
+use Rattle.ss_review.specs.sessions.Verified.{Answers}
+use Rattle.ss_review.specs.announced.Announced.{Key, Row, rows}
+use Rattle.ss_review.specs.assign.Assigned.{wanted, is_taken}
 use Rattle.ss_origin.proofs.Members.{Has, contains_from_has}
-use Rattle.ss_review.proofs.Members.{has-filter, from_has-filter}
-use Rattle.ss_review.proofs.Leftovers.{taken_by}
+use Rattle.ss_review.proofs.of_lists.Members.{has-filter, from_has-filter}
+use Rattle.ss_review.proofs.of_reports.Leftovers.{taken_by}
 use Rattle.ss_nights.specs.Nights.{Nights, is_reviewed, night_log, so_far, listed, LeavesEnough, LeaveEnough, IsSettled, IsSettledBefore, HasPair}
 use Rattle.ss_nights.specs.Together.{JoinedStay, HashesStay, NoneListedAgain, NoOtherWanted}
 use Rattle.ss_nights.proofs.NightBlocks.{own_reviewed, left_reviewed, reviewed_cases, reviewed_file}

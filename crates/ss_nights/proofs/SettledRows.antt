@@ -3,8 +3,8 @@ use Rattle.std.proofs.Common.{◌≡◌, inl, inr, false, [], ◌∷◌, refl, s
 use Rattle.std.proofs.lemmas.Bool.{true≢false}
 use Rattle.ss_review.specs.declared.keep.message.BlockMessage.{BlockMessage}
 use Rattle.ss_review.specs.declared.keep.message.Said.TheVariants.{Hashes, Fragment}
-use Rattle.ss_review.specs.Announced.{Key}
-use Rattle.ss_review.specs.Rows.{yes}
+use Rattle.ss_review.specs.announced.Announced.{Key}
+use Rattle.ss_review.specs.report.Rows.{yes}
 use Rattle.ss_origin.proofs.Members.{Has, has_from_contains}
 use Rattle.ss_block.specs.Block as block
 use Rattle.ss_nights.specs.Nights.{Nights, night_log, IsKept}

@@ -8,14 +8,14 @@ use Rattle.std.proofs.lemmas.Option.{slice_get_within}
 use Rattle.ss_review.specs.declared.keep.message.NormalMessage.{NormalMessage}
 use Rattle.ss_review.specs.declared.keep.message.BlockMessage.{BlockMessage}
 use Rattle.ss_review.specs.declared.keep.spoilt.SpoiltPlace.{SpoiltPlace}
-use Rattle.ss_review.specs.Notes.{Note, Normal, Block, Spoilt, notes}
-use Rattle.ss_review.specs.Contents.{Contents, normals, blocks, spoilts, contents}
-use Rattle.ss_review.proofs.EqualCounts.{count_by-all}
-use Rattle.ss_review.proofs.NotesTold.{normal_noted, block_noted, spoilt_noted}
-use Rattle.ss_review.proofs.Rising.{all_below}
-use Rattle.ss_review.proofs.Sections.{keeps_all}
-use Rattle.ss_review.proofs.Sums.{count_by-same}
-use Rattle.ss_review.proofs.Tests.{from_in_range}
+use Rattle.ss_review.specs.keep.Notes.{Note, Normal, Block, Spoilt, notes}
+use Rattle.ss_review.specs.keep.Contents.{Contents, normals, blocks, spoilts, contents}
+use Rattle.ss_review.proofs.of_lists.EqualCounts.{count_by-all}
+use Rattle.ss_review.proofs.of_kept_messages.NotesTold.{normal_noted, block_noted, spoilt_noted}
+use Rattle.ss_review.proofs.of_lists.Rising.{all_below}
+use Rattle.ss_review.proofs.of_lists.Sections.{keeps_all}
+use Rattle.ss_review.proofs.of_lists.Sums.{count_by-same}
+use Rattle.ss_review.proofs.of_lists.Tests.{from_in_range}
 use Rattle.ss_nights.specs.Nights.{Nights, at_places, so_far}
 
 module _ (is : ℕ → Bool) (ns : List Note) (all : (place : ℕ) → place < length ns → is place ≡ true) where

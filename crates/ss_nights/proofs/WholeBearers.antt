@@ -6,22 +6,22 @@ use Rattle.std.proofs.lemmas.Option.{slice_get_within}
 use Rattle.ss_block.specs.declared.hash.Hash.{Hash}
 use Rattle.ss_block.specs.declared.hash.HashPair.{HashPair}
 use Rattle.ss_review.specs.declared.keep.message.NormalMessage.{NormalMessage}
-use Rattle.ss_review.specs.Notes.{Note, notes}
-use Rattle.ss_review.specs.Contents.{Contents, normal_at, normals}
-use Rattle.ss_review.specs.Verified.{Answers}
-use Rattle.ss_review.specs.Announced.{Key, Row, rows, hashes_for}
-use Rattle.ss_review.specs.Assigned.{same_pair, has_hash, pair_of_bearer, wanted_with, wanted}
-use Rattle.ss_review.specs.Announcing.{Announces, IsDisputedKey}
-use Rattle.ss_review.specs.Listing.{Wants}
+use Rattle.ss_review.specs.keep.Notes.{Note, notes}
+use Rattle.ss_review.specs.keep.Contents.{Contents, normal_at, normals}
+use Rattle.ss_review.specs.sessions.Verified.{Answers}
+use Rattle.ss_review.specs.announced.Announced.{Key, Row, rows, hashes_for}
+use Rattle.ss_review.specs.assign.Assigned.{same_pair, has_hash, pair_of_bearer, wanted_with, wanted}
+use Rattle.ss_review.specs.announced.Announcing.{Announces, IsDisputedKey}
+use Rattle.ss_review.specs.assign.Listing.{Wants}
 use Rattle.ss_origin.proofs.Members.{Has, has_from_contains, contains_from_has}
-use Rattle.ss_review.proofs.Announcements.{numbered_from}
-use Rattle.ss_review.proofs.Counting.{same_pair-is}
-use Rattle.ss_review.proofs.EqualCounts.{count_by-none}
-use Rattle.ss_review.proofs.Finding.{find_some, find_least, bearer_of}
-use Rattle.ss_review.proofs.Members.{from_has-filter_map}
-use Rattle.ss_review.proofs.NotesTold.{normal_place}
-use Rattle.ss_review.proofs.OnePlaceOneKey.{only_one}
-use Rattle.ss_review.proofs.PlacesRise.{normals_rise}
+use Rattle.ss_review.proofs.of_numbers.Announcements.{numbered_from}
+use Rattle.ss_review.proofs.of_lists.Counting.{same_pair-is}
+use Rattle.ss_review.proofs.of_lists.EqualCounts.{count_by-none}
+use Rattle.ss_review.proofs.of_lists.Finding.{find_some, find_least, bearer_of}
+use Rattle.ss_review.proofs.of_lists.Members.{from_has-filter_map}
+use Rattle.ss_review.proofs.of_kept_messages.NotesTold.{normal_place}
+use Rattle.ss_review.proofs.of_assignment.OnePlaceOneKey.{only_one}
+use Rattle.ss_review.proofs.of_kept_messages.PlacesRise.{normals_rise}
 use Rattle.ss_nights.specs.Nights.{Nights, is_reviewed, night_log, so_far, AreContents, LeaveEnough}
 use Rattle.ss_nights.specs.Together.{FilesFollow}
 use Rattle.ss_nights.proofs.KeysStay.{announced_for, one_hash, hashes_alike}

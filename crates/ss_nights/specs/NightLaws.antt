@@ -3,14 +3,14 @@ use Rattle.std.specs.Prelude.{◌≡◌, ◌↔◌, ◌<◌, ◌≤◌, ℕ, tru
 use Rattle.ss_block.specs.declared.hash.Hash.{Hash}
 use Rattle.ss_block.specs.declared.session.Session.{Session}
 use Rattle.ss_review.specs.declared.keep.message.BlockMessage.{BlockMessage}
-use Rattle.ss_review.specs.Notes.{notes}
-use Rattle.ss_review.specs.Contents.{contents}
-use Rattle.ss_review.specs.Sessions.{sessions, of_session}
-use Rattle.ss_review.specs.Verified.{Answers, joined, is_verified}
-use Rattle.ss_review.specs.Announced.{Key}
-use Rattle.ss_review.specs.Announcing.{Announces}
-use Rattle.ss_review.specs.Report.{report_of}
-use Rattle.ss_review.specs.Parts.{report_of_part}
+use Rattle.ss_review.specs.keep.Notes.{notes}
+use Rattle.ss_review.specs.keep.Contents.{contents}
+use Rattle.ss_review.specs.sessions.Sessions.{sessions, of_session}
+use Rattle.ss_review.specs.sessions.Verified.{Answers, joined, is_verified}
+use Rattle.ss_review.specs.announced.Announced.{Key}
+use Rattle.ss_review.specs.announced.Announcing.{Announces}
+use Rattle.ss_review.specs.report.Report.{report_of}
+use Rattle.ss_review.specs.parts.Parts.{report_of_part}
 use Rattle.ss_nights.specs.Nights.{Nights, is_reviewed, night_log, so_far, AreContents, IsJoined, LeaveEnough}
 
 -- the part 0 of the log is what the night reviews

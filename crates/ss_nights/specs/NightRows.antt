@@ -12,10 +12,10 @@ use Rattle.ss_review.specs.declared.report.session_report.SessionReport.{Session
 use Rattle.ss_review.specs.declared.report.report.Report.{Report}
 use Rattle.ss_review.specs.declared.keep.message.NormalMessage.{NormalMessage}
 use Rattle.ss_review.specs.declared.keep.message.BlockMessage.{BlockMessage}
-use Rattle.ss_review.specs.Announced.{Key}
-use Rattle.ss_review.specs.PartRows.{joined_with}
-use Rattle.ss_review.specs.Report.{report_of}
-use Rattle.ss_review.specs.Rows.{first, second, third, message, certificate, hashes_of, sent_by, yes}
+use Rattle.ss_review.specs.announced.Announced.{Key}
+use Rattle.ss_review.specs.parts.PartRows.{joined_with}
+use Rattle.ss_review.specs.report.Report.{report_of}
+use Rattle.ss_review.specs.report.Rows.{first, second, third, message, certificate, hashes_of, sent_by, yes}
 use Rattle.ss_nights.specs.Nights.{Nights, night_log, so_far, LeaveEnough, IsSettled}
 use Rattle.ss_nights.specs.Together.{FilesFollow, AgreeLater}
 

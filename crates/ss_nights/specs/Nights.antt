@@ -9,13 +9,13 @@ use Rattle.ss_review.specs.declared.keep.message.NormalMessage.{NormalMessage}
 use Rattle.ss_review.specs.declared.keep.message.BlockMessage.{BlockMessage}
 use Rattle.ss_review.specs.declared.keep.message.Said.TheVariants.{Fragment}
 use Rattle.ss_review.specs.declared.keep.spoilt.SpoiltPlace.{SpoiltPlace}
-use Rattle.ss_review.specs.Notes.{notes}
-use Rattle.ss_review.specs.Contents.{Contents, contents}
-use Rattle.ss_review.specs.Sessions.{of_session}
-use Rattle.ss_review.specs.Verified.{Answers, joined, is_verified}
-use Rattle.ss_review.specs.Announced.{Key, rows}
-use Rattle.ss_review.specs.Assigned.{assigned, is_taken}
-use Rattle.ss_review.specs.Announcing.{Announces}
+use Rattle.ss_review.specs.keep.Notes.{notes}
+use Rattle.ss_review.specs.keep.Contents.{Contents, contents}
+use Rattle.ss_review.specs.sessions.Sessions.{of_session}
+use Rattle.ss_review.specs.sessions.Verified.{Answers, joined, is_verified}
+use Rattle.ss_review.specs.announced.Announced.{Key, rows}
+use Rattle.ss_review.specs.assign.Assigned.{assigned, is_taken}
+use Rattle.ss_review.specs.announced.Announcing.{Announces}
 
 -- ---- the logs of the nights
 

@@ -11,14 +11,14 @@ use Rattle.ss_review.specs.declared.report.entry.Entry.TheVariants as entry
 use Rattle.ss_review.specs.declared.report.session_report.SessionReport.{SessionReport}
 use Rattle.ss_review.specs.declared.report.session_report.SessionState.{SessionState}
 use Rattle.ss_review.specs.declared.report.report.Report.{Report}
-use Rattle.ss_review.specs.Notes.{notes}
-use Rattle.ss_review.specs.Contents.{Contents, contents}
-use Rattle.ss_review.specs.Verified.{Answers}
-use Rattle.ss_review.specs.Announced.{Key}
-use Rattle.ss_review.specs.Assigned.{has_hash, same_pair}
-use Rattle.ss_review.specs.Announcing.{Announces}
-use Rattle.ss_review.specs.Meaning.{IsHole, Tells, IsListed, IsGap, IsTold}
-use Rattle.ss_review.specs.Report.{report_of, report}
+use Rattle.ss_review.specs.keep.Notes.{notes}
+use Rattle.ss_review.specs.keep.Contents.{Contents, contents}
+use Rattle.ss_review.specs.sessions.Verified.{Answers}
+use Rattle.ss_review.specs.announced.Announced.{Key}
+use Rattle.ss_review.specs.assign.Assigned.{has_hash, same_pair}
+use Rattle.ss_review.specs.announced.Announcing.{Announces}
+use Rattle.ss_review.specs.report.Meaning.{IsHole, Tells, IsListed, IsGap, IsTold}
+use Rattle.ss_review.specs.report.Report.{report_of, report}
 use Rattle.ss_nights.specs.Nights.{Nights, night_log, so_far, AreContents, IsJoined, listed, LeaveEnough, IsSettledBefore, HasPair}
 use Rattle.ss_nights.specs.Together.{FilesFollow, AgreeLater, IsSettledWith, left_count}
 

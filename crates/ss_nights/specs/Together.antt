@@ -7,13 +7,13 @@ use Rattle.ss_block.specs.declared.hash.HashPair.{HashPair}
 use Rattle.ss_block.specs.declared.session.Session.{Session}
 use Rattle.ss_review.specs.declared.keep.message.BlockMessage.{BlockMessage}
 use Rattle.ss_review.specs.declared.keep.spoilt.SpoiltPlace.{SpoiltPlace}
-use Rattle.ss_review.specs.Contents.{Contents}
-use Rattle.ss_review.specs.Verified.{Answers, is_verified}
-use Rattle.ss_review.specs.Announced.{Key, key_cmp, rows}
-use Rattle.ss_review.specs.Assigned.{has_hash, same_pair, is_taken}
-use Rattle.ss_review.specs.Announcing.{Announces, IsAnnounced, IsDisputedKey}
-use Rattle.ss_review.specs.Listing.{Wants}
-use Rattle.ss_review.specs.Report.{refused}
+use Rattle.ss_review.specs.keep.Contents.{Contents}
+use Rattle.ss_review.specs.sessions.Verified.{Answers, is_verified}
+use Rattle.ss_review.specs.announced.Announced.{Key, key_cmp, rows}
+use Rattle.ss_review.specs.assign.Assigned.{has_hash, same_pair, is_taken}
+use Rattle.ss_review.specs.announced.Announcing.{Announces, IsAnnounced, IsDisputedKey}
+use Rattle.ss_review.specs.assign.Listing.{Wants}
+use Rattle.ss_review.specs.report.Report.{refused}
 use Rattle.ss_nights.specs.Nights.{Nights, is_reviewed, night_log, so_far, AreContents, IsJoined, listed, LeaveEnough, IsSettled, IsSettledBefore, HasPair}
 
 -- ---- premises

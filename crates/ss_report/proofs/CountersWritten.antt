@@ -9,16 +9,16 @@ use Rattle.ss_frame.specs.Watched.{Sink}
 use Rattle.ss_review.specs.declared.counted.counted_session.CountedSession.{CountedSession}
 use Rattle.ss_review.specs.declared.report.session_report.SessionReport.{SessionReport}
 use Rattle.ss_review.specs.declared.report.report.Report.{Report}
-use Rattle.ss_review.specs.Notes.{notes}
-use Rattle.ss_review.specs.Contents.{Contents, blocks, contents}
-use Rattle.ss_review.specs.Announced.{Row, rows}
-use Rattle.ss_review.specs.Sessions.{sessions}
+use Rattle.ss_review.specs.keep.Notes.{notes}
+use Rattle.ss_review.specs.keep.Contents.{Contents, blocks, contents}
+use Rattle.ss_review.specs.announced.Announced.{Row, rows}
+use Rattle.ss_review.specs.sessions.Sessions.{sessions}
 use Rattle.ss_review.specs.declared.keep.message.BlockMessage.{BlockMessage}
 use Rattle.ss_block.specs.declared.session.Session.{Session}
-use Rattle.ss_review.specs.Verified.{Answers}
-use Rattle.ss_review.specs.Report.{session_report, report_of, report}
-use Rattle.ss_review.specs.Counted.{counted_session, counted_sessions, next_after, next_number}
-use Rattle.ss_review.specs.CountedLaws.{IsInRange, CountedAreInRange, NextNumbersAreInRange}
+use Rattle.ss_review.specs.sessions.Verified.{Answers}
+use Rattle.ss_review.specs.report.Report.{session_report, report_of, report}
+use Rattle.ss_review.specs.counted.Counted.{counted_session, counted_sessions, next_after, next_number}
+use Rattle.ss_review.specs.counted.CountedLaws.{IsInRange, CountedAreInRange, NextNumbersAreInRange}
 use Rattle.ss_report.specs.Writing.{Writes}
 use Rattle.ss_report.specs.declared.notation.Notation.{Notation}
 use Rattle.ss_report.specs.Counters.{AreInRange, counters_of, counter_lines, counters_beside, counter_lines_with}

@@ -12,14 +12,14 @@ use Rattle.ss_review.specs.declared.counted.counter.Counter.{Counter}
 use Rattle.ss_review.specs.declared.counted.counter.Counts.TheVariants.{Blocks, Messages}
 use Rattle.ss_review.specs.declared.report.group_report.GroupReport.{GroupReport}
 use Rattle.ss_review.specs.declared.report.session_report.SessionReport.{SessionReport}
-use Rattle.ss_review.specs.Notes.{notes}
-use Rattle.ss_review.specs.Contents.{blocks}
-use Rattle.ss_review.specs.Counted.{counted_sessions, next_after, next_number}
-use Rattle.ss_review.specs.CounterText as spelling
-use Rattle.ss_review.specs.CounterText.{counter_line, counter_text, lines_of_counters}
-use Rattle.ss_review.specs.KeptLaws.{group_given, session_given, given_beside, counters_given}
-use Rattle.ss_review.specs.Report.{report}
-use Rattle.ss_review.specs.Verdict.{is_joined}
+use Rattle.ss_review.specs.keep.Notes.{notes}
+use Rattle.ss_review.specs.keep.Contents.{blocks}
+use Rattle.ss_review.specs.counted.Counted.{counted_sessions, next_after, next_number}
+use Rattle.ss_review.specs.counted.CounterText as spelling
+use Rattle.ss_review.specs.counted.CounterText.{counter_line, counter_text, lines_of_counters}
+use Rattle.ss_review.specs.counted.KeptLaws.{group_given, session_given, given_beside, counters_given}
+use Rattle.ss_review.specs.report.Report.{report}
+use Rattle.ss_review.specs.report.Verdict.{is_joined}
 use Rattle.ss_report.specs.CounterLaws.{CountersAreTheLogs}
 use Rattle.ss_report.specs.Counters.{block_counter_text, message_counter_text, group_counter, session_counters, counters_beside, counter_lines_with}
 use Rattle.ss_report.specs.Words.{spaced, field_word, session_words, group_words}

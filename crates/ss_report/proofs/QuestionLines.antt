@@ -5,7 +5,7 @@ use Rattle.std.proofs.lemmas.List.Concat.{flat_map-append}
 use Rattle.ss_review.specs.declared.questions.asked.AskedBlock.{AskedBlock}
 use Rattle.ss_review.specs.declared.questions.asked.AskedSession.{AskedSession}
 use Rattle.ss_review.specs.declared.questions.question.Question.TheVariants.{Trust, Yes}
-use Rattle.ss_review.specs.Questions.{question_under, session_questions, questions_shared}
+use Rattle.ss_review.specs.questions.Questions.{question_under, session_questions, questions_shared}
 use Rattle.ss_report.specs.declared.notation.Notation.{Notation}
 use Rattle.ss_report.specs.QuestionText.{question_line, question_lines}
 

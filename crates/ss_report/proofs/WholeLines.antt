@@ -7,13 +7,13 @@ use Rattle.ss_review.specs.declared.counted.counted_session.CountedSession.{Coun
 use Rattle.ss_review.specs.declared.counted.counter.Counter.{Counter}
 use Rattle.ss_review.specs.declared.counted.shortfall.LogShortfalls.{LogShortfalls}
 use Rattle.ss_review.specs.declared.report.report.Report.{Report}
-use Rattle.ss_review.specs.Notes.{notes}
-use Rattle.ss_review.specs.Contents.{blocks}
-use Rattle.ss_review.specs.Verified.{Answers}
-use Rattle.ss_review.specs.Counted.{counted_sessions}
-use Rattle.ss_review.specs.Kept.{log_shortfalls}
-use Rattle.ss_review.specs.KeptLaws.{shortfalls_of}
-use Rattle.ss_review.specs.Report.{report}
+use Rattle.ss_review.specs.keep.Notes.{notes}
+use Rattle.ss_review.specs.keep.Contents.{blocks}
+use Rattle.ss_review.specs.sessions.Verified.{Answers}
+use Rattle.ss_review.specs.counted.Counted.{counted_sessions}
+use Rattle.ss_review.specs.counted.Kept.{log_shortfalls}
+use Rattle.ss_review.specs.counted.KeptLaws.{shortfalls_of}
+use Rattle.ss_review.specs.report.Report.{report}
 use Rattle.ss_report.specs.Log.{ReadsLog, tail_end}
 use Rattle.ss_report.specs.declared.lines.detail.Detail.{Detail}
 use Rattle.ss_report.specs.Forms.{line_as}

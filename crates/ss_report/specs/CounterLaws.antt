@@ -1,9 +1,9 @@
 -- What the plain text of a log's counters tells.
 use Rattle.std.specs.Prelude.{◌≡◌, ℕ, List}
 use Rattle.ss_frame.specs.declared.step.Tail.{Tail}
-use Rattle.ss_review.specs.CounterText.{lines_of_counters}
-use Rattle.ss_review.specs.KeptLaws.{log_counters}
-use Rattle.ss_review.specs.Verified.{Answers}
+use Rattle.ss_review.specs.counted.CounterText.{lines_of_counters}
+use Rattle.ss_review.specs.counted.KeptLaws.{log_counters}
+use Rattle.ss_review.specs.sessions.Verified.{Answers}
 use Rattle.ss_report.specs.Jobs.{counting}
 use Rattle.ss_report.specs.declared.notation.Notation.TheVariants.{Plain}
 

@@ -9,9 +9,9 @@ use Rattle.ss_review.specs.declared.keep.message.BlockMessage.{BlockMessage}
 use Rattle.ss_review.specs.declared.report.group_report.GroupReport.{GroupReport}
 use Rattle.ss_review.specs.declared.report.session_report.SessionReport.{SessionReport}
 use Rattle.ss_review.specs.declared.report.report.Report.{Report}
-use Rattle.ss_review.specs.Verified.{Answers}
-use Rattle.ss_review.specs.Verdict.{is_joined}
-use Rattle.ss_review.specs.Counted.{counted_session, next_after, next_number}
+use Rattle.ss_review.specs.sessions.Verified.{Answers}
+use Rattle.ss_review.specs.report.Verdict.{is_joined}
+use Rattle.ss_review.specs.counted.Counted.{counted_session, next_after, next_number}
 use Rattle.ss_report.specs.Words.{spaced, session_words, group_words}
 use Rattle.ss_report.specs.Json.{number_member, session_members, group_members}
 use Rattle.ss_report.specs.declared.notation.Notation.{Notation}

@@ -3,15 +3,15 @@ use Rattle.std.specs.Prelude.{true, false, ℕ, List, flat_map}
 use Rattle.ss_frame.specs.Frame.{frames, units_in}
 use Rattle.ss_frame.specs.Limits.{Allowance}
 use Rattle.ss_frame.specs.Watched.{Source, Sink}
-use Rattle.ss_review.specs.Notes.{notes}
-use Rattle.ss_review.specs.Contents.{blocks}
-use Rattle.ss_review.specs.Verified.{Answers}
-use Rattle.ss_review.specs.Report.{report}
-use Rattle.ss_review.specs.Questions.{questions}
-use Rattle.ss_review.specs.Extract.{extract}
+use Rattle.ss_review.specs.keep.Notes.{notes}
+use Rattle.ss_review.specs.keep.Contents.{blocks}
+use Rattle.ss_review.specs.sessions.Verified.{Answers}
+use Rattle.ss_review.specs.report.Report.{report}
+use Rattle.ss_review.specs.questions.Questions.{questions}
+use Rattle.ss_review.specs.report.Extract.{extract}
 use Rattle.ss_review.specs.Laws.{ListsWhatIsAnnounced}
-use Rattle.ss_review.specs.Announced.{Key}
-use Rattle.ss_review.specs.KeptLaws.{NumberIsTold, BlockIsTold}
+use Rattle.ss_review.specs.announced.Announced.{Key}
+use Rattle.ss_review.specs.counted.KeptLaws.{NumberIsTold, BlockIsTold}
 use Rattle.ss_report.specs.Inspection.{inspection}
 use Rattle.ss_report.specs.ReportText.{report_lines}
 use Rattle.ss_report.specs.Forms.{line_as, report_as}

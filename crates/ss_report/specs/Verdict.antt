@@ -3,7 +3,7 @@ use Rattle.std.specs.Prelude.{if◌then◌else◌}
 use Rattle.ss_frame.specs.declared.step.Tail.{Tail}
 use Rattle.ss_frame.specs.declared.step.Tail.TheVariants as tails
 use Rattle.ss_review.specs.declared.report.report.Report.{Report}
-use Rattle.ss_review.specs.Verdict.{is_clean}
+use Rattle.ss_review.specs.report.Verdict.{is_clean}
 use Rattle.ss_report.specs.declared.verdict.Verdict.{Verdict}
 use Rattle.ss_report.specs.declared.verdict.Verdict.TheVariants as verdicts
 

@@ -13,13 +13,13 @@ use Rattle.ss_review.specs.declared.counted.shortfall.LogShortfalls.{LogShortfal
 use Rattle.ss_review.specs.declared.keep.message.BlockMessage.{BlockMessage}
 use Rattle.ss_review.specs.declared.report.session_report.SessionReport.{SessionReport}
 use Rattle.ss_review.specs.declared.report.report.Report.{Report}
-use Rattle.ss_review.specs.Verified.{Answers}
-use Rattle.ss_review.specs.Counted.{gbcs, missing}
-use Rattle.ss_review.specs.CountedLaws.{AreMissing, IsCounted}
-use Rattle.ss_review.specs.Kept.{counters_of, end_of_blocks}
-use Rattle.ss_review.specs.KeptLaws.{shortfalls_of}
-use Rattle.ss_review.specs.Report.{report}
-use Rattle.ss_review.specs.Verdict.{is_none}
+use Rattle.ss_review.specs.sessions.Verified.{Answers}
+use Rattle.ss_review.specs.counted.Counted.{gbcs, missing}
+use Rattle.ss_review.specs.counted.CountedLaws.{AreMissing, IsCounted}
+use Rattle.ss_review.specs.counted.Kept.{counters_of, end_of_blocks}
+use Rattle.ss_review.specs.counted.KeptLaws.{shortfalls_of}
+use Rattle.ss_review.specs.report.Report.{report}
+use Rattle.ss_review.specs.report.Verdict.{is_none}
 use Rattle.ss_report.specs.declared.lines.detail.Detail.{Detail}
 use Rattle.ss_report.specs.Lines.{ReportLine, TailLine, BlocksLine, AbsentLine, session_lines, other_lines}
 use Rattle.ss_report.specs.Verdict.{report_verdict}

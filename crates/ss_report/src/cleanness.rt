@@ -1,7 +1,7 @@
 //! Whether a report leaves anything to look into.
 ghost use Rattle.std.specs.Prelude.{◌≡◌, ◌&&◌};
 ghost use Rattle.std.specs.List.{list_all};
-ghost use Rattle.ss_review.specs.Verdict.{is_joined, is_listed, is_none, is_clean};
+ghost use Rattle.ss_review.specs.report.Verdict.{is_joined, is_listed, is_none, is_clean};
 
 use ss_review::{Entry, GroupReport, Report, SessionReport, SessionState};
 

@@ -4,7 +4,7 @@ ghost use Rattle.ss_frame.specs.Watched.{sink_of};
 ghost use Rattle.ss_payload.specs.StrictBase64.{base64};
 ghost use Rattle.ss_report.specs.Writing.{Writes};
 ghost use Rattle.ss_review.specs.declared.questions.question.Question.TheVariants.{Trust, Yes};
-ghost use Rattle.ss_review.specs.Questions.{question_under, session_questions, questions_shared};
+ghost use Rattle.ss_review.specs.questions.Questions.{question_under, session_questions, questions_shared};
 ghost use Rattle.ss_report.specs.QuestionText.{question_text, question_object, question_line, question_lines};
 ghost use Rattle.ss_report.specs.Json.{word_member};
 

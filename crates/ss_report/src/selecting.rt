@@ -1,6 +1,6 @@
 //! The places of messages that are to be written, and what keeps them from it.
 ghost use Rattle.std.specs.Prelude.{◌≡◌, ◌==◌, ◌++◌, ◌∷◌, [], ℕ, None, Some, nat_le, find, flat_map, filter_map, IfOk, OnOk, MatchResult};
-ghost use Rattle.ss_review.specs.Extract.{place_listed, listed_places};
+ghost use Rattle.ss_review.specs.report.Extract.{place_listed, listed_places};
 ghost use Rattle.ss_report.specs.Extraction.{absent, holds_lf, no_line};
 
 use crate::extraction::{ExtractFault, Selection};

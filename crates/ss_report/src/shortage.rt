@@ -1,7 +1,7 @@
 //! Whether something is missing beside a report.
 ghost use Rattle.std.specs.Prelude.{◌≡◌, ◌&&◌};
 ghost use Rattle.std.specs.List.{list_all};
-ghost use Rattle.ss_review.specs.Verdict.{is_none};
+ghost use Rattle.ss_review.specs.report.Verdict.{is_none};
 ghost use Rattle.ss_report.specs.Whole.{is_complete, is_nothing_short};
 
 use crate::cleanness::is_none;

@@ -3,23 +3,23 @@ use Rattle.std.specs.Prelude.{◌≡◌, ◌↔◌, ℕ, ◌+◌, ◌<◌, true,
 use Rattle.ss_block.specs.declared.spoil.Spoil.{Spoil}
 use Rattle.ss_review.specs.declared.report.entry.Why.{Why}
 use Rattle.ss_review.specs.declared.report.report.Report.{Report}
-use Rattle.ss_review.specs.Notes.{Note, Spoilt, note, notes}
-use Rattle.ss_review.specs.Contents.{normals, blocks, contents}
+use Rattle.ss_review.specs.keep.Notes.{Note, Spoilt, note, notes}
+use Rattle.ss_review.specs.keep.Contents.{normals, blocks, contents}
 use Rattle.ss_block.specs.declared.session.Session.{Session}
 use Rattle.ss_review.specs.declared.report.session_report.SessionState.{SessionState}
-use Rattle.ss_review.specs.Sessions.{of_session}
-use Rattle.ss_review.specs.Verified.{Answers, joined, state_in}
-use Rattle.ss_review.specs.Announced.{Key, rows, keys, is_disputed_key}
-use Rattle.ss_review.specs.Assigned.{assigned}
-use Rattle.ss_review.specs.Report.{report}
+use Rattle.ss_review.specs.sessions.Sessions.{of_session}
+use Rattle.ss_review.specs.sessions.Verified.{Answers, joined, state_in}
+use Rattle.ss_review.specs.announced.Announced.{Key, rows, keys, is_disputed_key}
+use Rattle.ss_review.specs.assign.Assigned.{assigned}
+use Rattle.ss_review.specs.report.Report.{report}
 use Rattle.ss_review.specs.declared.questions.question.Question.{Question}
-use Rattle.ss_review.specs.Questions.{questions, answer}
-use Rattle.ss_review.specs.Announcing.{IsAnnounced, IsDisputedKey}
-use Rattle.ss_review.specs.States.{IsJoinedUnder, IsInState}
-use Rattle.ss_review.specs.Listing.{IsDue}
-use Rattle.ss_review.specs.Meaning.{IsListed, IsGap, IsTold, IsInOrder, IsReport}
-use Rattle.ss_review.specs.Witness.{IsWitnessed}
-use Rattle.ss_review.specs.Accounts.{Account, HasAccount}
+use Rattle.ss_review.specs.questions.Questions.{questions, answer}
+use Rattle.ss_review.specs.announced.Announcing.{IsAnnounced, IsDisputedKey}
+use Rattle.ss_review.specs.sessions.States.{IsJoinedUnder, IsInState}
+use Rattle.ss_review.specs.assign.Listing.{IsDue}
+use Rattle.ss_review.specs.report.Meaning.{IsListed, IsGap, IsTold, IsInOrder, IsReport}
+use Rattle.ss_review.specs.report.Witness.{IsWitnessed}
+use Rattle.ss_review.specs.report.Accounts.{Account, HasAccount}
 
 -- the key is assigned the place, in a log with these notes
 abbrev pub IsAssigned : Answers → List Note → Key → ℕ → Type 0

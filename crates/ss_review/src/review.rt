@@ -1,8 +1,8 @@
 //! The review of a log, whatever finds its messages by their hashes.
 ghost use Rattle.std.specs.Prelude.{◌≡◌, IfOk};
-ghost use Rattle.ss_review.specs.Contents.{Contents};
-ghost use Rattle.ss_review.specs.Verified.{answers};
-ghost use Rattle.ss_review.specs.Report.{report_of};
+ghost use Rattle.ss_review.specs.keep.Contents.{Contents};
+ghost use Rattle.ss_review.specs.sessions.Verified.{answers};
+ghost use Rattle.ss_review.specs.report.Report.{report_of};
 
 use crate::assign::index::Index;
 use crate::keep::message::BlockMessage;

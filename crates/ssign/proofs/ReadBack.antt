@@ -1,8 +1,8 @@
 -- The text of a log's counters has these counters, and they add nothing to its review.
 use Rattle.std.proofs.Common.{ℕ, List, sym, ap, flat_map, subst}
-use Rattle.ss_review.specs.KeptLaws.{CountersGivenBack, LogCountersAddNothing, LogCountersAreInRange, log_counters}
-use Rattle.ss_review.specs.Report.{report}
-use Rattle.ss_review.specs.Verified.{Answers}
+use Rattle.ss_review.specs.counted.KeptLaws.{CountersGivenBack, LogCountersAddNothing, LogCountersAreInRange, log_counters}
+use Rattle.ss_review.specs.report.Report.{report}
+use Rattle.ss_review.specs.sessions.Verified.{Answers}
 use Rattle.ss_report.specs.CounterLaws.{CountersAreTheLogs}
 use Rattle.ss_report.specs.Forms.{line_as}
 use Rattle.ss_report.specs.Jobs.{counting}

@@ -2,11 +2,11 @@
 use Rattle.std.specs.Prelude.{◌≡◌, ℕ, List, []}
 use Rattle.ss_frame.specs.declared.step.Tail.{Tail}
 use Rattle.ss_review.specs.declared.counted.counter.Counter.{Counter}
-use Rattle.ss_review.specs.Notes.{notes}
-use Rattle.ss_review.specs.Contents.{blocks}
-use Rattle.ss_review.specs.Verified.{Answers}
-use Rattle.ss_review.specs.Counted.{counted_sessions}
-use Rattle.ss_review.specs.KeptLaws.{AddNothing, log_counters, shortfalls_of}
+use Rattle.ss_review.specs.keep.Notes.{notes}
+use Rattle.ss_review.specs.keep.Contents.{blocks}
+use Rattle.ss_review.specs.sessions.Verified.{Answers}
+use Rattle.ss_review.specs.counted.Counted.{counted_sessions}
+use Rattle.ss_review.specs.counted.KeptLaws.{AddNothing, log_counters, shortfalls_of}
 use Rattle.ss_report.specs.Jobs.{counting, reviewing_whole}
 use Rattle.ss_report.specs.declared.forms.report_form.ReportForm.{ReportForm}
 use Rattle.ss_report.specs.declared.lines.detail.Detail.{Detail}

@@ -1,6 +1,6 @@
 -- What is asked of a log.
 use Rattle.std.specs.Prelude.{List, if◌then◌else◌}
-use Rattle.ss_review.specs.Verified.{Answers}
+use Rattle.ss_review.specs.sessions.Verified.{Answers}
 use Rattle.ss_review.specs.declared.counted.counter.Counter.{Counter}
 use Rattle.ss_report.specs.Forms.{notation_of}
 use Rattle.ss_report.specs.Run.{Job}

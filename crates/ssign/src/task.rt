@@ -1,7 +1,7 @@
 //! What the program makes of a log.
 ghost use Rattle.std.specs.Prelude.{◌≡◌, ◌≢◌, false, IfOk, IfErr};
 ghost use Rattle.ss_frame.specs.Watched.{has_failed, source_of, sink_of};
-ghost use Rattle.ss_review.specs.Verified.{answers};
+ghost use Rattle.ss_review.specs.sessions.Verified.{answers};
 ghost use Rattle.ss_report.specs.Run.{Runs, Stops};
 ghost use Rattle.ssign.specs.Task.{review_of, job_of};
 

@@ -1,6 +1,6 @@
 //! The signature blocks that announce hashes.
 ghost use Rattle.std.specs.Prelude.{◌≡◌};
-ghost use Rattle.ss_review.specs.Numbered.{key_of, first_key};
+ghost use Rattle.ss_review.specs.announced.Numbered.{key_of, first_key};
 
 use crate::announced::message_number::MessageNumber;
 use ss_block::{Session, SigBlock};

@@ -1,8 +1,8 @@
 //! What is announced, number by number.
 ghost use Rattle.std.specs.Prelude.{◌≡◌, map, option_map, IfOk};
 ghost use Rattle.std.specs.List.Sorted.{IsStrictlySortedBy};
-ghost use Rattle.ss_review.specs.Announced.{row_cmp, same_key, keys};
-ghost use Rattle.ss_review.specs.Numbered.{key_of, row_of, only_hashes, is_more_of, hash_before};
+ghost use Rattle.ss_review.specs.announced.Announced.{row_cmp, same_key, keys};
+ghost use Rattle.ss_review.specs.announced.Numbered.{key_of, row_of, only_hashes, is_more_of, hash_before};
 
 use crate::announced::announced_hash::AnnouncedHash;
 use crate::announced::message_number::MessageNumber;

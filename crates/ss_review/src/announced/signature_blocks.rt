@@ -1,9 +1,9 @@
 //! The verified signature blocks of a log.
 ghost use Rattle.std.specs.Prelude.{◌≡◌, ◌++◌, true, List, map, filter, flat_map, IfOk, OnOk, IfSome, IsSome};
 ghost use Rattle.ss_review.specs.declared.keep.message.BlockMessage.{BlockMessage};
-ghost use Rattle.ss_review.specs.Verified.{Answers, is_verified};
-ghost use Rattle.ss_review.specs.Announced.{rows_said};
-ghost use Rattle.ss_review.specs.Numbered.{rows_by, session_with_joined, sessions_joined};
+ghost use Rattle.ss_review.specs.sessions.Verified.{Answers, is_verified};
+ghost use Rattle.ss_review.specs.announced.Announced.{rows_said};
+ghost use Rattle.ss_review.specs.announced.Numbered.{rows_by, session_with_joined, sessions_joined};
 
 use crate::announced::announced_block::AnnouncedBlock;
 use crate::keep::message::{BlockMessage, Said};

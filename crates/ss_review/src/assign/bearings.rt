@@ -2,7 +2,7 @@
 ghost use Rattle.std.specs.Prelude.{◌≡◌, ℕ, Option, Some, None, length, slice_get, IfOk};
 ghost use Rattle.std.specs.List.Sorted.{IsStrictlySortedBy};
 ghost use Rattle.ss_block.specs.declared.hash.Hash.{Hash};
-ghost use Rattle.ss_review.specs.StoredHashes.{hashes_in, stored_cmp, IsFoundFor};
+ghost use Rattle.ss_review.specs.assign.StoredHashes.{hashes_in, stored_cmp, IsFoundFor};
 
 use crate::assign::hash_list::HashList;
 use crate::assign::search::Search;

@@ -3,7 +3,7 @@ ghost use Rattle.std.specs.Prelude.{◌≡◌, ◌<◌, ◌≤◌, ◌+◌, ◌^
 ghost use Rattle.std.specs.Ordering.{nat_cmp};
 ghost use Rattle.std.specs.List.Sorted.{IsStrictlySortedBy};
 ghost use Rattle.ss_review.specs.declared.keep.stored_message.StoredMessage.{StoredMessage};
-ghost use Rattle.ss_review.specs.StoredHashes.{counted_at, Tallies};
+ghost use Rattle.ss_review.specs.assign.StoredHashes.{counted_at, Tallies};
 
 use crate::keep::stored_message::StoredMessage;
 use ss_message::NoMemory;

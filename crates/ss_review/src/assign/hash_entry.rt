@@ -1,7 +1,7 @@
 //! Hashes of stored messages, each by where it is stored.
 ghost use Rattle.std.specs.Prelude.{◌≡◌, slice_index_or};
 ghost use Rattle.std.specs.Ordering.{nat_cmp};
-ghost use Rattle.ss_review.specs.StoredHashes.{start_of, entry_of, alg_place, no_hashes, hash_of, entry_cmp};
+ghost use Rattle.ss_review.specs.assign.StoredHashes.{start_of, entry_of, alg_place, no_hashes, hash_of, entry_cmp};
 
 use crate::assign::stored_hash::StoredHash;
 use crate::keep::stored_message::StoredMessage;

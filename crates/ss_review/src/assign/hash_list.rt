@@ -1,6 +1,6 @@
 //! The hashes of stored messages, as they are read.
 ghost use Rattle.std.specs.Prelude.{◌≡◌, ◌+◌, ◌^◌, ◌<◌, ◌≤◌, length, drop, slice_get};
-ghost use Rattle.ss_review.specs.StoredHashes.{hashes_in};
+ghost use Rattle.ss_review.specs.assign.StoredHashes.{hashes_in};
 
 use crate::assign::hash_entry::{HashEntry, hash_of};
 use crate::assign::stored_hash::StoredHash;

@@ -1,7 +1,7 @@
 //! What finds a message without a block by its hashes.
 ghost use Rattle.std.specs.Prelude.{◌≡◌, List, map, IfOk};
 ghost use Rattle.ss_review.specs.declared.keep.message.NormalMessage.{NormalMessage};
-ghost use Rattle.ss_review.specs.Assigning.{assigned_all};
+ghost use Rattle.ss_review.specs.assign.Assigning.{assigned_all};
 
 use ss_block::Hash;
 use ss_message::NoMemory;

@@ -4,9 +4,9 @@ ghost use Rattle.std.specs.Ordering.{nat_cmp};
 ghost use Rattle.std.specs.List.Sorted.{IsStrictlySortedBy};
 ghost use Rattle.ss_block.specs.declared.hash.Hash.{Hash};
 ghost use Rattle.ss_review.specs.declared.keep.message.NormalMessage.{NormalMessage};
-ghost use Rattle.ss_review.specs.Stored.{Tells};
-ghost use Rattle.ss_review.specs.Assigning.{pair_wanted, pairs_wanted, bearer_wanted, bearers_wanted, place_after, assigned_all};
-ghost use Rattle.ss_review.specs.StoredHashes.{hashes_in, Lists, IsFoundFor, same_hashes, place_beside, Tallies};
+ghost use Rattle.ss_review.specs.keep.Stored.{Tells};
+ghost use Rattle.ss_review.specs.assign.Assigning.{pair_wanted, pairs_wanted, bearer_wanted, bearers_wanted, place_after, assigned_all};
+ghost use Rattle.ss_review.specs.assign.StoredHashes.{hashes_in, Lists, IsFoundFor, same_hashes, place_beside, Tallies};
 
 use crate::assign::bearings::bearings;
 use crate::assign::counters::Counters;

@@ -6,7 +6,7 @@ ghost use Rattle.std.specs.Ordering.{is_lt};
 ghost use Rattle.std.specs.declared.cmp.Ordering.TheVariants.{Less};
 ghost use Rattle.ss_block.specs.Order.{hash_cmp};
 ghost use Rattle.ss_review.specs.declared.assign.stored_hash.StoredHash.{StoredHash};
-ghost use Rattle.ss_review.specs.StoredHashes.{hash_of, hashes_in, stored_cmp, is_earlier, has_hash_at, IsBearerAt, FoundLast, IsNotBelow};
+ghost use Rattle.ss_review.specs.assign.StoredHashes.{hash_of, hashes_in, stored_cmp, is_earlier, has_hash_at, IsBearerAt, FoundLast, IsNotBelow};
 
 use crate::assign::hash_entry::hash_of;
 use crate::assign::hash_list::HashList;

@@ -1,6 +1,6 @@
 //! The hashes that keys are announced with, in order.
 ghost use Rattle.std.specs.Prelude.{IfOk};
-ghost use Rattle.ss_review.specs.StoredHashes.{Wanted};
+ghost use Rattle.ss_review.specs.assign.StoredHashes.{Wanted};
 
 use crate::lists::ordered::put_in_order;
 use ss_block::Hash;

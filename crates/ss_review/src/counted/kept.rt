@@ -3,9 +3,9 @@ ghost use Rattle.std.specs.Prelude.{◌≡◌, map, IfOk};
 ghost use Rattle.std.specs.Ordering.{is_lt};
 ghost use Rattle.ss_block.specs.declared.session.Session.{Session};
 ghost use Rattle.ss_block.specs.Order.{session_cmp};
-ghost use Rattle.ss_review.specs.Sessions.{same_session};
-ghost use Rattle.ss_review.specs.Kept.{counters_of, kept_sessions};
-ghost use Rattle.ss_review.specs.KeptSoFar.{led_to, StandBySession};
+ghost use Rattle.ss_review.specs.sessions.Sessions.{same_session};
+ghost use Rattle.ss_review.specs.counted.Kept.{counters_of, kept_sessions};
+ghost use Rattle.ss_review.specs.counted.KeptSoFar.{led_to, StandBySession};
 
 use crate::counted::counter::Counter;
 use crate::lists::ordered::put_in_order;

@@ -3,7 +3,7 @@ ghost use Rattle.std.specs.Prelude.{◌≡◌, ◌++◌, ◌<◌, ◌≤◌, ◌
 ghost use Rattle.std.specs.Ordering.{nat_cmp};
 ghost use Rattle.std.specs.List.Sorted.{IsStrictlySortedBy};
 ghost use Rattle.ss_block.specs.Ranges.{last_number};
-ghost use Rattle.ss_review.specs.Counted.{next_after, run_between, missing, missing_blocks};
+ghost use Rattle.ss_review.specs.counted.Counted.{next_after, run_between, missing, missing_blocks};
 
 use ss_frame::List;
 use ss_message::NoMemory;

@@ -5,11 +5,11 @@ ghost use Rattle.std.specs.List.Sorted.{IsStrictlySortedBy};
 ghost use Rattle.std.specs.Ordering.{nat_cmp};
 ghost use Rattle.ss_block.specs.Order.{session_cmp};
 ghost use Rattle.ss_block.specs.Ranges.{past_last_number};
-ghost use Rattle.ss_review.specs.Counted.{next_after};
-ghost use Rattle.ss_review.specs.Sessions.{same_session};
-ghost use Rattle.ss_review.specs.Kept.{shortfall_in, shortfall, shortfall_beside, absent_among, log_shortfalls};
-ghost use Rattle.ss_review.specs.Kept.{AreGroups, AreReviewed};
-ghost use Rattle.ss_review.specs.KeptSoFar.{led_to, StandBySession};
+ghost use Rattle.ss_review.specs.counted.Counted.{next_after};
+ghost use Rattle.ss_review.specs.sessions.Sessions.{same_session};
+ghost use Rattle.ss_review.specs.counted.Kept.{shortfall_in, shortfall, shortfall_beside, absent_among, log_shortfalls};
+ghost use Rattle.ss_review.specs.counted.Kept.{AreGroups, AreReviewed};
+ghost use Rattle.ss_review.specs.counted.KeptSoFar.{led_to, StandBySession};
 
 use crate::counted::counted_session::CountedSession;
 use crate::counted::counter::Counter;

@@ -1,9 +1,9 @@
 //! The review of a log, with the GBC of its verified signature blocks.
 ghost use Rattle.std.specs.Prelude.{◌≡◌, IfOk};
-ghost use Rattle.ss_review.specs.Contents.{Contents};
-ghost use Rattle.ss_review.specs.Verified.{answers};
-ghost use Rattle.ss_review.specs.Report.{report_of};
-ghost use Rattle.ss_review.specs.Counted.{counted_sessions};
+ghost use Rattle.ss_review.specs.keep.Contents.{Contents};
+ghost use Rattle.ss_review.specs.sessions.Verified.{answers};
+ghost use Rattle.ss_review.specs.report.Report.{report_of};
+ghost use Rattle.ss_review.specs.counted.Counted.{counted_sessions};
 
 use crate::assign::index::Index;
 use crate::counted::counted_report::CountedReport;

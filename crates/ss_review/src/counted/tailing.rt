@@ -3,9 +3,9 @@ ghost use Rattle.std.specs.Prelude.{◌≡◌, ◌++◌, ◌∷◌, [], List, un
 ghost use Rattle.std.specs.BTreeMap.{get};
 ghost use Rattle.ss_block.specs.Order.{group_cmp};
 ghost use Rattle.ss_review.specs.declared.counted.counter.Counter.{Counter};
-ghost use Rattle.ss_review.specs.Kept.{blocks_said, group_said, gbc_in, groups_in};
-ghost use Rattle.ss_review.specs.Kept.{number_behind, tail_between, tails_in, AreGroups};
-ghost use Rattle.ss_review.specs.KeptSoFar.{led_to, KeepsNumbers};
+ghost use Rattle.ss_review.specs.counted.Kept.{blocks_said, group_said, gbc_in, groups_in};
+ghost use Rattle.ss_review.specs.counted.Kept.{number_behind, tail_between, tails_in, AreGroups};
+ghost use Rattle.ss_review.specs.counted.KeptSoFar.{led_to, KeepsNumbers};
 
 use crate::counted::counter::{Counter, Counts};
 use crate::counted::shortfall::{GroupTail, GroupTails};

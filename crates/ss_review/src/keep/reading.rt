@@ -1,7 +1,7 @@
 //! What is read from a text: for its note, and from one that was kept, the block.
 ghost use Rattle.std.specs.Prelude.{◌≡◌, IfOk};
-ghost use Rattle.ss_review.specs.Notes.{noted, note};
-ghost use Rattle.ss_review.specs.Contents.{block_in};
+ghost use Rattle.ss_review.specs.keep.Notes.{noted, note};
+ghost use Rattle.ss_review.specs.keep.Contents.{block_in};
 
 use crate::keep::message::{BlockMessage, Said};
 use ss_block::{FullReading, Reading, classify, may_hold_block, read_fully};

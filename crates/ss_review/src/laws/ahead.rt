@@ -1,6 +1,6 @@
 //! What holds between the two ends where counters may have been saved ahead of what was sent: each originator of the
 //! session goes on from the last counters of the one before, or from greater ones.
-ghost use Rattle.ss_review.specs.AheadDelivery.{
+ghost use Rattle.ss_review.specs.deliveries.AheadDelivery.{
   AnnouncedAheadByBlocks,
   CasesGoOnAhead,
   JoinedAheadByFragments,

@@ -1,5 +1,5 @@
 //! Small chains of originators, and logs that deliver from them: the premises of laws are met.
-ghost use Rattle.ss_review.specs.SmallChains.{PremisesAheadAreMet, PremisesAreMet, WholeIsReported};
+ghost use Rattle.ss_review.specs.deliveries.SmallChains.{PremisesAheadAreMet, PremisesAreMet, WholeIsReported};
 
 use crate::laws::counted::{counted_or_missing, next_gbc_follows};
 use crate::laws::delivered::sent_blocks_are_stored;

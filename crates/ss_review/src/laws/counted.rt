@@ -1,5 +1,5 @@
 //! What holds of the signature blocks that logs have, and of those that are missing (RFC 5848, section 4.2.4).
-ghost use Rattle.ss_review.specs.CountedLaws.{
+ghost use Rattle.ss_review.specs.counted.CountedLaws.{
   CountedAreInRange,
   CountedAreVerified,
   CountedOrMissing,

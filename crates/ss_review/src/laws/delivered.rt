@@ -1,5 +1,5 @@
 //! What stands between what originators sent and what a review says of it.
-ghost use Rattle.ss_review.specs.Delivered.{
+ghost use Rattle.ss_review.specs.deliveries.Delivered.{
   EntriesAreByRank,
   JoinsOwnPayload,
   KeysHaveBlocks,

@@ -1,6 +1,6 @@
 //! What holds between the two ends: of the review of a log that delivers from originators of one session, whatever was
 //! lost, repeated or reordered on the way, and however often the originators were resumed.
-ghost use Rattle.ss_review.specs.DeliveryLaws.{
+ghost use Rattle.ss_review.specs.deliveries.DeliveryLaws.{
   AnnouncedByBlocks,
   JoinedByFragments,
   ListedByRank,

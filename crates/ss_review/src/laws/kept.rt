@@ -1,5 +1,5 @@
 //! What holds of every log up to counters that somebody kept.
-ghost use Rattle.ss_review.specs.KeptLaws.{
+ghost use Rattle.ss_review.specs.counted.KeptLaws.{
   CleanUpToCounters,
   CountersGivenBack,
   EveryBlockIsTold,
@@ -10,7 +10,7 @@ ghost use Rattle.ss_review.specs.KeptLaws.{
   LostAreTold,
   OwnCountersReachTheEnd,
 };
-ghost use Rattle.ss_review.specs.KeptRows.{ShortfallsAreThese};
+ghost use Rattle.ss_review.specs.counted.KeptRows.{ShortfallsAreThese};
 
 use crate::laws::counted::{
     counted_are_in_range, counted_are_verified, counted_or_missing, next_numbers_are_in_range,

@@ -17,7 +17,7 @@ ghost use Rattle.ss_review.specs.Laws.{
   SpoiltEndsAddThemselves,
   StatesAreTheirs,
 };
-ghost use Rattle.ss_review.specs.Rows.{ReportsAreThese};
+ghost use Rattle.ss_review.specs.report.Rows.{ReportsAreThese};
 
 use ss_block::laws::readings::{blocks_are_in_range, blocks_are_signed};
 

@@ -1,11 +1,11 @@
 //! What the reviewer that keeps two hashes of a message and the one that keeps the whole log say of the same messages.
 ghost use Rattle.std.specs.Prelude.{◌≡◌, List, IfOk, IfErr};
 ghost use Rattle.ss_review.specs.declared.fault.ReviewFault.TheVariants.{Memory};
-ghost use Rattle.ss_review.specs.Notes.{Note};
-ghost use Rattle.ss_review.specs.Contents.{contents};
-ghost use Rattle.ss_review.specs.Verified.{answers};
-ghost use Rattle.ss_review.specs.Report.{report_of};
-ghost use Rattle.ss_review.specs.Keeping.{Keeps, KeepsAll};
+ghost use Rattle.ss_review.specs.keep.Notes.{Note};
+ghost use Rattle.ss_review.specs.keep.Contents.{contents};
+ghost use Rattle.ss_review.specs.sessions.Verified.{answers};
+ghost use Rattle.ss_review.specs.report.Report.{report_of};
+ghost use Rattle.ss_review.specs.keep.Keeping.{Keeps, KeepsAll};
 
 use crate::fault::ReviewFault;
 use crate::keep::reviewer::Reviewer;

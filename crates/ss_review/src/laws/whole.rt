@@ -1,5 +1,5 @@
 //! What holds where everything that originators sent is in the log, and nothing else.
-ghost use Rattle.ss_review.specs.Whole.{
+ghost use Rattle.ss_review.specs.deliveries.Whole.{
   BlocksAreVerified,
   GroupsHaveNoHole,
   MessagesAreListed,

@@ -4,9 +4,9 @@ ghost use Rattle.std.specs.Ordering.{nat_cmp};
 ghost use Rattle.std.specs.List.Sorted.{IsStrictlySortedBy};
 ghost use Rattle.ss_block.specs.declared.hash.Hash.{Hash};
 ghost use Rattle.ss_review.specs.declared.keep.message.NormalMessage.{NormalMessage};
-ghost use Rattle.ss_review.specs.Assigned.{places_with};
-ghost use Rattle.ss_review.specs.Keeping.{KeepsNormal};
-ghost use Rattle.ss_review.specs.Assigning.{pair_wanted, pairs_wanted, bearer_wanted, bearers_wanted, place_after, assigned_all, count_of, Counts};
+ghost use Rattle.ss_review.specs.assign.Assigned.{places_with};
+ghost use Rattle.ss_review.specs.keep.Keeping.{KeepsNormal};
+ghost use Rattle.ss_review.specs.assign.Assigning.{pair_wanted, pairs_wanted, bearer_wanted, bearers_wanted, place_after, assigned_all, count_of, Counts};
 
 use crate::keep::message::NormalMessage;
 use crate::plain::by_hash::ByHash;

@@ -7,7 +7,7 @@ ghost use Rattle.ss_block.specs.declared.hash.HashPair.{HashPair};
 ghost use Rattle.std.specs.BTreeMap.{IsOrdered};
 ghost use Rattle.ss_block.specs.Order.{hash_cmp, pair_cmp};
 ghost use Rattle.ss_review.specs.declared.keep.message.NormalMessage.{NormalMessage};
-ghost use Rattle.ss_review.specs.Bearing.{earlier, bearer_among, bearers_among};
+ghost use Rattle.ss_review.specs.assign.Bearing.{earlier, bearer_among, bearers_among};
 
 use crate::keep::message::NormalMessage;
 use crate::lists::optional::push_some;

@@ -3,9 +3,9 @@ ghost use Rattle.std.specs.Prelude.{◌≡◌, ◌++◌, ◌∷◌, [], List, ma
 ghost use Rattle.std.specs.Ordering.{nat_cmp};
 ghost use Rattle.std.specs.List.Sorted.{IsStrictlySortedBy};
 ghost use Rattle.ss_review.specs.declared.keep.message.NormalMessage.{NormalMessage};
-ghost use Rattle.ss_review.specs.Assigned.{places_with};
-ghost use Rattle.ss_review.specs.Assigning.{bearers_wanted};
-ghost use Rattle.ss_review.specs.Keeping.{KeepsNormal};
+ghost use Rattle.ss_review.specs.assign.Assigned.{places_with};
+ghost use Rattle.ss_review.specs.assign.Assigning.{bearers_wanted};
+ghost use Rattle.ss_review.specs.keep.Keeping.{KeepsNormal};
 
 use crate::assign::index::Index;
 use crate::keep::message::NormalMessage;

@@ -3,7 +3,7 @@ ghost use Rattle.std.specs.Prelude.{◌≡◌, ◌++◌, ◌∷◌, [], Some, On
 ghost use Rattle.std.specs.BTreeMap.{get, Updates};
 ghost use Rattle.ss_block.specs.declared.hash.HashPair.{HashPair};
 ghost use Rattle.ss_block.specs.Order.{pair_cmp};
-ghost use Rattle.ss_review.specs.Keeping.{places_in};
+ghost use Rattle.ss_review.specs.keep.Keeping.{places_in};
 
 use crate::plain::equal_places::EqualPlaces;
 use ss_block::HashPair;

@@ -1,7 +1,7 @@
 //! The messages of a log that is kept whole, by what they are.
 ghost use Rattle.std.specs.Prelude.{◌+◌, ◌^◌, ◌<◌, ◌++◌, ◌∷◌, [], List, length, IfOk, OnOk};
-ghost use Rattle.ss_review.specs.Notes.{Note, Normal, Block, Spoilt, noted, note, notes};
-ghost use Rattle.ss_review.specs.Keeping.{SortedOut};
+ghost use Rattle.ss_review.specs.keep.Notes.{Note, Normal, Block, Spoilt, noted, note, notes};
+ghost use Rattle.ss_review.specs.keep.Keeping.{SortedOut};
 
 use crate::keep::message::{BlockMessage, NormalMessage};
 use crate::keep::reading::{block_in, reading_to_note};

@@ -1,9 +1,9 @@
 //! What of a block the questions about it need.
 ghost use Rattle.std.specs.Prelude.{◌≡◌, ◌≤◌, length, IfOk};
-ghost use Rattle.ss_review.specs.Payloads.{certificate_of};
-ghost use Rattle.ss_review.specs.Questions.{needed};
-ghost use Rattle.ss_review.specs.Shortened.{hash_count};
-ghost use Rattle.ss_review.specs.Verified.{signature_of};
+ghost use Rattle.ss_review.specs.sessions.Payloads.{certificate_of};
+ghost use Rattle.ss_review.specs.questions.Questions.{needed};
+ghost use Rattle.ss_review.specs.questions.Shortened.{hash_count};
+ghost use Rattle.ss_review.specs.sessions.Verified.{signature_of};
 
 use crate::keep::message::{BlockMessage, Said};
 use crate::questions::asking::copy_of;

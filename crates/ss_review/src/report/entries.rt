@@ -1,7 +1,7 @@
 //! What a report says of the numbers of a group.
 ghost use Rattle.std.specs.Prelude.{◌≡◌, ◌++◌, ◌∷◌, [], map, IfOk, OnOk};
-ghost use Rattle.ss_review.specs.Entries.{hole_between};
-ghost use Rattle.ss_review.specs.Grouped.{with_entry, entries_after};
+ghost use Rattle.ss_review.specs.report.Entries.{hole_between};
+ghost use Rattle.ss_review.specs.report.Grouped.{with_entry, entries_after};
 
 use crate::report::entry::{Entries, Entry};
 use crate::report::number_entry::NumberEntry;

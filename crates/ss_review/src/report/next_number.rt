@@ -1,6 +1,6 @@
 //! The number of the next message of a group.
 ghost use Rattle.std.specs.Prelude.{◌≡◌, ◌-◌, ◌<◌, ◌^◌, min};
-ghost use Rattle.ss_review.specs.Counted.{next_after, number_announced, next_number};
+ghost use Rattle.ss_review.specs.counted.Counted.{next_after, number_announced, next_number};
 
 use crate::report::entry::Entry;
 use crate::report::group_report::GroupReport;

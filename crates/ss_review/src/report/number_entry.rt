@@ -1,10 +1,10 @@
 //! Announced message numbers with what a report says of them.
 ghost use Rattle.std.specs.Prelude.{◌≡◌, List, map, IfOk};
 ghost use Rattle.ss_review.specs.declared.keep.message.NormalMessage.{NormalMessage};
-ghost use Rattle.ss_review.specs.Announced.{Row, keys};
-ghost use Rattle.ss_review.specs.Assigned.{assigned};
-ghost use Rattle.ss_review.specs.Numbered.{key_of, only_hashes};
-ghost use Rattle.ss_review.specs.Grouped.{entry_from, numbered, with_entry, with_entries};
+ghost use Rattle.ss_review.specs.announced.Announced.{Row, keys};
+ghost use Rattle.ss_review.specs.assign.Assigned.{assigned};
+ghost use Rattle.ss_review.specs.announced.Numbered.{key_of, only_hashes};
+ghost use Rattle.ss_review.specs.report.Grouped.{entry_from, numbered, with_entry, with_entries};
 
 use crate::announced::message_number::MessageNumber;
 use crate::report::entry::{Entry, Why};

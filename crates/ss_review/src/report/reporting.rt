@@ -1,9 +1,9 @@
 //! The report of a log whose blocks were judged.
 ghost use Rattle.std.specs.Prelude.{◌≡◌, map, IfOk};
-ghost use Rattle.ss_review.specs.Contents.{Contents};
-ghost use Rattle.ss_review.specs.Verified.{Answers, is_verified};
-ghost use Rattle.ss_review.specs.Numbered.{session_with_joined, sessions_joined};
-ghost use Rattle.ss_review.specs.Report.{report_of};
+ghost use Rattle.ss_review.specs.keep.Contents.{Contents};
+ghost use Rattle.ss_review.specs.sessions.Verified.{Answers, is_verified};
+ghost use Rattle.ss_review.specs.announced.Numbered.{session_with_joined, sessions_joined};
+ghost use Rattle.ss_review.specs.report.Report.{report_of};
 
 use crate::announced::announced::announced;
 use crate::assign::index::Index;

@@ -3,9 +3,9 @@ ghost use Rattle.std.specs.Prelude.{◌≡◌, ◌==◌, ℕ, not, List, map, fi
 ghost use Rattle.std.specs.List.{list_any, filter_map};
 ghost use Rattle.std.specs.List.Sorted.{IsNonDecreasing};
 ghost use Rattle.ss_review.specs.declared.keep.message.NormalMessage.{NormalMessage};
-ghost use Rattle.ss_review.specs.Announced.{Row, keys};
-ghost use Rattle.ss_review.specs.Assigned.{is_place, assigned};
-ghost use Rattle.ss_review.specs.Report.{unlisted};
+ghost use Rattle.ss_review.specs.announced.Announced.{Row, keys};
+ghost use Rattle.ss_review.specs.assign.Assigned.{is_place, assigned};
+ghost use Rattle.ss_review.specs.report.Report.{unlisted};
 
 use crate::report::places::Places;
 use ss_message::NoMemory;

@@ -3,10 +3,10 @@ ghost use Rattle.std.specs.Prelude.{◌≡◌, Bool, map, filter, Some, Ok, IfOk
 ghost use Rattle.std.specs.BTreeMap.{get};
 ghost use Rattle.ss_review.specs.declared.keep.message.BlockMessage.{BlockMessage};
 ghost use Rattle.ss_review.specs.declared.sessions.found_blocks.Claim.{Claim};
-ghost use Rattle.ss_review.specs.Payloads.{certificates};
-ghost use Rattle.ss_review.specs.Verified.{answers, signature_of, is_valid, is_accepted, judged, joined};
-ghost use Rattle.ss_review.specs.Covering.{spans_of, accepted_span};
-ghost use Rattle.ss_review.specs.FoundBlocks.{claim_cmp, IsClaimOf, TellsEqualsAlike, KeepsWhatHolds};
+ghost use Rattle.ss_review.specs.sessions.Payloads.{certificates};
+ghost use Rattle.ss_review.specs.sessions.Verified.{answers, signature_of, is_valid, is_accepted, judged, joined};
+ghost use Rattle.ss_review.specs.sessions.Covering.{spans_of, accepted_span};
+ghost use Rattle.ss_review.specs.sessions.FoundBlocks.{claim_cmp, IsClaimOf, TellsEqualsAlike, KeepsWhatHolds};
 
 use crate::keep::message::{BlockMessage, Said};
 use crate::report::session_report::SessionState;

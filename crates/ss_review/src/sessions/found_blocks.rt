@@ -3,7 +3,7 @@ ghost use Rattle.std.specs.Prelude.{◌≡◌, Bool, Some, IfSome, OnOk};
 ghost use Rattle.std.specs.BTreeMap.{get, Updates};
 ghost use Rattle.ss_review.specs.declared.keep.message.BlockMessage.{BlockMessage};
 ghost use Rattle.ss_review.specs.declared.sessions.found_blocks.Claim.{Claim};
-ghost use Rattle.ss_review.specs.FoundBlocks.{claim_cmp, IsClaimOf, TellsEqualsAlike, KeepsWhatHolds};
+ghost use Rattle.ss_review.specs.sessions.FoundBlocks.{claim_cmp, IsClaimOf, TellsEqualsAlike, KeepsWhatHolds};
 
 use crate::keep::message::BlockMessage;
 use crate::sessions::accepting::signature_of;

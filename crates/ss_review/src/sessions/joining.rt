@@ -2,8 +2,8 @@
 ghost use Rattle.std.specs.Prelude.{◌≡◌, ◌++◌, ◌∷◌, [], List, map, IfOk, OnOk};
 ghost use Rattle.ss_block.specs.Block.{Certificate};
 ghost use Rattle.ss_block.specs.Joiner.{Stands};
-ghost use Rattle.ss_review.specs.Payloads.{certificates, payload_or_malformed, stated_payload};
-ghost use Rattle.ss_review.specs.Stated.{stated_in_turn, unjoined};
+ghost use Rattle.ss_review.specs.sessions.Payloads.{certificates, payload_or_malformed, stated_payload};
+ghost use Rattle.ss_review.specs.sessions.Stated.{stated_in_turn, unjoined};
 
 use crate::keep::message::{BlockMessage, Said};
 use crate::report::session_report::SessionState;

@@ -1,6 +1,6 @@
 //! The blocks of a log, session by session (RFC 5848, section 4.2).
 ghost use Rattle.std.specs.Prelude.{◌≡◌, ◌<◌, ◌≤◌, length, IfOk};
-ghost use Rattle.ss_review.specs.Sectioned.{sections, referred, front, SessionsRise, EndsSection};
+ghost use Rattle.ss_review.specs.sessions.Sectioned.{sections, referred, front, SessionsRise, EndsSection};
 
 use crate::keep::message::BlockMessage;
 use ss_block::Session;

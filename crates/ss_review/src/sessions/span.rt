@@ -2,8 +2,8 @@
 ghost use Rattle.std.specs.Prelude.{◌≡◌, List};
 ghost use Rattle.std.specs.List.Sorted.{IsNonDecreasingBy};
 ghost use Rattle.ss_block.specs.Block.{Certificate};
-ghost use Rattle.ss_review.specs.Payloads.{cover};
-ghost use Rattle.ss_review.specs.Covering.{span_of, spans_of, IsFirstUncovered};
+ghost use Rattle.ss_review.specs.sessions.Payloads.{cover};
+ghost use Rattle.ss_review.specs.sessions.Covering.{span_of, spans_of, IsFirstUncovered};
 
 use ss_block::CertBlock;
 

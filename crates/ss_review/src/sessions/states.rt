@@ -1,8 +1,8 @@
 //! The sessions of a log, and how far their payloads are joined (RFC 5848, section 7).
 ghost use Rattle.std.specs.Prelude.{◌≡◌, map, IfOk};
-ghost use Rattle.ss_review.specs.Sectioned.{referred, SessionsRise};
-ghost use Rattle.ss_review.specs.Verified.{answers};
-ghost use Rattle.ss_review.specs.Numbered.{session_with_joined, sessions_joined};
+ghost use Rattle.ss_review.specs.sessions.Sectioned.{referred, SessionsRise};
+ghost use Rattle.ss_review.specs.sessions.Verified.{answers};
+ghost use Rattle.ss_review.specs.announced.Numbered.{session_with_joined, sessions_joined};
 
 use crate::keep::message::BlockMessage;
 use crate::sessions::accepting::joined;

@@ -1,10 +1,10 @@
 //! Which blocks of a log are verified, and the places of those that aren't (RFC 5848, section 7).
 ghost use Rattle.std.specs.Prelude.{◌≡◌, ◌++◌, ◌∷◌, [], List, Bool, map, IfOk, OnOk, if◌then◌else◌};
 ghost use Rattle.ss_review.specs.declared.keep.message.BlockMessage.{BlockMessage};
-ghost use Rattle.ss_review.specs.Verified.{Answers, answers, is_valid_in, is_verified};
-ghost use Rattle.ss_review.specs.Numbered.{session_with_joined, sessions_joined};
-ghost use Rattle.ss_review.specs.Report.{refused};
-ghost use Rattle.ss_review.specs.FoundBlocks.{TellsEqualsAlike, KeepsWhatHolds};
+ghost use Rattle.ss_review.specs.sessions.Verified.{Answers, answers, is_valid_in, is_verified};
+ghost use Rattle.ss_review.specs.announced.Numbered.{session_with_joined, sessions_joined};
+ghost use Rattle.ss_review.specs.report.Report.{refused};
+ghost use Rattle.ss_review.specs.sessions.FoundBlocks.{TellsEqualsAlike, KeepsWhatHolds};
 
 use crate::keep::message::BlockMessage;
 use crate::report::places::Places;

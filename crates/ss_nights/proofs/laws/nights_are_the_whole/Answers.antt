@@ -1,5 +1,5 @@
 use Rattle.std.proofs.Common.{ap, ◌∙◌, subst}
-use Rattle.ss_review.specs.Report.{report_of}
+use Rattle.ss_review.specs.report.Report.{report_of}
 use Rattle.ss_nights.specs.Nights.{AreContents}
 use Rattle.ss_nights.specs.Reports.{IsPutTogether}
 use Rattle.ss_nights.proofs.ReportsTogether.{put_together}

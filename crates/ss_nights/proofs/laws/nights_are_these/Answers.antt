@@ -1,12 +1,12 @@
 -- Each report is computed.
 use Rattle.std.proofs.Common.{refl}
-use Rattle.ss_review.specs.Announced.{rows, keys}
-use Rattle.ss_review.specs.Assigned.{pair_of_bearer, places_with, wanted, rank, assigned, is_taken}
-use Rattle.ss_review.specs.Entries.{group_keys, entries}
+use Rattle.ss_review.specs.announced.Announced.{rows, keys}
+use Rattle.ss_review.specs.assign.Assigned.{pair_of_bearer, places_with, wanted, rank, assigned, is_taken}
+use Rattle.ss_review.specs.report.Entries.{group_keys, entries}
 use Rattle.ss_review.specs.Ordered.{in_order}
-use Rattle.ss_review.specs.Payloads.{is_disputed, cover, joined_text, stated_payload}
-use Rattle.ss_review.specs.Report.{report_of}
-use Rattle.ss_review.specs.Verified.{joined, is_verified}
+use Rattle.ss_review.specs.sessions.Payloads.{is_disputed, cover, joined_text, stated_payload}
+use Rattle.ss_review.specs.report.Report.{report_of}
+use Rattle.ss_review.specs.sessions.Verified.{joined, is_verified}
 use Rattle.ss_block.specs.PayloadReading.{stamp_in, stamp_and_rest_in, blob_in, payload_in}
 use Rattle.ss_frame.specs.Cut.{parts_at}
 use Rattle.ss_nights.proofs.EachItsOwn.{its_own_leave, its_own_follow, its_own_agree, its_own_settled}

@@ -1,5 +1,5 @@
 use Rattle.std.proofs.Common.{sym, ◌∙◌}
-use Rattle.ss_review.specs.Report.{refused}
+use Rattle.ss_review.specs.report.Report.{refused}
 use Rattle.ss_origin.proofs.Members.{has_from_contains, contains_from_has}
 use Rattle.ss_nights.specs.Nights.{night_log, so_far}
 use Rattle.ss_nights.proofs.NightBlocks.{all_in_range}

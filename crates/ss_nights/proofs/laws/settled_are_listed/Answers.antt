@@ -1,4 +1,4 @@
-use Rattle.ss_review.proofs.Listings.{listed_assigned, assigned_listed}
+use Rattle.ss_review.proofs.of_reports.Listings.{listed_assigned, assigned_listed}
 use Rattle.ss_nights.specs.Nights.{night_log}
 use Rattle.ss_nights.proofs.laws.settled_are_listed.Goals as goal
 

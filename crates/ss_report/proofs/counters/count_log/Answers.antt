@@ -1,9 +1,9 @@
 use Rattle.std.proofs.Common.{◌≡◌, ◌∙◌, refl}
-use Rattle.ss_review.specs.Notes.{notes}
-use Rattle.ss_review.specs.Contents.{blocks}
-use Rattle.ss_review.specs.Verified.{answers}
-use Rattle.ss_review.specs.Report.{report}
-use Rattle.ss_review.specs.Counted.{counted_sessions}
+use Rattle.ss_review.specs.keep.Notes.{notes}
+use Rattle.ss_review.specs.keep.Contents.{blocks}
+use Rattle.ss_review.specs.sessions.Verified.{answers}
+use Rattle.ss_review.specs.report.Report.{report}
+use Rattle.ss_review.specs.counted.Counted.{counted_sessions}
 use Rattle.ss_report.specs.Counters.{counter_lines_with}
 use Rattle.ss_report.proofs.CountersWritten.{counters_are, report_in_range}
 use Rattle.ss_report.proofs.counters.count_log.Goals as goal

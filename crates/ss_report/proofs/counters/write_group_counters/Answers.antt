@@ -2,7 +2,7 @@ use Rattle.std.proofs.Common.{◌≡◌, ◌≤◌, ◌<◌, ◌^◌, ap, ◌∙
 use Rattle.std.proofs.lemmas.List.Elements.{All-get_or}
 use Rattle.ss_block.specs.Ranges.{past_last_number}
 use Rattle.ss_review.specs.declared.report.group_report.GroupReport.{GroupReport}
-use Rattle.ss_review.specs.Counted.{next_number}
+use Rattle.ss_review.specs.counted.Counted.{next_number}
 use Rattle.ss_report.specs.Counters.{group_counter, message_counter}
 use Rattle.ss_report.proofs.Writings.{writes_more}
 use Rattle.ss_report.proofs.counters.write_group_counters.Goals as goal

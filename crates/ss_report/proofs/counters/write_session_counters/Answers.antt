@@ -2,7 +2,7 @@ use Rattle.std.proofs.Common.{◌≡◌, ◌≤◌, ◌<◌, ◌^◌, ◌++◌, 
 use Rattle.std.specs.Prelude.{All}
 use Rattle.ss_block.specs.Ranges.{past_last_number}
 use Rattle.ss_review.specs.declared.report.group_report.GroupReport.{GroupReport}
-use Rattle.ss_review.specs.Counted.{next_after, next_number}
+use Rattle.ss_review.specs.counted.Counted.{next_after, next_number}
 use Rattle.ss_report.specs.Counters.{block_counter, group_counter}
 use Rattle.ss_report.proofs.Writings.{writes_then, writes_same}
 use Rattle.ss_report.proofs.counters.write_session_counters.Goals as goal

@@ -1,11 +1,11 @@
 use Rattle.std.proofs.Common.{◌≡◌, sym, subst}
 use Rattle.ss_review.specs.declared.report.report.Report.{Report}
-use Rattle.ss_review.specs.Notes.{notes}
-use Rattle.ss_review.specs.Contents.{blocks}
-use Rattle.ss_review.specs.Verified.{answers}
-use Rattle.ss_review.specs.Report.{report}
-use Rattle.ss_review.specs.Counted.{counted_sessions}
-use Rattle.ss_review.specs.Kept.{AreReviewed}
+use Rattle.ss_review.specs.keep.Notes.{notes}
+use Rattle.ss_review.specs.keep.Contents.{blocks}
+use Rattle.ss_review.specs.sessions.Verified.{answers}
+use Rattle.ss_review.specs.report.Report.{report}
+use Rattle.ss_review.specs.counted.Counted.{counted_sessions}
+use Rattle.ss_review.specs.counted.Kept.{AreReviewed}
 use Rattle.ss_report.proofs.WholeLines.{makes_whole}
 use Rattle.ss_report.proofs.review_whole.review_log.Goals as goal
 

@@ -2,15 +2,15 @@ use Rattle.std.proofs.Common.{List, Result, Ok, Err}
 use Rattle.std.specs.Prelude.{IfOk}
 use Rattle.ss_frame.specs.Limits.{Allowance}
 use Rattle.ss_frame.specs.Watched.{Source, Sink}
-use Rattle.ss_review.specs.Verified.{Answers}
+use Rattle.ss_review.specs.sessions.Verified.{Answers}
 use Rattle.ss_review.specs.Laws.{ReportsListWhatIsAnnounced}
-use Rattle.ss_review.specs.Notes.{notes}
-use Rattle.ss_review.specs.Contents.{blocks}
-use Rattle.ss_review.specs.Counted.{gbcs}
-use Rattle.ss_review.specs.Kept.{counters_of, end_of_blocks}
+use Rattle.ss_review.specs.keep.Notes.{notes}
+use Rattle.ss_review.specs.keep.Contents.{blocks}
+use Rattle.ss_review.specs.counted.Counted.{gbcs}
+use Rattle.ss_review.specs.counted.Kept.{counters_of, end_of_blocks}
 use Rattle.ss_review.specs.declared.counted.counter.Counter.{Counter}
-use Rattle.ss_review.specs.CountedLaws.{CountedOrMissing}
-use Rattle.ss_review.specs.KeptLaws.{EveryNumberIsTold, EveryBlockIsTold}
+use Rattle.ss_review.specs.counted.CountedLaws.{CountedOrMissing}
+use Rattle.ss_review.specs.counted.KeptLaws.{EveryNumberIsTold, EveryBlockIsTold}
 use Rattle.ss_report.specs.declared.fault.RunFault.{RunFault}
 use Rattle.ss_report.specs.declared.forms.report_form.ReportForm.{ReportForm}
 use Rattle.ss_report.specs.declared.lines.detail.Detail.{Detail}

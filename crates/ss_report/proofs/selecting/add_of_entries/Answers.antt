@@ -1,6 +1,6 @@
 use Rattle.std.proofs.Common.{◌∙◌, filter_map, refl}
 use Rattle.std.proofs.lemmas.List.Elements.{filter_map-append}
-use Rattle.ss_review.specs.Extract.{place_listed}
+use Rattle.ss_review.specs.report.Extract.{place_listed}
 use Rattle.ss_report.proofs.Gathered.{gathers_next}
 use Rattle.ss_report.proofs.selecting.add_of_entries.Goals as goal
 

@@ -1,5 +1,5 @@
 use Rattle.std.proofs.Common.{◌≡◌, ◌++◌, take, filter_map}
-use Rattle.ss_review.specs.Extract.{place_listed}
+use Rattle.ss_review.specs.report.Extract.{place_listed}
 use Rattle.ss_report.proofs.selecting.add_of_entries.Given as goal
 
 abbrev pub invariant-loop-entry : goal.invariant-loop-entry

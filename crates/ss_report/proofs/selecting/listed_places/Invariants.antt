@@ -1,5 +1,5 @@
 use Rattle.std.proofs.Common.{◌≡◌, take, flat_map, filter_map}
-use Rattle.ss_review.specs.Extract.{place_listed}
+use Rattle.ss_review.specs.report.Extract.{place_listed}
 use Rattle.ss_report.proofs.selecting.listed_places.Given as goal
 
 abbrev pub invariant-loop-session : goal.invariant-loop-session

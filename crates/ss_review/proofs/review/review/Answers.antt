@@ -1,6 +1,6 @@
 use Rattle.std.proofs.Common.{◌≡◌, map, sym, ap, ◌∙◌}
-use Rattle.ss_review.specs.Verified.{answers, is_verified}
-use Rattle.ss_review.specs.Numbered.{session_with_joined, sessions_joined}
+use Rattle.ss_review.specs.sessions.Verified.{answers, is_verified}
+use Rattle.ss_review.specs.announced.Numbered.{session_with_joined, sessions_joined}
 use Rattle.ss_review.proofs.review.review.Goals as goal
 
 pub returns : goal.returns

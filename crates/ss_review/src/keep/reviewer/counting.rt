@@ -1,13 +1,13 @@
 //! The review of a log by a reviewer that isn't needed any more, with the signature blocks that the log has.
 ghost use Rattle.std.specs.Prelude.{◌≡◌, ℕ, List, IfOk, IfErr};
 ghost use Rattle.ss_review.specs.declared.fault.ReviewFault.TheVariants.{Memory};
-ghost use Rattle.ss_review.specs.Notes.{Note, notes};
-ghost use Rattle.ss_review.specs.Contents.{blocks, contents};
-ghost use Rattle.ss_review.specs.Verified.{answers};
-ghost use Rattle.ss_review.specs.Report.{report_of};
-ghost use Rattle.ss_review.specs.Counted.{counted_sessions};
+ghost use Rattle.ss_review.specs.keep.Notes.{Note, notes};
+ghost use Rattle.ss_review.specs.keep.Contents.{blocks, contents};
+ghost use Rattle.ss_review.specs.sessions.Verified.{answers};
+ghost use Rattle.ss_review.specs.report.Report.{report_of};
+ghost use Rattle.ss_review.specs.counted.Counted.{counted_sessions};
 ghost use Rattle.ss_review.specs.Laws.{ListsWhatIsAnnounced};
-ghost use Rattle.ss_review.specs.Keeping.{Keeps};
+ghost use Rattle.ss_review.specs.keep.Keeping.{Keeps};
 
 use crate::counted::counted_report::CountedReport;
 use crate::counted::reviewing::review_counted;

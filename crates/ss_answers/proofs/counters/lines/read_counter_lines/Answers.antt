@@ -1,6 +1,6 @@
 use Rattle.std.proofs.Common.{◌<◌, length, arith}
 use Rattle.std.proofs.lemmas.Bool.Decides.{nat_tests}
-use Rattle.ss_review.specs.CounterText.{counter_line}
+use Rattle.ss_review.specs.counted.CounterText.{counter_line}
 use Rattle.ss_answers.specs.CounterLine.{IsNoCounter}
 use Rattle.ss_answers.proofs.ReadLines.{first_line-cut, reached_some}
 use Rattle.ss_answers.proofs.counters.lines.read_counter_lines.Goals as goal

@@ -1,7 +1,7 @@
 use Rattle.std.proofs.Common.{◌+◌, ◌≤◌, length}
 use Rattle.std.specs.List.{AllByRecursion}
-use Rattle.ss_review.specs.CounterRange.{IsCounter}
-use Rattle.ss_review.specs.CounterText.{counter_line}
+use Rattle.ss_review.specs.counted.CounterRange.{IsCounter}
+use Rattle.ss_review.specs.counted.CounterText.{counter_line}
 use Rattle.ss_answers.specs.Lines.{IsUpTo}
 use Rattle.ss_answers.proofs.counters.lines.read_counter_lines.Given as goal
 

@@ -2,9 +2,9 @@ use Rattle.std.proofs.Common.{◌+◌, [], ◌∷◌, ◌++◌, drop, get_or, ma
 use Rattle.std.proofs.lemmas.List.{append-nil, drop_more, drop_all}
 use Rattle.ss_block.specs.declared.hash.Hash.TheVariants.{Sha1}
 use Rattle.ss_review.specs.declared.keep.message.Said.TheVariants.{Hashes}
-use Rattle.ss_review.specs.Announced.{rows_said}
-use Rattle.ss_review.specs.Numbered.{row_of}
-use Rattle.ss_review.proofs.RowsTold.{row_more}
+use Rattle.ss_review.specs.announced.Announced.{rows_said}
+use Rattle.ss_review.specs.announced.Numbered.{row_of}
+use Rattle.ss_review.proofs.of_numbers.RowsTold.{row_more}
 use Rattle.ss_review.proofs.announced.announced.add_hashes.Goals as goal
 
 pub loop-hash-init : goal.loop-hash-init

@@ -1,10 +1,10 @@
 use Rattle.std.proofs.Common.{ap, ◌∙◌, rules}
 use Rattle.ss_review.specs.Ordered.{in_order}
-use Rattle.ss_review.specs.Announced.{row_cmp, rows}
-use Rattle.ss_review.specs.Numbered.{row_of, rows_by}
-use Rattle.ss_review.proofs.Rising.{keys_rise, in_order_by}
-use Rattle.ss_review.proofs.RowsTold.{rows_stay}
-use Rattle.ss_review.proofs.TotalOrders.{row_cmp_total, row_cmp_exact}
+use Rattle.ss_review.specs.announced.Announced.{row_cmp, rows}
+use Rattle.ss_review.specs.announced.Numbered.{row_of, rows_by}
+use Rattle.ss_review.proofs.of_lists.Rising.{keys_rise, in_order_by}
+use Rattle.ss_review.proofs.of_numbers.RowsTold.{rows_stay}
+use Rattle.ss_review.proofs.of_lists.TotalOrders.{row_cmp_total, row_cmp_exact}
 use Rattle.ss_review.proofs.announced.announced.rows.Goals as goal
 
 pub returns-clause-rise : goal.returns-clause-rise

@@ -2,7 +2,7 @@
 use Rattle.std.proofs.Common.{◌≡◌, ◌++◌, map}
 use Rattle.std.specs.List.{flat_map}
 use Rattle.std.specs.Vec.Iter.{into_iter_items}
-use Rattle.ss_review.specs.Numbered.{row_of, rows_by}
+use Rattle.ss_review.specs.announced.Numbered.{row_of, rows_by}
 use Rattle.ss_review.proofs.announced.announced.rows_of.Given as goal
 
 abbrev pub invariant-loop-announced : goal.invariant-loop-announced

@@ -2,9 +2,9 @@ use Rattle.std.proofs.Common.{◌≡◌, ◌+◌, [], ◌∷◌, ◌++◌, map, 
 use Rattle.std.specs.Prelude.{Some, option_map, slice_get}
 use Rattle.std.proofs.lemmas.List.{map-append, drop_more, drop_all}
 use Rattle.ss_review.specs.declared.announced.announced_hash.AnnouncedHash as row
-use Rattle.ss_review.specs.Announced.{keys}
-use Rattle.ss_review.specs.Numbered.{key_of, row_of, only_hashes, hash_before}
-use Rattle.ss_review.proofs.ByNumber.{IsTold, rows_rise, told_more, told_other, told_as, told_all, next_is}
+use Rattle.ss_review.specs.announced.Announced.{keys}
+use Rattle.ss_review.specs.announced.Numbered.{key_of, row_of, only_hashes, hash_before}
+use Rattle.ss_review.proofs.of_numbers.ByNumber.{IsTold, rows_rise, told_more, told_other, told_as, told_all, next_is}
 use Rattle.ss_review.proofs.announced.only_hashes.by_number.Goals as goal
 use Rattle.ss_review.proofs.announced.only_hashes.by_number.Goals.{then-not-is_more_of+in_ok-push+in_ok-push-2, else-not-is_more_of}
 

@@ -1,8 +1,8 @@
 -- What was told so far, and what the rest tells, is all.
 use Rattle.std.proofs.Common.{drop, map}
 use Rattle.std.specs.Prelude.{option_map}
-use Rattle.ss_review.specs.Numbered.{key_of, row_of}
-use Rattle.ss_review.proofs.ByNumber.{IsTold}
+use Rattle.ss_review.specs.announced.Numbered.{key_of, row_of}
+use Rattle.ss_review.proofs.of_numbers.ByNumber.{IsTold}
 use Rattle.ss_review.proofs.announced.only_hashes.by_number.Given as goal
 
 abbrev pub invariant-loop-i : goal.invariant-loop-i

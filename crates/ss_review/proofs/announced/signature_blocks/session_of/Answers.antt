@@ -3,7 +3,7 @@ use Rattle.std.proofs.lemmas.Fn.{always_returns_same}
 use Rattle.ss_block.specs.Order.{session_cmp}
 use Rattle.ss_block.specs.OrderLaws.{session_cmp_exact}
 use Rattle.ss_review.specs.declared.sessions.joined_session.JoinedSession.{JoinedSession}
-use Rattle.ss_review.proofs.Verifying.{not_found}
+use Rattle.ss_review.proofs.of_sessions.Verifying.{not_found}
 use Rattle.ss_review.proofs.announced.signature_blocks.session_of.Goals as goal
 
 pub returns-in-Ok-clause-same : goal.returns-in-Ok-clause-same

@@ -3,9 +3,9 @@ use Rattle.std.proofs.Common.{◌≡◌, ◌++◌, map, filter}
 use Rattle.std.specs.List.{flat_map}
 use Rattle.std.specs.Vec.Iter.{into_iter_items}
 use Rattle.std.specs.Slice.Iter.{iter_rest}
-use Rattle.ss_review.specs.Verified.{Answers, is_verified}
-use Rattle.ss_review.specs.Announced.{rows_said}
-use Rattle.ss_review.specs.Numbered.{rows_by, session_with_joined, sessions_joined}
+use Rattle.ss_review.specs.sessions.Verified.{Answers, is_verified}
+use Rattle.ss_review.specs.announced.Announced.{rows_said}
+use Rattle.ss_review.specs.announced.Numbered.{rows_by, session_with_joined, sessions_joined}
 use Rattle.ss_review.proofs.announced.signature_blocks.signature_blocks.Given as goal
 
 abbrev pub invariant-loop-message : goal.invariant-loop-message

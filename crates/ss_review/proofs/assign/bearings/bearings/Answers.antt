@@ -6,8 +6,8 @@ use Rattle.std.proofs.lemmas.Option.{slice_get-get_or}
 use Rattle.ss_block.specs.declared.hash.Hash.TheVariants as hashes
 use Rattle.ss_review.specs.declared.assign.hash_list.HashList.{HashList}
 use Rattle.ss_review.specs.declared.assign.wanted_hash.WantedHash.{WantedHash}
-use Rattle.ss_review.specs.StoredHashes.{listed, stored_cmp, FoundLast, IsBearerAt, Wanted}
-use Rattle.ss_review.proofs.Searches.{BearingsSoFar, NoneIsBelow, none_is_below, next_not_below, rest_not_below, bearings_start, bearings_set, bearings_past, bearings_end}
+use Rattle.ss_review.specs.assign.StoredHashes.{listed, stored_cmp, FoundLast, IsBearerAt, Wanted}
+use Rattle.ss_review.proofs.of_assignment.Searches.{BearingsSoFar, NoneIsBelow, none_is_below, next_not_below, rest_not_below, bearings_start, bearings_set, bearings_past, bearings_end}
 use Rattle.ss_review.proofs.assign.bearings.bearings.Goals.{then-key-len, else-key-len}
 use Rattle.ss_review.proofs.assign.bearings.bearings.Goals as goal
 

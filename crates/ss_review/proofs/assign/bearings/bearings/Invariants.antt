@@ -1,8 +1,8 @@
 -- The bearers of the first wanted hashes are found, and none of the others is below the hash that was asked for last.
 use Rattle.std.proofs.Common.{◌≡◌, length}
 use Rattle.std.specs.List.Sorted.{IsStrictlySortedBy}
-use Rattle.ss_review.specs.StoredHashes.{listed, stored_cmp, FoundLast}
-use Rattle.ss_review.proofs.Searches.{BearingsSoFar, NoneIsBelow}
+use Rattle.ss_review.specs.assign.StoredHashes.{listed, stored_cmp, FoundLast}
+use Rattle.ss_review.proofs.of_assignment.Searches.{BearingsSoFar, NoneIsBelow}
 use Rattle.ss_review.proofs.assign.bearings.bearings.Given as goal
 
 abbrev pub invariant-loop-one : goal.invariant-loop-one

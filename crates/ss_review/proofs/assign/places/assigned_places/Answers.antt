@@ -2,14 +2,14 @@ use Rattle.std.proofs.Common.{◌+◌, ◌<◌, ◌^◌, ◌∷◌, [], ◌++◌
 use Rattle.std.specs.Prelude.{None, count_by, slice_get}
 use Rattle.std.proofs.lemmas.List.{append_assoc, append-nil, drop_all, length-take-le, map_more}
 use Rattle.std.proofs.lemmas.Option.{slice_get-get_or}
-use Rattle.ss_review.specs.Assigning as assigning
-use Rattle.ss_review.specs.Assigning.{pairs_wanted, bearer_wanted, bearers_wanted, assigned_after, assigned_all}
+use Rattle.ss_review.specs.assign.Assigning as assigning
+use Rattle.ss_review.specs.assign.Assigning.{pairs_wanted, bearer_wanted, bearers_wanted, assigned_after, assigned_all}
 use Rattle.std.specs.Ordering.{nat_cmp}
 use Rattle.std.specs.List.Sorted.{IsStrictlySortedBy}
-use Rattle.ss_review.specs.StoredHashes.{listed, Lists}
-use Rattle.ss_review.proofs.Counting.{assigned_at}
-use Rattle.ss_review.proofs.Searching.{has_at}
-use Rattle.ss_review.proofs.StoredTold.{places_told, room_told}
+use Rattle.ss_review.specs.assign.StoredHashes.{listed, Lists}
+use Rattle.ss_review.proofs.of_lists.Counting.{assigned_at}
+use Rattle.ss_review.proofs.of_lists.Searching.{has_at}
+use Rattle.ss_review.proofs.of_kept_messages.StoredTold.{places_told, room_told}
 use Rattle.ss_origin.proofs.Members.{contains_from_has}
 use Rattle.ss_review.proofs.assign.places.assigned_places.Goals as goal
 

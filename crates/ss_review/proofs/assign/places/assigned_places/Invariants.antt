@@ -4,9 +4,9 @@ use Rattle.std.specs.Prelude.{Contains}
 use Rattle.std.specs.Ordering.{nat_cmp}
 use Rattle.std.specs.List.Sorted.{IsStrictlySortedBy}
 use Rattle.ss_review.specs.declared.keep.message.NormalMessage.{NormalMessage}
-use Rattle.ss_review.specs.Stored.{Tells}
-use Rattle.ss_review.specs.Assigning.{pairs_wanted, bearers_wanted, assigned_after}
-use Rattle.ss_review.specs.StoredHashes.{Tallies}
+use Rattle.ss_review.specs.keep.Stored.{Tells}
+use Rattle.ss_review.specs.assign.Assigning.{pairs_wanted, bearers_wanted, assigned_after}
+use Rattle.ss_review.specs.assign.StoredHashes.{Tallies}
 use Rattle.ss_review.proofs.assign.places.assigned_places.Given as goal
 
 abbrev pub invariant-loop-at : goal.invariant-loop-at

@@ -2,12 +2,12 @@ use Rattle.std.proofs.Common.{◌+◌, ◌++◌, ◌∷◌, [], sym, ap, ◌∙�
 use Rattle.std.specs.Prelude.{count_by, slice_get}
 use Rattle.std.proofs.lemmas.List.{length-map}
 use Rattle.std.proofs.lemmas.List.Sums.{count_by-le-length}
-use Rattle.ss_review.specs.Assigned.{places_with}
-use Rattle.ss_review.specs.Assigning.{is_at, bearers_wanted, bearer_wanted}
-use Rattle.ss_review.specs.StoredHashes.{listed, IsFoundFor, place_beside, counted_at}
-use Rattle.ss_review.proofs.AssignedPlaces.{nothing_found, something_found, tallied, untallied}
-use Rattle.ss_review.proofs.ListedHashes.{stands_at}
-use Rattle.ss_review.proofs.BearersWanted.{place_by_bearer, no_place}
+use Rattle.ss_review.specs.assign.Assigned.{places_with}
+use Rattle.ss_review.specs.assign.Assigning.{is_at, bearers_wanted, bearer_wanted}
+use Rattle.ss_review.specs.assign.StoredHashes.{listed, IsFoundFor, place_beside, counted_at}
+use Rattle.ss_review.proofs.of_assignment.AssignedPlaces.{nothing_found, something_found, tallied, untallied}
+use Rattle.ss_review.proofs.of_assignment.ListedHashes.{stands_at}
+use Rattle.ss_review.proofs.of_assignment.BearersWanted.{place_by_bearer, no_place}
 use Rattle.ss_review.proofs.assign.places.next_place.Goals as goal
 
 pub returns-in_default-clause-place : goal.returns-in_default-clause-place

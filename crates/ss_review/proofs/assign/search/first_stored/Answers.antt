@@ -1,7 +1,7 @@
 use Rattle.std.proofs.Common.{add-one, take, sym, ◌∙◌, subst, arith, suc}
 use Rattle.std.proofs.lemmas.List.{length-map}
-use Rattle.ss_review.specs.StoredHashes.{hash_of, listed, IsBearerAt}
-use Rattle.ss_review.proofs.Searches.{there_within, bearer_starts, bearer_earlier, bearer_kept, bearer_all}
+use Rattle.ss_review.specs.assign.StoredHashes.{hash_of, listed, IsBearerAt}
+use Rattle.ss_review.proofs.of_assignment.Searches.{there_within, bearer_starts, bearer_earlier, bearer_kept, bearer_all}
 use Rattle.ss_review.proofs.assign.search.first_stored.Goals.{then-is_earlier, else-is_earlier}
 use Rattle.ss_review.proofs.assign.search.first_stored.Goals as goal
 

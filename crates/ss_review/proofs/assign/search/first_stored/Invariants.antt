@@ -4,7 +4,7 @@ use Rattle.std.specs.Prelude.{Contains}
 use Rattle.std.specs.declared.cmp.Ordering.TheVariants.{Less}
 use Rattle.ss_block.specs.Order.{hash_cmp}
 use Rattle.ss_review.specs.declared.assign.stored_hash.StoredHash.{StoredHash}
-use Rattle.ss_review.specs.StoredHashes.{listed, IsBearerAt}
+use Rattle.ss_review.specs.assign.StoredHashes.{listed, IsBearerAt}
 use Rattle.ss_review.proofs.assign.search.first_stored.Given as goal
 
 abbrev pub invariant-loop-first : goal.invariant-loop-first

@@ -5,8 +5,8 @@ use Rattle.std.specs.List.Sorted.{IsSorted, IsStrictlySortedBy}
 use Rattle.std.proofs.lemmas.Fn.{always_returns_same, dedup_same}
 use Rattle.std.proofs.lemmas.List.MinMax.{ranks_by}
 use Rattle.ss_review.specs.declared.assign.hash_entry.HashEntry.{HashEntry}
-use Rattle.ss_review.specs.StoredHashes.{entry_cmp, listed, stored_cmp}
-use Rattle.ss_review.proofs.ListedHashes.{entry_cmp_total, left_rise, left_keep, left_add_none}
+use Rattle.ss_review.specs.assign.StoredHashes.{entry_cmp, listed, stored_cmp}
+use Rattle.ss_review.proofs.of_assignment.ListedHashes.{entry_cmp_total, left_rise, left_keep, left_add_none}
 use Rattle.ss_review.proofs.assign.stored_hashes.put_in_order.Goals as goal
 
 pub returns : goal.returns

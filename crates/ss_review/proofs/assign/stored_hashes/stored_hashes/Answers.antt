@@ -1,8 +1,8 @@
 use Rattle.std.proofs.Common.{◌++◌, ap, ◌∙◌}
 use Rattle.ss_block.specs.declared.hash.Alg.TheVariants.{Sha1, Sha256}
-use Rattle.ss_review.specs.StoredHashes.{listed, needed_entries}
-use Rattle.ss_review.proofs.ListedHashes.{both_stand, both_begin}
-use Rattle.ss_review.proofs.NeededHashes.{lists}
+use Rattle.ss_review.specs.assign.StoredHashes.{listed, needed_entries}
+use Rattle.ss_review.proofs.of_assignment.ListedHashes.{both_stand, both_begin}
+use Rattle.ss_review.proofs.of_assignment.NeededHashes.{lists}
 use Rattle.ss_review.proofs.assign.stored_hashes.stored_hashes.Goals as goal
 
 pub returns : goal.returns

@@ -1,6 +1,6 @@
 use Rattle.std.proofs.Common.{◌+◌, sym, ap, ◌∙◌, subst}
 use Rattle.std.specs.Ordering.{nat_cmp, ordering_then}
-use Rattle.ss_review.proofs.Searches.{WantedSoFar, wanted_one, wanted_none, wanted_all}
+use Rattle.ss_review.proofs.of_assignment.Searches.{WantedSoFar, wanted_one, wanted_none, wanted_all}
 use Rattle.ss_review.proofs.assign.wanted_hash.wanted_hashes.Goals.{in-Some+in_ok-push, in_default}
 use Rattle.ss_review.proofs.assign.wanted_hash.wanted_hashes.Goals as goal
 

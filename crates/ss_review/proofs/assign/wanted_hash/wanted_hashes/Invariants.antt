@@ -1,5 +1,5 @@
 -- Those so far are hashes of the list with their numbers, and each hash so far is among them.
-use Rattle.ss_review.proofs.Searches.{WantedSoFar}
+use Rattle.ss_review.proofs.of_assignment.Searches.{WantedSoFar}
 use Rattle.ss_review.proofs.assign.wanted_hash.wanted_hashes.Given as goal
 
 abbrev pub invariant-loop-key : goal.invariant-loop-key

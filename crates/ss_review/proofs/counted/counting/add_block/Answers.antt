@@ -1,6 +1,6 @@
 use Rattle.std.proofs.Common.{map, sym, ap, ◌∙◌}
-use Rattle.ss_review.specs.CountedSoFar.{found_of, with_block}
-use Rattle.ss_review.proofs.CountedTold.{unverified_adds_none, fragment_adds_none}
+use Rattle.ss_review.specs.counted.CountedSoFar.{found_of, with_block}
+use Rattle.ss_review.proofs.of_counters.CountedTold.{unverified_adds_none, fragment_adds_none}
 use Rattle.ss_review.proofs.counted.counting.add_block.Goals as goal
 
 pub returns-then-not-is_verified : goal.returns-then-not-is_verified

@@ -2,7 +2,7 @@ use Rattle.std.proofs.Common.{rules, refl}
 use Rattle.std.proofs.lemmas.Fn.{always_returns_same}
 use Rattle.ss_block.specs.Order.{session_cmp}
 use Rattle.ss_review.specs.declared.counted.counting.SessionGbcs.{SessionGbcs}
-use Rattle.ss_review.proofs.CountedTold.{found_more, found_none}
+use Rattle.ss_review.proofs.of_counters.CountedTold.{found_more, found_none}
 use Rattle.ss_review.proofs.counted.counting.add_gbc.Goals as goal
 
 pub returns-in_ok-push-in-Ok : goal.returns-in_ok-push-in-Ok

@@ -1,8 +1,8 @@
 use Rattle.std.proofs.Common.{◌≡◌, List, map, ap, ◌∙◌, subst}
 use Rattle.std.specs.Prelude.{IfOk}
 use Rattle.ss_review.specs.declared.counted.counted_session.CountedSession.{CountedSession}
-use Rattle.ss_review.specs.CountedSoFar.{counted_in_order}
-use Rattle.ss_review.proofs.CountedTold.{all_counted}
+use Rattle.ss_review.specs.counted.CountedSoFar.{counted_in_order}
+use Rattle.ss_review.proofs.of_counters.CountedTold.{all_counted}
 use Rattle.ss_review.proofs.counted.counting.counted_sessions.Goals as goal
 
 pub returns : goal.returns

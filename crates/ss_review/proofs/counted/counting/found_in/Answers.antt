@@ -4,10 +4,10 @@ use Rattle.std.proofs.lemmas.List.{get_or-map, length-map}
 use Rattle.std.proofs.lemmas.Slice.Zip.{zip_turn}
 use Rattle.ss_block.specs.Order.{session_cmp}
 use Rattle.ss_review.specs.declared.counted.counting.SessionGbcs.{SessionGbcs}
-use Rattle.ss_review.specs.Sessions.{sessions}
-use Rattle.ss_review.specs.Verified.{is_verified}
-use Rattle.ss_review.specs.CountedSoFar.{found_of, with_block}
-use Rattle.ss_review.proofs.CountedTold.{nothing_yet, found_rise, among_more, written_back}
+use Rattle.ss_review.specs.sessions.Sessions.{sessions}
+use Rattle.ss_review.specs.sessions.Verified.{is_verified}
+use Rattle.ss_review.specs.counted.CountedSoFar.{found_of, with_block}
+use Rattle.ss_review.proofs.of_counters.CountedTold.{nothing_yet, found_rise, among_more, written_back}
 use Rattle.ss_review.proofs.counted.counting.found_in.Goals as goal
 
 pub loop-block-init : goal.loop-block-init

@@ -1,9 +1,9 @@
 -- What the blocks so far state of each session.
 use Rattle.std.proofs.Common.{◌≡◌, length, take, map}
-use Rattle.ss_review.specs.Sessions.{sessions}
-use Rattle.ss_review.specs.Verified.{Answers, is_verified}
-use Rattle.ss_review.specs.Numbered.{session_with_joined, sessions_joined}
-use Rattle.ss_review.specs.CountedSoFar.{found_of, found_among}
+use Rattle.ss_review.specs.sessions.Sessions.{sessions}
+use Rattle.ss_review.specs.sessions.Verified.{Answers, is_verified}
+use Rattle.ss_review.specs.announced.Numbered.{session_with_joined, sessions_joined}
+use Rattle.ss_review.specs.counted.CountedSoFar.{found_of, found_among}
 use Rattle.ss_review.proofs.counted.counting.found_in.Given as goal
 
 abbrev pub invariant-loop-block : goal.invariant-loop-block

@@ -1,5 +1,5 @@
 use Rattle.std.proofs.Common.{◌∙◌}
-use Rattle.ss_review.proofs.CountedTold.{gbcs_in_order}
+use Rattle.ss_review.proofs.of_counters.CountedTold.{gbcs_in_order}
 use Rattle.ss_review.proofs.counted.counting.in_order.Goals as goal
 
 pub returns : goal.returns

@@ -1,6 +1,6 @@
 -- The sessions so far.
 use Rattle.std.proofs.Common.{◌≡◌, take, map}
-use Rattle.ss_review.specs.CountedSoFar.{found_of, nothing_of}
+use Rattle.ss_review.specs.counted.CountedSoFar.{found_of, nothing_of}
 use Rattle.ss_review.proofs.counted.counting.nothing_found.Given as goal
 
 abbrev pub invariant-loop-session : goal.invariant-loop-session

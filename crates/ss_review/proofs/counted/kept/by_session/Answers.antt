@@ -3,8 +3,8 @@ use Rattle.std.proofs.lemmas.List.Sorted.{ranks_by}
 use Rattle.std.proofs.lemmas.Fn.{always_returns_same}
 use Rattle.ss_block.specs.OrderLaws.{session_cmp_total}
 use Rattle.ss_review.specs.declared.counted.counter.Counter.{Counter}
-use Rattle.ss_review.specs.Kept.{counters_of}
-use Rattle.ss_review.proofs.KeptBySession.{below, counters_stay}
+use Rattle.ss_review.specs.counted.Kept.{counters_of}
+use Rattle.ss_review.proofs.of_counters.KeptBySession.{below, counters_stay}
 use Rattle.ss_review.proofs.counted.kept.by_session.Goals as goal
 
 pub returns-clause-stand : goal.returns-clause-stand

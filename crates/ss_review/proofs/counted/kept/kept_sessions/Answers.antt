@@ -3,8 +3,8 @@ use Rattle.ss_block.specs.declared.session.Session.{Session}
 use Rattle.ss_block.specs.Order.{session_cmp}
 use Rattle.ss_block.specs.OrderLaws.{session_cmp_total, session_cmp_exact}
 use Rattle.ss_review.specs.Ordered.{in_order}
-use Rattle.ss_review.specs.Kept.{kept_sessions}
-use Rattle.ss_review.proofs.Rising.{in_order_by}
+use Rattle.ss_review.specs.counted.Kept.{kept_sessions}
+use Rattle.ss_review.proofs.of_lists.Rising.{in_order_by}
 use Rattle.ss_review.proofs.counted.kept.kept_sessions.Goals as goal
 
 pub returns : goal.returns

@@ -1,8 +1,8 @@
 use Rattle.std.proofs.Common.{rules, sym, ap, subst, ◌∙◌}
 use Rattle.std.specs.List.Sorted.{IsPartitionedBy}
 use Rattle.std.proofs.lemmas.List.Sorted.{IsPartitionPoint-from_clause}
-use Rattle.ss_review.specs.KeptSoFar.{led_to}
-use Rattle.ss_review.proofs.KeptBySession.{Parts, before, within, before_parted, within_parted, range_is}
+use Rattle.ss_review.specs.counted.KeptSoFar.{led_to}
+use Rattle.ss_review.proofs.of_counters.KeptBySession.{Parts, before, within, before_parted, within_parted, range_is}
 use Rattle.ss_review.proofs.counted.kept.of_session.Goals as goal
 
 pub returns : goal.returns

@@ -1,6 +1,6 @@
 -- References to the counters so far.
 use Rattle.std.proofs.Common.{◌≡◌, take}
-use Rattle.ss_review.specs.KeptSoFar.{led_to}
+use Rattle.ss_review.specs.counted.KeptSoFar.{led_to}
 use Rattle.ss_review.proofs.counted.kept.references.Given as goal
 
 abbrev pub invariant-loop-counter : goal.invariant-loop-counter

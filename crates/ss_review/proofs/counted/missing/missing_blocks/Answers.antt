@@ -1,7 +1,7 @@
 use Rattle.std.proofs.Common.{◌≡◌, ◌<◌, ◌^◌, arith, subst}
 use Rattle.std.specs.Prelude.{IfOk}
-use Rattle.ss_review.specs.Counted.{next_after, missing}
-use Rattle.ss_review.proofs.CountedRange.{next_within}
+use Rattle.ss_review.specs.counted.Counted.{next_after, missing}
+use Rattle.ss_review.proofs.of_counters.CountedRange.{next_within}
 use Rattle.ss_review.proofs.counted.missing.missing_blocks.Goals as goal
 
 pub returns : goal.returns

@@ -1,8 +1,8 @@
 use Rattle.std.proofs.Common.{◌≡◌, ◌+◌, ◌++◌, drop, get_or, cond, sym, ap, ◌∙◌}
 use Rattle.std.proofs.lemmas.List.{drop_more, drop_all}
 use Rattle.std.proofs.lemmas.Bool.{le-ltb}
-use Rattle.ss_review.specs.Counted.{run_between}
-use Rattle.ss_review.proofs.MissingRuns.{missing_after, missing_is}
+use Rattle.ss_review.specs.counted.Counted.{run_between}
+use Rattle.ss_review.proofs.of_counters.MissingRuns.{missing_after, missing_is}
 use Rattle.ss_review.proofs.counted.missing.missing_runs.Goals as goal
 use Rattle.ss_review.proofs.counted.missing.missing_runs.Goals.{else-loop-gbc-test, then-loop-gbc-test+then-gbc-next}
 

@@ -1,7 +1,7 @@
 -- One more than the greatest value so far.
 use Rattle.std.proofs.Common.{◌≡◌, ◌-◌, ◌^◌, take}
 use Rattle.std.specs.Prelude.{min}
-use Rattle.ss_review.specs.Counted.{next_after}
+use Rattle.ss_review.specs.counted.Counted.{next_after}
 use Rattle.ss_review.proofs.counted.missing.next_gbc.Given as goal
 
 abbrev pub invariant-loop-gbc : goal.invariant-loop-gbc

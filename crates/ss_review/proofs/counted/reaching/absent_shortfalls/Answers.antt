@@ -3,9 +3,9 @@ use Rattle.std.proofs.lemmas.List.{append-nil, take_all}
 use Rattle.ss_block.specs.declared.session.Session.{Session}
 use Rattle.ss_review.specs.declared.counted.shortfall.Shortfall.{Shortfall}
 use Rattle.ss_review.specs.declared.report.session_report.SessionReport.{SessionReport}
-use Rattle.ss_review.specs.Kept.{shortfall, shortfall_in, absent_among}
-use Rattle.ss_review.specs.KeptSoFar.{led_to}
-use Rattle.ss_review.proofs.KnownSessions.{no_groups, no_values, absent_more}
+use Rattle.ss_review.specs.counted.Kept.{shortfall, shortfall_in, absent_among}
+use Rattle.ss_review.specs.counted.KeptSoFar.{led_to}
+use Rattle.ss_review.proofs.of_counters.KnownSessions.{no_groups, no_values, absent_more}
 use Rattle.ss_review.proofs.counted.reaching.absent_shortfalls.Goals.{then-not-is_known+in_ok-shortfall+in_ok-push, else-not-is_known}
 use Rattle.ss_review.proofs.counted.reaching.absent_shortfalls.Goals as goal
 

@@ -4,8 +4,8 @@ use Rattle.std.specs.List.Sorted.{IsStrictlySortedBy}
 use Rattle.ss_block.specs.declared.session.Session.{Session}
 use Rattle.ss_block.specs.Order.{session_cmp}
 use Rattle.ss_review.specs.declared.report.session_report.SessionReport.{SessionReport}
-use Rattle.ss_review.specs.Kept.{shortfall, absent_among}
-use Rattle.ss_review.specs.KeptSoFar.{led_to, StandBySession}
+use Rattle.ss_review.specs.counted.Kept.{shortfall, absent_among}
+use Rattle.ss_review.specs.counted.KeptSoFar.{led_to, StandBySession}
 use Rattle.ss_review.proofs.counted.reaching.absent_shortfalls.Given as goal
 
 abbrev pub invariant-loop-session : goal.invariant-loop-session

@@ -3,7 +3,7 @@ use Rattle.std.proofs.lemmas.Fn.{always_returns_same}
 use Rattle.ss_block.specs.Order.{session_cmp}
 use Rattle.ss_review.specs.declared.report.session_report.SessionReport.{SessionReport}
 use Rattle.ss_review.specs.declared.report.session_report.SessionState.TheVariants as states
-use Rattle.ss_review.proofs.KnownSessions.{known, unknown}
+use Rattle.ss_review.proofs.of_counters.KnownSessions.{known, unknown}
 use Rattle.ss_review.proofs.counted.reaching.is_known.Goals as goal
 
 pub returns-in-Ok : goal.returns-in-Ok

@@ -3,10 +3,10 @@ use Rattle.std.specs.Ordering.{nat_cmp}
 use Rattle.std.specs.List.Sorted.{IsStrictlySortedBy}
 use Rattle.std.proofs.lemmas.Slice.Zip.{zip_turn, zip_end}
 use Rattle.ss_block.specs.Ranges.{past_last_number}
-use Rattle.ss_review.specs.Counted.{next_after}
-use Rattle.ss_review.specs.Kept.{shortfall_in, shortfall_beside, AreGroups}
-use Rattle.ss_review.specs.KeptSoFar.{led_to}
-use Rattle.ss_review.proofs.KnownSessions.{groups_are, range_is, known_more, known_all}
+use Rattle.ss_review.specs.counted.Counted.{next_after}
+use Rattle.ss_review.specs.counted.Kept.{shortfall_in, shortfall_beside, AreGroups}
+use Rattle.ss_review.specs.counted.KeptSoFar.{led_to}
+use Rattle.ss_review.proofs.of_counters.KnownSessions.{groups_are, range_is, known_more, known_all}
 use Rattle.ss_review.proofs.counted.reaching.known_shortfalls.Goals as goal
 
 pub loop-session-preserved : goal.loop-session-preserved

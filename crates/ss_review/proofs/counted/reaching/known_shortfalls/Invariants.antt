@@ -1,8 +1,8 @@
 -- What is missing of the sessions so far.
 use Rattle.std.proofs.Common.{◌≡◌, length, take, map}
 use Rattle.std.specs.List.{zip}
-use Rattle.ss_review.specs.Kept.{shortfall_beside, AreReviewed}
-use Rattle.ss_review.specs.KeptSoFar.{led_to, StandBySession}
+use Rattle.ss_review.specs.counted.Kept.{shortfall_beside, AreReviewed}
+use Rattle.ss_review.specs.counted.KeptSoFar.{led_to, StandBySession}
 use Rattle.ss_review.proofs.counted.reaching.known_shortfalls.Given as goal
 
 abbrev pub invariant-loop-session : goal.invariant-loop-session

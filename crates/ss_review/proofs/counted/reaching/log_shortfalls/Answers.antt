@@ -5,8 +5,8 @@ use Rattle.ss_review.specs.declared.counted.counted_session.CountedSession.{Coun
 use Rattle.ss_review.specs.declared.counted.counter.Counter.{Counter}
 use Rattle.ss_review.specs.declared.counted.shortfall.Shortfall.{Shortfall}
 use Rattle.ss_review.specs.declared.report.session_report.SessionReport.{SessionReport}
-use Rattle.ss_review.specs.Kept.{counters_of, shortfall_in, absent_among, log_shortfalls}
-use Rattle.ss_review.specs.KeptSoFar.{led_to, StandBySession}
+use Rattle.ss_review.specs.counted.Kept.{counters_of, shortfall_in, absent_among, log_shortfalls}
+use Rattle.ss_review.specs.counted.KeptSoFar.{led_to, StandBySession}
 use Rattle.ss_review.proofs.counted.reaching.log_shortfalls.Goals as goal
 
 pub returns : goal.returns

@@ -1,6 +1,6 @@
 use Rattle.std.proofs.Common.{◌<◌, ◌^◌, ap, ◌∙◌, arith}
 use Rattle.std.specs.Prelude.{max}
-use Rattle.ss_review.specs.Counted.{next_after, missing}
+use Rattle.ss_review.specs.counted.Counted.{next_after, missing}
 use Rattle.ss_review.proofs.counted.reaching.shortfall.Goals as goal
 
 pub returns : goal.returns

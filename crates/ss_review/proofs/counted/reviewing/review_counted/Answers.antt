@@ -1,7 +1,7 @@
 use Rattle.std.proofs.Common.{◌≡◌, map, sym, ap, ◌∙◌}
-use Rattle.ss_review.specs.Verified.{answers, is_verified}
-use Rattle.ss_review.specs.Numbered.{session_with_joined, sessions_joined}
-use Rattle.ss_review.specs.Counted.{counted_sessions}
+use Rattle.ss_review.specs.sessions.Verified.{answers, is_verified}
+use Rattle.ss_review.specs.announced.Numbered.{session_with_joined, sessions_joined}
+use Rattle.ss_review.specs.counted.Counted.{counted_sessions}
 use Rattle.ss_review.proofs.counted.reviewing.review_counted.Goals as goal
 
 pub returns : goal.returns

@@ -1,6 +1,6 @@
 use Rattle.std.proofs.Common.{ap, ◌∙◌}
 use Rattle.std.specs.Prelude.{max}
-use Rattle.ss_review.proofs.KeptNumbers.{blocks_keep, group_keeps}
+use Rattle.ss_review.proofs.of_counters.KeptNumbers.{blocks_keep, group_keeps}
 use Rattle.ss_review.proofs.counted.tailing.add_number.Goals as goal
 
 pub returns-in-Blocks : goal.returns-in-Blocks

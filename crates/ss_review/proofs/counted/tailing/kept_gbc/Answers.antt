@@ -1,8 +1,8 @@
 use Rattle.std.proofs.Common.{take, refl, sym, ap, ◌∙◌}
 use Rattle.std.specs.Prelude.{max}
-use Rattle.ss_review.specs.Kept.{gbc_in}
-use Rattle.ss_review.specs.KeptSoFar.{led_to}
-use Rattle.ss_review.proofs.KeptNumbers.{led_more, gbc_more}
+use Rattle.ss_review.specs.counted.Kept.{gbc_in}
+use Rattle.ss_review.specs.counted.KeptSoFar.{led_to}
+use Rattle.ss_review.proofs.of_counters.KeptNumbers.{led_more, gbc_more}
 use Rattle.ss_review.proofs.counted.tailing.kept_gbc.Goals as goal
 
 pub loop-counter-init : goal.loop-counter-init

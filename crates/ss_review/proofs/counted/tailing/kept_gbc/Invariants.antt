@@ -1,7 +1,7 @@
 -- The greatest GBC that the counters so far say.
 use Rattle.std.proofs.Common.{◌≡◌, take}
-use Rattle.ss_review.specs.Kept.{gbc_in}
-use Rattle.ss_review.specs.KeptSoFar.{led_to}
+use Rattle.ss_review.specs.counted.Kept.{gbc_in}
+use Rattle.ss_review.specs.counted.KeptSoFar.{led_to}
 use Rattle.ss_review.proofs.counted.tailing.kept_gbc.Given as goal
 
 abbrev pub invariant-loop-counter : goal.invariant-loop-counter

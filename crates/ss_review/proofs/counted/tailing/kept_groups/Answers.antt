@@ -5,10 +5,10 @@ use Rattle.ss_block.specs.Order.{group_cmp}
 use Rattle.ss_block.specs.OrderLaws.{group_cmp_total, group_cmp_exact}
 use Rattle.ss_review.specs.declared.counted.counter.Counter.{Counter}
 use Rattle.ss_review.specs.Ordered.{in_order}
-use Rattle.ss_review.specs.Kept.{group_said, groups_in}
-use Rattle.ss_review.specs.KeptSoFar.{led_to}
-use Rattle.ss_review.proofs.KeptNumbers.{led_more, groups_more}
-use Rattle.ss_review.proofs.Rising.{in_order_by}
+use Rattle.ss_review.specs.counted.Kept.{group_said, groups_in}
+use Rattle.ss_review.specs.counted.KeptSoFar.{led_to}
+use Rattle.ss_review.proofs.of_counters.KeptNumbers.{led_more, groups_more}
+use Rattle.ss_review.proofs.of_lists.Rising.{in_order_by}
 use Rattle.ss_review.proofs.counted.tailing.kept_groups.Goals as goal
 
 pub loop-counter-preserved : goal.loop-counter-preserved

@@ -3,9 +3,9 @@ use Rattle.std.specs.Prelude.{unwrap_or}
 use Rattle.std.specs.BTreeMap.{is_at}
 use Rattle.std.specs.Map.{lookup}
 use Rattle.ss_block.specs.Order.{group_cmp}
-use Rattle.ss_review.specs.Kept.{number_in}
-use Rattle.ss_review.specs.KeptSoFar.{led_to, KeepsNumbers}
-use Rattle.ss_review.proofs.KeptNumbers.{led_more}
+use Rattle.ss_review.specs.counted.Kept.{number_in}
+use Rattle.ss_review.specs.counted.KeptSoFar.{led_to, KeepsNumbers}
+use Rattle.ss_review.proofs.of_counters.KeptNumbers.{led_more}
 use Rattle.ss_review.proofs.counted.tailing.kept_numbers.Goals as goal
 
 pub loop-counter-init : goal.loop-counter-init

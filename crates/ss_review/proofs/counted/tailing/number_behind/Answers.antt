@@ -2,8 +2,8 @@ use Rattle.std.proofs.Common.{rules, sym, ap, arith}
 use Rattle.std.proofs.lemmas.Fn.{always_returns_same}
 use Rattle.ss_block.specs.Order.{group_cmp}
 use Rattle.ss_review.specs.declared.report.group_report.GroupReport.{GroupReport}
-use Rattle.ss_review.specs.Counted.{next_number}
-use Rattle.ss_review.proofs.KeptNumbers.{next_within, behind_found, behind_none}
+use Rattle.ss_review.specs.counted.Counted.{next_number}
+use Rattle.ss_review.proofs.of_counters.KeptNumbers.{next_within, behind_found, behind_none}
 use Rattle.ss_review.proofs.counted.tailing.number_behind.Goals as goal
 
 pub returns-in-Ok : goal.returns-in-Ok

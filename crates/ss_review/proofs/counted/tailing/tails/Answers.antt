@@ -1,9 +1,9 @@
 use Rattle.std.proofs.Common.{◌++◌, get_or, flat_map, sym, ap, ◌∙◌}
 use Rattle.std.proofs.lemmas.List.{take_all, get_or_default}
 use Rattle.ss_block.specs.declared.block.Group.{Group}
-use Rattle.ss_review.specs.Kept.{number_in, number_behind, tail_between, tails_in}
-use Rattle.ss_review.specs.KeptSoFar.{led_to}
-use Rattle.ss_review.proofs.KeptNumbers.{tails_more}
+use Rattle.ss_review.specs.counted.Kept.{number_in, number_behind, tail_between, tails_in}
+use Rattle.ss_review.specs.counted.KeptSoFar.{led_to}
+use Rattle.ss_review.proofs.of_counters.KeptNumbers.{tails_more}
 use Rattle.ss_review.proofs.counted.tailing.tails.Goals as goal
 
 pub loop-group-preserved : goal.loop-group-preserved

@@ -1,8 +1,8 @@
 -- The tails of the groups so far.
 use Rattle.std.proofs.Common.{◌≡◌, take, flat_map}
 use Rattle.ss_block.specs.declared.block.Group.{Group}
-use Rattle.ss_review.specs.Kept.{number_in, number_behind, tail_between, AreGroups}
-use Rattle.ss_review.specs.KeptSoFar.{led_to}
+use Rattle.ss_review.specs.counted.Kept.{number_in, number_behind, tail_between, AreGroups}
+use Rattle.ss_review.specs.counted.KeptSoFar.{led_to}
 use Rattle.ss_review.proofs.counted.tailing.tails.Given as goal
 
 abbrev pub invariant-loop-group : goal.invariant-loop-group

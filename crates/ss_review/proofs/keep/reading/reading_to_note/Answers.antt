@@ -3,7 +3,7 @@ use Rattle.ss_block.specs.declared.reading.Reading.{Reading}
 use Rattle.ss_block.specs.declared.reading.Reading.TheVariants.{Plain, Unparsed, Signature, Certificate, Spoilt}
 use Rattle.ss_block.specs.Mark.{has_block_element}
 use Rattle.ss_block.specs.Reading.{reading}
-use Rattle.ss_review.specs.Notes.{noted, note}
+use Rattle.ss_review.specs.keep.Notes.{noted, note}
 use Rattle.ss_review.proofs.keep.reading.reading_to_note.Goals as goal
 
 -- without a block element a text is noted as a plain message is

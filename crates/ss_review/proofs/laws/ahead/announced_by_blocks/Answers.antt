@@ -1,4 +1,4 @@
-use Rattle.ss_review.proofs.CasesAhead.{announced_ahead}
+use Rattle.ss_review.proofs.of_deliveries.CasesAhead.{announced_ahead}
 use Rattle.ss_review.proofs.laws.ahead.announced_by_blocks.Goals as goal
 
 pub returns : goal.returns

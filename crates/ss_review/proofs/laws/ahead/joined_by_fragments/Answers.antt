@@ -1,4 +1,4 @@
-use Rattle.ss_review.proofs.CasesAhead.{joined_ahead}
+use Rattle.ss_review.proofs.of_deliveries.CasesAhead.{joined_ahead}
 use Rattle.ss_review.proofs.laws.ahead.joined_by_fragments.Goals as goal
 
 pub returns : goal.returns

@@ -1,4 +1,4 @@
-use Rattle.ss_review.proofs.CasesAhead.{listed_ahead_have_their_hash}
+use Rattle.ss_review.proofs.of_deliveries.CasesAhead.{listed_ahead_have_their_hash}
 use Rattle.ss_review.proofs.laws.ahead.listed_have_their_hash.Goals as goal
 
 pub returns : goal.returns

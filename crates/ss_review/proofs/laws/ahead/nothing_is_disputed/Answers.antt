@@ -1,4 +1,4 @@
-use Rattle.ss_review.proofs.CasesAhead.{nothing_ahead_is_disputed}
+use Rattle.ss_review.proofs.of_deliveries.CasesAhead.{nothing_ahead_is_disputed}
 use Rattle.ss_review.proofs.laws.ahead.nothing_is_disputed.Goals as goal
 
 pub returns : goal.returns

@@ -1,4 +1,4 @@
-use Rattle.ss_review.proofs.CasesAhead.{skipped_are_missing}
+use Rattle.ss_review.proofs.of_deliveries.CasesAhead.{skipped_are_missing}
 use Rattle.ss_review.proofs.laws.ahead.skipped_numbers_are_missing.Goals as goal
 
 pub returns : goal.returns

@@ -1,4 +1,4 @@
-use Rattle.ss_review.proofs.SmallChains.{premises_are_met}
+use Rattle.ss_review.proofs.of_deliveries.SmallChains.{premises_are_met}
 use Rattle.ss_review.proofs.laws.cases.premises_are_met.Goals as goal
 
 pub returns : goal.returns

@@ -1,4 +1,4 @@
-use Rattle.ss_review.proofs.SmallReports.{whole_is_reported}
+use Rattle.ss_review.proofs.of_deliveries.SmallReports.{whole_is_reported}
 use Rattle.ss_review.proofs.laws.cases.whole_is_reported.Goals as goal
 
 pub returns : goal.returns

@@ -1,4 +1,4 @@
-use Rattle.ss_review.proofs.CountedRange.{counted_are_in_range}
+use Rattle.ss_review.proofs.of_counters.CountedRange.{counted_are_in_range}
 use Rattle.ss_review.proofs.laws.counted.counted_are_in_range.Goals as goal
 
 pub returns : goal.returns

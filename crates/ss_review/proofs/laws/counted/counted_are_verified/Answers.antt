@@ -1,4 +1,4 @@
-use Rattle.ss_review.proofs.CountedMeant.{counted_are_verified}
+use Rattle.ss_review.proofs.of_counters.CountedMeant.{counted_are_verified}
 use Rattle.ss_review.proofs.laws.counted.counted_are_verified.Goals as goal
 
 pub returns : goal.returns

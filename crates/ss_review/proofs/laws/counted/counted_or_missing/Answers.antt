@@ -1,4 +1,4 @@
-use Rattle.ss_review.proofs.CountedMeant.{counted_or_missing}
+use Rattle.ss_review.proofs.of_counters.CountedMeant.{counted_or_missing}
 use Rattle.ss_review.proofs.laws.counted.counted_or_missing.Goals as goal
 
 pub returns : goal.returns

@@ -1,4 +1,4 @@
-use Rattle.ss_review.proofs.CountedMeant.{next_numbers_follow}
+use Rattle.ss_review.proofs.of_counters.CountedMeant.{next_numbers_follow}
 use Rattle.ss_review.proofs.laws.counted.next_numbers_follow.Goals as goal
 
 pub returns : goal.returns

@@ -1,4 +1,4 @@
-use Rattle.ss_review.proofs.OwnPayload.{joins_own_payload}
+use Rattle.ss_review.proofs.of_deliveries.OwnPayload.{joins_own_payload}
 use Rattle.ss_review.proofs.laws.delivered.joins_own_payload.Goals as goal
 
 pub returns : goal.returns

@@ -1,4 +1,4 @@
-use Rattle.ss_review.proofs.AnnouncedNumbers.{keys_have_blocks}
+use Rattle.ss_review.proofs.of_deliveries.AnnouncedNumbers.{keys_have_blocks}
 use Rattle.ss_review.proofs.laws.delivered.keys_have_blocks.Goals as goal
 
 pub returns : goal.returns

@@ -1,4 +1,4 @@
-use Rattle.ss_review.proofs.GroupCounts.{in_groups_all}
+use Rattle.ss_review.proofs.of_deliveries.GroupCounts.{in_groups_all}
 use Rattle.ss_review.proofs.laws.delivered.messages_are_in_groups.Goals as goal
 
 pub returns : goal.returns

@@ -1,4 +1,4 @@
-use Rattle.ss_review.proofs.NumbersCovered.{numbers_have_blocks}
+use Rattle.ss_review.proofs.of_deliveries.NumbersCovered.{numbers_have_blocks}
 use Rattle.ss_review.proofs.laws.delivered.numbers_have_blocks.Goals as goal
 
 pub returns : goal.returns

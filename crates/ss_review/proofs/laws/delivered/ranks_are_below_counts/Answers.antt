@@ -1,11 +1,11 @@
 use Rattle.std.proofs.Common.{ap, ◌∙◌}
 use Rattle.ss_block.specs.Hashes.{pair}
-use Rattle.ss_review.specs.Announced.{keys}
-use Rattle.ss_review.specs.Assigned.{is_pair}
-use Rattle.ss_review.specs.DeliveryLaws.{rows_in, pair_of}
-use Rattle.ss_review.proofs.Counting.{same_itself}
+use Rattle.ss_review.specs.announced.Announced.{keys}
+use Rattle.ss_review.specs.assign.Assigned.{is_pair}
+use Rattle.ss_review.specs.deliveries.DeliveryLaws.{rows_in, pair_of}
+use Rattle.ss_review.proofs.of_lists.Counting.{same_itself}
 use Rattle.ss_origin.proofs.Members.{has_from_contains}
-use Rattle.ss_review.proofs.OwnNumbers.{rank_below_count}
+use Rattle.ss_review.proofs.of_deliveries.OwnNumbers.{rank_below_count}
 use Rattle.ss_review.proofs.laws.delivered.ranks_are_below_counts.Goals as goal
 
 pub returns : goal.returns

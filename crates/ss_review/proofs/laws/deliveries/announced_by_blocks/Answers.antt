@@ -1,4 +1,4 @@
-use Rattle.ss_review.proofs.ToldNumbers.{announced_by_blocks}
+use Rattle.ss_review.proofs.of_reports.ToldNumbers.{announced_by_blocks}
 use Rattle.ss_review.proofs.laws.deliveries.announced_by_blocks.Goals as goal
 
 pub returns : goal.returns

@@ -1,4 +1,4 @@
-use Rattle.ss_review.proofs.JoinedByFragments.{joined_by_fragments}
+use Rattle.ss_review.proofs.of_deliveries.JoinedByFragments.{joined_by_fragments}
 use Rattle.ss_review.proofs.laws.deliveries.joined_by_fragments.Goals as goal
 
 pub returns : goal.returns

@@ -1,4 +1,4 @@
-use Rattle.ss_review.proofs.ToldNumbers.{listed_by_rank}
+use Rattle.ss_review.proofs.of_reports.ToldNumbers.{listed_by_rank}
 use Rattle.ss_review.proofs.laws.deliveries.listed_by_rank.Goals as goal
 
 pub returns : goal.returns

@@ -1,15 +1,15 @@
 use Rattle.std.proofs.Common.{◌≡◌, inl, true, sym, ap, ◌∙◌, subst}
 use Rattle.std.specs.Prelude.{Some, slice_get}
 use Rattle.ss_block.specs.Hashes.{pair, hash_of}
-use Rattle.ss_review.specs.Notes.{notes}
-use Rattle.ss_review.specs.Contents.{normals, contents}
-use Rattle.ss_review.specs.Assigned.{has_hash}
-use Rattle.ss_review.specs.Listing.{IsDue}
-use Rattle.ss_review.specs.Delivery.{is_normal}
-use Rattle.ss_review.specs.DeliveryLaws.{says, HasItsHash}
+use Rattle.ss_review.specs.keep.Notes.{notes}
+use Rattle.ss_review.specs.keep.Contents.{normals, contents}
+use Rattle.ss_review.specs.assign.Assigned.{has_hash}
+use Rattle.ss_review.specs.assign.Listing.{IsDue}
+use Rattle.ss_review.specs.deliveries.Delivery.{is_normal}
+use Rattle.ss_review.specs.deliveries.DeliveryLaws.{says, HasItsHash}
 use Rattle.ss_origin.proofs.Members.{has_from_contains}
-use Rattle.ss_review.proofs.OwnKeys.{own_alg}
-use Rattle.ss_review.proofs.Witnesses.{stored_normal, hash_is}
+use Rattle.ss_review.proofs.of_deliveries.OwnKeys.{own_alg}
+use Rattle.ss_review.proofs.of_reports.Witnesses.{stored_normal, hash_is}
 use Rattle.ss_review.proofs.laws.deliveries.listed_have_their_hash.Goals as goal
 
 pub returns : goal.returns

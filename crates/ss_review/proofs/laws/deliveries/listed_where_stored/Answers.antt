@@ -1,10 +1,10 @@
 use Rattle.std.proofs.Common.{◌≡◌, arith}
 use Rattle.ss_block.specs.Hashes.{pair}
-use Rattle.ss_review.specs.Delivery.{submitted_to}
-use Rattle.ss_review.specs.DeliveryLaws.{rank_in}
-use Rattle.ss_review.proofs.DifferentPairs.{at_most_one}
-use Rattle.ss_review.proofs.StoredPairs.{places_stored}
-use Rattle.ss_review.proofs.ToldNumbers.{told_key}
+use Rattle.ss_review.specs.deliveries.Delivery.{submitted_to}
+use Rattle.ss_review.specs.deliveries.DeliveryLaws.{rank_in}
+use Rattle.ss_review.proofs.of_assignment.DifferentPairs.{at_most_one}
+use Rattle.ss_review.proofs.of_assignment.StoredPairs.{places_stored}
+use Rattle.ss_review.proofs.of_reports.ToldNumbers.{told_key}
 use Rattle.ss_review.proofs.laws.deliveries.listed_where_stored.Goals as goal
 
 pub returns : goal.returns

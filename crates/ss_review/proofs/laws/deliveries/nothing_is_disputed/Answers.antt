@@ -1,4 +1,4 @@
-use Rattle.ss_review.proofs.ToldNumbers.{nothing_is_disputed}
+use Rattle.ss_review.proofs.of_reports.ToldNumbers.{nothing_is_disputed}
 use Rattle.ss_review.proofs.laws.deliveries.nothing_is_disputed.Goals as goal
 
 pub returns : goal.returns

@@ -1,8 +1,8 @@
-use Rattle.ss_review.specs.Notes.{notes}
-use Rattle.ss_review.specs.Contents.{contents}
-use Rattle.ss_review.specs.DeliveryLaws.{says, report_in}
-use Rattle.ss_review.specs.Whole.{IsWhole}
-use Rattle.ss_review.proofs.CleanReports.{clean}
+use Rattle.ss_review.specs.keep.Notes.{notes}
+use Rattle.ss_review.specs.keep.Contents.{contents}
+use Rattle.ss_review.specs.deliveries.DeliveryLaws.{says, report_in}
+use Rattle.ss_review.specs.deliveries.Whole.{IsWhole}
+use Rattle.ss_review.proofs.of_reports.CleanReports.{clean}
 use Rattle.ss_review.proofs.laws.deliveries.whole_deliveries_are_clean.Goals as goal
 
 pub returns : goal.returns

@@ -1,4 +1,4 @@
-use Rattle.ss_review.proofs.CleanUpTo.{clean_up_to}
+use Rattle.ss_review.proofs.of_counters.CleanUpTo.{clean_up_to}
 use Rattle.ss_review.proofs.laws.kept.clean_up_to_counters.Goals as goal
 
 pub returns : goal.returns

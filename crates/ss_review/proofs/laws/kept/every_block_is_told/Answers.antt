@@ -1,4 +1,4 @@
-use Rattle.ss_review.proofs.KeptBlocks.{every_block}
+use Rattle.ss_review.proofs.of_counters.KeptBlocks.{every_block}
 use Rattle.ss_review.proofs.laws.kept.every_block_is_told.Goals as goal
 
 pub returns : goal.returns

@@ -1,4 +1,4 @@
-use Rattle.ss_review.proofs.Fates.{every_number}
+use Rattle.ss_review.proofs.of_counters.Fates.{every_number}
 use Rattle.ss_review.proofs.laws.kept.every_number_is_told.Goals as goal
 
 pub returns : goal.returns

@@ -1,4 +1,4 @@
-use Rattle.ss_review.proofs.CountersInRange.{log_counters_are_in_range}
+use Rattle.ss_review.proofs.of_counters.CountersInRange.{log_counters_are_in_range}
 use Rattle.ss_review.proofs.laws.kept.log_counters_are_in_range.Goals as goal
 
 pub returns : goal.returns

@@ -1,4 +1,4 @@
-use Rattle.ss_review.proofs.LostTold.{lost_are_told}
+use Rattle.ss_review.proofs.of_counters.LostTold.{lost_are_told}
 use Rattle.ss_review.proofs.laws.kept.lost_are_told.Goals as goal
 
 pub returns : goal.returns

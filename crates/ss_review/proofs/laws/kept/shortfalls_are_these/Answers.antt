@@ -1,7 +1,7 @@
 -- Each row is computed.
 use Rattle.std.proofs.Common.{refl}
-use Rattle.ss_review.specs.Counted.{next_number, missing}
-use Rattle.ss_review.specs.Kept.{gbc_in, number_in, groups_in, kept_sessions, tails_in, log_shortfalls}
+use Rattle.ss_review.specs.counted.Counted.{next_number, missing}
+use Rattle.ss_review.specs.counted.Kept.{gbc_in, number_in, groups_in, kept_sessions, tails_in, log_shortfalls}
 use Rattle.ss_review.specs.Ordered.{in_order}
 use Rattle.ss_review.proofs.laws.kept.shortfalls_are_these.Goals as goal
 

@@ -1,15 +1,15 @@
 use Rattle.std.proofs.Common.{◌≡◌, ℕ, List, sym, ap, ◌∙◌}
 use Rattle.std.specs.Prelude.{slice_index}
 use Rattle.std.specs.List.{list_all, range_with_len}
-use Rattle.ss_review.specs.Notes.{notes}
-use Rattle.ss_review.specs.Contents.{contents}
-use Rattle.ss_review.specs.Verified.{Answers}
-use Rattle.ss_review.specs.Report.{report, report_of}
-use Rattle.ss_review.specs.Verdict.{is_clean}
-use Rattle.ss_review.specs.Parts.{part_of, messages_of, places_of}
-use Rattle.ss_review.proofs.MovedVerdicts.{clean_moved}
-use Rattle.ss_review.proofs.PartLogs.{part_told}
-use Rattle.ss_review.proofs.PartVerdicts.{clean_where_parts_are}
+use Rattle.ss_review.specs.keep.Notes.{notes}
+use Rattle.ss_review.specs.keep.Contents.{contents}
+use Rattle.ss_review.specs.sessions.Verified.{Answers}
+use Rattle.ss_review.specs.report.Report.{report, report_of}
+use Rattle.ss_review.specs.report.Verdict.{is_clean}
+use Rattle.ss_review.specs.parts.Parts.{part_of, messages_of, places_of}
+use Rattle.ss_review.proofs.of_parts.MovedVerdicts.{clean_moved}
+use Rattle.ss_review.proofs.of_parts.PartLogs.{part_told}
+use Rattle.ss_review.proofs.of_parts.PartVerdicts.{clean_where_parts_are}
 use Rattle.ss_review.proofs.laws.parts.clean_where_parts_are.Goals as goal
 
 own_verdict : (says : Answers) (log : List (List ℕ)) (part : ℕ → ℕ) (k : ℕ)

@@ -1,9 +1,9 @@
 use Rattle.std.proofs.Common.{map, sym, ◌∙◌}
 use Rattle.std.specs.List.{range_with_len}
-use Rattle.ss_review.specs.Notes.{notes}
-use Rattle.ss_review.specs.Parts.{together}
-use Rattle.ss_review.proofs.PartLogs.{part_told}
-use Rattle.ss_review.proofs.PartReports.{add_up}
+use Rattle.ss_review.specs.keep.Notes.{notes}
+use Rattle.ss_review.specs.parts.Parts.{together}
+use Rattle.ss_review.proofs.of_parts.PartLogs.{part_told}
+use Rattle.ss_review.proofs.of_parts.PartReports.{add_up}
 use Rattle.ss_review.proofs.laws.parts.parts_add_up.Goals as goal
 
 pub returns : goal.returns

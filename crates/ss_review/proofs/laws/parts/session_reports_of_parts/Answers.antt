@@ -1,8 +1,8 @@
-use Rattle.ss_review.specs.Sessions.{sessions}
-use Rattle.ss_review.specs.Parts.{blocks_of}
+use Rattle.ss_review.specs.sessions.Sessions.{sessions}
+use Rattle.ss_review.specs.parts.Parts.{blocks_of}
 use Rattle.ss_origin.proofs.Members.{has_from_contains}
-use Rattle.ss_review.proofs.PartBlocks.{is_own}
-use Rattle.ss_review.proofs.PartSessions.{same_session_report}
+use Rattle.ss_review.proofs.of_parts.PartBlocks.{is_own}
+use Rattle.ss_review.proofs.of_parts.PartSessions.{same_session_report}
 use Rattle.ss_review.proofs.laws.parts.session_reports_of_parts.Goals as goal
 
 pub returns : goal.returns

@@ -1,4 +1,4 @@
-use Rattle.ss_review.proofs.ToldNumbers.{announced_are_told}
+use Rattle.ss_review.proofs.of_reports.ToldNumbers.{announced_are_told}
 use Rattle.ss_review.proofs.laws.reports.announced_are_told.Goals as goal
 
 pub returns : goal.returns

@@ -1,5 +1,5 @@
-use Rattle.ss_review.specs.Notes.{notes}
-use Rattle.ss_review.proofs.Dues.{assigned_due, due_assigned}
+use Rattle.ss_review.specs.keep.Notes.{notes}
+use Rattle.ss_review.proofs.of_assignment.Dues.{assigned_due, due_assigned}
 use Rattle.ss_review.proofs.laws.reports.assigned_where_due.Goals as goal
 
 pub returns : goal.returns

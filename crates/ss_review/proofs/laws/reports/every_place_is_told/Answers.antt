@@ -1,4 +1,4 @@
-use Rattle.ss_review.proofs.PlacesTold.{every_place}
+use Rattle.ss_review.proofs.of_reports.PlacesTold.{every_place}
 use Rattle.ss_review.proofs.laws.reports.every_place_is_told.Goals as goal
 
 pub returns : goal.returns

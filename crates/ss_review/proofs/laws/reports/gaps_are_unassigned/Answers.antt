@@ -1,6 +1,6 @@
-use Rattle.ss_review.specs.Notes.{notes}
-use Rattle.ss_review.specs.Contents.{contents}
-use Rattle.ss_review.proofs.Listings.{gaps_are}
+use Rattle.ss_review.specs.keep.Notes.{notes}
+use Rattle.ss_review.specs.keep.Contents.{contents}
+use Rattle.ss_review.proofs.of_reports.Listings.{gaps_are}
 use Rattle.ss_review.proofs.laws.reports.gaps_are_unassigned.Goals as goal
 
 pub returns : goal.returns

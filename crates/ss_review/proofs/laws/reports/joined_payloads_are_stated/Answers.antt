@@ -1,7 +1,7 @@
-use Rattle.ss_review.specs.Notes.{notes}
-use Rattle.ss_review.specs.Contents.{blocks}
-use Rattle.ss_review.specs.Sessions.{of_session}
-use Rattle.ss_review.proofs.StatesTold.{joined_under, payload_told}
+use Rattle.ss_review.specs.keep.Notes.{notes}
+use Rattle.ss_review.specs.keep.Contents.{blocks}
+use Rattle.ss_review.specs.sessions.Sessions.{of_session}
+use Rattle.ss_review.proofs.of_sessions.StatesTold.{joined_under, payload_told}
 use Rattle.ss_review.proofs.laws.reports.joined_payloads_are_stated.Goals as goal
 
 pub returns : goal.returns

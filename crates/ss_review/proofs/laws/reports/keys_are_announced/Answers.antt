@@ -1,4 +1,4 @@
-use Rattle.ss_review.proofs.ToldNumbers.{keys_are_announced}
+use Rattle.ss_review.proofs.of_reports.ToldNumbers.{keys_are_announced}
 use Rattle.ss_review.proofs.laws.reports.keys_are_announced.Goals as goal
 
 pub returns : goal.returns

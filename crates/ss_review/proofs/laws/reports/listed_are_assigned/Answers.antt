@@ -1,6 +1,6 @@
-use Rattle.ss_review.specs.Notes.{notes}
-use Rattle.ss_review.specs.Contents.{contents}
-use Rattle.ss_review.proofs.Listings.{listed_assigned, assigned_listed}
+use Rattle.ss_review.specs.keep.Notes.{notes}
+use Rattle.ss_review.specs.keep.Contents.{contents}
+use Rattle.ss_review.proofs.of_reports.Listings.{listed_assigned, assigned_listed}
 use Rattle.ss_review.proofs.laws.reports.listed_are_assigned.Goals as goal
 
 pub returns : goal.returns

@@ -1,7 +1,7 @@
-use Rattle.ss_review.specs.Notes.{notes}
-use Rattle.ss_review.specs.Contents.{contents}
-use Rattle.ss_review.proofs.Listings.{listed_assigned}
-use Rattle.ss_review.proofs.Witnesses.{witnessed}
+use Rattle.ss_review.specs.keep.Notes.{notes}
+use Rattle.ss_review.specs.keep.Contents.{contents}
+use Rattle.ss_review.proofs.of_reports.Listings.{listed_assigned}
+use Rattle.ss_review.proofs.of_reports.Witnesses.{witnessed}
 use Rattle.ss_review.proofs.laws.reports.listed_are_witnessed.Goals as goal
 
 pub returns : goal.returns

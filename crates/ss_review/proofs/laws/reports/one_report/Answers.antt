@@ -1,8 +1,8 @@
-use Rattle.ss_review.specs.Notes.{notes}
-use Rattle.ss_review.specs.Contents.{contents}
-use Rattle.ss_review.specs.Report.{report}
-use Rattle.ss_review.proofs.OneReport.{is_report}
-use Rattle.ss_review.proofs.SameReports.{same_report}
+use Rattle.ss_review.specs.keep.Notes.{notes}
+use Rattle.ss_review.specs.keep.Contents.{contents}
+use Rattle.ss_review.specs.report.Report.{report}
+use Rattle.ss_review.proofs.of_reports.OneReport.{is_report}
+use Rattle.ss_review.proofs.of_reports.SameReports.{same_report}
 use Rattle.ss_review.proofs.laws.reports.one_report.Goals as goal
 
 pub returns : goal.returns

@@ -1,8 +1,8 @@
-use Rattle.ss_review.specs.Notes.{notes}
-use Rattle.ss_review.specs.Contents.{normals, blocks}
-use Rattle.ss_review.specs.Announced.{rows}
-use Rattle.ss_review.proofs.OnePlaceOneKey.{one_key}
-use Rattle.ss_review.proofs.PlacesRise.{normals_rise}
+use Rattle.ss_review.specs.keep.Notes.{notes}
+use Rattle.ss_review.specs.keep.Contents.{normals, blocks}
+use Rattle.ss_review.specs.announced.Announced.{rows}
+use Rattle.ss_review.proofs.of_assignment.OnePlaceOneKey.{one_key}
+use Rattle.ss_review.proofs.of_kept_messages.PlacesRise.{normals_rise}
 use Rattle.ss_review.proofs.laws.reports.places_have_one_key.Goals as goal
 
 pub returns : goal.returns

@@ -1,5 +1,5 @@
-use Rattle.ss_review.specs.Notes.{notes}
-use Rattle.ss_review.proofs.EntriesRise.{in_order_report}
+use Rattle.ss_review.specs.keep.Notes.{notes}
+use Rattle.ss_review.proofs.of_reports.EntriesRise.{in_order_report}
 use Rattle.ss_review.proofs.laws.reports.reports_are_in_order.Goals as goal
 
 pub returns : goal.returns

@@ -1,4 +1,4 @@
-use Rattle.ss_review.proofs.WholeBlocks.{blocks_are_verified}
+use Rattle.ss_review.proofs.of_deliveries.WholeBlocks.{blocks_are_verified}
 use Rattle.ss_review.proofs.laws.whole.blocks_are_verified.Goals as goal
 
 pub returns : goal.returns

@@ -1,4 +1,4 @@
-use Rattle.ss_review.proofs.WholeNumbers.{groups_have_no_hole}
+use Rattle.ss_review.proofs.of_deliveries.WholeNumbers.{groups_have_no_hole}
 use Rattle.ss_review.proofs.laws.whole.groups_have_no_hole.Goals as goal
 
 pub returns : goal.returns

@@ -1,4 +1,4 @@
-use Rattle.ss_review.proofs.WholeListings.{messages_are_listed}
+use Rattle.ss_review.proofs.of_deliveries.WholeListings.{messages_are_listed}
 use Rattle.ss_review.proofs.laws.whole.messages_are_listed.Goals as goal
 
 pub returns : goal.returns

@@ -1,4 +1,4 @@
-use Rattle.ss_review.proofs.WholeNumbers.{numbers_are_announced}
+use Rattle.ss_review.proofs.of_deliveries.WholeNumbers.{numbers_are_announced}
 use Rattle.ss_review.proofs.laws.whole.numbers_are_announced.Goals as goal
 
 pub returns : goal.returns

@@ -1,4 +1,4 @@
-use Rattle.ss_review.proofs.WholeMessages.{numbers_are_listed}
+use Rattle.ss_review.proofs.of_deliveries.WholeMessages.{numbers_are_listed}
 use Rattle.ss_review.proofs.laws.whole.numbers_are_listed.Goals as goal
 
 pub returns : goal.returns

@@ -1,4 +1,4 @@
-use Rattle.ss_review.proofs.WholeBlocks.{payloads_arrive}
+use Rattle.ss_review.proofs.of_deliveries.WholeBlocks.{payloads_arrive}
 use Rattle.ss_review.proofs.laws.whole.payloads_arrive.Goals as goal
 
 pub returns : goal.returns

@@ -4,10 +4,10 @@ use Rattle.std.specs.Ordering.{nat_cmp}
 use Rattle.std.specs.BTreeMap.{is_at}
 use Rattle.std.specs.Map.{lookup}
 use Rattle.std.proofs.lemmas.List.{append_assoc, append-nil, drop_all, length-map, length-take-le, map_more}
-use Rattle.ss_review.specs.Assigning as assigning
-use Rattle.ss_review.specs.Assigning.{pairs_wanted, bearer_wanted, bearers_wanted, assigned_after, assigned_all}
-use Rattle.ss_review.proofs.Counting.{assigned_at}
-use Rattle.ss_review.proofs.Searching.{map_at}
+use Rattle.ss_review.specs.assign.Assigning as assigning
+use Rattle.ss_review.specs.assign.Assigning.{pairs_wanted, bearer_wanted, bearers_wanted, assigned_after, assigned_all}
+use Rattle.ss_review.proofs.of_lists.Counting.{assigned_at}
+use Rattle.ss_review.proofs.of_lists.Searching.{map_at}
 use Rattle.ss_review.proofs.plain.assign.assign.Goals as goal
 
 pub loop-bearer-init : goal.loop-bearer-init

@@ -3,8 +3,8 @@ use Rattle.std.proofs.Common.{◌≡◌, ◌++◌, [], List, take, drop, map}
 use Rattle.std.specs.Ordering.{nat_cmp}
 use Rattle.std.specs.List.Sorted.{IsStrictlySortedBy}
 use Rattle.ss_review.specs.declared.keep.message.NormalMessage.{NormalMessage}
-use Rattle.ss_review.specs.Assigning.{pairs_wanted, bearers_wanted, assigned_after, Counts}
-use Rattle.ss_review.specs.Keeping.{KeepsNormal}
+use Rattle.ss_review.specs.assign.Assigning.{pairs_wanted, bearers_wanted, assigned_after, Counts}
+use Rattle.ss_review.specs.keep.Keeping.{KeepsNormal}
 use Rattle.ss_review.proofs.plain.assign.assign.Given as goal
 
 abbrev pub invariant-loop-bearer : goal.invariant-loop-bearer

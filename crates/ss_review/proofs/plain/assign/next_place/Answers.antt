@@ -3,10 +3,10 @@ use Rattle.std.specs.Prelude.{Some, count_by, slice_get}
 use Rattle.std.specs.Ordering.{nat_cmp, is_eq}
 use Rattle.std.specs.BTreeMap as tree
 use Rattle.std.proofs.lemmas.List.Sums.{count_by-le-length}
-use Rattle.ss_review.specs.Assigned.{places_with}
-use Rattle.ss_review.specs.Assigning.{is_at, count_of, Counts}
-use Rattle.ss_review.proofs.BearersWanted.{begins, place_by_bearer, no_place}
-use Rattle.ss_review.proofs.Counting.{counted}
+use Rattle.ss_review.specs.assign.Assigned.{places_with}
+use Rattle.ss_review.specs.assign.Assigning.{is_at, count_of, Counts}
+use Rattle.ss_review.proofs.of_assignment.BearersWanted.{begins, place_by_bearer, no_place}
+use Rattle.ss_review.proofs.of_lists.Counting.{counted}
 use Rattle.ss_review.proofs.plain.assign.next_place.Goals as goal
 
 pub returns-in_default-clause-place : goal.returns-in_default-clause-place

@@ -2,7 +2,7 @@ use Rattle.std.proofs.Common.{◌++◌, ◌∷◌, [], map, length, rules, sym, 
 use Rattle.std.specs.Map.Iter.{deref_pair}
 use Rattle.std.proofs.lemmas.List.{map-append, length-map, with_items_is}
 use Rattle.std.proofs.lemmas.Map.Iter.{iter_end}
-use Rattle.ss_review.specs.Bearing.{bearer_among}
+use Rattle.ss_review.specs.assign.Bearing.{bearer_among}
 use Rattle.ss_review.proofs.plain.bearers.all_bearers.Goals as goal
 
 pub loop-pair-init : goal.loop-pair-init

@@ -8,7 +8,7 @@ use Rattle.std.proofs.lemmas.List.Elements.{filter_map-append}
 use Rattle.ss_block.specs.declared.hash.Hash.{Hash}
 use Rattle.ss_block.specs.OrderLaws.{hash_cmp_exact}
 use Rattle.ss_origin.proofs.Members.{Has, has_from_contains, contains_from_has}
-use Rattle.ss_review.proofs.Members.{has-filter_map, from_has-filter_map}
+use Rattle.ss_review.proofs.of_lists.Members.{has-filter_map, from_has-filter_map}
 use Rattle.ss_review.proofs.plain.bearers.distinct.Goals as goal
 
 pub loop-hash-preserved : goal.loop-hash-preserved

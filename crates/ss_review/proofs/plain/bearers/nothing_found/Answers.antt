@@ -2,7 +2,7 @@ use Rattle.std.proofs.Common.{◌++◌, ◌∷◌, [], sym, ap, ◌∙◌}
 use Rattle.std.specs.Prelude.{None}
 use Rattle.std.proofs.lemmas.List.{map_more}
 use Rattle.ss_block.specs.declared.hash.Hash.TheVariants as hashes
-use Rattle.ss_review.specs.Bearing.{bearer_among}
+use Rattle.ss_review.specs.assign.Bearing.{bearer_among}
 use Rattle.ss_review.proofs.plain.bearers.nothing_found.Goals as goal
 
 pub loop-hash-preserved : goal.loop-hash-preserved

@@ -1,6 +1,6 @@
 -- None was found for the hashes so far.
 use Rattle.std.proofs.Common.{◌≡◌, map, take, []}
-use Rattle.ss_review.specs.Bearing.{bearer_among}
+use Rattle.ss_review.specs.assign.Bearing.{bearer_among}
 use Rattle.ss_review.proofs.plain.bearers.nothing_found.Given as goal
 
 abbrev pub invariant-loop-hash : goal.invariant-loop-hash

@@ -1,11 +1,11 @@
 use Rattle.std.proofs.Common.{◌≡◌, get_or, ap, ◌∙◌, subst, slice_set}
 use Rattle.std.specs.Prelude.{None}
 use Rattle.ss_block.specs.OrderLaws.{hash_cmp_total, hash_cmp_exact}
-use Rattle.ss_review.specs.Bearing.{earlier}
-use Rattle.ss_review.proofs.Bearings.{with_one, told_itself, untold}
-use Rattle.ss_review.proofs.Searching.{map_at, change_at, found_at, not_found}
+use Rattle.ss_review.specs.assign.Bearing.{earlier}
+use Rattle.ss_review.proofs.of_assignment.Bearings.{with_one, told_itself, untold}
+use Rattle.ss_review.proofs.of_lists.Searching.{map_at, change_at, found_at, not_found}
 use Rattle.ss_origin.proofs.Members.{Has}
-use Rattle.ss_review.proofs.Sections.{map_agree}
+use Rattle.ss_review.proofs.of_lists.Sections.{map_agree}
 use Rattle.ss_review.proofs.plain.bearers.tell_hash.Goals as goal
 
 pub returns-then-index-found : goal.returns-then-index-found

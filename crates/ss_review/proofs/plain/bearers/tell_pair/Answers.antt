@@ -1,8 +1,8 @@
 use Rattle.std.proofs.Common.{◌∙◌}
 use Rattle.ss_block.specs.declared.hash.Hash.TheVariants as hashes
 use Rattle.ss_review.specs.declared.keep.message.NormalMessage.{NormalMessage}
-use Rattle.ss_review.specs.Bearing.{bearer_among}
-use Rattle.ss_review.proofs.Bearings.{with_one, told_pair, map_all}
+use Rattle.ss_review.specs.assign.Bearing.{bearer_among}
+use Rattle.ss_review.proofs.of_assignment.Bearings.{with_one, told_pair, map_all}
 use Rattle.ss_review.proofs.plain.bearers.tell_pair.Goals as goal
 
 pub returns : goal.returns

@@ -4,8 +4,8 @@ use Rattle.std.specs.BTreeMap.{BTreeMap, get, get_key, ContainsKey, Updates}
 use Rattle.std.specs.BTreeMap.Entry.{MatchEntry, map_with_value, entry_key, entry_value}
 use Rattle.ss_block.specs.declared.hash.HashPair.{HashPair}
 use Rattle.ss_block.specs.Order.{pair_cmp}
-use Rattle.ss_review.specs.Keeping.{places_in}
-use Rattle.ss_review.proofs.Keeping.{put_back}
+use Rattle.ss_review.specs.keep.Keeping.{places_in}
+use Rattle.ss_review.proofs.of_kept_messages.Keeping.{put_back}
 use Rattle.ss_review.proofs.plain.places_by_hashes.add_place.Goals as goal
 
 -- what is written through an entry stands under its pair

@@ -1,8 +1,8 @@
 use Rattle.std.proofs.Common.{◌≡◌, ◌+◌, ◌∷◌, [], ◌++◌, length, take, refl, sym, ap, ◌∙◌, subst, arith}
 use Rattle.std.proofs.lemmas.List.{length-map, length-take-le, map-append, take_more}
-use Rattle.ss_review.specs.Notes.{note, notes}
-use Rattle.ss_review.specs.Contents.{normals, blocks, spoilts}
-use Rattle.ss_review.specs.Keeping.{SortedOut}
+use Rattle.ss_review.specs.keep.Notes.{note, notes}
+use Rattle.ss_review.specs.keep.Contents.{normals, blocks, spoilts}
+use Rattle.ss_review.specs.keep.Keeping.{SortedOut}
 use Rattle.ss_review.proofs.plain.sorted.sort_out.Goals as goal
 
 pub loop-message-init : goal.loop-message-init

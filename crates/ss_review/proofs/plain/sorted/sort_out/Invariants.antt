@@ -1,7 +1,7 @@
 -- The messages so far, by what they are.
 use Rattle.std.proofs.Common.{◌^◌, ◌<◌, length, take}
-use Rattle.ss_review.specs.Notes.{notes}
-use Rattle.ss_review.specs.Keeping.{SortedOut}
+use Rattle.ss_review.specs.keep.Notes.{notes}
+use Rattle.ss_review.specs.keep.Keeping.{SortedOut}
 use Rattle.ss_review.proofs.plain.sorted.sort_out.Given as goal
 
 abbrev pub invariant-loop-message : goal.invariant-loop-message

@@ -1,7 +1,7 @@
 use Rattle.std.proofs.Common.{◌++◌, sym, ap, ◌∙◌}
-use Rattle.ss_review.specs.Questions.{asked, session_questions, questions_shared}
-use Rattle.ss_review.specs.Sectioned.{referred}
-use Rattle.ss_review.proofs.AskedShared.{shared_push, session_shared}
+use Rattle.ss_review.specs.questions.Questions.{asked, session_questions, questions_shared}
+use Rattle.ss_review.specs.sessions.Sectioned.{referred}
+use Rattle.ss_review.proofs.of_questions.AskedShared.{shared_push, session_shared}
 use Rattle.ss_review.proofs.questions.asking.add_session.Goals as goal
 
 pub returns-in_ok-push-in-Ok : goal.returns-in_ok-push-in-Ok

@@ -1,9 +1,9 @@
 use Rattle.std.proofs.Common.{◌++◌, drop, sym, ap, ◌∙◌}
 use Rattle.std.specs.Prelude.{flat_map}
 use Rattle.std.proofs.lemmas.List.{append-nil, append_assoc}
-use Rattle.ss_review.specs.Questions.{questions_shared}
-use Rattle.ss_review.specs.Sectioned.{sections, referred}
-use Rattle.ss_review.proofs.SectionsTold.{section_asked, questions_asked, some_of, no_sections}
+use Rattle.ss_review.specs.questions.Questions.{questions_shared}
+use Rattle.ss_review.specs.sessions.Sectioned.{sections, referred}
+use Rattle.ss_review.proofs.of_sessions.SectionsTold.{section_asked, questions_asked, some_of, no_sections}
 use Rattle.ss_review.proofs.questions.asking.asked_in_turn.Goals as goal
 
 pub loop-start-init : goal.loop-start-init

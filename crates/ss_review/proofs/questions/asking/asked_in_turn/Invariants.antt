@@ -1,9 +1,9 @@
 -- The questions so far, and those about the blocks that are left, are all.
 use Rattle.std.proofs.Common.{◌≡◌, ◌++◌, ◌-◌, length, drop}
 use Rattle.std.specs.Prelude.{flat_map}
-use Rattle.ss_review.specs.Questions.{questions, questions_shared}
-use Rattle.ss_review.specs.Sectioned.{sections, referred}
-use Rattle.ss_review.proofs.SectionsTold.{section_asked}
+use Rattle.ss_review.specs.questions.Questions.{questions, questions_shared}
+use Rattle.ss_review.specs.sessions.Sectioned.{sections, referred}
+use Rattle.ss_review.proofs.of_sessions.SectionsTold.{section_asked}
 use Rattle.ss_review.proofs.questions.asking.asked_in_turn.Given as goal
 
 abbrev pub invariant-loop-start : goal.invariant-loop-start

@@ -1,8 +1,8 @@
 use Rattle.std.proofs.Common.{sym, ap, ◌∙◌}
 use Rattle.std.specs.Prelude.{flat_map}
-use Rattle.ss_review.specs.Questions.{questions, questions_shared}
-use Rattle.ss_review.specs.Sectioned.{referred}
-use Rattle.ss_review.proofs.SectionsTold.{section_asked, questions_asked}
+use Rattle.ss_review.specs.questions.Questions.{questions, questions_shared}
+use Rattle.ss_review.specs.sessions.Sectioned.{referred}
+use Rattle.ss_review.proofs.of_sessions.SectionsTold.{section_asked, questions_asked}
 use Rattle.ss_review.proofs.questions.asking.asked_sessions.Goals as goal
 
 pub returns : goal.returns

@@ -1,7 +1,7 @@
 -- The questions so far.
 use Rattle.std.proofs.Common.{◌≡◌, ◌++◌, ◌∷◌, map, take}
 use Rattle.ss_review.specs.declared.questions.question.Question.TheVariants as question
-use Rattle.ss_review.specs.Questions.{question_under}
+use Rattle.ss_review.specs.questions.Questions.{question_under}
 use Rattle.ss_review.proofs.questions.asking.put_questions.Given as goal
 
 abbrev pub invariant-loop-block : goal.invariant-loop-block

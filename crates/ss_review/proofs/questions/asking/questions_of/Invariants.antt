@@ -1,7 +1,7 @@
 -- The questions so far.
 use Rattle.std.proofs.Common.{◌≡◌, take}
 use Rattle.std.specs.Prelude.{flat_map}
-use Rattle.ss_review.specs.Questions.{session_questions}
+use Rattle.ss_review.specs.questions.Questions.{session_questions}
 use Rattle.ss_review.proofs.questions.asking.questions_of.Given as goal
 
 abbrev pub invariant-loop-session : goal.invariant-loop-session

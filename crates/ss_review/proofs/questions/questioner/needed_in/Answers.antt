@@ -1,7 +1,7 @@
 use Rattle.std.proofs.Common.{[], ◌∷◌, map, sym, ap, ◌∙◌}
 use Rattle.std.specs.List.{cons_option}
-use Rattle.ss_review.specs.Questions.{needed}
-use Rattle.ss_review.proofs.NotedBlocks.{block_held, none_held}
+use Rattle.ss_review.specs.questions.Questions.{needed}
+use Rattle.ss_review.proofs.of_kept_messages.NotedBlocks.{block_held, none_held}
 use Rattle.ss_review.proofs.questions.questioner.needed_in.Goals as goal
 
 pub returns-then-not-may_hold_block-clause-same : goal.returns-then-not-may_hold_block-clause-same

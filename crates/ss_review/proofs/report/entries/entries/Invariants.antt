@@ -1,6 +1,6 @@
 -- The entries so far, and those of the rest behind the last number, are all.
 use Rattle.std.proofs.Common.{◌≡◌, ◌++◌, drop, map}
-use Rattle.ss_review.specs.Grouped.{with_entry, entries_after}
+use Rattle.ss_review.specs.report.Grouped.{with_entry, entries_after}
 use Rattle.ss_review.proofs.report.entries.entries.Given as goal
 
 abbrev pub invariant-loop-number : goal.invariant-loop-number

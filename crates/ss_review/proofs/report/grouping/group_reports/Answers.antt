@@ -2,9 +2,9 @@ use Rattle.std.proofs.Common.{◌≡◌, ◌+◌, ◌-◌, ◌∷◌, [], ◌++�
 use Rattle.std.proofs.lemmas.List.{append_assoc, append-nil, length-drop, drop_all, take_rest}
 use Rattle.std.specs.List.{take_while}
 use Rattle.ss_review.specs.Ordered.{in_order}
-use Rattle.ss_review.specs.Entries.{same_group}
-use Rattle.ss_review.specs.Grouped.{groups_told}
-use Rattle.ss_review.proofs.GroupsTold.{groups_more}
+use Rattle.ss_review.specs.report.Entries.{same_group}
+use Rattle.ss_review.specs.report.Grouped.{groups_told}
+use Rattle.ss_review.proofs.of_reports.GroupsTold.{groups_more}
 use Rattle.ss_review.proofs.report.grouping.group_reports.Goals as goal
 
 pub loop-start-preserved : goal.loop-start-preserved

@@ -1,6 +1,6 @@
 -- The groups so far, and those of the rest, are all.
 use Rattle.std.proofs.Common.{◌≡◌, ◌≤◌, ◌-◌, ◌++◌, length, drop}
-use Rattle.ss_review.specs.Grouped.{GroupsRise, groups_told}
+use Rattle.ss_review.specs.report.Grouped.{GroupsRise, groups_told}
 use Rattle.ss_review.proofs.report.grouping.group_reports.Given as goal
 
 abbrev pub invariant-loop-start : goal.invariant-loop-start

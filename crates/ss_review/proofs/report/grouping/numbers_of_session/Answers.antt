@@ -1,7 +1,7 @@
 use Rattle.std.proofs.Common.{rules, sym, subst, ◌∙◌}
 use Rattle.std.specs.List.Sorted.{IsPartitionedBy}
 use Rattle.std.proofs.lemmas.List.Sorted.{IsPartitionPoint-from_clause}
-use Rattle.ss_review.proofs.SessionRange.{Parts, before, within, before_parted, within_parted, range_is}
+use Rattle.ss_review.proofs.of_numbers.SessionRange.{Parts, before, within, before_parted, within_parted, range_is}
 use Rattle.ss_review.proofs.report.grouping.numbers_of_session.Goals as goal
 
 pub returns : goal.returns

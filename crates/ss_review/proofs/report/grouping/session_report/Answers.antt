@@ -1,6 +1,6 @@
 use Rattle.std.proofs.Common.{◌≡◌, sym, ap, ◌∙◌, subst}
-use Rattle.ss_review.specs.Grouped.{GroupsRise, numbers_of_session, groups_told}
-use Rattle.ss_review.proofs.GroupsTold.{own_groups_rise, numbers_stand, groups_are}
+use Rattle.ss_review.specs.report.Grouped.{GroupsRise, numbers_of_session, groups_told}
+use Rattle.ss_review.proofs.of_reports.GroupsTold.{own_groups_rise, numbers_stand, groups_are}
 use Rattle.ss_review.proofs.report.grouping.session_report.Goals as goal
 
 pub returns : goal.returns

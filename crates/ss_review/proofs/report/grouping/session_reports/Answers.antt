@@ -1,8 +1,8 @@
 use Rattle.std.proofs.Common.{map, ap, ◌∙◌}
 use Rattle.std.proofs.lemmas.List.{take_all}
-use Rattle.ss_review.specs.Numbered.{session_with_joined}
-use Rattle.ss_review.specs.Grouped.{session_told}
-use Rattle.ss_review.proofs.GroupsTold.{sessions_are}
+use Rattle.ss_review.specs.announced.Numbered.{session_with_joined}
+use Rattle.ss_review.specs.report.Grouped.{session_told}
+use Rattle.ss_review.proofs.of_reports.GroupsTold.{sessions_are}
 use Rattle.ss_review.proofs.report.grouping.session_reports.Goals as goal
 
 pub returns : goal.returns

@@ -1,8 +1,8 @@
 use Rattle.std.proofs.Common.{◌≡◌, map, ap, ◌∙◌}
 use Rattle.std.proofs.lemmas.Result.{IfOk-weaker}
-use Rattle.ss_review.specs.Announced.{keys}
-use Rattle.ss_review.specs.Grouped.{numbered, with_entry, with_entries}
-use Rattle.ss_review.proofs.EntriesTold.{numbered_are}
+use Rattle.ss_review.specs.announced.Announced.{keys}
+use Rattle.ss_review.specs.report.Grouped.{numbered, with_entry, with_entries}
+use Rattle.ss_review.proofs.of_reports.EntriesTold.{numbered_are}
 use Rattle.ss_review.proofs.report.number_entry.with_entries.Goals as goal
 
 pub returns : goal.returns

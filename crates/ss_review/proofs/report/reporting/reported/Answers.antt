@@ -1,12 +1,12 @@
 use Rattle.std.proofs.Common.{◌≡◌, map, refl, sym, ap, ◌∙◌}
-use Rattle.ss_review.specs.Contents.{Contents}
-use Rattle.ss_review.specs.Verified.{is_verified}
-use Rattle.ss_review.specs.Announced.{rows}
-use Rattle.ss_review.specs.Assigning.{assigned_all}
-use Rattle.ss_review.specs.Numbered.{key_of, session_with_joined, sessions_joined}
+use Rattle.ss_review.specs.keep.Contents.{Contents}
+use Rattle.ss_review.specs.sessions.Verified.{is_verified}
+use Rattle.ss_review.specs.announced.Announced.{rows}
+use Rattle.ss_review.specs.assign.Assigning.{assigned_all}
+use Rattle.ss_review.specs.announced.Numbered.{key_of, session_with_joined, sessions_joined}
 use Rattle.ss_review.specs.declared.report.report.Report.{Report}
-use Rattle.ss_review.specs.Report.{refused, report_of}
-use Rattle.ss_review.proofs.Wanting.{assigned_is}
+use Rattle.ss_review.specs.report.Report.{refused, report_of}
+use Rattle.ss_review.proofs.of_assignment.Wanting.{assigned_is}
 use Rattle.ss_review.proofs.report.reporting.reported.Goals as goal
 
 pub returns : goal.returns

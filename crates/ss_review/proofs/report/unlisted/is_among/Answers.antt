@@ -1,6 +1,6 @@
 use Rattle.std.proofs.Common.{◌∙◌}
 use Rattle.std.proofs.lemmas.List.Sorted.{searched}
-use Rattle.ss_review.proofs.NotTaken.{among_is}
+use Rattle.ss_review.proofs.of_assignment.NotTaken.{among_is}
 use Rattle.ss_review.proofs.report.unlisted.is_among.Goals as goal
 
 pub returns : goal.returns

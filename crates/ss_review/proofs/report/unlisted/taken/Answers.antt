@@ -1,7 +1,7 @@
 use Rattle.std.proofs.Common.{ℕ, ◌==◌, sym, ap, ◌∙◌}
 use Rattle.std.specs.List.{list_any}
 use Rattle.std.proofs.lemmas.List.Sorted.{IsNonDecreasingBy-from_sort, list_any-IsPermutation}
-use Rattle.ss_review.proofs.NotTaken.{any_given}
+use Rattle.ss_review.proofs.of_assignment.NotTaken.{any_given}
 use Rattle.ss_review.proofs.report.unlisted.taken.Goals as goal
 
 pub returns-clause-rise : goal.returns-clause-rise

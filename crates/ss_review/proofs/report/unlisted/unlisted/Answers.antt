@@ -1,7 +1,7 @@
 use Rattle.std.proofs.Common.{◌==◌, not, filter, ap, ◌∙◌}
 use Rattle.std.specs.List.{list_any}
-use Rattle.ss_review.specs.Assigned.{is_place}
-use Rattle.ss_review.proofs.NotTaken.{untaken}
+use Rattle.ss_review.specs.assign.Assigned.{is_place}
+use Rattle.ss_review.proofs.of_assignment.NotTaken.{untaken}
 use Rattle.ss_review.proofs.report.unlisted.unlisted.Goals as goal
 
 pub returns : goal.returns

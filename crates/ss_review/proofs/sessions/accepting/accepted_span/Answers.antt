@@ -1,6 +1,6 @@
 use Rattle.std.proofs.Common.{refl}
-use Rattle.ss_review.specs.Verified.{answers, is_valid}
-use Rattle.ss_review.proofs.EqualBlocks.{valid_alike}
+use Rattle.ss_review.specs.sessions.Verified.{answers, is_valid}
+use Rattle.ss_review.proofs.of_sessions.EqualBlocks.{valid_alike}
 use Rattle.ss_review.proofs.sessions.accepting.accepted_span.Goals as goal
 
 pub returns-then-branch-clause-kept : goal.returns-then-branch-clause-kept

@@ -2,10 +2,10 @@ use Rattle.std.proofs.Common.{[], ◌∷◌, ◌++◌, take, map, filter, Bor, s
 use Rattle.std.specs.List.{cons_option}
 use Rattle.std.proofs.lemmas.List.{append-nil}
 use Rattle.ss_review.specs.declared.keep.message.BlockMessage.{BlockMessage}
-use Rattle.ss_review.specs.Payloads.{certificates}
-use Rattle.ss_review.specs.Verified.{answers, is_valid}
-use Rattle.ss_review.specs.Covering.{spans_of}
-use Rattle.ss_review.proofs.Covering.{accepted_more}
+use Rattle.ss_review.specs.sessions.Payloads.{certificates}
+use Rattle.ss_review.specs.sessions.Verified.{answers, is_valid}
+use Rattle.ss_review.specs.sessions.Covering.{spans_of}
+use Rattle.ss_review.proofs.of_sessions.Covering.{accepted_more}
 use Rattle.ss_review.proofs.sessions.accepting.accepted_spans.Goals as goal
 use Rattle.ss_review.proofs.sessions.accepting.accepted_spans.Goals.{in-Some+in_ok-push-in-Some, in-None}
 

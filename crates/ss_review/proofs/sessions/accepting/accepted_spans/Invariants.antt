@@ -1,9 +1,9 @@
 -- The spans of the blocks so far.
 use Rattle.std.proofs.Common.{◌≡◌, take, map, filter}
-use Rattle.ss_review.specs.Payloads.{certificates}
-use Rattle.ss_review.specs.Verified.{answers, is_valid}
-use Rattle.ss_review.specs.Covering.{spans_of}
-use Rattle.ss_review.specs.FoundBlocks.{KeepsWhatHolds}
+use Rattle.ss_review.specs.sessions.Payloads.{certificates}
+use Rattle.ss_review.specs.sessions.Verified.{answers, is_valid}
+use Rattle.ss_review.specs.sessions.Covering.{spans_of}
+use Rattle.ss_review.specs.sessions.FoundBlocks.{KeepsWhatHolds}
 use Rattle.ss_review.proofs.sessions.accepting.accepted_spans.Given as goal
 
 abbrev pub invariant-loop-message : goal.invariant-loop-message

@@ -1,7 +1,7 @@
 use Rattle.std.proofs.Common.{map, filter, Bor, ◌∙◌}
 use Rattle.ss_review.specs.declared.keep.message.BlockMessage.{BlockMessage}
-use Rattle.ss_review.specs.Payloads.{certificates}
-use Rattle.ss_review.specs.Verified.{answers, is_valid}
+use Rattle.ss_review.specs.sessions.Payloads.{certificates}
+use Rattle.ss_review.specs.sessions.Verified.{answers, is_valid}
 use Rattle.ss_review.proofs.sessions.accepting.is_accepted.Goals as goal
 
 pub returns : goal.returns

@@ -1,7 +1,7 @@
 use Rattle.std.proofs.Common.{◌≡◌, map, Bor, sym, ap, ◌∙◌, subst}
 use Rattle.std.specs.Prelude.{IfOk}
 use Rattle.ss_review.specs.declared.keep.message.BlockMessage.{BlockMessage}
-use Rattle.ss_review.specs.Verified.{answers, judged, joined}
+use Rattle.ss_review.specs.sessions.Verified.{answers, judged, joined}
 use Rattle.ss_review.proofs.sessions.accepting.joined.Goals as goal
 
 pub returns-in-Ok : goal.returns-in-Ok

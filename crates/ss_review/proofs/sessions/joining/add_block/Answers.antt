@@ -4,8 +4,8 @@ use Rattle.std.specs.List.{cons_option}
 use Rattle.std.proofs.lemmas.List.{append-nil}
 use Rattle.ss_block.specs.Joiner.{Stands}
 use Rattle.ss_review.specs.declared.keep.message.Said.{Said}
-use Rattle.ss_review.specs.Payloads.{certificate_of}
-use Rattle.ss_review.specs.Stated.{stated_in_turn}
+use Rattle.ss_review.specs.sessions.Payloads.{certificate_of}
+use Rattle.ss_review.specs.sessions.Stated.{stated_in_turn}
 use Rattle.ss_review.proofs.sessions.joining.add_block.Goals as goal
 
 pub returns-in-Hashes : goal.returns-in-Hashes

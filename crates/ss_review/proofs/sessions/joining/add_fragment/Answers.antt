@@ -1,8 +1,8 @@
 use Rattle.std.proofs.Common.{sym, subst, ◌∙◌}
 use Rattle.ss_block.specs.Joiner.{Stands}
 use Rattle.ss_block.specs.Joining.{with_fragment}
-use Rattle.ss_review.specs.Stated.{stated_in_turn}
-use Rattle.ss_review.proofs.Stating.{stated_push}
+use Rattle.ss_review.specs.sessions.Stated.{stated_in_turn}
+use Rattle.ss_review.proofs.of_sessions.Stating.{stated_push}
 use Rattle.ss_review.proofs.sessions.joining.add_fragment.Goals as goal
 
 pub returns : goal.returns

@@ -1,9 +1,9 @@
 use Rattle.std.proofs.Common.{take, map, sym, subst, Bor}
 use Rattle.ss_block.specs.Joiner.{Stands}
 use Rattle.ss_review.specs.declared.keep.message.BlockMessage.{BlockMessage}
-use Rattle.ss_review.specs.Payloads.{certificates}
-use Rattle.ss_review.specs.Stated.{stated_in_turn}
-use Rattle.ss_review.proofs.Stating.{certificates_more}
+use Rattle.ss_review.specs.sessions.Payloads.{certificates}
+use Rattle.ss_review.specs.sessions.Stated.{stated_in_turn}
+use Rattle.ss_review.proofs.of_sessions.Stating.{certificates_more}
 use Rattle.ss_review.proofs.sessions.joining.joined_fragments.Goals as goal
 
 pub loop-message-preserved : goal.loop-message-preserved

@@ -4,9 +4,9 @@ use Rattle.ss_payload.specs.declared.joiner.JoinState.TheVariants.{Whole}
 use Rattle.ss_block.specs.Joining.{HasState, IsPayload}
 use Rattle.ss_review.specs.declared.keep.message.BlockMessage.{BlockMessage}
 use Rattle.ss_review.specs.declared.report.session_report.SessionState.{SessionState}
-use Rattle.ss_review.specs.Payloads.{certificates}
-use Rattle.ss_review.specs.Stated.{stated_in_turn}
-use Rattle.ss_review.proofs.Stating.{stated_in_turn-IsStatedBy, whole_payload, unjoined_payload}
+use Rattle.ss_review.specs.sessions.Payloads.{certificates}
+use Rattle.ss_review.specs.sessions.Stated.{stated_in_turn}
+use Rattle.ss_review.proofs.of_sessions.Stating.{stated_in_turn-IsStatedBy, whole_payload, unjoined_payload}
 use Rattle.ss_review.proofs.sessions.joining.stated_payload.Goals as goal
 
 pub returns-in-Some : goal.returns-in-Some

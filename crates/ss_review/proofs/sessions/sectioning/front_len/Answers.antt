@@ -1,6 +1,6 @@
 use Rattle.std.proofs.Common.{sym, arith}
 use Rattle.std.proofs.lemmas.Bool.{not-true, not-false}
-use Rattle.ss_review.proofs.BySession.{front_more, front_over}
+use Rattle.ss_review.proofs.of_sessions.BySession.{front_more, front_over}
 use Rattle.ss_review.proofs.sessions.sectioning.front_len.Goals as goal
 
 pub returns-then-ne-clause-front : goal.returns-then-ne-clause-front

@@ -1,6 +1,6 @@
 -- The blocks so far are of the session.
 use Rattle.std.proofs.Common.{◌≡◌, ◌+◌, length, drop}
-use Rattle.ss_review.specs.Sectioned.{referred, front}
+use Rattle.ss_review.specs.sessions.Sectioned.{referred, front}
 use Rattle.ss_review.proofs.sessions.sectioning.front_len.Given as goal
 
 abbrev pub invariant-loop-index : goal.invariant-loop-index

@@ -1,5 +1,5 @@
 use Rattle.std.proofs.lemmas.List.{take_rest}
-use Rattle.ss_review.proofs.BySession.{ends_section}
+use Rattle.ss_review.proofs.of_sessions.BySession.{ends_section}
 use Rattle.ss_review.proofs.sessions.sectioning.section_end.Goals as goal
 
 pub returns : goal.returns

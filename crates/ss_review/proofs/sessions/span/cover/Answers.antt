@@ -1,6 +1,6 @@
 use Rattle.std.proofs.Common.{subst}
-use Rattle.ss_review.specs.Covering.{IsFirstUncovered}
-use Rattle.ss_review.proofs.Covering.{cover_is, first_permuted, starts_rise}
+use Rattle.ss_review.specs.sessions.Covering.{IsFirstUncovered}
+use Rattle.ss_review.proofs.of_sessions.Covering.{cover_is, first_permuted, starts_rise}
 use Rattle.ss_review.proofs.sessions.span.cover.Goals as goal
 
 pub first_uncovered-requires : goal.first_uncovered-requires

@@ -1,4 +1,4 @@
-use Rattle.ss_review.proofs.Covering.{nothing_reached, first_before, first_at_end}
+use Rattle.ss_review.proofs.of_sessions.Covering.{nothing_reached, first_before, first_at_end}
 use Rattle.ss_review.proofs.sessions.span.first_uncovered.Goals as goal
 
 pub loop-span-init : goal.loop-span-init

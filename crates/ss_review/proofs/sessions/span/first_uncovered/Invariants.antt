@@ -1,5 +1,5 @@
 -- All spans so far end there, and all before it is covered.
-use Rattle.ss_review.proofs.Covering.{IsReached}
+use Rattle.ss_review.proofs.of_sessions.Covering.{IsReached}
 use Rattle.ss_review.proofs.sessions.span.first_uncovered.Given as goal
 
 abbrev pub invariant-loop-span : goal.invariant-loop-span

@@ -1,9 +1,9 @@
 use Rattle.std.proofs.Common.{◌++◌, drop, map, sym, ap, ◌∙◌}
 use Rattle.std.proofs.lemmas.List.{append-nil}
-use Rattle.ss_review.specs.Sectioned.{sections, referred}
-use Rattle.ss_review.specs.Verified.{answers}
-use Rattle.ss_review.specs.Numbered.{session_with_joined}
-use Rattle.ss_review.proofs.SectionsTold.{section_joined, sections_joined, one_more, no_sections}
+use Rattle.ss_review.specs.sessions.Sectioned.{sections, referred}
+use Rattle.ss_review.specs.sessions.Verified.{answers}
+use Rattle.ss_review.specs.announced.Numbered.{session_with_joined}
+use Rattle.ss_review.proofs.of_sessions.SectionsTold.{section_joined, sections_joined, one_more, no_sections}
 use Rattle.ss_review.proofs.sessions.states.joined_sections.Goals as goal
 
 pub loop-start-init : goal.loop-start-init

@@ -1,9 +1,9 @@
 -- The sessions so far, and those of the blocks that are left, are all.
 use Rattle.std.proofs.Common.{◌≡◌, ◌++◌, ◌-◌, length, drop, map}
-use Rattle.ss_review.specs.Sectioned.{sections, referred}
-use Rattle.ss_review.specs.Verified.{answers}
-use Rattle.ss_review.specs.Numbered.{session_with_joined, sessions_joined}
-use Rattle.ss_review.proofs.SectionsTold.{section_joined}
+use Rattle.ss_review.specs.sessions.Sectioned.{sections, referred}
+use Rattle.ss_review.specs.sessions.Verified.{answers}
+use Rattle.ss_review.specs.announced.Numbered.{session_with_joined, sessions_joined}
+use Rattle.ss_review.proofs.of_sessions.SectionsTold.{section_joined}
 use Rattle.ss_review.proofs.sessions.states.joined_sections.Given as goal
 
 abbrev pub invariant-loop-start : goal.invariant-loop-start

@@ -1,9 +1,9 @@
 use Rattle.std.proofs.Common.{◌≡◌, map, sym, ap, ◌∙◌, subst}
 use Rattle.std.specs.Prelude.{IfOk}
-use Rattle.ss_review.specs.Sectioned.{referred}
-use Rattle.ss_review.specs.Verified.{answers}
-use Rattle.ss_review.specs.Numbered.{session_with_joined, sessions_joined}
-use Rattle.ss_review.proofs.SectionsTold.{section_joined, sections_joined}
+use Rattle.ss_review.specs.sessions.Sectioned.{referred}
+use Rattle.ss_review.specs.sessions.Verified.{answers}
+use Rattle.ss_review.specs.announced.Numbered.{session_with_joined, sessions_joined}
+use Rattle.ss_review.proofs.of_sessions.SectionsTold.{section_joined, sections_joined}
 use Rattle.ss_review.proofs.sessions.states.joined_sessions.Goals as goal
 
 pub returns : goal.returns

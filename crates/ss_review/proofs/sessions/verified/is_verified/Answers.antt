@@ -2,9 +2,9 @@ use Rattle.std.proofs.Common.{rules, sym}
 use Rattle.std.proofs.lemmas.Fn.{always_returns_same}
 use Rattle.ss_block.specs.Order.{session_cmp}
 use Rattle.ss_review.specs.declared.sessions.joined_session.JoinedSession.{JoinedSession}
-use Rattle.ss_review.specs.Verified.{answers, is_verified}
-use Rattle.ss_review.proofs.EqualBlocks.{verified_alike}
-use Rattle.ss_review.proofs.Verifying.{found, not_found}
+use Rattle.ss_review.specs.sessions.Verified.{answers, is_verified}
+use Rattle.ss_review.proofs.of_sessions.EqualBlocks.{verified_alike}
+use Rattle.ss_review.proofs.of_sessions.Verifying.{found, not_found}
 use Rattle.ss_review.proofs.sessions.verified.is_verified.Goals as goal
 
 pub returns-in-Ok-clause-verified : goal.returns-in-Ok-clause-verified

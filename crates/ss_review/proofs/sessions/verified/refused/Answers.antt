@@ -1,7 +1,7 @@
 use Rattle.std.proofs.Common.{rules, ◌++◌, ◌∷◌, [], length, cond, ap, ◌∙◌, sym, get_or, length-append}
 use Rattle.std.proofs.lemmas.Slice.Zip.{zip_turn}
-use Rattle.ss_review.specs.Verified.{is_verified}
-use Rattle.ss_review.proofs.Verifying.{refused_more}
+use Rattle.ss_review.specs.sessions.Verified.{is_verified}
+use Rattle.ss_review.proofs.of_sessions.Verifying.{refused_more}
 use Rattle.ss_review.proofs.sessions.verified.refused.Goals as goal
 
 pub loop-block-preserved : goal.loop-block-preserved

@@ -1,6 +1,6 @@
 -- The places of those of the blocks so far that aren't verified.
 use Rattle.std.proofs.Common.{◌≡◌, not, length, take, map, filter}
-use Rattle.ss_review.specs.Verified.{Answers, is_verified}
+use Rattle.ss_review.specs.sessions.Verified.{Answers, is_verified}
 use Rattle.ss_review.proofs.sessions.verified.refused.Given as goal
 
 abbrev pub invariant-loop-block : goal.invariant-loop-block

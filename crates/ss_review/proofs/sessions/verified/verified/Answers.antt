@@ -1,4 +1,4 @@
-use Rattle.ss_review.specs.Verified.{answers, is_verified}
+use Rattle.ss_review.specs.sessions.Verified.{answers, is_verified}
 use Rattle.ss_review.proofs.sessions.verified.verified.Goals as goal
 
 pub loop-block-init : goal.loop-block-init

@@ -1,8 +1,8 @@
 -- Which of the blocks so far are verified.
 use Rattle.std.proofs.Common.{◌≡◌, take, map}
-use Rattle.ss_review.specs.Verified.{answers, is_verified}
-use Rattle.ss_review.specs.Numbered.{session_with_joined, sessions_joined}
-use Rattle.ss_review.specs.FoundBlocks.{KeepsWhatHolds}
+use Rattle.ss_review.specs.sessions.Verified.{answers, is_verified}
+use Rattle.ss_review.specs.announced.Numbered.{session_with_joined, sessions_joined}
+use Rattle.ss_review.specs.sessions.FoundBlocks.{KeepsWhatHolds}
 use Rattle.ss_review.proofs.sessions.verified.verified.Given as goal
 
 abbrev pub invariant-loop-block : goal.invariant-loop-block

@@ -1,9 +1,9 @@
 use Rattle.std.proofs.Common.{◌∙◌, arith}
 use Rattle.std.specs.Ordering.{is_lt}
 use Rattle.ss_block.specs.Order.{hash_cmp}
-use Rattle.ss_review.specs.StoredHashes.{hash_of, listed}
-use Rattle.ss_review.proofs.ListedHashes.{count_as}
-use Rattle.ss_review.proofs.Searches.{goes_on}
+use Rattle.ss_review.specs.assign.StoredHashes.{hash_of, listed}
+use Rattle.ss_review.proofs.of_assignment.ListedHashes.{count_as}
+use Rattle.ss_review.proofs.of_assignment.Searches.{goes_on}
 use Rattle.ss_review.proofs.assign.search.Search.find.Goals as goal
 
 pub overflow_add-self : goal.overflow_add-self

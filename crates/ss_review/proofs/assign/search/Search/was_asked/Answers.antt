@@ -5,7 +5,7 @@ use Rattle.std.proofs.lemmas.Cmp.{tied_itself}
 use Rattle.ss_block.specs.declared.hash.Hash.{Hash}
 use Rattle.ss_block.specs.Order.{hash_cmp}
 use Rattle.ss_block.specs.OrderLaws.{hash_cmp_total, hash_cmp_exact}
-use Rattle.ss_review.proofs.Searches.{tie_is}
+use Rattle.ss_review.proofs.of_assignment.Searches.{tie_is}
 use Rattle.ss_review.proofs.assign.search.Search.was_asked.Goals as goal
 
 pub returns-in-Some-clause-sound : goal.returns-in-Some-clause-sound

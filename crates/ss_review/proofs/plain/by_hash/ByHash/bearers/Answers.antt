@@ -1,6 +1,6 @@
 use Rattle.std.proofs.Common.{◌∙◌}
 use Rattle.std.proofs.lemmas.Result.{IfOk-weaker}
-use Rattle.ss_review.proofs.Bearings.{wanted_are}
+use Rattle.ss_review.proofs.of_assignment.Bearings.{wanted_are}
 use Rattle.ss_review.proofs.plain.by_hash.ByHash.bearers.Goals as goal
 
 pub returns : goal.returns

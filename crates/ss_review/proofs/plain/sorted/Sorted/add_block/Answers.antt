@@ -1,10 +1,10 @@
 use Rattle.std.proofs.Common.{[], ◌++◌, refl, sym, ap, ◌∙◌}
 use Rattle.std.specs.List.{cons_option}
-use Rattle.ss_review.specs.Notes.{Block}
-use Rattle.ss_review.specs.Contents.{block_in}
-use Rattle.ss_review.proofs.Ends.{blocks_push, spoilts_push}
-use Rattle.ss_review.proofs.Keeping.{normal_stays}
-use Rattle.ss_review.proofs.Sorting.{counted, stays}
+use Rattle.ss_review.specs.keep.Notes.{Block}
+use Rattle.ss_review.specs.keep.Contents.{block_in}
+use Rattle.ss_review.proofs.of_kept_messages.Ends.{blocks_push, spoilts_push}
+use Rattle.ss_review.proofs.of_kept_messages.Keeping.{normal_stays}
+use Rattle.ss_review.proofs.of_kept_messages.Sorting.{counted, stays}
 use Rattle.ss_review.proofs.plain.sorted.Sorted.add_block.Goals as goal
 
 pub returns : goal.returns

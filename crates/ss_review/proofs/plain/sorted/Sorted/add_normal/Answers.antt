@@ -1,10 +1,10 @@
 use Rattle.std.proofs.Common.{◌∷◌, [], ◌++◌, subst}
-use Rattle.ss_review.specs.Notes.{Normal}
-use Rattle.ss_review.specs.Contents.{normals}
-use Rattle.ss_review.specs.Keeping.{KeepsNormal}
-use Rattle.ss_review.proofs.Ends.{blocks_push, spoilts_push}
-use Rattle.ss_review.proofs.Keeping.{keeps_note}
-use Rattle.ss_review.proofs.Sorting.{counted, stays}
+use Rattle.ss_review.specs.keep.Notes.{Normal}
+use Rattle.ss_review.specs.keep.Contents.{normals}
+use Rattle.ss_review.specs.keep.Keeping.{KeepsNormal}
+use Rattle.ss_review.proofs.of_kept_messages.Ends.{blocks_push, spoilts_push}
+use Rattle.ss_review.proofs.of_kept_messages.Keeping.{keeps_note}
+use Rattle.ss_review.proofs.of_kept_messages.Sorting.{counted, stays}
 use Rattle.ss_review.proofs.plain.sorted.Sorted.add_normal.Goals as goal
 
 pub returns : goal.returns

@@ -1,8 +1,8 @@
 use Rattle.std.proofs.Common.{◌∷◌, [], ◌++◌, refl, sym, ◌∙◌}
-use Rattle.ss_review.specs.Notes.{Spoilt}
-use Rattle.ss_review.proofs.Ends.{blocks_push, spoilts_push}
-use Rattle.ss_review.proofs.Keeping.{normal_stays}
-use Rattle.ss_review.proofs.Sorting.{counted, stays}
+use Rattle.ss_review.specs.keep.Notes.{Spoilt}
+use Rattle.ss_review.proofs.of_kept_messages.Ends.{blocks_push, spoilts_push}
+use Rattle.ss_review.proofs.of_kept_messages.Keeping.{normal_stays}
+use Rattle.ss_review.proofs.of_kept_messages.Sorting.{counted, stays}
 use Rattle.ss_review.proofs.plain.sorted.Sorted.add_spoilt.Goals as goal
 
 pub returns : goal.returns

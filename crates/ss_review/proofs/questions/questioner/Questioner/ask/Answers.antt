@@ -1,7 +1,7 @@
 use Rattle.std.proofs.Common.{ap, ◌∙◌}
-use Rattle.ss_review.specs.Contents.{blocks}
-use Rattle.ss_review.specs.Questions.{questions}
-use Rattle.ss_review.proofs.NeededBlocks.{same_questions}
+use Rattle.ss_review.specs.keep.Contents.{blocks}
+use Rattle.ss_review.specs.questions.Questions.{questions}
+use Rattle.ss_review.proofs.of_questions.NeededBlocks.{same_questions}
 use Rattle.ss_review.proofs.questions.questioner.Questioner.ask.Goals as goal
 
 pub returns : goal.returns

@@ -1,8 +1,8 @@
 use Rattle.std.proofs.Common.{◌+◌, drop, get_or, sym, ap, ◌∙◌}
 use Rattle.std.proofs.lemmas.List.{drop_more}
 use Rattle.ss_review.specs.declared.report.entry.Entry.TheVariants as entry
-use Rattle.ss_review.specs.Counted.{next_number}
-use Rattle.ss_review.proofs.NextNumbers.{behind, behind_next}
+use Rattle.ss_review.specs.counted.Counted.{next_number}
+use Rattle.ss_review.proofs.of_reports.NextNumbers.{behind, behind_next}
 use Rattle.ss_review.proofs.report.group_report.GroupReport.next_number.Goals as goal
 
 pub loop-entry-init : goal.loop-entry-init

@@ -1,7 +1,7 @@
 -- The number behind the entries so far and those of the rest.
 use Rattle.std.proofs.Common.{◌≡◌, ◌^◌, ◌<◌, drop}
-use Rattle.ss_review.specs.Counted.{next_number}
-use Rattle.ss_review.proofs.NextNumbers.{behind}
+use Rattle.ss_review.specs.counted.Counted.{next_number}
+use Rattle.ss_review.proofs.of_reports.NextNumbers.{behind}
 use Rattle.ss_review.proofs.report.group_report.GroupReport.next_number.Given as goal
 
 abbrev pub invariant-loop-entry : goal.invariant-loop-entry

@@ -1,5 +1,5 @@
 use Rattle.std.proofs.Common.{◌∙◌}
-use Rattle.ss_review.proofs.EqualBlocks.{got_alike, found_at}
+use Rattle.ss_review.proofs.of_sessions.EqualBlocks.{got_alike, found_at}
 use Rattle.ss_review.proofs.sessions.found_blocks.FoundBlocks.get.Goals as goal
 
 pub returns-clause-value : goal.returns-clause-value

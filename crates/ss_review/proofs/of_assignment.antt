@@ -1,0 +1,14 @@
+pub mod BearersWanted
+pub mod Bearings
+pub mod StoredRuns
+pub mod NeededHashes
+pub mod ListedHashes
+pub mod AssignedPlaces
+pub mod Wanting
+pub mod OnePlaceOneKey
+pub mod NotTaken
+pub mod Dues
+pub mod FullPlaces
+pub mod DifferentPairs
+pub mod StoredPairs
+pub mod Searches

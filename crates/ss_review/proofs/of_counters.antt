@@ -1,0 +1,14 @@
+pub mod MissingRuns
+pub mod CountedTold
+pub mod CountedMeant
+pub mod CountedRange
+pub mod KeptBySession
+pub mod KeptNumbers
+pub mod KnownSessions
+pub mod Shortfalls
+pub mod KeptBlocks
+pub mod Fates
+pub mod CleanUpTo
+pub mod CountersGiven
+pub mod CountersInRange
+pub mod LostTold

@@ -1,0 +1,10 @@
+pub mod Ends
+pub mod Keeping
+pub mod Bounds
+pub mod TextsTold
+pub mod NotedBlocks
+pub mod StoredTold
+pub mod NotesTold
+pub mod PlacesRise
+pub mod Sorting
+pub mod NormalCounts

@@ -1,0 +1,17 @@
+pub mod Members
+pub mod Rising
+pub mod TotalOrders
+pub mod Counting
+pub mod Tests
+pub mod Searching
+pub mod Finding
+pub mod Sections
+pub mod Keyed
+pub mod EqualCounts
+pub mod Sums
+pub mod CountsWithin
+pub mod Paired
+pub mod Lookups
+pub mod FilteredAlike
+pub mod OnesInOrder
+pub mod Mapped

@@ -1,0 +1,4 @@
+pub mod Announcements
+pub mod RowsTold
+pub mod ByNumber
+pub mod SessionRange

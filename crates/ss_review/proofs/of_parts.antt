@@ -1,0 +1,12 @@
+pub mod PartBlocks
+pub mod PartKeys
+pub mod PartAssigned
+pub mod PartSessions
+pub mod PartCounts
+pub mod PartReports
+pub mod PartVerdicts
+pub mod MovedBlocks
+pub mod MovedReports
+pub mod MovedVerdicts
+pub mod PartLogs
+pub mod CutRows

@@ -1,0 +1,3 @@
+pub mod AskedShared
+pub mod NeededBlocks
+pub mod AgreeingSchemes

@@ -1,0 +1,15 @@
+pub mod Telling
+pub mod Listings
+pub mod EntriesRise
+pub mod Witnesses
+pub mod Leftovers
+pub mod EntriesTold
+pub mod GroupsTold
+pub mod PlacesTold
+pub mod EntriesMeant
+pub mod SameReports
+pub mod OneReport
+pub mod CleanReports
+pub mod ToldNumbers
+pub mod NextNumbers
+pub mod HoleAt

@@ -1,0 +1,3 @@
+pub mod Announced
+pub mod Announcing
+pub mod Numbered

@@ -1,0 +1,5 @@
+pub mod Assigned
+pub mod Listing
+pub mod Assigning
+pub mod Bearing
+pub mod StoredHashes

@@ -1,0 +1,9 @@
+pub mod Counted
+pub mod CountedLaws
+pub mod CountedSoFar
+pub mod Kept
+pub mod KeptSoFar
+pub mod KeptLaws
+pub mod KeptRows
+pub mod CounterText
+pub mod CounterRange

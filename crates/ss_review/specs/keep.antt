@@ -1,0 +1,4 @@
+pub mod Notes
+pub mod Contents
+pub mod Keeping
+pub mod Stored

@@ -1,0 +1,9 @@
+pub mod Entries
+pub mod Report
+pub mod Verdict
+pub mod Extract
+pub mod Meaning
+pub mod Witness
+pub mod Accounts
+pub mod Rows
+pub mod Grouped

@@ -1,0 +1,27 @@
+-- Where each place of a log is told of in its report.
+use Rattle.std.specs.Prelude.{◌≡◌, ℕ, true, List, map, Contains}
+use Rattle.ss_review.specs.declared.keep.message.BlockMessage.{BlockMessage}
+use Rattle.ss_review.specs.declared.report.report.Report.{Report}
+use Rattle.ss_review.specs.sessions.Verified.{Answers, is_verified}
+use Rattle.ss_review.specs.announced.Announced.{Key}
+use Rattle.ss_review.specs.report.Meaning.{IsListed}
+
+-- what became of the message at a place
+pub data Account : Type 0 where
+  Listed : Account
+  Unlisted : Account
+  Verified : Account
+  Refused : Account
+  Spoilt : Account
+
+abbrev pub IsVerifiedAt : Answers → List BlockMessage → ℕ → Type 0
+IsVerifiedAt says bs place = (b : BlockMessage) × Contains bs b × (b.place ≡ place) × (is_verified says bs b ≡ true)
+
+-- A message is listed under some number, is told as unlisted, is a verified block, is told as refused, or is told as
+-- spoilt. The blocks are those of the log.
+abbrev pub HasAccount : Answers → List BlockMessage → Report → ℕ → Account → Type 0
+HasAccount says bs r place Listed = (k : Key) × IsListed r k place
+HasAccount says bs r place Unlisted = Contains r.unlisted place
+HasAccount says bs r place Verified = IsVerifiedAt says bs place
+HasAccount says bs r place Refused = Contains r.refused place
+HasAccount says bs r place Spoilt = Contains (map (λ s. s.place) r.spoilt) place
