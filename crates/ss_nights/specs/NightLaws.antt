@@ -26,14 +26,16 @@ NightsAreLogs =
 -- the files up to the last night's are the whole, where each place belongs to one of them
 abbrev pub FilesAreTheWhole : Type 0
 FilesAreTheWhole =
-    (x : Nights) (last : ℕ) → AreContents x.whole → ((place : ℕ) → place < x.whole.count → x.file place ≤ last) → so_far x last ≡ x.whole
+    (x : Nights) (last : ℕ) → AreContents x.whole → ((place : ℕ) → place < x.whole.count → x.file place ≤ last)
+    → so_far x last ≡ x.whole
 
 -- each night has the sessions of the files up to its own, and each with the payload or state that it has there
 abbrev pub StatesOfNights : Type 0
 StatesOfNights =
     (says : Answers) (x : Nights) (last : ℕ) → AreContents x.whole → LeaveEnough says x last
     → (sessions (night_log x last).blocks ≡ sessions (so_far x last).blocks)
-    × ((s : Session) → joined says (of_session (night_log x last).blocks s) ≡ joined says (of_session (so_far x last).blocks s))
+    × ((s : Session)
+    → joined says (of_session (night_log x last).blocks s) ≡ joined says (of_session (so_far x last).blocks s))
 
 -- a hash is announced for a key in the files up to a night's exactly where the session is joined there, and some night
 -- up to this one announced it
@@ -41,12 +43,14 @@ abbrev pub AnnouncedOfNights : Type 0
 AnnouncedOfNights =
     (says : Answers) (x : Nights) (last : ℕ) → AreContents x.whole → LeaveEnough says x last → (k : Key) (h : Hash)
     → Announces says (so_far x last).blocks k h
-    ↔ (IsJoined says (so_far x last).blocks k.session × ((night : ℕ) × (night ≤ last) × Announces says (night_log x night).blocks k h))
+    ↔ (IsJoined says (so_far x last).blocks k.session
+    × ((night : ℕ) × (night ≤ last) × Announces says (night_log x night).blocks k h))
 
 -- what a night verified is verified in each later night that reviews it, if its session is joined in the end
 abbrev pub VerifiedStays : Type 0
 VerifiedStays =
-    (says : Answers) (x : Nights) (last : ℕ) → AreContents x.whole → LeaveEnough says x last → (night later : ℕ) (b : BlockMessage)
+    (says : Answers) (x : Nights) (last : ℕ) → AreContents x.whole → LeaveEnough says x last
+    → (night later : ℕ) (b : BlockMessage)
     → night ≤ later → later ≤ last → Contains (night_log x night).blocks b → Contains (night_log x later).blocks b
     → is_verified says (night_log x night).blocks b ≡ true → IsJoined says (night_log x last).blocks b.session
     → is_verified says (night_log x later).blocks b ≡ true

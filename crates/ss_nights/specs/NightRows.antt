@@ -1,5 +1,5 @@
--- Small logs of two nights: one that meets the premises, and for each premise one that doesn't, where the nights together
--- say something else than the whole.
+-- Small logs of two nights: one that meets the premises, and for each premise one that doesn't, where the nights
+-- together say something else than the whole.
 use Rattle.std.specs.Prelude.{◌≡◌, ℕ, ◌==◌, nat_lt, List, [], ◌∷◌, if◌then◌else◌}
 use Rattle.std.specs.List.{list_any}
 use Rattle.ss_block.specs.declared.hash.Alg.TheVariants as algs
@@ -39,7 +39,8 @@ abbrev pub number_of : List ℕ → ℕ → Key
 number_of host number = record { session = sent_by host 1; group = record { sg = 0; spri = 0 }; number = number }
 
 abbrev pub told_of : List SessionReport → List ℕ → List ℕ → ℕ → Report
-told_of ss unlisted refused count = record { sessions = ss; unlisted = unlisted; refused = refused; spoilt = []; count = count }
+told_of ss unlisted refused count =
+    record { sessions = ss; unlisted = unlisted; refused = refused; spoilt = []; count = count }
 
 abbrev pub listed_in : List ℕ → List Entry → List SessionReport
 listed_in host es = joined_with (sent_by host 1) es ∷ []
@@ -56,7 +57,8 @@ each_its_own =
 abbrev pub disputed_later : Nights
 disputed_later =
     two_nights 3 (0 ∷ []) 4 (message 1 first ∷ [])
-    (payload_at 0 (104 ∷ []) ∷ number_at 2 (104 ∷ []) 1 1 ∷ certificate 3 (sent_by (104 ∷ []) 1) 4 1 (45 ∷ 32 ∷ 78 ∷ []) ∷ [])
+    (payload_at 0 (104 ∷ []) ∷ number_at 2 (104 ∷ []) 1 1 ∷ certificate 3 (sent_by (104 ∷ []) 1) 4 1 (45 ∷ 32 ∷ 78 ∷ [])
+    ∷ [])
 
 -- the second night has another hash for the settled number
 abbrev pub another_hash : Nights
@@ -86,7 +88,8 @@ twins =
 abbrev pub twins_wanted : Nights
 twins_wanted =
     two_nights 3 (0 ∷ []) 7 (message 1 first ∷ message 3 third ∷ message 4 first ∷ [])
-    (payload_at 0 (104 ∷ []) ∷ number_at 2 (104 ∷ []) 1 1 ∷ hashes_of 5 (sent_by (104 ∷ []) 1) algs.Sha256 2 (hashes.Sha256 (103 ∷ []) ∷ [])
+    (payload_at 0 (104 ∷ []) ∷ number_at 2 (104 ∷ []) 1 1
+    ∷ hashes_of 5 (sent_by (104 ∷ []) 1) algs.Sha256 2 (hashes.Sha256 (103 ∷ []) ∷ [])
     ∷ number_at 6 (104 ∷ []) 3 1 ∷ [])
 
 -- ---- what is told
@@ -105,32 +108,43 @@ pub record NightsAreThese : Type 0 where
   pub its_own_agree : AgreeLater yes each_its_own 1
   pub its_own_settled : SettlesFirst each_its_own (104 ∷ [])
   pub its_own_first : report_of yes (night_log each_its_own 0) ≡ one_listed (104 ∷ [])
-  pub its_own_last : report_of yes (night_log each_its_own 1) ≡ told_of (listed_in (104 ∷ []) (entry.Hole 1 1 ∷ entry.Listed 2 3 ∷ [])) [] [] 3
-  pub its_own_whole : report_of yes (so_far each_its_own 1) ≡ told_of (listed_in (104 ∷ []) (entry.Listed 1 1 ∷ entry.Listed 2 3 ∷ [])) [] [] 5
+  pub its_own_last : report_of yes (night_log each_its_own 1)
+      ≡ told_of (listed_in (104 ∷ []) (entry.Hole 1 1 ∷ entry.Listed 2 3 ∷ [])) [] [] 3
+  pub its_own_whole : report_of yes (so_far each_its_own 1)
+      ≡ told_of (listed_in (104 ∷ []) (entry.Listed 1 1 ∷ entry.Listed 2 3 ∷ [])) [] [] 5
   -- the session is disputed later
   pub disputed_settled : SettlesFirst disputed_later (104 ∷ [])
   pub disputed_last : report_of yes (night_log disputed_later 1)
       ≡ told_of (record { session = sent_by (104 ∷ []) 1; state = states.Disputed; groups = [] } ∷ []) [] (0 ∷ 3 ∷ []) 2
   pub disputed_whole : report_of yes (so_far disputed_later 1)
-      ≡ told_of (record { session = sent_by (104 ∷ []) 1; state = states.Disputed; groups = [] } ∷ []) (1 ∷ []) (0 ∷ 2 ∷ 3 ∷ []) 4
+      ≡ told_of (record { session = sent_by (104 ∷ []) 1; state = states.Disputed; groups = [] } ∷ []) (1 ∷ []) (0 ∷ 2
+      ∷ 3 ∷ []) 4
   -- the settled number is announced with another hash
   pub hash_settled : SettlesFirst another_hash (104 ∷ [])
-  pub hash_last : report_of yes (night_log another_hash 1) ≡ told_of (listed_in (104 ∷ []) (entry.Gap 1 whys.Lost ∷ [])) [] [] 2
-  pub hash_whole : report_of yes (so_far another_hash 1) ≡ told_of (listed_in (104 ∷ []) (entry.Gap 1 whys.Disputed ∷ [])) (1 ∷ []) [] 4
+  pub hash_last : report_of yes (night_log another_hash 1)
+      ≡ told_of (listed_in (104 ∷ []) (entry.Gap 1 whys.Lost ∷ [])) [] [] 2
+  pub hash_whole : report_of yes (so_far another_hash 1)
+      ≡ told_of (listed_in (104 ∷ []) (entry.Gap 1 whys.Disputed ∷ [])) (1 ∷ []) [] 4
   -- the settled number is listed again
   pub again_settled : SettlesFirst listed_again (104 ∷ [])
-  pub again_last : report_of yes (night_log listed_again 1) ≡ told_of (listed_in (104 ∷ []) (entry.Listed 1 4 ∷ [])) [] [] 3
-  pub again_whole : report_of yes (so_far listed_again 1) ≡ told_of (listed_in (104 ∷ []) (entry.Listed 1 1 ∷ [])) (4 ∷ []) [] 5
+  pub again_last : report_of yes (night_log listed_again 1)
+      ≡ told_of (listed_in (104 ∷ []) (entry.Listed 1 4 ∷ [])) [] [] 3
+  pub again_whole : report_of yes (so_far listed_again 1)
+      ≡ told_of (listed_in (104 ∷ []) (entry.Listed 1 1 ∷ [])) (4 ∷ []) [] 5
   -- a number that is lost comes before a settled one with its hash
   pub lost_settled : SettlesFirst lost_before (105 ∷ [])
   pub lost_last : report_of yes (night_log lost_before 1)
-      ≡ told_of (joined_with (sent_by (104 ∷ []) 1) (entry.Gap 1 whys.Lost ∷ []) ∷ record { session = sent_by (105 ∷ []) 1; state = states.Joined; groups = [] } ∷ []) [] [] 3
+      ≡ told_of (joined_with (sent_by (104 ∷ []) 1) (entry.Gap 1 whys.Lost ∷ [])
+      ∷ record { session = sent_by (105 ∷ []) 1; state = states.Joined; groups = [] } ∷ []) [] [] 3
   pub lost_whole : report_of yes (so_far lost_before 1)
-      ≡ told_of (joined_with (sent_by (104 ∷ []) 1) (entry.Listed 1 1 ∷ []) ∷ joined_with (sent_by (105 ∷ []) 1) (entry.Gap 1 whys.Lost ∷ []) ∷ []) [] [] 5
+      ≡ told_of (joined_with (sent_by (104 ∷ []) 1) (entry.Listed 1 1 ∷ [])
+      ∷ joined_with (sent_by (105 ∷ []) 1) (entry.Gap 1 whys.Lost ∷ []) ∷ []) [] [] 5
   -- two messages have one hash
   pub twins_settled : SettlesFirst twins (104 ∷ [])
-  pub twins_last : report_of yes (night_log twins 1) ≡ told_of (listed_in (104 ∷ []) (entry.Hole 1 1 ∷ entry.Listed 2 3 ∷ [])) [] [] 3
-  pub twins_whole : report_of yes (so_far twins 1) ≡ told_of (listed_in (104 ∷ []) (entry.Listed 1 1 ∷ entry.Gap 2 whys.Lost ∷ [])) (3 ∷ []) [] 5
+  pub twins_last : report_of yes (night_log twins 1)
+      ≡ told_of (listed_in (104 ∷ []) (entry.Hole 1 1 ∷ entry.Listed 2 3 ∷ [])) [] [] 3
+  pub twins_whole : report_of yes (so_far twins 1)
+      ≡ told_of (listed_in (104 ∷ []) (entry.Listed 1 1 ∷ entry.Gap 2 whys.Lost ∷ [])) (3 ∷ []) [] 5
   -- and the second one is listed under no number with that hash
   pub wanted_settled : SettlesFirst twins_wanted (104 ∷ [])
   pub wanted_last : report_of yes (night_log twins_wanted 1)

@@ -1,5 +1,6 @@
 -- A log that is reviewed night by night: each night reviews its own file, and in front of it what was left over before.
-use Rattle.std.specs.Prelude.{◌≡◌, ◌+◌, ◌<◌, ◌≤◌, ◌==◌, ◌||◌, ◌&&◌, ℕ, zero, suc, nat_le, Bool, true, false, List, length, filter, count_by, Contains, Option, Some, None, Ok}
+use Rattle.std.specs.Prelude.{◌≡◌, ◌+◌, ◌<◌, ◌≤◌, ◌==◌, ◌||◌, ◌&&◌, ℕ, zero, suc, nat_le, Bool, true, false, List}
+use Rattle.std.specs.Prelude.{length, filter, count_by, Contains, Option, Some, None, Ok}
 use Rattle.std.specs.List.{range_with_len}
 use Rattle.ss_block.specs.Block as block
 use Rattle.ss_block.specs.declared.hash.Hash.{Hash}
@@ -85,9 +86,11 @@ pub record LeavesEnough (says : Answers) (log : Contents) (left : ℕ → Bool) 
   pub certificates : (s : Session) (index : ℕ) → HasVerifiedOctet says log.blocks s index
       → (o : HasVerifiedOctet says log.blocks s index) × (left o.message.place ≡ true)
   -- each block that announces a number which isn't listed
-  pub gaps : (k : Key) (h : Hash) (a : Announces says log.blocks k h) → listed says log k ≡ None → left a.message.place ≡ true
+  pub gaps : (k : Key) (h : Hash) (a : Announces says log.blocks k h) → listed says log k ≡ None
+      → left a.message.place ≡ true
   -- each message that isn't listed
-  pub unlisted : (m : NormalMessage) → Contains log.normal m → is_taken log.normal (rows says log.blocks) m.place ≡ false
+  pub unlisted : (m : NormalMessage) → Contains log.normal m
+      → is_taken log.normal (rows says log.blocks) m.place ≡ false
       → left m.place ≡ true
   -- a listed message exactly where a block that announces its number is left over
   pub kept : (k : Key) (place : ℕ) → listed says log k ≡ Some place → IsKept says log left k → left place ≡ true

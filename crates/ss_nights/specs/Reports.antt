@@ -1,5 +1,6 @@
 -- The report of a whole log, put together from the reports of its nights.
-use Rattle.std.specs.Prelude.{◌≡◌, ◌↔◌, ◌⊎◌, ◌+◌, ◌<◌, ◌≤◌, ◌==◌, ◌&&◌, ℕ, true, false, List, map, count_by, Contains, Some}
+use Rattle.std.specs.Prelude.{◌≡◌, ◌↔◌, ◌⊎◌, ◌+◌, ◌<◌, ◌≤◌, ◌==◌, ◌&&◌, ℕ, true, false, List, map, count_by, Contains}
+use Rattle.std.specs.Prelude.{Some}
 use Rattle.std.specs.List.{sum_by, list_any, range_with_len}
 use Rattle.ss_block.specs.declared.block.Group.{Group}
 use Rattle.ss_block.specs.declared.hash.Hash.{Hash}
@@ -19,7 +20,8 @@ use Rattle.ss_review.specs.assign.Assigned.{has_hash, same_pair}
 use Rattle.ss_review.specs.announced.Announcing.{Announces}
 use Rattle.ss_review.specs.report.Meaning.{IsHole, Tells, IsListed, IsGap, IsTold}
 use Rattle.ss_review.specs.report.Report.{report_of, report}
-use Rattle.ss_nights.specs.Nights.{Nights, night_log, so_far, AreContents, IsJoined, listed, LeaveEnough, IsSettledBefore, HasPair}
+use Rattle.ss_nights.specs.Nights.{Nights, night_log, so_far, AreContents, IsJoined, listed, LeaveEnough}
+use Rattle.ss_nights.specs.Nights.{IsSettledBefore, HasPair}
 use Rattle.ss_nights.specs.Together.{FilesFollow, AgreeLater, IsSettledWith, left_count}
 
 -- ---- reports
@@ -46,8 +48,8 @@ SettledAreListed =
     (says : Answers) (x : Nights) (night : ℕ) (k : Key) (place : ℕ)
     → (listed says (night_log x night) k ≡ Some place) ↔ IsListed (night_report says x night) k place
 
--- whatever a night lists under a number, one review of all files so far has a hash of it announced for that number, if it
--- joins the session
+-- whatever a night lists under a number, one review of all files so far has a hash of it announced for that number, if
+-- it joins the session
 abbrev pub ListedAreAnnounced : Type 0
 ListedAreAnnounced =
     (says : Answers) (x : Nights) (last : ℕ) → AreContents x.whole → LeaveEnough says x last
@@ -65,7 +67,8 @@ pub record IsPutTogether (says : Answers) (x : Nights) (last : ℕ) (r : Report)
   pub listed : (k : Key) (p : HashPair)
       → ListsWith x.whole r k p ↔ (ListsWith x.whole (night_report says x last) k p ⊎ IsSettledWith says x last k p)
   -- gaps are those of the last report but for settled numbers
-  pub gaps : (k : Key) (why : Why) → IsGap r k why ↔ (IsGap (night_report says x last) k why × (¬ IsSettledBefore says x last k))
+  pub gaps : (k : Key) (why : Why)
+      → IsGap r k why ↔ (IsGap (night_report says x last) k why × (¬ IsSettledBefore says x last k))
   -- holes are the numbers, below one that is told or settled, that aren't
   pub holes : (s : Session) (g : Group) (from to : ℕ) → Tells r s g (entry.Hole from to)
       ↔ IsHole (λ n. IsTold (night_report says x last) (record { session = s; group = g; number = n })
@@ -75,9 +78,11 @@ pub record IsPutTogether (says : Answers) (x : Nights) (last : ℕ) (r : Report)
   -- refused blocks are those of the last report, and those that each night before refused and left behind
   pub refused : (place : ℕ) → Contains r.refused place
       ↔ (Contains (night_report says x last).refused place
-      ⊎ ((night : ℕ) × (night < last) × Contains (night_report says x night).refused place × (x.left night place ≡ false)))
+      ⊎ ((night : ℕ) × (night < last) × Contains (night_report says x night).refused place
+      × (x.left night place ≡ false)))
   -- spoilt messages are those of all reports
-  pub spoilt : (s : SpoiltPlace) → Contains r.spoilt s ↔ ((night : ℕ) × (night ≤ last) × Contains (night_report says x night).spoilt s)
+  pub spoilt : (s : SpoiltPlace)
+      → Contains r.spoilt s ↔ ((night : ℕ) × (night ≤ last) × Contains (night_report says x night).spoilt s)
   -- the count is that of all reports, less what was left over
   pub count : r.count + sum_by (left_count x) (range_with_len 0 last)
       ≡ sum_by (λ night. (night_report says x night).count) (range_with_len 0 (last + 1))
@@ -86,5 +91,6 @@ pub record IsPutTogether (says : Answers) (x : Nights) (last : ℕ) (r : Report)
 abbrev pub NightsAreTheWhole : Type 0
 NightsAreTheWhole =
     (says : Answers) (x : Nights) (last : ℕ) (log : List (List ℕ)) → x.whole ≡ contents (notes log)
-    → ((place : ℕ) → place < x.whole.count → x.file place ≤ last) → FilesFollow x → LeaveEnough says x last → AgreeLater says x last
+    → ((place : ℕ) → place < x.whole.count → x.file place ≤ last) → FilesFollow x → LeaveEnough says x last
+    → AgreeLater says x last
     → IsPutTogether says x last (report says log)

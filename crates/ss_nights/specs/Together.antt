@@ -1,5 +1,6 @@
 -- When the nights together say what one review of their files says.
-use Rattle.std.specs.Prelude.{◌≡◌, ◌≢◌, ◌↔◌, ◌⊎◌, ◌+◌, ◌<◌, ◌≤◌, ◌&&◌, ℕ, not, true, false, count_by, Contains, Some, None}
+use Rattle.std.specs.Prelude.{◌≡◌, ◌≢◌, ◌↔◌, ◌⊎◌, ◌+◌, ◌<◌, ◌≤◌, ◌&&◌, ℕ, not, true, false, count_by, Contains, Some}
+use Rattle.std.specs.Prelude.{None}
 use Rattle.std.specs.List.{sum_by, range_with_len}
 use Rattle.std.specs.declared.cmp.Ordering.TheVariants.{Less}
 use Rattle.ss_block.specs.declared.hash.Hash.{Hash}
@@ -14,7 +15,8 @@ use Rattle.ss_review.specs.assign.Assigned.{has_hash, same_pair, is_taken}
 use Rattle.ss_review.specs.announced.Announcing.{Announces, IsAnnounced, IsDisputedKey}
 use Rattle.ss_review.specs.assign.Listing.{Wants}
 use Rattle.ss_review.specs.report.Report.{refused}
-use Rattle.ss_nights.specs.Nights.{Nights, is_reviewed, night_log, so_far, AreContents, IsJoined, listed, LeaveEnough, IsSettled, IsSettledBefore, HasPair}
+use Rattle.ss_nights.specs.Nights.{Nights, is_reviewed, night_log, so_far, AreContents, IsJoined, listed, LeaveEnough}
+use Rattle.ss_nights.specs.Nights.{IsSettled, IsSettledBefore, HasPair}
 
 -- ---- premises
 
@@ -50,14 +52,16 @@ NoneListedAgain says x last =
 -- no number that is lost in the end, and unsettled, comes before a settled one whose message has the hash that is lost
 abbrev pub LostStandBehind : Answers → Nights → ℕ → Type 0
 LostStandBehind says x last =
-    (night : ℕ) (k : Key) (place : ℕ) (p : HashPair) (j : Key) (h : Hash) → night < last → IsSettled says x night k place
+    (night : ℕ) (k : Key) (place : ℕ) (p : HashPair) (j : Key) (h : Hash) → night < last
+    → IsSettled says x night k place
     → HasPair x.whole place p → IsLost says (night_log x last) j h → ¬ IsSettledBefore says x last j
     → has_hash h p ≡ true → key_cmp j k ≢ Less
 
 -- no number wants another message later, with the hash of a settled one that stands before it
 abbrev pub NoOtherWanted : Answers → Nights → ℕ → Type 0
 NoOtherWanted says x last =
-    (night later : ℕ) (k : Key) (place : ℕ) (p : HashPair) (j : Key) (q : HashPair) (w : Wants says (night_log x later) j q)
+    (night later : ℕ) (k : Key) (place : ℕ) (p : HashPair) (j : Key) (q : HashPair)
+    (w : Wants says (night_log x later) j q)
     → night < later → later ≤ last → IsSettled says x night k place → HasPair x.whole place p
     → place < w.bearer.place → has_hash w.hash p ≡ true → p ≡ q
 
@@ -74,7 +78,8 @@ pub record AgreeLater (says : Answers) (x : Nights) (last : ℕ) : Type 0 where
 pub record ReportsShow (says : Answers) (x : Nights) (last : ℕ) : Type 0 where
   pub joined : (night later : ℕ) (s : Session) → night < later → later ≤ last
       → IsJoined says (night_log x night).blocks s → IsJoined says (night_log x later).blocks s
-  pub unannounced : (night later : ℕ) (k : Key) (place : ℕ) → night < later → later ≤ last → IsSettled says x night k place
+  pub unannounced : (night later : ℕ) (k : Key) (place : ℕ) → night < later → later ≤ last
+      → IsSettled says x night k place
       → ¬ IsAnnounced says (night_log x later).blocks k
   pub none_lost : (k : Key) (h : Hash) → ¬ IsLost says (night_log x last) k h
 
@@ -86,26 +91,31 @@ IsListedWith says log k p = (place : ℕ) × (listed says log k ≡ Some place) 
 
 -- some night before settled the key with a message of these hashes
 abbrev pub IsSettledWith : Answers → Nights → ℕ → Key → HashPair → Type 0
-IsSettledWith says x last k p = (night : ℕ) × (place : ℕ) × (night < last) × IsSettled says x night k place × HasPair x.whole place p
+IsSettledWith says x last k p =
+    (night : ℕ) × (place : ℕ) × (night < last) × IsSettled says x night k place × HasPair x.whole place p
 
 -- how many messages with these hashes are listed nowhere
 abbrev pub unlisted_with : Answers → Contents → HashPair → ℕ
-unlisted_with says log p = count_by (λ m. same_pair m.pair p && not (is_taken log.normal (rows says log.blocks) m.place)) log.normal
+unlisted_with says log p =
+    count_by (λ m. same_pair m.pair p && not (is_taken log.normal (rows says log.blocks) m.place)) log.normal
 
 -- the block at the place is refused in the last night, or one before refused it and left it behind
 abbrev pub IsRefusedInNights : Answers → Nights → ℕ → ℕ → Type 0
 IsRefusedInNights says x last place =
     Contains (refused says (night_log x last).blocks) place
-    ⊎ ((night : ℕ) × (night < last) × Contains (refused says (night_log x night).blocks) place × (x.left night place ≡ false))
+    ⊎ ((night : ℕ) × (night < last) × Contains (refused says (night_log x night).blocks) place
+    × (x.left night place ≡ false))
 
 -- how many messages the night leaves over of those that it reviewed
 abbrev pub left_count : Nights → ℕ → ℕ
-left_count x night = count_by (λ place. is_reviewed x night place && x.left night place) (range_with_len 0 x.whole.count)
+left_count x night =
+    count_by (λ place. is_reviewed x night place && x.left night place) (range_with_len 0 x.whole.count)
 
 -- each place of another kind is told by some night, and none twice
 pub record TellPlaces (says : Answers) (x : Nights) (last : ℕ) : Type 0 where
   pub refused : (place : ℕ) → Contains (refused says (so_far x last).blocks) place ↔ IsRefusedInNights says x last place
-  pub spoilt : (s : SpoiltPlace) → Contains (so_far x last).spoilt s ↔ ((night : ℕ) × (night ≤ last) × Contains (night_log x night).spoilt s)
+  pub spoilt : (s : SpoiltPlace)
+      → Contains (so_far x last).spoilt s ↔ ((night : ℕ) × (night ≤ last) × Contains (night_log x night).spoilt s)
   pub spoilt_once : (s : SpoiltPlace) (night other : ℕ) → night ≤ last → other ≤ last
       → Contains (night_log x night).spoilt s → Contains (night_log x other).spoilt s → night ≡ other
   pub count : (so_far x last).count + sum_by (left_count x) (range_with_len 0 last)
@@ -114,7 +124,8 @@ pub record TellPlaces (says : Answers) (x : Nights) (last : ℕ) : Type 0 where
 -- the nights up to the last one list what a review of all their files lists, and lack what it lacks
 pub record TellNumbers (says : Answers) (x : Nights) (last : ℕ) : Type 0 where
   pub listed : (k : Key) (p : HashPair)
-      → IsListedWith says (so_far x last) k p ↔ (IsListedWith says (night_log x last) k p ⊎ IsSettledWith says x last k p)
+      → IsListedWith says (so_far x last) k p ↔ (IsListedWith says (night_log x last) k p
+      ⊎ IsSettledWith says x last k p)
   pub disputed : (k : Key) → IsDisputedKey says (so_far x last).blocks k
       ↔ (IsDisputedKey says (night_log x last).blocks k × (¬ IsSettledBefore says x last k))
   pub lost : (k : Key) (h : Hash) → IsLost says (so_far x last) k h
@@ -128,7 +139,8 @@ PlacesOfNights =
 
 abbrev pub NumbersOfNights : Type 0
 NumbersOfNights =
-    (says : Answers) (x : Nights) (last : ℕ) → AreContents x.whole → FilesFollow x → LeaveEnough says x last → AgreeLater says x last
+    (says : Answers) (x : Nights) (last : ℕ) → AreContents x.whole → FilesFollow x → LeaveEnough says x last
+    → AgreeLater says x last
     → TellNumbers says x last
 
 -- where lost numbers may stand anywhere, as many messages with given hashes are still unlisted as in the last night
@@ -141,4 +153,5 @@ UnlistedOfNights =
 -- so the reports alone are enough for all premises but the one on two messages with one hash
 abbrev pub ReportsAreEnough : Type 0
 ReportsAreEnough =
-    (says : Answers) (x : Nights) (last : ℕ) → ReportsShow says x last → NoOtherWanted says x last → AgreeLater says x last
+    (says : Answers) (x : Nights) (last : ℕ) → ReportsShow says x last → NoOtherWanted says x last
+    → AgreeLater says x last

@@ -1,5 +1,6 @@
 //! What holds of every log that is reviewed night by night, where each night leaves enough over for the next one.
-ghost use Rattle.ss_nights.specs.NightLaws.{AnnouncedOfNights, FilesAreTheWhole, NightsAreLogs, StatesOfNights, VerifiedStays};
+ghost use Rattle.ss_nights.specs.NightLaws.{AnnouncedOfNights, FilesAreTheWhole, NightsAreLogs, StatesOfNights};
+ghost use Rattle.ss_nights.specs.NightLaws.{VerifiedStays};
 ghost use Rattle.ss_nights.specs.Together.{NumbersOfNights, PlacesOfNights, ReportsAreEnough, UnlistedOfNights};
 ghost use Rattle.ss_nights.specs.NightRows.{NightsAreThese};
 ghost use Rattle.ss_nights.specs.Reports.{ListedAreAnnounced, NightsAreTheWhole, SettledAreListed};
@@ -38,18 +39,18 @@ pub fn announced_of_nights()
     blocks_are_in_range();
 }
 
-/// What one review of all files so far refuses, calls spoilt and counts is what the nights do, put together. The premise
-/// is that no session is disputed in the end of which a night left a verified block behind.
+/// What one review of all files so far refuses, calls spoilt and counts is what the nights do, put together. The
+/// premise is that no session is disputed in the end of which a night left a verified block behind.
 pub fn places_of_nights()
     ensures { PlacesOfNights }
 {
     blocks_are_in_range();
 }
 
-/// What one review of all files so far says of numbers and unlisted messages is what the nights say together. It lists a
-/// number exactly where the last night lists it or some night settled it, with an equal message. Its gaps are those of the
-/// last night that aren't settled, with the same reasons. As many copies of each message are unlisted as in the last night.
-/// The premises are that the files follow one another, and those of `AgreeLater`.
+/// What one review of all files so far says of numbers and unlisted messages is what the nights say together. It lists
+/// a number exactly where the last night lists it or some night settled it, with an equal message. Its gaps are those
+/// of the last night that aren't settled, with the same reasons. As many copies of each message are unlisted as in the
+/// last night. The premises are that the files follow one another, and those of `AgreeLater`.
 pub fn numbers_of_nights()
     ensures { NumbersOfNights }
 {
@@ -79,8 +80,8 @@ pub fn settled_are_listed()
     ensures { SettledAreListed }
 {}
 
-/// Whatever a night lists under a number, a hash of it is announced for that number in one review of all files so far, if
-/// this joins the session.
+/// Whatever a night lists under a number, a hash of it is announced for that number in one review of all files so far,
+/// if this joins the session.
 pub fn listed_are_announced()
     ensures { ListedAreAnnounced }
 {
@@ -99,8 +100,8 @@ pub fn nights_are_the_whole()
     files_are_the_whole();
 }
 
-/// Small logs of two nights, and the reports on them, computed: one that meets the premises of the law on what the nights
-/// say together, and for each premise one that doesn't, and where they say something else than the whole.
+/// Small logs of two nights, and the reports on them, computed: one that meets the premises of the law on what the
+/// nights say together, and for each premise one that doesn't, and where they say something else than the whole.
 pub fn nights_are_these()
     ensures { NightsAreThese }
 {}

@@ -47,7 +47,8 @@ ListedAreWitnessed =
 abbrev pub GapsAreUnassigned : Type 0
 GapsAreUnassigned =
     (says : Answers) (log : List (List ℕ)) (k : Key)
-    → ((why : Why) × IsGap (report says log) k why) ↔ (IsAnnounced says (blocks (notes log)) k × ((place : ℕ) → ¬ IsAssigned says (notes log) k place))
+    → ((why : Why) × IsGap (report says log) k why) ↔ (IsAnnounced says (blocks (notes log)) k
+    × ((place : ℕ) → ¬ IsAssigned says (notes log) k place))
 
 -- the keys of a log are the numbers for which a verified block has a hash, and the disputed ones those with two
 abbrev pub KeysAreAnnounced : Type 0
@@ -70,7 +71,8 @@ ReportsAreInOrder = (says : Answers) (log : List (List ℕ)) → IsInOrder (repo
 abbrev pub OneReport : Type 0
 OneReport =
     ((says : Answers) (log : List (List ℕ)) → IsReport says (contents (notes log)) (report says log))
-    × ((says : Answers) (log : List (List ℕ)) (r : Report) → IsReport says (contents (notes log)) r → r ≡ report says log)
+    × ((says : Answers) (log : List (List ℕ)) (r : Report) → IsReport says (contents (notes log)) r
+    → r ≡ report says log)
 
 -- What a report lists of a log. The listed messages are exactly those assigned to announced numbers, and exactly those
 -- that are due, by membership and counts: each one's hash stands at its number in a block on whose exact signed octets
@@ -83,14 +85,17 @@ pub record ListsWhatIsAnnounced (says : Answers) (log : List (List ℕ)) (r : Re
   pub number_once : (k : Key) (place other : ℕ) → IsListed r k place → IsListed r k other → place ≡ other
   pub message_once : (k j : Key) (place : ℕ) → IsListed r k place → IsListed r j place → k ≡ j
   pub rising : IsInOrder r
-  pub gaps : (k : Key) → ((why : Why) × IsGap r k why) ↔ (IsAnnounced says (blocks (notes log)) k × ((place : ℕ) → ¬ IsAssigned says (notes log) k place))
+  pub gaps : (k : Key)
+      → ((why : Why) × IsGap r k why) ↔ (IsAnnounced says (blocks (notes log)) k
+      × ((place : ℕ) → ¬ IsAssigned says (notes log) k place))
 
 abbrev pub ReportsListWhatIsAnnounced : Type 0
 ReportsListWhatIsAnnounced = (says : Answers) (log : List (List ℕ)) → ListsWhatIsAnnounced says log (report says log)
 
 -- two logs with equal notes have equal reports
 abbrev pub NotesSuffice : Type 0
-NotesSuffice = (says : Answers) (log other : List (List ℕ)) → notes log ≡ notes other → report says log ≡ report says other
+NotesSuffice = (says : Answers) (log other : List (List ℕ)) → notes log ≡ notes other
+    → report says log ≡ report says other
 
 -- two schemes that answer alike all that is asked about a log give it one report
 abbrev pub AgreeingSchemesGiveOneReport : Type 0
@@ -136,7 +141,8 @@ JoinedPayloadsAreStated =
     → (joined says (of_session (blocks (notes log)) s) ≡ Ok text)
     ↔ IsJoinedUnder says (of_session (blocks (notes log)) s) text
 
--- each place of a log is exactly one of listed, unlisted, a verified block, refused and spoilt, and no other place is any
+-- each place of a log is exactly one of listed, unlisted, a verified block, refused and spoilt, and no other place is
+-- any
 abbrev pub EveryPlaceIsTold : Type 0
 EveryPlaceIsTold =
     (says : Answers) (log : List (List ℕ)) (place : ℕ)

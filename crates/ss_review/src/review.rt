@@ -17,8 +17,8 @@ use std::alloc::Global;
 use std::mem::drop;
 
 /// What a review says of a log: of its messages without a block, which the index has, of its blocks, of its spoilt
-/// blocks, and of how many messages it has. Each is let go once it isn't needed any more, and the judge once it is known
-/// which blocks are verified.
+/// blocks, and of how many messages it has. Each is let go once it isn't needed any more, and the judge once it is
+/// known which blocks are verified.
 pub(crate) fn review<J: Judge + Drop, I: Index + Drop>(
     alloc: Global,
     judge: J,

@@ -26,7 +26,9 @@ pub record Row : Type 0 where
 
 -- by session, SG, SPRI and number
 abbrev pub key_cmp : Key → Key → Ordering
-key_cmp a b = ordering_then (session_cmp a.session b.session) (ordering_then (group_cmp a.group b.group) (nat_cmp a.number b.number))
+key_cmp a b =
+    ordering_then (session_cmp a.session b.session)
+    (ordering_then (group_cmp a.group b.group) (nat_cmp a.number b.number))
 
 abbrev pub same_key : Key → Key → Bool
 same_key a b = is_eq (key_cmp a b)
@@ -37,7 +39,12 @@ row_cmp a b = ordering_then (key_cmp a.key b.key) (hash_cmp a.hash b.hash)
 -- a block's hashes, the first under its first number, each other under the next
 abbrev pub rows_said : Session → Said → List Row
 rows_said s (Fragment c) = []
-rows_said s (Hashes b) = map (λ n. record { key = record { session = s; group = b.group; number = n.0 }; hash = n.1 }) (enumerate_from b.first b.hashes)
+rows_said s (Hashes b) =
+    map (λ n.
+    record {
+      key = record { session = s; group = b.group; number = n.0 };
+      hash = n.1;
+    }) (enumerate_from b.first b.hashes)
 
 -- all that is announced, each once
 unfoldable pub rows : Answers → List BlockMessage → List Row

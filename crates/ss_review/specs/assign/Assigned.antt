@@ -1,6 +1,7 @@
--- Which stored message is listed under an announced number. Where several messages have equal hashes, the first is listed
--- under the first number that wants them, the second under the second, and so on.
-use Rattle.std.specs.Prelude.{ℕ, ◌==◌, ◌&&◌, Bool, false, List, [], ◌∷◌, map, filter, find, count_by, slice_get, Option, Some, None, option_map}
+-- Which stored message is listed under an announced number. Where several messages have equal hashes, the first is
+-- listed under the first number that wants them, the second under the second, and so on.
+use Rattle.std.specs.Prelude.{ℕ, ◌==◌, ◌&&◌, Bool, false, List, [], ◌∷◌, map, filter, find, count_by, slice_get, Option}
+use Rattle.std.specs.Prelude.{Some, None, option_map}
 use Rattle.std.specs.Str.{bytes_eq}
 use Rattle.std.specs.List.{list_any}
 use Rattle.std.specs.Ordering.{is_lt}

@@ -1,5 +1,6 @@
 -- The places of all announced keys at once, from what each is announced with.
-use Rattle.std.specs.Prelude.{◌≡◌, ◌==◌, ℕ, Bool, false, List, unwrap_or, [], ◌∷◌, ◌++◌, map, find, count_by, slice_get, Option, Some, None, option_and_then}
+use Rattle.std.specs.Prelude.{◌≡◌, ◌==◌, ℕ, Bool, false, List, unwrap_or, [], ◌∷◌, ◌++◌, map, find, count_by, slice_get}
+use Rattle.std.specs.Prelude.{Option, Some, None, option_and_then}
 use Rattle.std.specs.Ordering.{nat_cmp}
 use Rattle.std.specs.BTreeMap as tree
 use Rattle.ss_block.specs.declared.hash.Hash.{Hash}

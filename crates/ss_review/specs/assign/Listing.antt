@@ -29,7 +29,8 @@ pub record Wants (says : Answers) (log : Contents) (k : Key) (p : HashPair) : Ty
 
 -- a message without a block has these hashes, and stands before the place
 abbrev pub StandsBefore : Contents → HashPair → ℕ → ℕ → Type 0
-StandsBefore log p place before = (before < place) × ((m : NormalMessage) × Contains log.normal m × (m.place ≡ before) × (m.pair ≡ p))
+StandsBefore log p place before =
+    (before < place) × ((m : NormalMessage) × Contains log.normal m × (m.place ≡ before) × (m.pair ≡ p))
 
 -- The key wants the hashes of the message at the place, and as many smaller keys want them as messages with them stand
 -- before it.

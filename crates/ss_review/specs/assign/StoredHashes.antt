@@ -1,5 +1,7 @@
 -- The hashes of stored messages in order, so that the bearers of announced hashes are found in one pass.
-use Rattle.std.specs.Prelude.{◌≡◌, ◌≢◌, ◌⊎◌, ℕ, ◌≤◌, Bool, true, false, List, [], ◌∷◌, map, take, Contains, slice_get, slice_index, slice_index_or, replicate, get_or, count_by, nat_lt, Option, Some, None, if◌then◌else◌}
+use Rattle.std.specs.Prelude.{◌≡◌, ◌≢◌, ◌⊎◌, ℕ, ◌≤◌, Bool, true, false, List, [], ◌∷◌, map, take, Contains, slice_get}
+use Rattle.std.specs.Prelude.{slice_index, slice_index_or, replicate, get_or, count_by, nat_lt, Option, Some, None}
+use Rattle.std.specs.Prelude.{if◌then◌else◌}
 use Rattle.std.specs.List.{list_any}
 use Rattle.std.specs.List.Sorted.{IsStrictlySortedBy}
 use Rattle.std.specs.declared.cmp.Ordering.{Ordering}
@@ -25,8 +27,10 @@ use Rattle.ss_review.specs.assign.Assigning.{is_at}
 
 -- the hash of a message by an algorithm, beside its other hash and its place
 abbrev pub stored_hash : Alg → NormalMessage → StoredHash
-stored_hash algs.Sha1 m = record { hash = hashes.Sha1 m.pair.sha1; other = hashes.Sha256 m.pair.sha256; place = m.place }
-stored_hash algs.Sha256 m = record { hash = hashes.Sha256 m.pair.sha256; other = hashes.Sha1 m.pair.sha1; place = m.place }
+stored_hash algs.Sha1 m =
+    record { hash = hashes.Sha1 m.pair.sha1; other = hashes.Sha256 m.pair.sha256; place = m.place }
+stored_hash algs.Sha256 m =
+    record { hash = hashes.Sha256 m.pair.sha256; other = hashes.Sha1 m.pair.sha1; place = m.place }
 
 -- as the pair of a message that isn't there
 abbrev pub no_hashes : HashPair
@@ -52,7 +56,8 @@ start_of algs.Sha256 p = first_octets p.sha256
 
 -- the entry of a message that is stored so, by an algorithm
 abbrev pub entry_of : List HashPair → Alg → StoredMessage → HashEntry
-entry_of pairs a s = record { pair = s.pair; place = s.place; start = start_of a (slice_index_or pairs s.pair no_hashes); alg = a }
+entry_of pairs a s =
+    record { pair = s.pair; place = s.place; start = start_of a (slice_index_or pairs s.pair no_hashes); alg = a }
 
 -- the entry begins as the hash that it stands for
 abbrev pub BeginsAsItsHash : List HashPair → HashEntry → Type 0
@@ -84,11 +89,13 @@ needed_hashes alg announced ms = if list_any (is_by alg) announced then map (sto
 
 -- their entries, if one of those that are announced is by the algorithm
 abbrev pub needed_entries : List HashPair → Alg → List (Option Hash) → List StoredMessage → List HashEntry
-needed_entries pairs alg announced stored = if list_any (is_by alg) announced then map (entry_of pairs alg) stored else []
+needed_entries pairs alg announced stored = if list_any (is_by alg) announced then map (entry_of pairs alg) stored
+    else []
 
 -- by the hashes, then the other ones, then the places
 abbrev pub stored_cmp : StoredHash → StoredHash → Ordering
-stored_cmp a b = ordering_then (hash_cmp a.hash b.hash) (ordering_then (hash_cmp a.other b.other) (nat_cmp a.place b.place))
+stored_cmp a b =
+    ordering_then (hash_cmp a.hash b.hash) (ordering_then (hash_cmp a.other b.other) (nat_cmp a.place b.place))
 
 -- where what an entry begins with doesn't tell, by what they stand for
 abbrev pub entry_cmp : List HashPair → HashEntry → HashEntry → Ordering
@@ -97,8 +104,10 @@ entry_cmp pairs a b = ordering_then (start_cmp a b) (stored_cmp (hash_of pairs a
 -- the hashes of these messages, in order, as far as they are needed to find what is announced
 pub record Lists (list : List StoredHash) (ms : List NormalMessage) (announced : List (Option Hash)) : Type 0 where
   pub rises : IsStrictlySortedBy stored_cmp list
-  pub sound : (e : StoredHash) → Contains list e → (alg : Alg) × (m : NormalMessage) × Contains ms m × (e ≡ stored_hash alg m)
-  pub complete : (h : Hash) (m : NormalMessage) → Contains announced (Some h) → Contains ms m → has_hash h m.pair ≡ true → Contains list (stored_hash (alg_of h) m)
+  pub sound : (e : StoredHash) → Contains list e → (alg : Alg) × (m : NormalMessage) × Contains ms m
+      × (e ≡ stored_hash alg m)
+  pub complete : (h : Hash) (m : NormalMessage) → Contains announced (Some h) → Contains ms m → has_hash h m.pair ≡ true
+      → Contains list (stored_hash (alg_of h) m)
 
 -- ---- the first message that has a hash
 
@@ -106,7 +115,8 @@ pub record Lists (list : List StoredHash) (ms : List NormalMessage) (announced :
 abbrev pub IsBearerAt : List StoredHash → Hash → Option ℕ → Type 0
 IsBearerAt list h None = (e : StoredHash) → Contains list e → e.hash ≢ h
 IsBearerAt list h (Some i) =
-    (e : StoredHash) × (slice_get list i ≡ Some e) × (e.hash ≡ h) × ((f : StoredHash) → Contains list f → f.hash ≡ h → e.place ≤ f.place)
+    (e : StoredHash) × (slice_get list i ≡ Some e) × (e.hash ≡ h)
+    × ((f : StoredHash) → Contains list f → f.hash ≡ h → e.place ≤ f.place)
 
 -- the first of two is stored before the second, if there is one
 abbrev pub is_earlier : Option StoredHash → Option StoredHash → Bool
@@ -125,7 +135,8 @@ has_hash_at list i h = has_this (slice_get list i) h
 -- What was found is that of the hash that was asked last, if any, and all before the start is below it.
 abbrev pub FoundLast : List StoredHash → ℕ → Option ℕ → Option Hash → Type 0
 FoundLast list start found None = start ≡ 0
-FoundLast list start found (Some h) = ((e : StoredHash) → Contains (take start list) e → hash_cmp e.hash h ≡ Less) × IsBearerAt list h found
+FoundLast list start found (Some h) =
+    ((e : StoredHash) → Contains (take start list) e → hash_cmp e.hash h ≡ Less) × IsBearerAt list h found
 
 -- no hash below this one was asked for last
 abbrev pub IsNotBelow : Hash → Option Hash → Type 0
@@ -140,7 +151,8 @@ wanted_cmp a b = ordering_then (hash_cmp a.hash b.hash) (nat_cmp a.key b.key)
 pub record Wanted (ws : List WantedHash) (hs : List (Option Hash)) : Type 0 where
   pub rises : IsStrictlySortedBy wanted_cmp ws
   pub sound : (w : WantedHash) → Contains ws w → slice_get hs w.key ≡ Some (Some w.hash)
-  pub complete : (i : ℕ) (h : Hash) → slice_get hs i ≡ Some (Some h) → (w : WantedHash) × Contains ws w × (w.key ≡ i) × (w.hash ≡ h)
+  pub complete : (i : ℕ) (h : Hash) → slice_get hs i ≡ Some (Some h)
+      → (w : WantedHash) × Contains ws w × (w.key ≡ i) × (w.hash ≡ h)
 
 -- what is found for a hash that may be there
 abbrev pub IsFoundFor : List StoredHash → Option Hash → Option ℕ → Type 0

@@ -77,7 +77,12 @@ abbrev pub NextNumbersFollow : Type 0
 NextNumbersFollow =
     (says : Answers) (log : List (List ℕ)) (s : SessionReport) (g : GroupReport)
     → Contains (report says log).sessions s → Contains s.groups g
-    → IsNext (λ n. IsAnnounced says (blocks (notes log)) (record { session = s.session; group = g.group; number = n })) (next_number g)
+    → IsNext (λ n.
+    IsAnnounced says (blocks (notes log)) (record {
+      session = s.session;
+      group = g.group;
+      number = n;
+    })) (next_number g)
 
 -- the values of each session are in range
 abbrev pub CountedAreInRange : Type 0

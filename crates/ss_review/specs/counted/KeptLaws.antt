@@ -83,8 +83,8 @@ HasFate r all k Gap = (why : Why) × IsGap r k why
 HasFate r all k Hole = IsInHole r k
 HasFate r all k Tail = IsInTail all k
 
--- A number below its group's counter is exactly one of listed, a gap, in a hole and in a tail. A number in a tail is below
--- its group's counter and not announced.
+-- A number below its group's counter is exactly one of listed, a gap, in a hole and in a tail. A number in a tail is
+-- below its group's counter and not announced.
 abbrev pub NumberIsTold : Answers → List (List ℕ) → List Counter → Key → Type 0
 NumberIsTold says log cs k =
     (1 ≤ k.number → k.number < kept_number cs k.session k.group
@@ -113,7 +113,8 @@ BlockIsTold says log cs s gbc =
     × (IsCounted says (blocks (notes log)) s gbc → ¬ IsInRunOf (shortfalls_of says log cs) s gbc)
 
 abbrev pub EveryBlockIsTold : Type 0
-EveryBlockIsTold = (says : Answers) (log : List (List ℕ)) (cs : List Counter) (s : Session) (gbc : ℕ) → BlockIsTold says log cs s gbc
+EveryBlockIsTold = (says : Answers) (log : List (List ℕ)) (cs : List Counter) (s : Session) (gbc : ℕ)
+    → BlockIsTold says log cs s gbc
 
 -- ---- nothing is missing
 

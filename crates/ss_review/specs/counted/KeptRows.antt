@@ -86,9 +86,11 @@ pub record ShortfallsAreThese : Type 0 where
       ≡ record { known = missing_of here [] shown ∷ []; absent = missing_of elsewhere [] [] ∷ [] }
   pub older_than_the_log : up_to (counts_blocks here 3 ∷ counts_messages here reported 2 ∷ []) ≡ missing_here [] shown
   pub as_far_as_the_log : up_to (counts_blocks here 4 ∷ counts_messages here reported 3 ∷ []) ≡ missing_here [] shown
-  pub named_twice : up_to (counts_messages here reported 4 ∷ counts_blocks here 5 ∷ counts_messages here reported 6 ∷ [])
+  pub named_twice : up_to (counts_messages here reported 4 ∷ counts_blocks here 5 ∷ counts_messages here reported 6
+      ∷ [])
       ≡ missing_here (tail reported 3 5 ∷ []) (run 0 0 ∷ run 2 2 ∷ run 4 4 ∷ [])
-  pub in_any_order : up_to (counts_messages here other 2 ∷ counts_blocks elsewhere 1 ∷ counts_messages here reported 4 ∷ [])
+  pub in_any_order : up_to (counts_messages here other 2 ∷ counts_blocks elsewhere 1 ∷ counts_messages here reported 4
+      ∷ [])
       ≡ record {
         known = missing_of here (tail reported 3 3 ∷ tail other 1 1 ∷ []) shown ∷ [];
         absent = missing_of elsewhere [] (run 0 0 ∷ []) ∷ [];

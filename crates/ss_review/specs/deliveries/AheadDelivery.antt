@@ -1,5 +1,5 @@
--- What a review says of a log that delivers from originators of one session, where counters may have been saved ahead of
--- what was sent.
+-- What a review says of a log that delivers from originators of one session, where counters may have been saved ahead
+-- of what was sent.
 use Rattle.std.specs.Prelude.{◌≡◌, ◌↔◌, ◌⊎◌, ℕ, ◌<◌, ◌≤◌, true, false, List, ◌∷◌, ◌++◌, map, slice_get, Contains, Some}
 use Rattle.ss_payload.specs.Payload.{payload_text}
 use Rattle.ss_block.specs.declared.hash.Hash.{Hash}
@@ -20,7 +20,8 @@ use Rattle.ss_review.specs.announced.Announcing.{Announces}
 use Rattle.ss_review.specs.report.Meaning.{IsListed, IsGap, IsTold}
 use Rattle.ss_review.specs.deliveries.Delivery.{own_session, is_normal, is_spoilt, Delivers, HasPayload}
 use Rattle.ss_review.specs.deliveries.Delivered.{own_number}
-use Rattle.ss_review.specs.deliveries.DeliveryLaws.{Case, says, AcceptsSent, IsCase, report_in, IsListedAsJoined, HasBlock}
+use Rattle.ss_review.specs.deliveries.DeliveryLaws.{Case, says, AcceptsSent, IsCase, report_in, IsListedAsJoined}
+use Rattle.ss_review.specs.deliveries.DeliveryLaws.{HasBlock}
 use Rattle.ss_review.specs.counted.Kept.{kept_number}
 use Rattle.ss_review.specs.counted.KeptLaws.{shortfalls_of, IsInTail, IsInHole}
 
@@ -52,7 +53,8 @@ NothingAheadIsDisputed = (x : Case) (lives : List Life) → IsCaseAhead x lives
 
 -- the session is joined exactly where `begin` was accepted and each fragment of the payload has a copy in the log
 abbrev pub JoinedAheadByFragments : Type 0
-JoinedAheadByFragments = (x : Case) (lives : List Life) → IsCaseAhead x lives → IsListedAsJoined x ↔ HasPayload x.chain x.log
+JoinedAheadByFragments = (x : Case) (lives : List Life) → IsCaseAhead x lives
+    → IsListedAsJoined x ↔ HasPayload x.chain x.log
 
 -- an originator was given the message under this number of this group
 pub record HasNumber (c : Config) (lives : List Life) (k : Key) (message : List ℕ) : Type 0 where
@@ -88,7 +90,8 @@ pub record HasHashOfNumber (x : Case) (lives : List Life) (k : Key) (place : ℕ
 -- What is listed under a number of the session has the hash of the message that was given this number.
 abbrev pub ListedAheadHaveTheirHash : Type 0
 ListedAheadHaveTheirHash = (x : Case) (lives : List Life) → IsCaseAhead x lives
-    → (k : Key) (place : ℕ) → k.session ≡ own_session x.s → IsListed (report_in x) k place → HasHashOfNumber x lives k place
+    → (k : Key) (place : ℕ) → k.session ≡ own_session x.s → IsListed (report_in x) k place
+    → HasHashOfNumber x lives k place
 
 -- ---- numbers that are left out
 

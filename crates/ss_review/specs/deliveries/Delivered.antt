@@ -1,5 +1,6 @@
 -- What stands between what originators sent and what a review says of it.
-use Rattle.std.specs.Prelude.{◌≡◌, ◌↔◌, ℕ, ◌+◌, ◌<◌, ◌≤◌, ◌⊎◌, Bool, true, false, nat_lt, List, [], ◌∷◌, length, count_by, Contains, Some, Ok, Err}
+use Rattle.std.specs.Prelude.{◌≡◌, ◌↔◌, ℕ, ◌+◌, ◌<◌, ◌≤◌, ◌⊎◌, Bool, true, false, nat_lt, List, [], ◌∷◌, length}
+use Rattle.std.specs.Prelude.{count_by, Contains, Some, Ok, Err}
 use Rattle.std.specs.List.{sum_by, range_with_len}
 use Rattle.ss_block.specs.Hashes.{pair, hash_of}
 use Rattle.ss_payload.specs.Payload.{payload_text}
@@ -18,7 +19,8 @@ use Rattle.ss_review.specs.assign.Assigned.{same_pair, places_with}
 use Rattle.ss_review.specs.report.Entries.{entry_of}
 use Rattle.ss_review.specs.report.Verdict.{is_listed}
 use Rattle.ss_review.specs.deliveries.Delivery.{own_session, is_normal, submitted_to, HasPayload, NothingPending}
-use Rattle.ss_review.specs.deliveries.DeliveryLaws.{Case, IsCase, says, normals_in, rows_in, IsListedAsJoined, HasBlock, message_of, rank_in, HashesTellPairs, OthersWantOthers}
+use Rattle.ss_review.specs.deliveries.DeliveryLaws.{Case, IsCase, says, normals_in, rows_in, IsListedAsJoined, HasBlock}
+use Rattle.ss_review.specs.deliveries.DeliveryLaws.{message_of, rank_in, HashesTellPairs, OthersWantOthers}
 
 -- ---- blocks
 
@@ -32,7 +34,8 @@ pub record IsSentBlock (x : Case) (b : BlockMessage) : Type 0 where
 
 -- each stored block of the session is one that the chain sent
 abbrev pub OwnBlocksAreSent : Type 0
-OwnBlocksAreSent = (x : Case) → IsCase x → (b : BlockMessage) → Contains (blocks (notes x.log)) b → b.session ≡ own_session x.s → IsSentBlock x b
+OwnBlocksAreSent = (x : Case) → IsCase x → (b : BlockMessage) → Contains (blocks (notes x.log)) b
+    → b.session ≡ own_session x.s → IsSentBlock x b
 
 -- a message as a block of the session in the log
 pub record IsStoredBlock (x : Case) (m : List ℕ) : Type 0 where
@@ -43,15 +46,18 @@ pub record IsStoredBlock (x : Case) (m : List ℕ) : Type 0 where
 
 -- each block that the chain sent and that is in the log is stored as one of the session
 abbrev pub SentBlocksAreStored : Type 0
-SentBlocksAreStored = (x : Case) → IsCase x → (m : List ℕ) → Contains x.log m → Contains (emitted_by x.chain) m → is_normal (note m) ≡ false → IsStoredBlock x m
+SentBlocksAreStored = (x : Case) → IsCase x → (m : List ℕ) → Contains x.log m → Contains (emitted_by x.chain) m
+    → is_normal (note m) ≡ false → IsStoredBlock x m
 
 -- ---- the payload
 
 -- the session is joined under the chain's payload where all of it arrived, and else incomplete
 abbrev pub JoinsOwnPayload : Type 0
 JoinsOwnPayload = (x : Case) → IsCase x
-    → (HasPayload x.chain x.log × (joined (says x) (of_session (blocks (notes x.log)) (own_session x.s)) ≡ Ok (payload_text x.s.payload)))
-    ⊎ ((¬ (HasPayload x.chain x.log)) × (joined (says x) (of_session (blocks (notes x.log)) (own_session x.s)) ≡ Err states.Incomplete))
+    → (HasPayload x.chain x.log
+    × (joined (says x) (of_session (blocks (notes x.log)) (own_session x.s)) ≡ Ok (payload_text x.s.payload)))
+    ⊎ ((¬ (HasPayload x.chain x.log))
+    × (joined (says x) (of_session (blocks (notes x.log)) (own_session x.s)) ≡ Err states.Incomplete))
 
 -- ---- numbers
 
@@ -73,7 +79,8 @@ KeysHaveBlocks = (x : Case) → IsCase x → (k : Key) → k.session ≡ own_ses
 abbrev pub EntriesAreByRank : Type 0
 EntriesAreByRank = (x : Case) → IsCase x → HashesTellPairs x → OthersWantOthers x
     → (k : Key) (m : List ℕ) → k.session ≡ own_session x.s → Contains (keys (rows_in x)) k → message_of x k ≡ Some m
-    → is_listed (entry_of (normals_in x) (rows_in x) k) ≡ nat_lt (rank_in x k (pair m)) (length (places_with (normals_in x) (pair m)))
+    → is_listed (entry_of (normals_in x) (rows_in x) k)
+    ≡ nat_lt (rank_in x k (pair m)) (length (places_with (normals_in x) (pair m)))
 
 -- ---- messages
 
@@ -81,16 +88,19 @@ EntriesAreByRank = (x : Case) → IsCase x → HashesTellPairs x → OthersWantO
 abbrev pub MessagesAreInGroups : Type 0
 MessagesAreInGroups = (c : Config) (chain : List (List Turn)) (test : List ℕ → Bool) (groups : ℕ)
     → ((m : List ℕ) → spri_in c.grouping m < groups)
-    → count_by test (submitted_to chain) ≡ sum_by (λ spri. count_by test (given_to c spri chain)) (range_with_len 0 groups)
+    → count_by test (submitted_to chain) ≡ sum_by (λ spri.
+    count_by test (given_to c spri chain)) (range_with_len 0 groups)
 
 -- fewer smaller numbers have a message with these hashes than messages with them were submitted
 abbrev pub RanksAreBelowCounts : Type 0
-RanksAreBelowCounts = (x : Case) → IsCase x → (k : Key) (m : List ℕ) → k.session ≡ own_session x.s → Contains (keys (rows_in x)) k → message_of x k ≡ Some m
+RanksAreBelowCounts = (x : Case) → IsCase x → (k : Key) (m : List ℕ) → k.session ≡ own_session x.s
+    → Contains (keys (rows_in x)) k → message_of x k ≡ Some m
     → rank_in x k (pair m) + 1 ≤ count_by (λ n. same_pair (pair n) (pair m)) (submitted_to x.chain)
 
 -- a number of a group of the originators' session
 abbrev pub own_number : Case → ℕ → ℕ → Key
-own_number x spri number = record { session = own_session x.s; group = group_of x.s.config.grouping spri; number = number }
+own_number x spri number =
+    record { session = own_session x.s; group = group_of x.s.config.grouping spri; number = number }
 
 -- Where no message is pending at an originator's end and each block arrived, each number that the chain gave a message
 -- has a block in the log.

@@ -1,5 +1,5 @@
--- What a log may hold of what the originators of one session sent: any of it, any number of times and in any order, among
--- other messages.
+-- What a log may hold of what the originators of one session sent: any of it, any number of times and in any order,
+-- among other messages.
 use Rattle.std.specs.Prelude.{◌≡◌, ◌≢◌, ℕ, Bool, true, false, List, [], ◌∷◌, Contains, Some}
 use Rattle.std.specs.Str.{bytes_eq}
 use Rattle.std.specs.List.{count_by, flat_map}
@@ -68,11 +68,13 @@ pub record HasPayload (chain : List (List Turn)) (log : List (List ℕ)) : Type 
 
 -- no originator of the chain ended with a message in no block
 abbrev pub NothingPending : Config → List (List Turn) → Type 0
-NothingPending c chain = (turns : List Turn) → Contains chain turns → (spri : ℕ) → pending_of c spri (calls_of turns) ≡ []
+NothingPending c chain = (turns : List Turn) → Contains chain turns → (spri : ℕ)
+    → pending_of c spri (calls_of turns) ≡ []
 
 -- The log holds nothing but what the chain sent: each message as often as it was accepted, and each block message at
 -- least once.
 pub record IsWholeDelivery (chain : List (List Turn)) (log : List (List ℕ)) : Type 0 where
   pub sent : (m : List ℕ) → Contains log m → Contains (emitted_by chain) m
-  pub messages : (m : List ℕ) → Contains (submitted_to chain) m → count_by (bytes_eq m) log ≡ count_by (bytes_eq m) (submitted_to chain)
+  pub messages : (m : List ℕ) → Contains (submitted_to chain) m
+      → count_by (bytes_eq m) log ≡ count_by (bytes_eq m) (submitted_to chain)
   pub blocks : (m : List ℕ) → Contains (emitted_by chain) m → is_normal (note m) ≡ false → Contains log m

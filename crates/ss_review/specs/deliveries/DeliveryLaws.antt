@@ -1,5 +1,7 @@
--- What a review says of a log that delivers from originators of one session: exactly what the copies that are there allow.
-use Rattle.std.specs.Prelude.{◌≡◌, ◌≢◌, ◌↔◌, ℕ, ◌+◌, ◌-◌, ◌<◌, ◌≤◌, ◌&&◌, true, false, List, length, count_by, slice_get, Contains, Option, Some, None}
+-- What a review says of a log that delivers from originators of one session: exactly what the copies that are there
+-- allow.
+use Rattle.std.specs.Prelude.{◌≡◌, ◌≢◌, ◌↔◌, ℕ, ◌+◌, ◌-◌, ◌<◌, ◌≤◌, ◌&&◌, true, false, List, length, count_by}
+use Rattle.std.specs.Prelude.{slice_get, Contains, Option, Some, None}
 use Rattle.std.specs.List.{AllPairs}
 use Rattle.std.specs.declared.cmp.Ordering.TheVariants.{Less}
 use Rattle.std.specs.Ordering.{is_lt}
@@ -31,7 +33,8 @@ use Rattle.ss_review.specs.assign.Assigned.{places_with, wanted, is_pair}
 use Rattle.ss_review.specs.report.Meaning.{IsListed, IsGap, IsTold}
 use Rattle.ss_review.specs.report.Report.{report}
 use Rattle.ss_review.specs.report.Verdict.{is_clean}
-use Rattle.ss_review.specs.deliveries.Delivery.{own_session, is_normal, is_spoilt, Delivers, submitted_to, HasBegun, HasPayload, NothingPending, IsWholeDelivery}
+use Rattle.ss_review.specs.deliveries.Delivery.{own_session, is_normal, is_spoilt, Delivers, submitted_to, HasBegun}
+use Rattle.ss_review.specs.deliveries.Delivery.{HasPayload, NothingPending, IsWholeDelivery}
 
 -- Originators of one session that follow one another, a log, and what is answered of payloads and signatures.
 pub record Case : Type 0 where
@@ -127,7 +130,10 @@ pair_of (Some m) = Some (pair m)
 
 -- how many smaller announced numbers of the session have a message with these hashes
 abbrev pub rank_in : Case → Key → HashPair → ℕ
-rank_in x k p = count_by (λ j. is_lt (key_cmp j k) && same_session j.session (own_session x.s) && is_pair p (pair_of (message_of x j))) (keys (rows_in x))
+rank_in x k p =
+    count_by (λ j.
+    is_lt (key_cmp j k) && same_session j.session (own_session x.s)
+    && is_pair p (pair_of (message_of x j))) (keys (rows_in x))
 
 -- a submitted message and one of the log without a block have equal pairs where they have equal hashes
 abbrev pub HashesTellPairs : Case → Type 0
@@ -136,7 +142,8 @@ HashesTellPairs x = (m n : List ℕ) → Contains (submitted_to x.chain) m → C
 
 -- no number of a session that stands before the originators' wants the hashes of a submitted message
 abbrev pub OthersWantOthers : Case → Type 0
-OthersWantOthers x = (k : Key) (m : List ℕ) → Contains (keys (rows_in x)) k → session_cmp k.session (own_session x.s) ≡ Less
+OthersWantOthers x = (k : Key) (m : List ℕ) → Contains (keys (rows_in x)) k
+    → session_cmp k.session (own_session x.s) ≡ Less
     → Contains (submitted_to x.chain) m → wanted (normals_in x) (rows_in x) k ≢ Some (pair m)
 
 -- the report lists a message under the number
@@ -179,8 +186,8 @@ ListedHaveTheirHash = (x : Case) → IsCase x
 
 -- ---- clean
 
--- Where everything that was sent is stored, each message as often as it was accepted, the session is joined and the report
--- clean: every session joined, every entry a listed message, and nothing unlisted, refused or spoilt.
+-- Where everything that was sent is stored, each message as often as it was accepted, the session is joined and the
+-- report clean: every session joined, every entry a listed message, and nothing unlisted, refused or spoilt.
 abbrev pub WholeDeliveriesAreClean : Type 0
 WholeDeliveriesAreClean = (x : Case) → IsCase x → HashesTellPairs x
     → HasBegun x.chain → NothingPending x.s.config x.chain → IsWholeDelivery x.chain x.log

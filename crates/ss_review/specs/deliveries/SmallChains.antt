@@ -22,7 +22,8 @@ use Rattle.ss_review.specs.deliveries.Delivery.{submitted_to, HasBegun, HasPaylo
 use Rattle.ss_review.specs.report.Meaning.{IsTold}
 use Rattle.ss_review.specs.report.Verdict.{is_clean}
 use Rattle.ss_review.specs.deliveries.Delivered.{own_number}
-use Rattle.ss_review.specs.deliveries.DeliveryLaws.{Case, IsCase, report_in, HashesTellPairs, OthersWantOthers, HasMessage}
+use Rattle.ss_review.specs.deliveries.DeliveryLaws.{Case, IsCase, report_in, HashesTellPairs, OthersWantOthers}
+use Rattle.ss_review.specs.deliveries.DeliveryLaws.{HasMessage}
 use Rattle.ss_review.specs.counted.KeptLaws.{shortfalls_of, IsInHole, NothingIsMissing, log_counters, IsLost}
 use Rattle.ss_review.specs.deliveries.AheadDelivery.{IsCaseAhead, IsSkipped}
 
@@ -51,12 +52,25 @@ small = record {
 -- ---- what they were given and sent
 
 abbrev pub message : ℕ → List ℕ
-message octet = text (record { pri = 13; stamp = None; hostname = None; app_name = None; procid = None; msgid = None; elements = []; msg = Some (octet ∷ []) })
+message octet =
+    text (record {
+      pri = 13;
+      stamp = None;
+      hostname = None;
+      app_name = None;
+      procid = None;
+      msgid = None;
+      elements = [];
+      msg = Some (octet ∷ []);
+    })
 
 abbrev pub certificate : List ℕ
 certificate =
     certificate_text small.config.head None
-    (record (certificate_in small.config (payload_text small.payload) (record { index = 1; len = 3 })) { signature = mark })
+    (record (certificate_in small.config (payload_text small.payload) (record { index = 1; len = 3 })) {
+      signature =
+          mark;
+    })
 
 -- a signature block with this GBC, of these messages, the first of which has this number
 abbrev pub block : ℕ → ℕ → List (List ℕ) → List ℕ
@@ -102,14 +116,15 @@ whole_turns = flushed (block 0 1 (message 49 ∷ [])) ∷ given 49 ∷ begun ∷
 abbrev pub accepting : Answers
 accepting = record { trusted = λ payload. true; valid = small.valid }
 
--- The last block stands first and once more, and one message twice. The other messages and the first block are lost. One
--- message is of nobody of the chain.
+-- The last block stands first and once more, and one message twice. The other messages and the first block are lost.
+-- One message is of nobody of the chain.
 abbrev pub lossy : Case
 lossy = record {
   s = small;
   answers = accepting;
   chain = next_turns 1 4 ∷ first_turns ∷ [];
-  log = block 1 4 (message 52 ∷ []) ∷ message 57 ∷ message 50 ∷ certificate ∷ message 50 ∷ block 1 4 (message 52 ∷ []) ∷ [];
+  log = block 1 4 (message 52 ∷ []) ∷ message 57 ∷ message 50 ∷ certificate ∷ message 50 ∷ block 1 4 (message 52 ∷ [])
+      ∷ [];
 }
 
 -- Everything is there, in reverse. The originator that follows accepted no call.
@@ -124,7 +139,11 @@ whole = record {
 -- The next originator began with counters that are 2 greater than the last ones.
 abbrev pub ahead_lives : List Life
 ahead_lives =
-    record { start = resumed (record { gbc = 3; groups = record { spri = 0; number = 6 } ∷ [] }); turns = next_turns 3 6 }
+    record {
+      start = resumed (record { gbc = 3; groups = record { spri = 0; number = 6 } ∷ [] });
+      turns =
+          next_turns 3 6;
+    }
     ∷ record { start = anew; turns = first_turns }
     ∷ []
 
@@ -163,7 +182,8 @@ pub record PremisesAreMet : Type 0 where
   pub bare_is_case : IsCase bare
   pub only_message_is_lost : IsLost bare (message 49)
 
--- The premises of the laws of originators that go on ahead. The numbers 4 and 5 were left out, and are in a hole below 6.
+-- The premises of the laws of originators that go on ahead. The numbers 4 and 5 were left out, and are in a hole below
+-- 6.
 pub record PremisesAheadAreMet : Type 0 where
   pub ahead_is_case : IsCaseAhead ahead ahead_lives
   pub last_is_given : IsGiven ahead_lives (message 52)

@@ -14,7 +14,8 @@ use Rattle.ss_review.specs.report.Entries.{entry_of}
 use Rattle.ss_review.specs.report.Verdict.{is_listed}
 use Rattle.ss_review.specs.announced.Announcing.{IsAnnounced}
 use Rattle.ss_review.specs.report.Meaning.{IsHole}
-use Rattle.ss_review.specs.deliveries.Delivery.{own_session, is_normal, submitted_to, HasBegun, HasPayload, NothingPending, IsWholeDelivery}
+use Rattle.ss_review.specs.deliveries.Delivery.{own_session, is_normal, submitted_to, HasBegun, HasPayload}
+use Rattle.ss_review.specs.deliveries.Delivery.{NothingPending, IsWholeDelivery}
 use Rattle.ss_review.specs.deliveries.Delivered.{own_number}
 use Rattle.ss_review.specs.deliveries.DeliveryLaws.{Case, IsCase, says, normals_in, rows_in, HashesTellPairs}
 
@@ -51,7 +52,8 @@ NumbersAreAnnounced = (x : Case) → IsWhole x
 
 abbrev pub GroupsHaveNoHole : Type 0
 GroupsHaveNoHole = (x : Case) → IsWhole x → (s : Session) (g : Group) (first last : ℕ)
-    → let is_announced = λ (n : ℕ). IsAnnounced (says x) (blocks (notes x.log)) (record { session = s; group = g; number = n }) in
+    → let is_announced = λ (n : ℕ).
+    IsAnnounced (says x) (blocks (notes x.log)) (record { session = s; group = g; number = n }) in
     ¬ IsHole is_announced first last
 
 -- each announced number has a message

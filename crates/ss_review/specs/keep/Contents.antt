@@ -29,7 +29,8 @@ said_in (readings.Unparsed part pos) = None
 said_in (readings.Spoilt cause) = None
 
 abbrev pub block_with : ℕ → Option Said → Option Session → Option (List ℕ) → Option BlockMessage
-block_with place (Some said) (Some session) (Some signed) = Some (record { place = place; session = session; said = said; signed = signed })
+block_with place (Some said) (Some session) (Some signed) =
+    Some (record { place = place; session = session; said = said; signed = signed })
 block_with place (Some said) (Some session) None = None
 block_with place (Some said) None signed = None
 block_with place None session signed = None

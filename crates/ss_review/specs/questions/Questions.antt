@@ -20,8 +20,8 @@ abbrev pub asked : List BlockMessage → Result (List ℕ) SessionState → List
 asked bs (Err state) = []
 asked bs (Ok payload) = question.Trust payload ∷ map (question_about payload) bs
 
--- what is asked of a scheme: of each session that states a payload, whether the payload is trusted, and whether each block
--- is valid under it, in order of place
+-- what is asked of a scheme: of each session that states a payload, whether the payload is trusted, and whether each
+-- block is valid under it, in order of place
 unfoldable pub questions : List BlockMessage → List Question
 questions bs = flat_map (λ s. asked (of_session bs s) (stated_payload (certificates (of_session bs s)))) (sessions bs)
 

@@ -72,4 +72,5 @@ abbrev pub groups_told : List NumberEntry → List GroupReport
 groups_told ns = map (λ g. group_told g (numbers_of_group g ns)) (in_order group_cmp (map (λ n. n.number.group) ns))
 
 abbrev pub session_told : List NormalMessage → List Row → Session × Result (List ℕ) SessionState → SessionReport
-session_told ms rs s = record { session = s.0; state = state_in s.1; groups = map (group_report ms rs s.0) (groups rs s.0) }
+session_told ms rs s =
+    record { session = s.0; state = state_in s.1; groups = map (group_report ms rs s.0) (groups rs s.0) }

@@ -55,12 +55,14 @@ IsTold r k = ((place : ℕ) × IsListed r k place) ⊎ ((why : Why) × IsGap r k
 
 -- an entry that belongs into a group of a session
 abbrev pub IsEntry : Answers → Contents → Session → Group → Entry → Type 0
-IsEntry says log s g (entry.Listed n place) = assigned log.normal (rows says log.blocks) (record { session = s; group = g; number = n }) ≡ Some place
+IsEntry says log s g (entry.Listed n place) =
+    assigned log.normal (rows says log.blocks) (record { session = s; group = g; number = n }) ≡ Some place
 IsEntry says log s g (entry.Gap n why) =
     IsAnnounced says log.blocks (record { session = s; group = g; number = n })
     × (assigned log.normal (rows says log.blocks) (record { session = s; group = g; number = n }) ≡ None)
     × ((why ≡ whys.Disputed) ↔ IsDisputedKey says log.blocks (record { session = s; group = g; number = n }))
-IsEntry says log s g (entry.Hole first last) = IsHole (λ n. IsAnnounced says log.blocks (record { session = s; group = g; number = n })) first last
+IsEntry says log s g (entry.Hole first last) =
+    IsHole (λ n. IsAnnounced says log.blocks (record { session = s; group = g; number = n })) first last
 
 -- ---- the order of a report
 
@@ -83,16 +85,21 @@ pub record IsInOrder (r : Report) : Type 0 where
 
 -- a message without a block, at this place, that no key is assigned
 abbrev pub IsUnlisted : Answers → Contents → ℕ → Type 0
-IsUnlisted says log place = ((m : NormalMessage) × Contains log.normal m × (m.place ≡ place)) × ((k : Key) → assigned log.normal (rows says log.blocks) k ≢ Some place)
+IsUnlisted says log place =
+    ((m : NormalMessage) × Contains log.normal m × (m.place ≡ place))
+    × ((k : Key) → assigned log.normal (rows says log.blocks) k ≢ Some place)
 
 -- a block, at this place, that isn't verified
 abbrev pub IsRefused : Answers → Contents → ℕ → Type 0
-IsRefused says log place = (b : BlockMessage) × Contains log.blocks b × (b.place ≡ place) × (is_verified says log.blocks b ≢ true)
+IsRefused says log place =
+    (b : BlockMessage) × Contains log.blocks b × (b.place ≡ place) × (is_verified says log.blocks b ≢ true)
 
 -- the report says what there is, each once and in order, and nothing else
 pub record IsReport (says : Answers) (log : Contents) (r : Report) : Type 0 where
   pub in_order : IsInOrder r
-  pub sessions : (s : Session) → ((t : SessionReport) × Contains r.sessions t × (t.session ≡ s)) ↔ ((b : BlockMessage) × Contains log.blocks b × (b.session ≡ s))
+  pub sessions : (s : Session)
+      → ((t : SessionReport) × Contains r.sessions t × (t.session ≡ s)) ↔ ((b : BlockMessage) × Contains log.blocks b
+      × (b.session ≡ s))
   pub states : All (λ t. t.state ≡ state_in (joined says (of_session log.blocks t.session))) r.sessions
   pub no_empty_group : All (λ t. All (λ g. g.entries ≢ []) t.groups) r.sessions
   pub entries : (s : Session) (g : Group) (e : Entry) → Tells r s g e ↔ IsEntry says log s g e

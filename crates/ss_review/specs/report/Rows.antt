@@ -46,7 +46,16 @@ abbrev pub certificate : ℕ → Session → ℕ → ℕ → List ℕ → BlockM
 certificate place s total index fragment = record {
   place = place;
   session = s;
-  said = Fragment (record { alg = algs.Sha1; rsid = s.rsid; group = record { sg = 0; spri = 0 }; total = total; index = index; fragment = fragment; signature = 0 ∷ [] });
+  said = Fragment (record {
+    alg = algs.Sha1;
+    rsid = s.rsid;
+    group = record { sg = 0; spri = 0 };
+    total = total;
+    index =
+        index;
+    fragment = fragment;
+    signature = 0 ∷ [];
+  });
   signed = 1 ∷ [];
 }
 
@@ -54,7 +63,15 @@ abbrev pub hashes_of : ℕ → Session → Alg → ℕ → List Hash → BlockMe
 hashes_of place s alg number hs = record {
   place = place;
   session = s;
-  said = Hashes (record { alg = alg; rsid = s.rsid; group = record { sg = 0; spri = 0 }; gbc = 0; first = number; hashes = hs; signature = 0 ∷ [] });
+  said = Hashes (record {
+    alg = alg;
+    rsid = s.rsid;
+    group = record { sg = 0; spri = 0 };
+    gbc = 0;
+    first = number;
+    hashes = hs;
+    signature = 0 ∷ [];
+  });
   signed = 2 ∷ [];
 }
 
@@ -79,183 +96,659 @@ for_certificates = record { trusted = λ payload. true; valid = λ payload octet
 
 -- two messages, a certificate block, and a signature block with both hashes
 abbrev pub whole_log : Contents
-whole_log = record { normal = (message 0 first) ∷ (message 1 second) ∷ []; blocks = (certificate 2 (sent_by (104 ∷ []) 1) 3 1 (45 ∷ 32 ∷ 78 ∷ [])) ∷ (hashes_of 3 (sent_by (104 ∷ []) 1) algs.Sha1 1 ((hashes.Sha1 (1 ∷ [])) ∷ (hashes.Sha1 (2 ∷ [])) ∷ [])) ∷ []; spoilt = []; count = 4 }
+whole_log =
+    record {
+      normal = (message 0 first) ∷ (message 1 second) ∷ [];
+      blocks = (certificate 2 (sent_by (104 ∷ []) 1) 3 1 (45 ∷ 32 ∷ 78 ∷ []))
+          ∷ (hashes_of 3 (sent_by (104 ∷ []) 1) algs.Sha1 1 ((hashes.Sha1 (1 ∷ [])) ∷ (hashes.Sha1 (2 ∷ [])) ∷ [])) ∷ [];
+      spoilt = [];
+      count = 4;
+    }
 
 abbrev pub whole_report : Report
-whole_report = record { sessions = (record { session = (sent_by (104 ∷ []) 1); state = states.Joined; groups = (group_told ((entry.Listed 1 0) ∷ (entry.Listed 2 1) ∷ [])) ∷ [] }) ∷ []; unlisted = []; refused = []; spoilt = []; count = 4 }
+whole_report =
+    record {
+      sessions =
+          (record {
+            session = (sent_by (104 ∷ []) 1);
+            state = states.Joined;
+            groups = (group_told ((entry.Listed 1 0) ∷ (entry.Listed 2 1) ∷ [])) ∷ [];
+          }) ∷ [];
+      unlisted = [];
+      refused = [];
+      spoilt = [];
+      count = 4;
+    }
 
 -- the blocks stand before the messages
 abbrev pub blocks_first_log : Contents
-blocks_first_log = record { normal = (message 2 first) ∷ (message 3 second) ∷ []; blocks = (hashes_of 0 (sent_by (104 ∷ []) 1) algs.Sha1 1 ((hashes.Sha1 (1 ∷ [])) ∷ (hashes.Sha1 (2 ∷ [])) ∷ [])) ∷ (certificate 1 (sent_by (104 ∷ []) 1) 3 1 (45 ∷ 32 ∷ 78 ∷ [])) ∷ []; spoilt = []; count = 4 }
+blocks_first_log =
+    record {
+      normal = (message 2 first) ∷ (message 3 second) ∷ [];
+      blocks = (hashes_of 0 (sent_by (104 ∷ []) 1) algs.Sha1 1 ((hashes.Sha1 (1 ∷ [])) ∷ (hashes.Sha1 (2 ∷ [])) ∷ []))
+          ∷ (certificate 1 (sent_by (104 ∷ []) 1) 3 1 (45 ∷ 32 ∷ 78 ∷ [])) ∷ [];
+      spoilt = [];
+      count = 4;
+    }
 
 abbrev pub blocks_first_report : Report
-blocks_first_report = record { sessions = (record { session = (sent_by (104 ∷ []) 1); state = states.Joined; groups = (group_told ((entry.Listed 1 2) ∷ (entry.Listed 2 3) ∷ [])) ∷ [] }) ∷ []; unlisted = []; refused = []; spoilt = []; count = 4 }
+blocks_first_report =
+    record {
+      sessions =
+          (record {
+            session = (sent_by (104 ∷ []) 1);
+            state = states.Joined;
+            groups = (group_told ((entry.Listed 1 2) ∷ (entry.Listed 2 3) ∷ [])) ∷ [];
+          }) ∷ [];
+      unlisted = [];
+      refused = [];
+      spoilt = [];
+      count = 4;
+    }
 
 -- the second message is missing
 abbrev pub one_lost_log : Contents
-one_lost_log = record { normal = (message 0 first) ∷ []; blocks = (certificate 1 (sent_by (104 ∷ []) 1) 3 1 (45 ∷ 32 ∷ 78 ∷ [])) ∷ (hashes_of 2 (sent_by (104 ∷ []) 1) algs.Sha1 1 ((hashes.Sha1 (1 ∷ [])) ∷ (hashes.Sha1 (2 ∷ [])) ∷ [])) ∷ []; spoilt = []; count = 3 }
+one_lost_log =
+    record {
+      normal = (message 0 first) ∷ [];
+      blocks =
+          (certificate 1 (sent_by (104 ∷ []) 1) 3 1 (45 ∷ 32 ∷ 78 ∷ []))
+          ∷ (hashes_of 2 (sent_by (104 ∷ []) 1) algs.Sha1 1 ((hashes.Sha1 (1 ∷ [])) ∷ (hashes.Sha1 (2 ∷ [])) ∷ [])) ∷ [];
+      spoilt = [];
+      count = 3;
+    }
 
 abbrev pub one_lost_report : Report
-one_lost_report = record { sessions = (record { session = (sent_by (104 ∷ []) 1); state = states.Joined; groups = (group_told ((entry.Listed 1 0) ∷ (entry.Gap 2 whys.Lost) ∷ [])) ∷ [] }) ∷ []; unlisted = []; refused = []; spoilt = []; count = 3 }
+one_lost_report =
+    record {
+      sessions =
+          (record {
+            session = (sent_by (104 ∷ []) 1);
+            state = states.Joined;
+            groups = (group_told ((entry.Listed 1 0) ∷ (entry.Gap 2 whys.Lost) ∷ [])) ∷ [];
+          }) ∷ [];
+      unlisted = [];
+      refused = [];
+      spoilt = [];
+      count = 3;
+    }
 
 -- the signature block stands twice
 abbrev pub repeated_block_log : Contents
-repeated_block_log = record { normal = (message 0 first) ∷ (message 1 second) ∷ []; blocks = (certificate 2 (sent_by (104 ∷ []) 1) 3 1 (45 ∷ 32 ∷ 78 ∷ [])) ∷ (hashes_of 3 (sent_by (104 ∷ []) 1) algs.Sha1 1 ((hashes.Sha1 (1 ∷ [])) ∷ (hashes.Sha1 (2 ∷ [])) ∷ [])) ∷ (hashes_of 4 (sent_by (104 ∷ []) 1) algs.Sha1 1 ((hashes.Sha1 (1 ∷ [])) ∷ (hashes.Sha1 (2 ∷ [])) ∷ [])) ∷ []; spoilt = []; count = 5 }
+repeated_block_log =
+    record {
+      normal = (message 0 first) ∷ (message 1 second) ∷ [];
+      blocks = (certificate 2 (sent_by (104 ∷ []) 1) 3 1 (45 ∷ 32 ∷ 78 ∷ []))
+          ∷ (hashes_of 3 (sent_by (104 ∷ []) 1) algs.Sha1 1 ((hashes.Sha1 (1 ∷ [])) ∷ (hashes.Sha1 (2 ∷ [])) ∷ []))
+          ∷ (hashes_of 4 (sent_by (104 ∷ []) 1) algs.Sha1 1 ((hashes.Sha1 (1 ∷ [])) ∷ (hashes.Sha1 (2 ∷ [])) ∷ [])) ∷ [];
+      spoilt = [];
+      count = 5;
+    }
 
 abbrev pub repeated_block_report : Report
-repeated_block_report = record { sessions = (record { session = (sent_by (104 ∷ []) 1); state = states.Joined; groups = (group_told ((entry.Listed 1 0) ∷ (entry.Listed 2 1) ∷ [])) ∷ [] }) ∷ []; unlisted = []; refused = []; spoilt = []; count = 5 }
+repeated_block_report =
+    record {
+      sessions =
+          (record {
+            session = (sent_by (104 ∷ []) 1);
+            state = states.Joined;
+            groups = (group_told ((entry.Listed 1 0) ∷ (entry.Listed 2 1) ∷ [])) ∷ [];
+          }) ∷ [];
+      unlisted = [];
+      refused = [];
+      spoilt = [];
+      count = 5;
+    }
 
 -- one hash is announced for two numbers, and stored once
 abbrev pub one_for_two_log : Contents
-one_for_two_log = record { normal = (message 0 first) ∷ []; blocks = (certificate 1 (sent_by (104 ∷ []) 1) 3 1 (45 ∷ 32 ∷ 78 ∷ [])) ∷ (hashes_of 2 (sent_by (104 ∷ []) 1) algs.Sha1 1 ((hashes.Sha1 (1 ∷ [])) ∷ (hashes.Sha1 (1 ∷ [])) ∷ [])) ∷ []; spoilt = []; count = 3 }
+one_for_two_log =
+    record {
+      normal = (message 0 first) ∷ [];
+      blocks =
+          (certificate 1 (sent_by (104 ∷ []) 1) 3 1 (45 ∷ 32 ∷ 78 ∷ []))
+          ∷ (hashes_of 2 (sent_by (104 ∷ []) 1) algs.Sha1 1 ((hashes.Sha1 (1 ∷ [])) ∷ (hashes.Sha1 (1 ∷ [])) ∷ [])) ∷ [];
+      spoilt = [];
+      count = 3;
+    }
 
 abbrev pub one_for_two_report : Report
-one_for_two_report = record { sessions = (record { session = (sent_by (104 ∷ []) 1); state = states.Joined; groups = (group_told ((entry.Listed 1 0) ∷ (entry.Gap 2 whys.Lost) ∷ [])) ∷ [] }) ∷ []; unlisted = []; refused = []; spoilt = []; count = 3 }
+one_for_two_report =
+    record {
+      sessions =
+          (record {
+            session = (sent_by (104 ∷ []) 1);
+            state = states.Joined;
+            groups = (group_told ((entry.Listed 1 0) ∷ (entry.Gap 2 whys.Lost) ∷ [])) ∷ [];
+          }) ∷ [];
+      unlisted = [];
+      refused = [];
+      spoilt = [];
+      count = 3;
+    }
 
 -- one hash is announced once, and stored three times
 abbrev pub three_for_one_log : Contents
-three_for_one_log = record { normal = (message 0 first) ∷ (message 1 first) ∷ (message 2 first) ∷ []; blocks = (certificate 3 (sent_by (104 ∷ []) 1) 3 1 (45 ∷ 32 ∷ 78 ∷ [])) ∷ (hashes_of 4 (sent_by (104 ∷ []) 1) algs.Sha1 1 ((hashes.Sha1 (1 ∷ [])) ∷ [])) ∷ []; spoilt = []; count = 5 }
+three_for_one_log =
+    record {
+      normal = (message 0 first) ∷ (message 1 first) ∷ (message 2 first) ∷ [];
+      blocks = (certificate 3 (sent_by (104 ∷ []) 1) 3 1 (45 ∷ 32 ∷ 78 ∷ []))
+          ∷ (hashes_of 4 (sent_by (104 ∷ []) 1) algs.Sha1 1 ((hashes.Sha1 (1 ∷ [])) ∷ [])) ∷ [];
+      spoilt = [];
+      count = 5;
+    }
 
 abbrev pub three_for_one_report : Report
-three_for_one_report = record { sessions = (record { session = (sent_by (104 ∷ []) 1); state = states.Joined; groups = (group_told ((entry.Listed 1 0) ∷ [])) ∷ [] }) ∷ []; unlisted = 1 ∷ 2 ∷ []; refused = []; spoilt = []; count = 5 }
+three_for_one_report =
+    record {
+      sessions =
+          (record {
+            session = (sent_by (104 ∷ []) 1);
+            state = states.Joined;
+            groups = (group_told ((entry.Listed 1 0) ∷ [])) ∷ [];
+          }) ∷ [];
+      unlisted = 1 ∷ 2 ∷ [];
+      refused = [];
+      spoilt = [];
+      count = 5;
+    }
 
 -- two numbers want the same hashes, and both are stored
 abbrev pub two_for_two_log : Contents
-two_for_two_log = record { normal = (message 0 first) ∷ (message 3 first) ∷ []; blocks = (certificate 1 (sent_by (104 ∷ []) 1) 3 1 (45 ∷ 32 ∷ 78 ∷ [])) ∷ (hashes_of 2 (sent_by (104 ∷ []) 1) algs.Sha1 1 ((hashes.Sha1 (1 ∷ [])) ∷ (hashes.Sha1 (1 ∷ [])) ∷ [])) ∷ []; spoilt = []; count = 4 }
+two_for_two_log =
+    record {
+      normal = (message 0 first) ∷ (message 3 first) ∷ [];
+      blocks = (certificate 1 (sent_by (104 ∷ []) 1) 3 1 (45 ∷ 32 ∷ 78 ∷ []))
+          ∷ (hashes_of 2 (sent_by (104 ∷ []) 1) algs.Sha1 1 ((hashes.Sha1 (1 ∷ [])) ∷ (hashes.Sha1 (1 ∷ [])) ∷ [])) ∷ [];
+      spoilt = [];
+      count = 4;
+    }
 
 abbrev pub two_for_two_report : Report
-two_for_two_report = record { sessions = (record { session = (sent_by (104 ∷ []) 1); state = states.Joined; groups = (group_told ((entry.Listed 1 0) ∷ (entry.Listed 2 3) ∷ [])) ∷ [] }) ∷ []; unlisted = []; refused = []; spoilt = []; count = 4 }
+two_for_two_report =
+    record {
+      sessions =
+          (record {
+            session = (sent_by (104 ∷ []) 1);
+            state = states.Joined;
+            groups = (group_told ((entry.Listed 1 0) ∷ (entry.Listed 2 3) ∷ [])) ∷ [];
+          }) ∷ [];
+      unlisted = [];
+      refused = [];
+      spoilt = [];
+      count = 4;
+    }
 
 -- two hashes are announced for one number
 abbrev pub disputed_log : Contents
-disputed_log = record { normal = (message 0 first) ∷ (message 1 second) ∷ []; blocks = (certificate 2 (sent_by (104 ∷ []) 1) 3 1 (45 ∷ 32 ∷ 78 ∷ [])) ∷ (hashes_of 3 (sent_by (104 ∷ []) 1) algs.Sha1 1 ((hashes.Sha1 (1 ∷ [])) ∷ [])) ∷ (hashes_of 4 (sent_by (104 ∷ []) 1) algs.Sha1 1 ((hashes.Sha1 (2 ∷ [])) ∷ [])) ∷ []; spoilt = []; count = 5 }
+disputed_log =
+    record {
+      normal = (message 0 first) ∷ (message 1 second) ∷ [];
+      blocks = (certificate 2 (sent_by (104 ∷ []) 1) 3 1 (45 ∷ 32 ∷ 78 ∷ []))
+          ∷ (hashes_of 3 (sent_by (104 ∷ []) 1) algs.Sha1 1 ((hashes.Sha1 (1 ∷ [])) ∷ []))
+          ∷ (hashes_of 4 (sent_by (104 ∷ []) 1) algs.Sha1 1 ((hashes.Sha1 (2 ∷ [])) ∷ [])) ∷ [];
+      spoilt = [];
+      count = 5;
+    }
 
 abbrev pub disputed_report : Report
-disputed_report = record { sessions = (record { session = (sent_by (104 ∷ []) 1); state = states.Joined; groups = (group_told ((entry.Gap 1 whys.Disputed) ∷ [])) ∷ [] }) ∷ []; unlisted = 0 ∷ 1 ∷ []; refused = []; spoilt = []; count = 5 }
+disputed_report =
+    record {
+      sessions =
+          (record {
+            session = (sent_by (104 ∷ []) 1);
+            state = states.Joined;
+            groups = (group_told ((entry.Gap 1 whys.Disputed) ∷ [])) ∷ [];
+          }) ∷ [];
+      unlisted = 0 ∷ 1 ∷ [];
+      refused = [];
+      spoilt = [];
+      count = 5;
+    }
 
 -- one message is announced by both algorithms for one number
 abbrev pub disputed_algorithms_log : Contents
-disputed_algorithms_log = record { normal = (message 0 first) ∷ []; blocks = (certificate 1 (sent_by (104 ∷ []) 1) 3 1 (45 ∷ 32 ∷ 78 ∷ [])) ∷ (hashes_of 2 (sent_by (104 ∷ []) 1) algs.Sha1 1 ((hashes.Sha1 (1 ∷ [])) ∷ [])) ∷ (hashes_of 3 (sent_by (104 ∷ []) 1) algs.Sha256 1 ((hashes.Sha256 (101 ∷ [])) ∷ [])) ∷ []; spoilt = []; count = 4 }
+disputed_algorithms_log =
+    record {
+      normal = (message 0 first) ∷ [];
+      blocks =
+          (certificate 1 (sent_by (104 ∷ []) 1) 3 1 (45 ∷ 32 ∷ 78 ∷ []))
+          ∷ (hashes_of 2 (sent_by (104 ∷ []) 1) algs.Sha1 1 ((hashes.Sha1 (1 ∷ [])) ∷ []))
+          ∷ (hashes_of 3 (sent_by (104 ∷ []) 1) algs.Sha256 1 ((hashes.Sha256 (101 ∷ [])) ∷ [])) ∷ [];
+      spoilt = [];
+      count = 4;
+    }
 
 abbrev pub disputed_algorithms_report : Report
-disputed_algorithms_report = record { sessions = (record { session = (sent_by (104 ∷ []) 1); state = states.Joined; groups = (group_told ((entry.Gap 1 whys.Disputed) ∷ [])) ∷ [] }) ∷ []; unlisted = 0 ∷ []; refused = []; spoilt = []; count = 4 }
+disputed_algorithms_report =
+    record {
+      sessions =
+          (record {
+            session = (sent_by (104 ∷ []) 1);
+            state = states.Joined;
+            groups = (group_told ((entry.Gap 1 whys.Disputed) ∷ [])) ∷ [];
+          }) ∷ [];
+      unlisted = 0 ∷ [];
+      refused = [];
+      spoilt = [];
+      count = 4;
+    }
 
 -- a disputed number leaves the message to the next that wants it
 abbrev pub disputed_twin_log : Contents
-disputed_twin_log = record { normal = (message 0 first) ∷ []; blocks = (certificate 1 (sent_by (104 ∷ []) 1) 3 1 (45 ∷ 32 ∷ 78 ∷ [])) ∷ (hashes_of 2 (sent_by (104 ∷ []) 1) algs.Sha1 1 ((hashes.Sha1 (1 ∷ [])) ∷ (hashes.Sha1 (1 ∷ [])) ∷ [])) ∷ (hashes_of 3 (sent_by (104 ∷ []) 1) algs.Sha1 1 ((hashes.Sha1 (2 ∷ [])) ∷ [])) ∷ []; spoilt = []; count = 4 }
+disputed_twin_log =
+    record {
+      normal = (message 0 first) ∷ [];
+      blocks =
+          (certificate 1 (sent_by (104 ∷ []) 1) 3 1 (45 ∷ 32 ∷ 78 ∷ []))
+          ∷ (hashes_of 2 (sent_by (104 ∷ []) 1) algs.Sha1 1 ((hashes.Sha1 (1 ∷ [])) ∷ (hashes.Sha1 (1 ∷ [])) ∷ []))
+          ∷ (hashes_of 3 (sent_by (104 ∷ []) 1) algs.Sha1 1 ((hashes.Sha1 (2 ∷ [])) ∷ [])) ∷ [];
+      spoilt = [];
+      count = 4;
+    }
 
 abbrev pub disputed_twin_report : Report
-disputed_twin_report = record { sessions = (record { session = (sent_by (104 ∷ []) 1); state = states.Joined; groups = (group_told ((entry.Gap 1 whys.Disputed) ∷ (entry.Listed 2 0) ∷ [])) ∷ [] }) ∷ []; unlisted = []; refused = []; spoilt = []; count = 4 }
+disputed_twin_report =
+    record {
+      sessions =
+          (record {
+            session = (sent_by (104 ∷ []) 1);
+            state = states.Joined;
+            groups = (group_told ((entry.Gap 1 whys.Disputed) ∷ (entry.Listed 2 0) ∷ [])) ∷ [];
+          }) ∷ [];
+      unlisted = [];
+      refused = [];
+      spoilt = [];
+      count = 4;
+    }
 
 -- two messages have one SHA-1: the first is its bearer, and the other is found by its SHA-256
 abbrev pub two_of_one_hash_log : Contents
-two_of_one_hash_log = record { normal = (message 0 first) ∷ (message 1 third) ∷ []; blocks = (certificate 2 (sent_by (104 ∷ []) 1) 3 1 (45 ∷ 32 ∷ 78 ∷ [])) ∷ (hashes_of 3 (sent_by (104 ∷ []) 1) algs.Sha1 1 ((hashes.Sha1 (1 ∷ [])) ∷ (hashes.Sha1 (1 ∷ [])) ∷ [])) ∷ (hashes_of 4 (sent_by (104 ∷ []) 1) algs.Sha256 3 ((hashes.Sha256 (103 ∷ [])) ∷ [])) ∷ []; spoilt = []; count = 5 }
+two_of_one_hash_log =
+    record {
+      normal = (message 0 first) ∷ (message 1 third) ∷ [];
+      blocks = (certificate 2 (sent_by (104 ∷ []) 1) 3 1 (45 ∷ 32 ∷ 78 ∷ []))
+          ∷ (hashes_of 3 (sent_by (104 ∷ []) 1) algs.Sha1 1 ((hashes.Sha1 (1 ∷ [])) ∷ (hashes.Sha1 (1 ∷ [])) ∷ []))
+          ∷ (hashes_of 4 (sent_by (104 ∷ []) 1) algs.Sha256 3 ((hashes.Sha256 (103 ∷ [])) ∷ [])) ∷ [];
+      spoilt = [];
+      count = 5;
+    }
 
 abbrev pub two_of_one_hash_report : Report
-two_of_one_hash_report = record { sessions = (record { session = (sent_by (104 ∷ []) 1); state = states.Joined; groups = (group_told ((entry.Listed 1 0) ∷ (entry.Gap 2 whys.Lost) ∷ (entry.Listed 3 1) ∷ [])) ∷ [] }) ∷ []; unlisted = []; refused = []; spoilt = []; count = 5 }
+two_of_one_hash_report =
+    record {
+      sessions =
+          (record {
+            session = (sent_by (104 ∷ []) 1);
+            state = states.Joined;
+            groups = (group_told ((entry.Listed 1 0) ∷ (entry.Gap 2 whys.Lost) ∷ (entry.Listed 3 1) ∷ [])) ∷ [];
+          }) ∷ [];
+      unlisted = [];
+      refused = [];
+      spoilt = [];
+      count = 5;
+    }
 
 -- the payload is stated in two fragments, the last one first
 abbrev pub fragments_in_reverse_log : Contents
-fragments_in_reverse_log = record { normal = (message 0 first) ∷ []; blocks = (certificate 1 (sent_by (104 ∷ []) 1) 3 3 (78 ∷ [])) ∷ (certificate 2 (sent_by (104 ∷ []) 1) 3 1 (45 ∷ 32 ∷ [])) ∷ (hashes_of 3 (sent_by (104 ∷ []) 1) algs.Sha1 1 ((hashes.Sha1 (1 ∷ [])) ∷ [])) ∷ []; spoilt = []; count = 4 }
+fragments_in_reverse_log =
+    record {
+      normal = (message 0 first) ∷ [];
+      blocks =
+          (certificate 1 (sent_by (104 ∷ []) 1) 3 3 (78 ∷ [])) ∷ (certificate 2 (sent_by (104 ∷ []) 1) 3 1 (45 ∷ 32 ∷ []))
+          ∷ (hashes_of 3 (sent_by (104 ∷ []) 1) algs.Sha1 1 ((hashes.Sha1 (1 ∷ [])) ∷ [])) ∷ [];
+      spoilt = [];
+      count = 4;
+    }
 
 abbrev pub fragments_in_reverse_report : Report
-fragments_in_reverse_report = record { sessions = (record { session = (sent_by (104 ∷ []) 1); state = states.Joined; groups = (group_told ((entry.Listed 1 0) ∷ [])) ∷ [] }) ∷ []; unlisted = []; refused = []; spoilt = []; count = 4 }
+fragments_in_reverse_report =
+    record {
+      sessions =
+          (record {
+            session = (sent_by (104 ∷ []) 1);
+            state = states.Joined;
+            groups = (group_told ((entry.Listed 1 0) ∷ [])) ∷ [];
+          }) ∷ [];
+      unlisted = [];
+      refused = [];
+      spoilt = [];
+      count = 4;
+    }
 
 -- a fragment of the payload is missing
 abbrev pub fragment_missing_log : Contents
-fragment_missing_log = record { normal = (message 0 first) ∷ []; blocks = (certificate 1 (sent_by (104 ∷ []) 1) 3 3 (78 ∷ [])) ∷ (hashes_of 2 (sent_by (104 ∷ []) 1) algs.Sha1 1 ((hashes.Sha1 (1 ∷ [])) ∷ [])) ∷ []; spoilt = []; count = 3 }
+fragment_missing_log =
+    record {
+      normal = (message 0 first) ∷ [];
+      blocks =
+          (certificate 1 (sent_by (104 ∷ []) 1) 3 3 (78 ∷ []))
+          ∷ (hashes_of 2 (sent_by (104 ∷ []) 1) algs.Sha1 1 ((hashes.Sha1 (1 ∷ [])) ∷ [])) ∷ [];
+      spoilt = [];
+      count = 3;
+    }
 
 abbrev pub fragment_missing_report : Report
-fragment_missing_report = record { sessions = (record { session = (sent_by (104 ∷ []) 1); state = states.Incomplete; groups = [] }) ∷ []; unlisted = 0 ∷ []; refused = 1 ∷ 2 ∷ []; spoilt = []; count = 3 }
+fragment_missing_report =
+    record {
+      sessions = (record { session = (sent_by (104 ∷ []) 1); state = states.Incomplete; groups = [] }) ∷ [];
+      unlisted = 0 ∷ [];
+      refused = 1 ∷ 2 ∷ [];
+      spoilt = [];
+      count = 3;
+    }
 
 -- two fragments state two octets at one index
 abbrev pub two_payloads_log : Contents
-two_payloads_log = record { normal = (message 0 first) ∷ []; blocks = (certificate 1 (sent_by (104 ∷ []) 1) 3 1 (45 ∷ 32 ∷ 78 ∷ [])) ∷ (certificate 2 (sent_by (104 ∷ []) 1) 3 1 (46 ∷ 32 ∷ 78 ∷ [])) ∷ (hashes_of 3 (sent_by (104 ∷ []) 1) algs.Sha1 1 ((hashes.Sha1 (1 ∷ [])) ∷ [])) ∷ []; spoilt = []; count = 4 }
+two_payloads_log =
+    record {
+      normal = (message 0 first) ∷ [];
+      blocks =
+          (certificate 1 (sent_by (104 ∷ []) 1) 3 1 (45 ∷ 32 ∷ 78 ∷ []))
+          ∷ (certificate 2 (sent_by (104 ∷ []) 1) 3 1 (46 ∷ 32 ∷ 78 ∷ []))
+          ∷ (hashes_of 3 (sent_by (104 ∷ []) 1) algs.Sha1 1 ((hashes.Sha1 (1 ∷ [])) ∷ [])) ∷ [];
+      spoilt = [];
+      count = 4;
+    }
 
 abbrev pub two_payloads_report : Report
-two_payloads_report = record { sessions = (record { session = (sent_by (104 ∷ []) 1); state = states.Disputed; groups = [] }) ∷ []; unlisted = 0 ∷ []; refused = 1 ∷ 2 ∷ 3 ∷ []; spoilt = []; count = 4 }
+two_payloads_report =
+    record {
+      sessions = (record { session = (sent_by (104 ∷ []) 1); state = states.Disputed; groups = [] }) ∷ [];
+      unlisted = 0 ∷ [];
+      refused = 1 ∷ 2 ∷ 3 ∷ [];
+      spoilt = [];
+      count = 4;
+    }
 
 -- two fragments state two lengths
 abbrev pub two_totals_log : Contents
-two_totals_log = record { normal = []; blocks = (certificate 0 (sent_by (104 ∷ []) 1) 3 1 (45 ∷ 32 ∷ 78 ∷ [])) ∷ (certificate 1 (sent_by (104 ∷ []) 1) 4 1 (45 ∷ 32 ∷ 78 ∷ [])) ∷ []; spoilt = []; count = 2 }
+two_totals_log =
+    record {
+      normal = [];
+      blocks =
+          (certificate 0 (sent_by (104 ∷ []) 1) 3 1 (45 ∷ 32 ∷ 78 ∷ []))
+          ∷ (certificate 1 (sent_by (104 ∷ []) 1) 4 1 (45 ∷ 32 ∷ 78 ∷ [])) ∷ [];
+      spoilt = [];
+      count = 2;
+    }
 
 abbrev pub two_totals_report : Report
-two_totals_report = record { sessions = (record { session = (sent_by (104 ∷ []) 1); state = states.Disputed; groups = [] }) ∷ []; unlisted = []; refused = 0 ∷ 1 ∷ []; spoilt = []; count = 2 }
+two_totals_report =
+    record {
+      sessions = (record { session = (sent_by (104 ∷ []) 1); state = states.Disputed; groups = [] }) ∷ [];
+      unlisted = [];
+      refused = 0 ∷ 1 ∷ [];
+      spoilt = [];
+      count = 2;
+    }
 
 -- nothing below a number is announced
 abbrev pub great_number_log : Contents
-great_number_log = record { normal = (message 0 first) ∷ []; blocks = (certificate 1 (sent_by (104 ∷ []) 1) 3 1 (45 ∷ 32 ∷ 78 ∷ [])) ∷ (hashes_of 2 (sent_by (104 ∷ []) 1) algs.Sha1 9999999999 ((hashes.Sha1 (1 ∷ [])) ∷ [])) ∷ []; spoilt = []; count = 3 }
+great_number_log =
+    record {
+      normal = (message 0 first) ∷ [];
+      blocks =
+          (certificate 1 (sent_by (104 ∷ []) 1) 3 1 (45 ∷ 32 ∷ 78 ∷ []))
+          ∷ (hashes_of 2 (sent_by (104 ∷ []) 1) algs.Sha1 9999999999 ((hashes.Sha1 (1 ∷ [])) ∷ [])) ∷ [];
+      spoilt = [];
+      count = 3;
+    }
 
 abbrev pub great_number_report : Report
-great_number_report = record { sessions = (record { session = (sent_by (104 ∷ []) 1); state = states.Joined; groups = (group_told ((entry.Hole 1 9999999998) ∷ (entry.Listed 9999999999 0) ∷ [])) ∷ [] }) ∷ []; unlisted = []; refused = []; spoilt = []; count = 3 }
+great_number_report =
+    record {
+      sessions =
+          (record {
+            session = (sent_by (104 ∷ []) 1);
+            state = states.Joined;
+            groups = (group_told ((entry.Hole 1 9999999998) ∷ (entry.Listed 9999999999 0) ∷ [])) ∷ [];
+          }) ∷ [];
+      unlisted = [];
+      refused = [];
+      spoilt = [];
+      count = 3;
+    }
 
 -- numbers before, between and behind holes
 abbrev pub holes_log : Contents
-holes_log = record { normal = (message 0 first) ∷ []; blocks = (certificate 1 (sent_by (104 ∷ []) 1) 3 1 (45 ∷ 32 ∷ 78 ∷ [])) ∷ (hashes_of 2 (sent_by (104 ∷ []) 1) algs.Sha1 2 ((hashes.Sha1 (2 ∷ [])) ∷ (hashes.Sha1 (1 ∷ [])) ∷ [])) ∷ (hashes_of 3 (sent_by (104 ∷ []) 1) algs.Sha1 7 ((hashes.Sha1 (2 ∷ [])) ∷ [])) ∷ []; spoilt = []; count = 4 }
+holes_log =
+    record {
+      normal = (message 0 first) ∷ [];
+      blocks =
+          (certificate 1 (sent_by (104 ∷ []) 1) 3 1 (45 ∷ 32 ∷ 78 ∷ []))
+          ∷ (hashes_of 2 (sent_by (104 ∷ []) 1) algs.Sha1 2 ((hashes.Sha1 (2 ∷ [])) ∷ (hashes.Sha1 (1 ∷ [])) ∷ []))
+          ∷ (hashes_of 3 (sent_by (104 ∷ []) 1) algs.Sha1 7 ((hashes.Sha1 (2 ∷ [])) ∷ [])) ∷ [];
+      spoilt = [];
+      count = 4;
+    }
 
 abbrev pub holes_report : Report
-holes_report = record { sessions = (record { session = (sent_by (104 ∷ []) 1); state = states.Joined; groups = (group_told ((entry.Hole 1 1) ∷ (entry.Gap 2 whys.Lost) ∷ (entry.Listed 3 0) ∷ (entry.Hole 4 6) ∷ (entry.Gap 7 whys.Lost) ∷ [])) ∷ [] }) ∷ []; unlisted = []; refused = []; spoilt = []; count = 4 }
+holes_report =
+    record {
+      sessions =
+          (record {
+            session = (sent_by (104 ∷ []) 1);
+            state = states.Joined;
+            groups = (group_told ((entry.Hole 1 1) ∷ (entry.Gap 2 whys.Lost) ∷ (entry.Listed 3 0) ∷ (entry.Hole 4 6)
+                ∷ (entry.Gap 7 whys.Lost) ∷ [])) ∷ [];
+          }) ∷ [];
+      unlisted = [];
+      refused = [];
+      spoilt = [];
+      count = 4;
+    }
 
 -- a block is spoilt
 abbrev pub spoilt_block_log : Contents
-spoilt_block_log = record { normal = []; blocks = (certificate 0 (sent_by (104 ∷ []) 1) 3 1 (45 ∷ 32 ∷ 78 ∷ [])) ∷ []; spoilt = (record { place = 1; cause = spoils.LastNumber }) ∷ []; count = 2 }
+spoilt_block_log =
+    record {
+      normal = [];
+      blocks = (certificate 0 (sent_by (104 ∷ []) 1) 3 1 (45 ∷ 32 ∷ 78 ∷ [])) ∷ [];
+      spoilt = (record { place = 1; cause = spoils.LastNumber }) ∷ [];
+      count = 2;
+    }
 
 abbrev pub spoilt_block_report : Report
-spoilt_block_report = record { sessions = (record { session = (sent_by (104 ∷ []) 1); state = states.Joined; groups = [] }) ∷ []; unlisted = []; refused = []; spoilt = (record { place = 1; cause = spoils.LastNumber }) ∷ []; count = 2 }
+spoilt_block_report =
+    record {
+      sessions = (record { session = (sent_by (104 ∷ []) 1); state = states.Joined; groups = [] }) ∷ [];
+      unlisted = [];
+      refused = [];
+      spoilt = (record { place = 1; cause = spoils.LastNumber }) ∷ [];
+      count = 2;
+    }
 
 -- two sessions announce one message, by two algorithms
 abbrev pub two_sessions_log : Contents
-two_sessions_log = record { normal = (message 0 first) ∷ []; blocks = (certificate 1 (sent_by (104 ∷ []) 1) 3 1 (45 ∷ 32 ∷ 78 ∷ [])) ∷ (certificate 2 (sent_by (104 ∷ []) 2) 3 1 (45 ∷ 32 ∷ 78 ∷ [])) ∷ (hashes_of 3 (sent_by (104 ∷ []) 1) algs.Sha256 1 ((hashes.Sha256 (101 ∷ [])) ∷ [])) ∷ (hashes_of 4 (sent_by (104 ∷ []) 2) algs.Sha1 1 ((hashes.Sha1 (1 ∷ [])) ∷ [])) ∷ []; spoilt = []; count = 5 }
+two_sessions_log =
+    record {
+      normal = (message 0 first) ∷ [];
+      blocks =
+          (certificate 1 (sent_by (104 ∷ []) 1) 3 1 (45 ∷ 32 ∷ 78 ∷ []))
+          ∷ (certificate 2 (sent_by (104 ∷ []) 2) 3 1 (45 ∷ 32 ∷ 78 ∷ []))
+          ∷ (hashes_of 3 (sent_by (104 ∷ []) 1) algs.Sha256 1 ((hashes.Sha256 (101 ∷ [])) ∷ []))
+          ∷ (hashes_of 4 (sent_by (104 ∷ []) 2) algs.Sha1 1 ((hashes.Sha1 (1 ∷ [])) ∷ [])) ∷ [];
+      spoilt = [];
+      count = 5;
+    }
 
 abbrev pub two_sessions_report : Report
-two_sessions_report = record { sessions = (record { session = (sent_by (104 ∷ []) 1); state = states.Joined; groups = (group_told ((entry.Listed 1 0) ∷ [])) ∷ [] }) ∷ (record { session = (sent_by (104 ∷ []) 2); state = states.Joined; groups = (group_told ((entry.Gap 1 whys.Lost) ∷ [])) ∷ [] }) ∷ []; unlisted = []; refused = []; spoilt = []; count = 5 }
+two_sessions_report =
+    record {
+      sessions =
+          (record {
+            session = (sent_by (104 ∷ []) 1);
+            state = states.Joined;
+            groups = (group_told ((entry.Listed 1 0) ∷ [])) ∷ [];
+          })
+          ∷ (record {
+            session = (sent_by (104 ∷ []) 2);
+            state = states.Joined;
+            groups = (group_told ((entry.Gap 1 whys.Lost) ∷ [])) ∷ [];
+          }) ∷ [];
+      unlisted = [];
+      refused = [];
+      spoilt = [];
+      count = 5;
+    }
 
 -- the payload is no payload block
 abbrev pub malformed_log : Contents
-malformed_log = record { normal = []; blocks = (certificate 0 (sent_by (104 ∷ []) 1) 1 1 (120 ∷ [])) ∷ []; spoilt = []; count = 1 }
+malformed_log =
+    record { normal = []; blocks = (certificate 0 (sent_by (104 ∷ []) 1) 1 1 (120 ∷ [])) ∷ []; spoilt = []; count = 1 }
 
 abbrev pub malformed_report : Report
-malformed_report = record { sessions = (record { session = (sent_by (104 ∷ []) 1); state = states.Malformed; groups = [] }) ∷ []; unlisted = []; refused = 0 ∷ []; spoilt = []; count = 1 }
+malformed_report =
+    record {
+      sessions = (record { session = (sent_by (104 ∷ []) 1); state = states.Malformed; groups = [] }) ∷ [];
+      unlisted = [];
+      refused = 0 ∷ [];
+      spoilt = [];
+      count = 1;
+    }
 
 -- no payload is trusted
 abbrev pub untrusted_report : Report
-untrusted_report = record { sessions = (record { session = (sent_by (104 ∷ []) 1); state = states.Untrusted; groups = [] }) ∷ []; unlisted = 0 ∷ 1 ∷ []; refused = 2 ∷ 3 ∷ []; spoilt = []; count = 4 }
+untrusted_report =
+    record {
+      sessions = (record { session = (sent_by (104 ∷ []) 1); state = states.Untrusted; groups = [] }) ∷ [];
+      unlisted = 0 ∷ 1 ∷ [];
+      refused = 2 ∷ 3 ∷ [];
+      spoilt = [];
+      count = 4;
+    }
 
 -- no signature is valid
 abbrev pub unaccepted_report : Report
-unaccepted_report = record { sessions = (record { session = (sent_by (104 ∷ []) 1); state = states.Unaccepted; groups = [] }) ∷ []; unlisted = 0 ∷ 1 ∷ []; refused = 2 ∷ 3 ∷ []; spoilt = []; count = 4 }
+unaccepted_report =
+    record {
+      sessions = (record { session = (sent_by (104 ∷ []) 1); state = states.Unaccepted; groups = [] }) ∷ [];
+      unlisted = 0 ∷ 1 ∷ [];
+      refused = 2 ∷ 3 ∷ [];
+      spoilt = [];
+      count = 4;
+    }
 
 -- the certificate block alone is valid
 abbrev pub certificate_alone_report : Report
-certificate_alone_report = record { sessions = (record { session = (sent_by (104 ∷ []) 1); state = states.Joined; groups = [] }) ∷ []; unlisted = 0 ∷ 1 ∷ []; refused = 3 ∷ []; spoilt = []; count = 4 }
+certificate_alone_report =
+    record {
+      sessions = (record { session = (sent_by (104 ∷ []) 1); state = states.Joined; groups = [] }) ∷ [];
+      unlisted = 0 ∷ 1 ∷ [];
+      refused = 3 ∷ [];
+      spoilt = [];
+      count = 4;
+    }
 
 -- there is no certificate block
 abbrev pub certificate_missing_log : Contents
-certificate_missing_log = record { normal = []; blocks = (hashes_of 0 (sent_by (104 ∷ []) 1) algs.Sha1 1 ((hashes.Sha1 (1 ∷ [])) ∷ (hashes.Sha1 (2 ∷ [])) ∷ [])) ∷ []; spoilt = []; count = 1 }
+certificate_missing_log =
+    record {
+      normal = [];
+      blocks =
+          (hashes_of 0 (sent_by (104 ∷ []) 1) algs.Sha1 1 ((hashes.Sha1 (1 ∷ [])) ∷ (hashes.Sha1 (2 ∷ [])) ∷ [])) ∷ [];
+      spoilt = [];
+      count = 1;
+    }
 
 abbrev pub certificate_missing_report : Report
-certificate_missing_report = record { sessions = (record { session = (sent_by (104 ∷ []) 1); state = states.Incomplete; groups = [] }) ∷ []; unlisted = []; refused = 0 ∷ []; spoilt = []; count = 1 }
+certificate_missing_report =
+    record {
+      sessions = (record { session = (sent_by (104 ∷ []) 1); state = states.Incomplete; groups = [] }) ∷ [];
+      unlisted = [];
+      refused = 0 ∷ [];
+      spoilt = [];
+      count = 1;
+    }
 
 -- two hosts announce one message
 abbrev pub two_hosts_log : Contents
-two_hosts_log = record { normal = (message 0 first) ∷ []; blocks = (certificate 1 (sent_by (104 ∷ []) 1) 3 1 (45 ∷ 32 ∷ 78 ∷ [])) ∷ (hashes_of 2 (sent_by (104 ∷ []) 1) algs.Sha1 1 ((hashes.Sha1 (1 ∷ [])) ∷ [])) ∷ (certificate 3 (sent_by (105 ∷ []) 1) 3 1 (45 ∷ 32 ∷ 78 ∷ [])) ∷ (hashes_of 4 (sent_by (105 ∷ []) 1) algs.Sha1 1 ((hashes.Sha1 (1 ∷ [])) ∷ [])) ∷ []; spoilt = []; count = 5 }
+two_hosts_log =
+    record {
+      normal = (message 0 first) ∷ [];
+      blocks =
+          (certificate 1 (sent_by (104 ∷ []) 1) 3 1 (45 ∷ 32 ∷ 78 ∷ []))
+          ∷ (hashes_of 2 (sent_by (104 ∷ []) 1) algs.Sha1 1 ((hashes.Sha1 (1 ∷ [])) ∷ []))
+          ∷ (certificate 3 (sent_by (105 ∷ []) 1) 3 1 (45 ∷ 32 ∷ 78 ∷ []))
+          ∷ (hashes_of 4 (sent_by (105 ∷ []) 1) algs.Sha1 1 ((hashes.Sha1 (1 ∷ [])) ∷ [])) ∷ [];
+      spoilt = [];
+      count = 5;
+    }
 
 abbrev pub two_hosts_report : Report
-two_hosts_report = record { sessions = (record { session = (sent_by (104 ∷ []) 1); state = states.Joined; groups = (group_told ((entry.Listed 1 0) ∷ [])) ∷ [] }) ∷ (record { session = (sent_by (105 ∷ []) 1); state = states.Joined; groups = (group_told ((entry.Gap 1 whys.Lost) ∷ [])) ∷ [] }) ∷ []; unlisted = []; refused = []; spoilt = []; count = 5 }
+two_hosts_report =
+    record {
+      sessions =
+          (record {
+            session = (sent_by (104 ∷ []) 1);
+            state = states.Joined;
+            groups = (group_told ((entry.Listed 1 0) ∷ [])) ∷ [];
+          })
+          ∷ (record {
+            session = (sent_by (105 ∷ []) 1);
+            state = states.Joined;
+            groups = (group_told ((entry.Gap 1 whys.Lost) ∷ [])) ∷ [];
+          }) ∷ [];
+      unlisted = [];
+      refused = [];
+      spoilt = [];
+      count = 5;
+    }
 
 -- two hosts state two payloads
 abbrev pub two_hosts_payloads_log : Contents
-two_hosts_payloads_log = record { normal = (message 0 first) ∷ []; blocks = (certificate 1 (sent_by (104 ∷ []) 1) 3 1 (45 ∷ 32 ∷ 78 ∷ [])) ∷ (certificate 2 (sent_by (105 ∷ []) 1) 4 1 (45 ∷ 32 ∷ 78 ∷ 32 ∷ [])) ∷ (hashes_of 3 (sent_by (104 ∷ []) 1) algs.Sha1 1 ((hashes.Sha1 (1 ∷ [])) ∷ [])) ∷ []; spoilt = []; count = 4 }
+two_hosts_payloads_log =
+    record {
+      normal = (message 0 first) ∷ [];
+      blocks =
+          (certificate 1 (sent_by (104 ∷ []) 1) 3 1 (45 ∷ 32 ∷ 78 ∷ []))
+          ∷ (certificate 2 (sent_by (105 ∷ []) 1) 4 1 (45 ∷ 32 ∷ 78 ∷ 32 ∷ []))
+          ∷ (hashes_of 3 (sent_by (104 ∷ []) 1) algs.Sha1 1 ((hashes.Sha1 (1 ∷ [])) ∷ [])) ∷ [];
+      spoilt = [];
+      count = 4;
+    }
 
 abbrev pub two_hosts_payloads_report : Report
-two_hosts_payloads_report = record { sessions = (record { session = (sent_by (104 ∷ []) 1); state = states.Joined; groups = (group_told ((entry.Listed 1 0) ∷ [])) ∷ [] }) ∷ (record { session = (sent_by (105 ∷ []) 1); state = states.Joined; groups = [] }) ∷ []; unlisted = []; refused = []; spoilt = []; count = 4 }
+two_hosts_payloads_report =
+    record {
+      sessions =
+          (record {
+            session = (sent_by (104 ∷ []) 1);
+            state = states.Joined;
+            groups = (group_told ((entry.Listed 1 0) ∷ [])) ∷ [];
+          })
+          ∷ (record { session = (sent_by (105 ∷ []) 1); state = states.Joined; groups = [] }) ∷ [];
+      unlisted = [];
+      refused = [];
+      spoilt = [];
+      count = 4;
+    }
 
 -- sessions are told by host before RSID
 abbrev pub order_of_sessions_log : Contents
-order_of_sessions_log = record { normal = []; blocks = (certificate 0 (sent_by (105 ∷ []) 1) 3 1 (45 ∷ 32 ∷ 78 ∷ [])) ∷ (certificate 1 (sent_by (104 ∷ []) 2) 3 1 (45 ∷ 32 ∷ 78 ∷ [])) ∷ (certificate 2 (sent_by (104 ∷ 49 ∷ []) 1) 3 1 (45 ∷ 32 ∷ 78 ∷ [])) ∷ []; spoilt = []; count = 3 }
+order_of_sessions_log =
+    record {
+      normal = [];
+      blocks =
+          (certificate 0 (sent_by (105 ∷ []) 1) 3 1 (45 ∷ 32 ∷ 78 ∷ []))
+          ∷ (certificate 1 (sent_by (104 ∷ []) 2) 3 1 (45 ∷ 32 ∷ 78 ∷ []))
+          ∷ (certificate 2 (sent_by (104 ∷ 49 ∷ []) 1) 3 1 (45 ∷ 32 ∷ 78 ∷ [])) ∷ [];
+      spoilt = [];
+      count = 3;
+    }
 
 abbrev pub order_of_sessions_report : Report
-order_of_sessions_report = record { sessions = (record { session = (sent_by (104 ∷ []) 2); state = states.Joined; groups = [] }) ∷ (record { session = (sent_by (104 ∷ 49 ∷ []) 1); state = states.Joined; groups = [] }) ∷ (record { session = (sent_by (105 ∷ []) 1); state = states.Joined; groups = [] }) ∷ []; unlisted = []; refused = []; spoilt = []; count = 3 }
+order_of_sessions_report =
+    record {
+      sessions = (record { session = (sent_by (104 ∷ []) 2); state = states.Joined; groups = [] })
+          ∷ (record { session = (sent_by (104 ∷ 49 ∷ []) 1); state = states.Joined; groups = [] })
+          ∷ (record { session = (sent_by (105 ∷ []) 1); state = states.Joined; groups = [] }) ∷ [];
+      unlisted = [];
+      refused = [];
+      spoilt = [];
+      count = 3;
+    }
 
 -- nothing is stored
 abbrev pub nothing_log : Contents

@@ -13,8 +13,8 @@ use Rattle.ss_review.specs.sessions.Verified.{Answers, joined}
 use Rattle.ss_review.specs.announced.Announced.{Key}
 
 -- The message at a place is one without a block; its hash stands at the key's number in a stored signature block of the
--- key's session and group, and the scheme says yes to the signature over the exact octets that are signed of that block,
--- under the session's joined payload.
+-- key's session and group, and the scheme says yes to the signature over the exact octets that are signed of that
+-- block, under the session's joined payload.
 pub record IsWitnessed (says : Answers) (log : List (List ℕ)) (k : Key) (place : ℕ) : Type 0 where
   pub message : List ℕ
   pub stored : slice_get log place ≡ Some message

@@ -23,8 +23,10 @@ pub record IsClaimOf (k : Claim) (b : BlockMessage) : Type 0 where
 
 -- the same of all blocks of a session with one signature of the same octets
 abbrev pub TellsEqualsAlike : (BlockMessage → Bool) → Type 0
-TellsEqualsAlike f = (b c : BlockMessage) → signature_of b.said ≡ signature_of c.said → b.signed ≡ c.signed → b.session ≡ c.session → f b ≡ f c
+TellsEqualsAlike f = (b c : BlockMessage) → signature_of b.said ≡ signature_of c.said → b.signed ≡ c.signed
+    → b.session ≡ c.session → f b ≡ f c
 
 -- whatever is kept of a block is what holds of it
 abbrev pub KeepsWhatHolds : (BlockMessage → Bool) → FoundBlocks → Type 0
-KeepsWhatHolds f kept = (k : Claim) (b : BlockMessage) (v : Bool) → IsClaimOf k b → get claim_cmp kept.found k ≡ Some v → v ≡ f b
+KeepsWhatHolds f kept = (k : Claim) (b : BlockMessage) (v : Bool) → IsClaimOf k b → get claim_cmp kept.found k ≡ Some v
+    → v ≡ f b

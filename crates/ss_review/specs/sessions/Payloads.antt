@@ -1,6 +1,7 @@
--- The payload that the certificate blocks of a session state together (RFC 5848, section 5.3.2), or why they state none.
--- All of a session are joined, whatever their VER, SG and SPRI.
-use Rattle.std.specs.Prelude.{ℕ, ◌+◌, ◌==◌, ◌&&◌, ◌||◌, nat_lt, nat_le, not, Bool, true, List, [], ◌∷◌, length, map, filter_map, flat_map, find, Option, Some, None, Result, Ok, Err, is_some, if◌then◌else◌}
+-- The payload that the certificate blocks of a session state together (RFC 5848, section 5.3.2), or why they state
+-- none. All of a session are joined, whatever their VER, SG and SPRI.
+use Rattle.std.specs.Prelude.{ℕ, ◌+◌, ◌==◌, ◌&&◌, ◌||◌, nat_lt, nat_le, not, Bool, true, List, [], ◌∷◌, length, map}
+use Rattle.std.specs.Prelude.{filter_map, flat_map, find, Option, Some, None, Result, Ok, Err, is_some, if◌then◌else◌}
 use Rattle.std.specs.List.{list_any, list_all, range_with_len}
 use Rattle.ss_block.specs.Block as block
 use Rattle.ss_block.specs.Joining.{placed}
@@ -28,7 +29,9 @@ clash p q = (p.0 == q.0) && not (p.1 == q.1)
 
 -- two totals are stated, or two octets at one index
 unfoldable pub is_disputed : List block.Certificate → Bool
-is_disputed cs = list_any (λ c. list_any (λ d. not (c.total == d.total)) cs) cs || list_any (λ p. list_any (clash p) (octets cs)) (octets cs)
+is_disputed cs =
+    list_any (λ c. list_any (λ d. not (c.total == d.total)) cs) cs || list_any (λ p.
+    list_any (clash p) (octets cs)) (octets cs)
 
 -- some fragment has an octet at the index
 abbrev pub has_index : List block.Certificate → ℕ → Bool
@@ -53,8 +56,8 @@ octet_found (Some p) = p.1
 abbrev pub octet_at : List (ℕ × ℕ) → ℕ → ℕ
 octet_at os i = octet_found (find (λ p. p.0 == i) os)
 
--- The octets from index 1 to the total: it is asked for only where nothing is disputed, so each fragment has this total,
--- and no fragment ends behind it.
+-- The octets from index 1 to the total: it is asked for only where nothing is disputed, so each fragment has this
+-- total, and no fragment ends behind it.
 unfoldable pub joined_text : List block.Certificate → List ℕ
 joined_text [] = []
 joined_text (c ∷ cs) = map (octet_at (octets (c ∷ cs))) (range_with_len 1 c.total)

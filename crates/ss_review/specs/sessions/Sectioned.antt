@@ -1,5 +1,6 @@
 -- The blocks of a log, session by session.
-use Rattle.std.specs.Prelude.{◌≡◌, ℕ, ◌<◌, ◌≤◌, false, List, [], ◌∷◌, length, drop, slice_index_or, slice_range, map, if◌then◌else◌}
+use Rattle.std.specs.Prelude.{◌≡◌, ℕ, ◌<◌, ◌≤◌, false, List, [], ◌∷◌, length, drop, slice_index_or, slice_range, map}
+use Rattle.std.specs.Prelude.{if◌then◌else◌}
 use Rattle.std.specs.Borrow.{Bor}
 use Rattle.std.specs.List.{AllByRecursion}
 use Rattle.std.specs.Ordering.{is_gt}
@@ -30,4 +31,7 @@ SessionsRise (b ∷ bs) = AllByRecursion (λ c. is_gt (session_cmp b.session c.s
 pub record EndsSection (bs : List (Bor BlockMessage)) (start end : ℕ) : Type 0 where
   pub some : start < end
   pub within : end ≤ length bs
-  pub sectioned : (d : Bor BlockMessage) → sections (referred (drop start bs)) ≡ ((slice_index_or bs start d).now.session, referred (slice_range bs start end)) ∷ sections (referred (drop end bs))
+  pub sectioned : (d : Bor BlockMessage)
+      → sections (referred (drop start bs))
+      ≡ ((slice_index_or bs start d).now.session, referred (slice_range bs start end))
+      ∷ sections (referred (drop end bs))

@@ -52,11 +52,13 @@ IsJoinedUnder says bs text =
 -- the session of these blocks is in the state
 abbrev pub IsInState : Answers → List BlockMessage → SessionState → Type 0
 IsInState says bs states.Disputed = IsDisputed (stated_by (certificates bs))
-IsInState says bs states.Incomplete = (¬ IsDisputed (stated_by (certificates bs))) × HasGap (stated_by (certificates bs))
+IsInState says bs states.Incomplete =
+    (¬ IsDisputed (stated_by (certificates bs))) × HasGap (stated_by (certificates bs))
 IsInState says bs states.Malformed =
     (text : List ℕ) × StatesText (stated_by (certificates bs)) text × (payload_in text ≡ None)
 IsInState says bs states.Untrusted =
     (text : List ℕ) × StatesText (stated_by (certificates bs)) text × IsPayloadBlock text × (says.trusted text ≡ false)
 IsInState says bs states.Unaccepted =
-    (text : List ℕ) × StatesText (stated_by (certificates bs)) text × IsPayloadBlock text × (says.trusted text ≡ true) × (¬ IsCovered says bs text)
+    (text : List ℕ) × StatesText (stated_by (certificates bs)) text × IsPayloadBlock text × (says.trusted text ≡ true)
+    × (¬ IsCovered says bs text)
 IsInState says bs states.Joined = (text : List ℕ) × IsJoinedUnder says bs text

@@ -4,7 +4,8 @@ ghost use Rattle.std.specs.List.Sorted.{IsStrictlySortedBy};
 ghost use Rattle.ss_review.specs.declared.keep.message.Said.TheVariants.{Hashes};
 ghost use Rattle.ss_review.specs.sessions.Verified.{Answers, is_verified};
 ghost use Rattle.ss_review.specs.announced.Announced.{row_cmp, rows_said, rows, keys};
-ghost use Rattle.ss_review.specs.announced.Numbered.{key_of, row_of, rows_by, only_hashes, session_with_joined, sessions_joined};
+ghost use Rattle.ss_review.specs.announced.Numbered.{key_of, row_of, rows_by, only_hashes, session_with_joined};
+ghost use Rattle.ss_review.specs.announced.Numbered.{sessions_joined};
 
 use crate::announced::announced_block::{AnnouncedBlock, first_number};
 use crate::announced::announced_hash::AnnouncedHash;

@@ -35,7 +35,8 @@ fn add_block<'s>(
     ensures { (says : Answers) (bs : List BlockMessage)
         → map session_with_joined sessions.now ≡ sessions_joined says bs
         → is_verified says bs message ≡ true
-        → OnOk result (flat_map rows_by announced.new.items ≡ flat_map rows_by announced.old.items ++ rows_said message.session message.said) }
+        → OnOk result (flat_map rows_by announced.new.items
+        ≡ flat_map rows_by announced.old.items ++ rows_said message.session message.said) }
 {
     let Some(session) = session_of(sessions, &message) else {
         return Ok(());
@@ -50,8 +51,8 @@ fn add_block<'s>(
     }
 }
 
-/// The signature blocks that are marked as verified, in their order. `sessions` are those of the blocks, in their order.
-/// What else the messages of the blocks hold is let go.
+/// The signature blocks that are marked as verified, in their order. `sessions` are those of the blocks, in their
+/// order. What else the messages of the blocks hold is let go.
 pub(crate) fn signature_blocks<'s>(
     alloc: Global,
     sessions: &'s [JoinedSession],

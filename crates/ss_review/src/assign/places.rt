@@ -1,11 +1,13 @@
 //! Which stored message is listed under each announced number.
-ghost use Rattle.std.specs.Prelude.{◌≡◌, ℕ, ◌+◌, ◌<◌, ◌≤◌, ◌^◌, ◌++◌, ◌∷◌, [], List, Option, Some, Contains, length, map, slice_get, IfOk};
+ghost use Rattle.std.specs.Prelude.{◌≡◌, ℕ, ◌+◌, ◌<◌, ◌≤◌, ◌^◌, ◌++◌, ◌∷◌, [], List, Option, Some, Contains, length};
+ghost use Rattle.std.specs.Prelude.{map, slice_get, IfOk};
 ghost use Rattle.std.specs.Ordering.{nat_cmp};
 ghost use Rattle.std.specs.List.Sorted.{IsStrictlySortedBy};
 ghost use Rattle.ss_block.specs.declared.hash.Hash.{Hash};
 ghost use Rattle.ss_review.specs.declared.keep.message.NormalMessage.{NormalMessage};
 ghost use Rattle.ss_review.specs.keep.Stored.{Tells};
-ghost use Rattle.ss_review.specs.assign.Assigning.{pair_wanted, pairs_wanted, bearer_wanted, bearers_wanted, place_after, assigned_all};
+ghost use Rattle.ss_review.specs.assign.Assigning.{pair_wanted, pairs_wanted, bearer_wanted, bearers_wanted};
+ghost use Rattle.ss_review.specs.assign.Assigning.{place_after, assigned_all};
 ghost use Rattle.ss_review.specs.assign.StoredHashes.{hashes_in, Lists, IsFoundFor, same_hashes, place_beside, Tallies};
 
 use crate::assign::bearings::bearings;

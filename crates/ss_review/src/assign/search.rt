@@ -1,12 +1,14 @@
 //! The search for hashes, one after the other, in the hashes of stored messages.
-ghost use Rattle.std.specs.Prelude.{◌≡◌, ◌≤◌, ◌≢◌, length, take, slice_get, Contains, Some, None, option_and_then, IsTrue};
+ghost use Rattle.std.specs.Prelude.{◌≡◌, ◌≤◌, ◌≢◌, length, take, slice_get, Contains, Some, None, option_and_then};
+ghost use Rattle.std.specs.Prelude.{IsTrue};
 ghost use Rattle.std.specs.List.{take_while};
 ghost use Rattle.std.specs.List.Sorted.{IsStrictlySortedBy};
 ghost use Rattle.std.specs.Ordering.{is_lt};
 ghost use Rattle.std.specs.declared.cmp.Ordering.TheVariants.{Less};
 ghost use Rattle.ss_block.specs.Order.{hash_cmp};
 ghost use Rattle.ss_review.specs.declared.assign.stored_hash.StoredHash.{StoredHash};
-ghost use Rattle.ss_review.specs.assign.StoredHashes.{hash_of, hashes_in, stored_cmp, is_earlier, has_hash_at, IsBearerAt, FoundLast, IsNotBelow};
+ghost use Rattle.ss_review.specs.assign.StoredHashes.{hash_of, hashes_in, stored_cmp, is_earlier, has_hash_at};
+ghost use Rattle.ss_review.specs.assign.StoredHashes.{IsBearerAt, FoundLast, IsNotBelow};
 
 use crate::assign::hash_entry::hash_of;
 use crate::assign::hash_list::HashList;
@@ -27,7 +29,8 @@ pub(crate) struct Search<'a> {
 /// How many of the list, from its first on, are below the hash.
 fn count_below(list: &HashList, hash: &Hash) -> usize
     ensures count { result
-        ≡ length (take_while (λ e. is_lt (hash_cmp (hash_of list.now.pairs.now e).hash hash.now)) list.now.entries.now) }
+        ≡ length (take_while (λ e.
+        is_lt (hash_cmp (hash_of list.now.pairs.now e).hash hash.now)) list.now.entries.now) }
     ensures bound { result ≤ length list.now.entries.now }
 {
     hashes_rise_by_algorithm();

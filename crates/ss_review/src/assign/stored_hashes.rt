@@ -6,7 +6,8 @@ ghost use Rattle.ss_review.specs.declared.assign.hash_entry.HashEntry.{HashEntry
 ghost use Rattle.ss_review.specs.declared.assign.stored_hash.StoredHash.{StoredHash};
 ghost use Rattle.ss_review.specs.declared.keep.message.NormalMessage.{NormalMessage};
 ghost use Rattle.ss_review.specs.keep.Stored.{Tells};
-ghost use Rattle.ss_review.specs.assign.StoredHashes.{BeginsAsItsHash, is_by, entry_of, needed_entries, stored_cmp, listed, Lists};
+ghost use Rattle.ss_review.specs.assign.StoredHashes.{BeginsAsItsHash, is_by, entry_of, needed_entries, stored_cmp};
+ghost use Rattle.ss_review.specs.assign.StoredHashes.{listed, Lists};
 
 use crate::assign::hash_entry::{HashEntry, entry_cmp, entry_of};
 use crate::keep::stored_message::StoredMessage;

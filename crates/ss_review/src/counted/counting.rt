@@ -6,7 +6,8 @@ ghost use Rattle.ss_review.specs.sessions.Verified.{Answers, is_verified};
 ghost use Rattle.ss_review.specs.announced.Numbered.{session_with_joined, sessions_joined};
 ghost use Rattle.ss_review.specs.sessions.Sessions as groups;
 ghost use Rattle.ss_review.specs.counted.Counted.{counted_sessions};
-ghost use Rattle.ss_review.specs.counted.CountedSoFar.{found_of, nothing_of, with_gbc, with_block, found_among, counted_in_order};
+ghost use Rattle.ss_review.specs.counted.CountedSoFar.{found_of, nothing_of, with_gbc, with_block, found_among};
+ghost use Rattle.ss_review.specs.counted.CountedSoFar.{counted_in_order};
 
 use crate::counted::counted_session::{CountedSession, CountedSessions, Gbcs};
 use crate::keep::message::{BlockMessage, Said};

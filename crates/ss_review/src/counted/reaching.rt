@@ -103,8 +103,9 @@ fn absent_shortfalls(
 }
 
 /// What is missing of each session up to the counters that were kept of it. `sessions` is what a review says of a log,
-/// and `counted` has the GBC of the verified signature blocks of each of these sessions. The counters come in any order;
-/// of several that count the same, the greatest is right. If a session has a counter and no block, it is in `absent`.
+/// and `counted` has the GBC of the verified signature blocks of each of these sessions. The counters come in any
+/// order; of several that count the same, the greatest is right. If a session has a counter and no block, it is in
+/// `absent`.
 ///
 /// It takes time in proportion to n log n, for n counters, sessions, groups, entries and GBC. `NoMemory` where memory
 /// runs out.

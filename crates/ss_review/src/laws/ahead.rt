@@ -75,8 +75,8 @@ pub fn listed_have_their_hash()
     reports_list_what_is_announced();
 }
 
-/// A number that is left out between the last counters of an originator and the first ones of the next is neither listed
-/// nor a gap. It is in a hole where a greater number of its group is listed or a gap.
+/// A number that is left out between the last counters of an originator and the first ones of the next is neither
+/// listed nor a gap. It is in a hole where a greater number of its group is listed or a gap.
 pub fn skipped_numbers_are_in_holes()
     ensures { SkippedNumbersAreInHoles }
 {

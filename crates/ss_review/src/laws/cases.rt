@@ -19,8 +19,8 @@ pub fn premises_are_met()
     sent_blocks_are_stored();
 }
 
-/// A small chain that goes on ahead, and a log, meet the premises of the laws of `ahead`. Two numbers of it are left out,
-/// and are in a hole.
+/// A small chain that goes on ahead, and a log, meet the premises of the laws of `ahead`. Two numbers of it are left
+/// out, and are in a hole.
 pub fn premises_ahead_are_met()
     ensures { PremisesAheadAreMet }
 {

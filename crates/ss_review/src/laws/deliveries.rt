@@ -48,9 +48,9 @@ pub fn announced_by_blocks()
     keys_are_announced();
 }
 
-/// An announced number is listed exactly where its rank, among the announced numbers whose messages have the same hashes,
-/// is below the number of stored messages with these hashes. For that, equal hashes have to go with equal pairs of
-/// hashes, and no session that stands before this one may want these messages.
+/// An announced number is listed exactly where its rank, among the announced numbers whose messages have the same
+/// hashes, is below the number of stored messages with these hashes. For that, equal hashes have to go with equal pairs
+/// of hashes, and no session that stands before this one may want these messages.
 pub fn listed_by_rank()
     ensures { ListedByRank }
 {

@@ -59,8 +59,8 @@ pub fn every_block_is_told()
     counted_or_missing();
 }
 
-/// If a report is clean, and no tail, no missing block and no absent session is reported, each message below its group's
-/// counter is listed. The log then has each signature block below its session's counter.
+/// If a report is clean, and no tail, no missing block and no absent session is reported, each message below its
+/// group's counter is listed. The log then has each signature block below its session's counter.
 pub fn clean_up_to_counters()
     ensures { CleanUpToCounters }
 {

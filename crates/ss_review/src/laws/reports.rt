@@ -88,8 +88,8 @@ pub fn listed_are_witnessed()
     blocks_are_in_range();
 }
 
-/// The listed messages are those assigned to announced numbers, and those that are due. Each is witnessed, no number and
-/// no message is listed twice, the report rises, and the gaps are the numbers that are announced and unmatched.
+/// The listed messages are those assigned to announced numbers, and those that are due. Each is witnessed, no number
+/// and no message is listed twice, the report rises, and the gaps are the numbers that are announced and unmatched.
 pub fn reports_list_what_is_announced()
     ensures { ReportsListWhatIsAnnounced }
 {
@@ -101,15 +101,16 @@ pub fn reports_list_what_is_announced()
     gaps_are_unassigned();
 }
 
-/// Each place of a log is exactly one of listed, unlisted, a verified block, refused and spoilt, and no other place is any.
+/// Each place of a log is exactly one of listed, unlisted, a verified block, refused and spoilt, and no other place is
+/// any.
 pub fn every_place_is_told()
     ensures { EveryPlaceIsTold }
 {
     blocks_are_signed();
 }
 
-/// A key is assigned a place exactly where it isn't disputed, the message there has the hashes of the first message with the
-/// announced hash, and as many smaller keys want these hashes as messages with them stand before the place.
+/// A key is assigned a place exactly where it isn't disputed, the message there has the hashes of the first message
+/// with the announced hash, and as many smaller keys want these hashes as messages with them stand before the place.
 pub fn assigned_where_due()
     ensures { AssignedWhereDue }
 {}

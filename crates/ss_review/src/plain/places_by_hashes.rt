@@ -19,7 +19,8 @@ pub(crate) fn add_place(
     pair: HashPair,
     place: u32,
 ) -> Result<(), NoMemory>
-    ensures added { OnOk result (Updates pair_cmp pairs.old pairs.new pair (Some (places_in (get pair_cmp pairs.old pair) ++ place ∷ []))) }
+    ensures added { OnOk result
+        (Updates pair_cmp pairs.old pairs.new pair (Some (places_in (get pair_cmp pairs.old pair) ++ place ∷ []))) }
     ensures unchanged { OnErr result ((p : HashPair) → get pair_cmp pairs.new p ≡ get pair_cmp pairs.old p) }
 {
     match pairs.entry(pair)? {

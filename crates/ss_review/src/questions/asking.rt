@@ -1,7 +1,8 @@
 //! What a review asks of a signature scheme (RFC 5848, section 7).
 ghost use Rattle.std.specs.Prelude.{◌≡◌, ◌++◌, map, IfOk, OnOk};
 ghost use Rattle.ss_review.specs.sessions.Payloads.{certificates, stated_payload};
-ghost use Rattle.ss_review.specs.questions.Questions.{asked, asked_block, question_under, session_questions, questions, questions_shared};
+ghost use Rattle.ss_review.specs.questions.Questions.{asked, asked_block, question_under, session_questions, questions};
+ghost use Rattle.ss_review.specs.questions.Questions.{questions_shared};
 ghost use Rattle.ss_review.specs.sessions.Sectioned.{referred, SessionsRise};
 
 use crate::keep::message::BlockMessage;

@@ -12,7 +12,8 @@ ghost use Rattle.ss_review.specs.assign.Assigned.{assigned};
 ghost use Rattle.ss_review.specs.report.Entries.{same_group};
 ghost use Rattle.ss_review.specs.report.Report.{session_report};
 ghost use Rattle.ss_review.specs.announced.Numbered.{key_of, only_hashes, session_with_joined, sessions_joined};
-ghost use Rattle.ss_review.specs.report.Grouped.{with_entry, with_entries, Rise, GroupsRise, numbers_of_session, group_told, groups_told, session_told};
+ghost use Rattle.ss_review.specs.report.Grouped.{with_entry, with_entries, Rise, GroupsRise, numbers_of_session};
+ghost use Rattle.ss_review.specs.report.Grouped.{group_told, groups_told, session_told};
 
 use crate::announced::message_number::MessageNumber;
 use crate::report::entries::entries;

@@ -21,7 +21,8 @@ fn given(alloc: Global, places: &[Option<u32>]) -> Result<Vec<u32>, NoMemory>
 /// The places that are given, in their order.
 fn taken(alloc: Global, places: &[Option<u32>]) -> Result<Vec<u32>, NoMemory>
     ensures rise { IfOk result (λ v. IsNonDecreasing v.items) }
-    ensures taken { IfOk result (λ v. (place : ℕ) → list_any (λ p. p == place) v.items ≡ list_any (is_place place) places.now) }
+    ensures taken { IfOk result (λ v.
+        (place : ℕ) → list_any (λ p. p == place) v.items ≡ list_any (is_place place) places.now) }
 {
     let mut taken = given(alloc, places)?;
     taken.sort_unstable();

@@ -37,8 +37,8 @@ fn is_valid<J: Judge>(judge: &J, payload: &[u8], message: &BlockMessage) -> bool
     judge.accepts(payload, message.signed.as_slice(), signature.as_slice())
 }
 
-/// Whether the block's signature is valid under the payload. `found` is what was found of blocks so far: the judge isn't
-/// asked again about one that equals one of those in signature, signed octets and session.
+/// Whether the block's signature is valid under the payload. `found` is what was found of blocks so far: the judge
+/// isn't asked again about one that equals one of those in signature, signed octets and session.
 pub(crate) fn valid_once<'a, J: Judge>(
     judge: &J,
     payload: &[u8],
@@ -102,7 +102,8 @@ fn accepted_spans<J: Judge>(
 ) -> Result<Vec<Span>, NoMemory>
     requires { J.sound judge.now }
     ensures { IfOk result (λ v. v.items
-        ≡ spans_of (certificates (filter (is_valid (answers J.trusted J.valid judge.now) payload.now) (map (λ b. b.now) blocks.now)))) }
+        ≡ spans_of (certificates (filter (is_valid (answers J.trusted J.valid judge.now) payload.now) (map (λ b.
+        b.now) blocks.now)))) }
 {
     let mut spans = Vec::new(alloc);
     let mut found = FoundBlocks::new(alloc);

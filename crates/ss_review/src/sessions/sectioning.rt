@@ -47,7 +47,8 @@ fn front_len(blocks: &[&BlockMessage], session: &Session) -> usize
     blocks.len()
 }
 
-/// Where the section of the block at `start` ends, among blocks in the order of their sessions that begin a section there.
+/// Where the section of the block at `start` ends, among blocks in the order of their sessions that begin a section
+/// there.
 pub(crate) fn section_end(blocks: &[&BlockMessage], start: usize) -> usize
     requires rise { SessionsRise (referred blocks.now) }
     requires some { start < length blocks.now }

@@ -17,8 +17,8 @@ use ss_frame::Bytes;
 use ss_message::NoMemory;
 use std::alloc::Global;
 
-/// Whether the block is valid under the payload, if its session has one. `found` is what was found of the blocks of such
-/// sessions so far.
+/// Whether the block is valid under the payload, if its session has one. `found` is what was found of the blocks of
+/// such sessions so far.
 fn is_valid_in<'a, J: Judge>(
     judge: &J,
     joined: &Result<Bytes, SessionState>,
