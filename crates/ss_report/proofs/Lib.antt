@@ -14,3 +14,7 @@ pub mod LogCounters
 pub mod Tallies
 pub mod UnitsAt
 pub mod Gathered
+pub mod EntriesBetween
+pub mod ToldSessions
+pub mod CarriedBlocks
+pub mod Carried

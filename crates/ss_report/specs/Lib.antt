@@ -9,6 +9,8 @@ pub mod Json
 pub mod Forms
 pub mod Ending
 pub mod Inspection
+pub mod Carrying
+pub mod CarriedSoFar
 pub mod Extraction
 pub mod QuestionText
 pub mod Counters

@@ -11,6 +11,10 @@ pub enum Selection {
     Listed,
     /// The ordinary messages that the report doesn't list, by rising place.
     Unlisted,
+    /// What is carried over to the next log, where sessions go on from log to log: all blocks of sessions that aren't
+    /// joined, the certificate blocks and the signature blocks with a gap of those that are, the messages that are
+    /// listed under the numbers of the latter, and those that are unlisted. By rising place.
+    Carried,
     /// Those at these places, of any kind and in this order. No review is made.
     At(Places),
 }

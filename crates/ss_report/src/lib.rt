@@ -2,6 +2,7 @@
 //! run ended; and the text of a review.
 #![tactic(auto)]
 
+mod carrying;
 mod cleanness;
 mod counters;
 mod encoded;
@@ -21,6 +22,7 @@ mod next;
 mod notation;
 mod outcome;
 mod output;
+mod places;
 mod question_text;
 mod questions;
 pub mod report_text;
@@ -29,6 +31,7 @@ mod review_as;
 mod review_whole;
 mod selecting;
 mod shortage;
+mod told;
 mod units;
 mod verdict;
 mod words;

@@ -31,7 +31,7 @@ fn add_of_groups(places: &mut Vec<u32>, groups: &[GroupReport]) -> Result<(), Al
 }
 
 /// Adds the places that entries list.
-fn add_of_entries(places: &mut Vec<u32>, entries: &[Entry]) -> Result<(), AllocError>
+pub(crate) fn add_of_entries(places: &mut Vec<u32>, entries: &[Entry]) -> Result<(), AllocError>
     ensures { OnOk result (places.new.items ≡ places.old.items ++ filter_map place_listed entries.now) }
 {
     for entry in entries {

@@ -5,8 +5,11 @@ ghost use Rattle.ss_frame.specs.Watched.{has_failed};
 
 use crate::texts::{Text, signed_of};
 use ss_block::Scheme;
-use ss_frame::{Limits, Watched};
-use ss_report::{Notation, RunFault, Verdict, run_extract, run_questions, run_review};
+use ss_frame::{Form, Limits, Watched};
+use ss_report::{
+    Extraction, Notation, RunFault, Selection, Verdict, run_extract, run_extract_as, run_questions,
+    run_review,
+};
 use ss_review::{Judge, Verifier};
 use std::alloc::{AllocError, Global};
 use std::io::{Read, Write};
@@ -72,6 +75,15 @@ pub enum Job {
     Review,
     Questions,
     Extract,
+    Carry,
+}
+
+/// What is carried over to the next log, as frames.
+fn carrying() -> Extraction {
+    Extraction {
+        selection: Selection::Carried,
+        form: Form::Frames,
+    }
 }
 
 /// Runs over a log with two closures that answer as `book` says.
@@ -93,6 +105,7 @@ pub(crate) fn run_by<R: Read, W: Write>(
         Job::Review => run_review(alloc, reader, writer, &verifier, limits),
         Job::Questions => run_questions(alloc, reader, writer, limits, Notation::Plain),
         Job::Extract => run_extract(alloc, reader, writer, &verifier, limits),
+        Job::Carry => run_extract_as(alloc, reader, writer, verifier, limits, carrying()),
     }
 }
 

@@ -21,6 +21,14 @@ pub const QUESTIONS: &[u8] =
 /// What is extracted of it, 64 octets.
 pub const EXTRACT: &[u8] = b"3 abc56 abcdbcdecdefdefgefghfghighijhijkijkljklmklmnlmnomnopnopq";
 
+/// What is carried over of it to the next log, 146 octets.
+pub const CARRIED: &[u8] =
+    b"142 <110>1 - h s - - [ssign-cert VER=\"0111\" RSID=\"1\" SG=\"0\" SPRI=\"0\" TPBL=\"27\" INDEX=\"1\" FLEN=\"27\" FRAG=\"2009-05-03T14:00:39Z K S0VZ\" SIGN=\"AAAA\"]";
+
+/// A message that nobody signed, the certificate block, and what is left of a session that isn't joined.
+const CARRIED_BESIDE: &[u8] =
+    b"3 abc142 <110>1 - h s - - [ssign-cert VER=\"0111\" RSID=\"1\" SG=\"0\" SPRI=\"0\" TPBL=\"27\" INDEX=\"1\" FLEN=\"27\" FRAG=\"2009-05-03T14:00:39Z K S0VZ\" SIGN=\"AAAA\"]56 abcdbcdecdefdefgefghfghighijhijkijkljklmklmnlmnomnopnopq130 <110>1 - h s - - [ssign VER=\"0111\" RSID=\"2\" SG=\"0\" SPRI=\"0\" GBC=\"0\" FMN=\"1\" CNT=\"1\" HB=\"qZk+NkcGgWq6PiVxeFDCbJzQ2J0=\" SIGN=\"AAAA\"]";
+
 /// A run over a log, who answers for its signatures, what is written, and the verdict.
 #[derive(Clone, Copy)]
 struct Row {
@@ -32,7 +40,7 @@ struct Row {
     verdict: Verdict,
 }
 
-const ROWS: [Row; 32] = [
+const ROWS: [Row; 34] = [
     Row {
         name: "an empty log",
         job: Job::Review,
@@ -339,6 +347,29 @@ const ROWS: [Row; 32] = [
         who: Who::NoPayload(Text::Certificate, Text::Both),
         text: b"",
         verdict: Verdict::Findings,
+    },
+    Row {
+        name: "the first certificate block of three is carried over",
+        job: Job::Carry,
+        log: &[
+            Text::Short,
+            Text::Certificate,
+            Text::Certificate,
+            Text::Long,
+            Text::Both,
+            Text::Certificate,
+        ],
+        who: Who::All,
+        text: CARRIED,
+        verdict: Verdict::Clean,
+    },
+    Row {
+        name: "a message that nobody signed is carried over, and a session without a certificate block",
+        job: Job::Carry,
+        log: &[Text::Short, Text::Certificate, Text::Long, Text::ShortOfSecondSession],
+        who: Who::All,
+        text: CARRIED_BESIDE,
+        verdict: Verdict::Clean,
     },
 ];
 
