@@ -27,7 +27,7 @@ _ssign() {
         return
     fi
     if ((COMP_CWORD == 1)); then
-        _ssign_offer words 'review questions extract inspect plan sign counters explain help --help --version'
+        _ssign_offer words 'review questions extract inspect plan sign counters carry explain help --help --version'
         return
     fi
     ((COMP_CWORD > 3)) && second=${COMP_WORDS[COMP_CWORD - 2]}
@@ -83,6 +83,9 @@ _ssign() {
     'counters --answers') _ssign_offer files ;;
     'counters --max-len') _ssign_offer text ;;
     'counters --max-messages') _ssign_offer text ;;
+    'carry --answers') _ssign_offer files ;;
+    'carry --max-len') _ssign_offer text ;;
+    'carry --max-messages') _ssign_offer text ;;
     *) _ssign_words "$command" "$current" ;;
     esac
 }
@@ -97,6 +100,7 @@ _ssign_words() {
     plan) _ssign_offer words '--payload --rsid --stamp --pri --host --app --procid --msgid --ver --groups --count --frag --copies --lines --max-len --max-messages --help' ;;
     sign) _ssign_offer words '--answers --payload --rsid --stamp --pri --host --app --procid --msgid --ver --groups --count --frag --copies --lines --max-len --max-messages --help' ;;
     counters) _ssign_offer words '--answers --json --lines --max-len --max-messages --help' ;;
+    carry) _ssign_offer words '--answers --lines --max-len --max-messages --help' ;;
     explain)
         if [[ $2 == -* ]]; then
             _ssign_offer words '--help'
@@ -104,7 +108,7 @@ _ssign_words() {
             _ssign_offer codes
         fi
         ;;
-    help) _ssign_offer words 'review questions extract inspect plan sign counters explain' ;;
+    help) _ssign_offer words 'review questions extract inspect plan sign counters carry explain' ;;
     esac
 }
 

@@ -42,22 +42,22 @@ TUNED = {"GLIBC_TUNABLES": "glibc.cpu.x86_rep_movsb_threshold=1000000000:glibc.c
 ROOM, ROOM_FOR_EACH = 1 << 19, 32
 # a run that takes more seconds hangs, however busy the machine is
 PATIENCE = 300
-COMMANDS = REVIEW, WHOLE, KEPT, TALLY, EXTRACT, UNLISTED, QUESTIONS, INSPECT, PLAN, SIGN, COUNTERS = (
+COMMANDS = REVIEW, WHOLE, KEPT, TALLY, EXTRACT, UNLISTED, QUESTIONS, INSPECT, PLAN, SIGN, COUNTERS, CARRY = (
     "review", "review --whole", "review --counters", "review --tally", "extract", "extract --unlisted", "questions", "inspect", "plan",
-    "sign", "counters")
+    "sign", "counters", "carry")
 
 # each shape, how large its smaller input is, the commands whose steps are counted, and those of which the rest is
 SHAPES = [
-    (logs.signed, 900, [REVIEW, QUESTIONS, EXTRACT, INSPECT], [COUNTERS, TALLY]),
-    (logs.unanswered, 900, [], [REVIEW, EXTRACT, UNLISTED]),
+    (logs.signed, 900, [REVIEW, QUESTIONS, EXTRACT, INSPECT], [COUNTERS, TALLY, CARRY]),
+    (logs.unanswered, 900, [CARRY], [REVIEW, EXTRACT, UNLISTED]),
     (logs.by_sha256, 900, [], [REVIEW]),
-    (logs.falling, 900, [], [WHOLE, QUESTIONS, EXTRACT]),
+    (logs.falling, 900, [], [WHOLE, QUESTIONS, EXTRACT, CARRY]),
     (logs.equal, 900, [REVIEW], [EXTRACT]),
-    (logs.one_hash, 900, [REVIEW], [EXTRACT]),
+    (logs.one_hash, 900, [REVIEW], [EXTRACT, CARRY]),
     (logs.hashes_alike, 450, [REVIEW], []),
-    (logs.sessions, 900, [COUNTERS, QUESTIONS], [REVIEW, EXTRACT]),
+    (logs.sessions, 900, [COUNTERS, QUESTIONS], [REVIEW, EXTRACT, CARRY]),
     (logs.hosts_alike, 900, [REVIEW], [QUESTIONS]),
-    (logs.groups, 768, [REVIEW, COUNTERS], [TALLY]),
+    (logs.groups, 768, [REVIEW, COUNTERS, CARRY], [TALLY]),
     (logs.kept_sessions, 900, [KEPT], []),
     (logs.kept_groups, 768, [KEPT], []),
     (logs.kept_absent, 900, [KEPT], []),
@@ -67,14 +67,16 @@ SHAPES = [
     (logs.disputed, 900, [REVIEW], []),
     (logs.one_number, 900, [REVIEW], []),
     (logs.repeated, 900, [WHOLE, QUESTIONS], [EXTRACT]),
-    (logs.overlapping, 900, [REVIEW], []),
+    (logs.overlapping, 900, [REVIEW], [CARRY]),
+    (logs.lost_often, 900, [CARRY], []),
+    (logs.lost_in_each, 1980, [CARRY], []),
     (logs.signatures, 900, [WHOLE], []),
     (logs.fragments_rising, 900, [], [REVIEW, QUESTIONS, EXTRACT]),
     (logs.fragments_falling, 1800, [REVIEW], []),
     (logs.fragments_shuffled, 900, [REVIEW], []),
     (logs.copies, 900, [REVIEW], []),
-    (logs.copies_joined, 900, [], [REVIEW, QUESTIONS]),
-    (logs.fragments_apart, 896, [REVIEW], []),
+    (logs.copies_joined, 900, [CARRY], [REVIEW, QUESTIONS]),
+    (logs.fragments_apart, 896, [REVIEW, CARRY], []),
     (logs.scattered, 900, [], [REVIEW, QUESTIONS]),
     (logs.stated, 900, [], [REVIEW]),
     (logs.totals, 900, [], [REVIEW]),
@@ -247,7 +249,7 @@ class Bench:
             with open(log + ".counters", "wb") as file:
                 file.writelines(line + b"\n" for line in made.counters)
             words = [log + ".counters", *words]
-        if command in (REVIEW, WHOLE, KEPT, TALLY, EXTRACT, UNLISTED, SIGN, COUNTERS):
+        if command in (REVIEW, WHOLE, KEPT, TALLY, EXTRACT, UNLISTED, SIGN, COUNTERS, CARRY):
             with open(log + ".answers", "wb") as file:
                 file.writelines(line + b"\n" for line in lines)
             words = words + ["--answers", log + ".answers"]
@@ -257,7 +259,7 @@ class Bench:
         if self.counter and stepped:
             with open(log, "rb") as file:
                 counts["steps"] = self.counter.count(words, stdin=file, env={**self.environment, **TUNED}) or 0
-        return counts, fault_of(said, made.says[command], command in (EXTRACT, UNLISTED, SIGN))
+        return counts, fault_of(said, made.says[command], command in (EXTRACT, UNLISTED, SIGN, CARRY))
 
     def counts(self, made, name, commands, stepped):
         """The same of each command, as frames and as lines."""

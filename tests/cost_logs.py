@@ -1,7 +1,7 @@
 """Logs and answers of so many parts, honest ones and those that strangers could make, for tests/cost.py.
 
 Each function takes a count and gives an `Input`, which has what commands have to say of it: the status, and how many
-lines of each first word there are, or for `extract` and `sign` how many frames. That shows that the input is what its
+lines of each first word there are, or for `extract`, `carry` and `sign` how many frames. That shows that the input is what its
 name says. All of it was worked out from docs/FORMATS.md.
 """
 import hashlib
@@ -77,6 +77,7 @@ def nothing(n=0):
     made.say("extract", 0, 0)
     made.say("inspect", 0, {"end": 1})
     made.say("extract --unlisted", 0, 0)
+    made.say("carry", 0, 0)
     made.say("counters", 0, {})
     made.whole(0)
     made.kept(0)
@@ -98,6 +99,7 @@ def signed(n):
     made.whole(0, session=1, ok=n)
     made.say("questions", 0, {"trust": 1, "yes": 1 + n // 10})
     made.say("extract", 0, n)
+    made.say("carry", 0, 1)
     made.say("counters", 0, {"count": 2})
     made.tally(0, session=1, tally=1)
     return made.say("inspect", 0, {"certificate": 1, "plain": n, "signature": n // 10, "end": 1})
@@ -109,6 +111,7 @@ def unanswered(n):
     made.answers = []
     made.say("extract", 1, 0)
     made.say("extract --unlisted", 1, n)
+    made.say("carry", 0, 1 + n // 10 + n)
     made.say("counters", 0, {})
     made.whole(1, session=1, unlisted=n, refused=1 + n // 10)
     return made.review(1, session=1, unlisted=n, refused=1 + n // 10)
@@ -154,6 +157,7 @@ def one_hash(n):
     for i in range(n):
         made.put_block(announcing(b"a", message(1), first=1 + 2 * i, gbc=i))
     made.say("extract", 1, 1)
+    made.say("carry", 0, n + 2)
     return made.review(1, session=1, ok=1, gap=2 * n - 1)
 
 
@@ -181,6 +185,7 @@ def sessions(n):
     made.say("questions", 0, {"trust": n, "yes": 2 * n})
     made.say("extract", 1, 0)
     made.say("counters", 0, {"count": 2 * n})
+    made.say("carry", 0, 2 * n)
     return made.review(1, session=n, gap=n)
 
 
@@ -202,6 +207,7 @@ def groups(n):
             made.put_block(certificate(rsid=i // 768))
         made.put_block(announcing(number(i), gbc=i, rsid=i // 768, group=(i % 768 // 192, i % 192)))
     made.say("counters", 0, {"count": -(-n // 768) + n})
+    made.say("carry", 0, -(-n // 768) + n)
     made.tally(1, session=-(-n // 768), tally=n)
     return made.review(1, session=-(-n // 768), gap=n)
 
@@ -301,7 +307,31 @@ def overlapping(n):
     made.put_block(certificate())
     for i in range(n):
         made.put_block(announcing(*map(number, range(i, i + 10)), first=1 + i, gbc=i))
+    made.say("carry", 0, 1 + n)
     return made.review(1, session=1, gap=n + 9)
+
+
+def lost_often(n):
+    """One full block as often, of which one message is missing."""
+    made, texts = Input(), [message(i) for i in range(99)]
+    made.put_block(certificate())
+    made.put(*texts[1:])
+    for i in range(n):
+        made.put_block(announcing(*texts), i == 0)
+    made.say("carry", 0, 1 + n + 98)
+    return made.review(1, session=1, ok=98, gap=1)
+
+
+def lost_in_each(n):
+    """Full blocks, of each of which one message is missing."""
+    made = Input()
+    made.put_block(certificate())
+    for first in range(1, n + 1, 99):
+        texts = [message(i) for i in range(first, first + 99)]
+        made.put(*texts[1:])
+        made.put_block(announcing(*texts, first=first, gbc=first // 99))
+    made.say("carry", 0, 1 + n)
+    return made.review(1, session=1, ok=n - n // 99, gap=n // 99)
 
 
 def signatures(n):
@@ -354,6 +384,7 @@ def copies_joined(n):
     for i in range(n):
         made.put_block(certificate(), i == 0)
     made.say("questions", 0, {"trust": 1, "yes": n})
+    made.say("carry", 0, 1)
     return made.review(0, session=1)
 
 
@@ -362,6 +393,7 @@ def fragments_apart(n):
     made, text = Input(payload=b"- U AAAA"), b"- U AAAA"
     for i in range(n):
         made.put_block(certificate(i % 8 + 1, text[i % 8:i % 8 + 1], 8, i // 8))
+    made.say("carry", 0, n)
     return made.review(0, session=n // 8)
 
 

@@ -178,7 +178,7 @@ def main():
             ran = subprocess.run([PROGRAM, "review", f"{word}={value}"], input=log, capture_output=True, check=False)
             tell(f"{word} with a value", "" if ran.returncode == 2 and ran.stderr and not ran.stdout else repr(ran))
         for words in (["extract", "--json"], ["extract", "--findings"], ["questions", "--findings"], ["counters", "--findings"],
-                      ["explain", "--json"], ["inspect", "--json", "--json"]):
+                      ["carry", "--json"], ["carry", "--findings"], ["explain", "--json"], ["inspect", "--json", "--json"]):
             ran = subprocess.run([PROGRAM, *words], input=log, capture_output=True, check=False)
             tell(" ".join(words), "" if ran.returncode == 2 and ran.stderr and not ran.stdout else repr(ran))
         objects_by_hand()

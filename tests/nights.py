@@ -18,8 +18,8 @@ unlisted texts, refused and spoilt places, and the count. Equal messages may be 
 have one SHA-1, the nights have to differ from the whole in each log where some premise fails, so none can be weaker. The
 last premise speaks of such texts alone. `checked_facts` has what holds of every log.
 
-The recipe carry.py of docs/scale.md has to carry over what the model does, by the reports of the program. The last line is
-`nights: N passed, M failed`.
+`ssign carry` has to carry over what the model does: night by night, and of logs by a seed, as frames and as lines, whole and
+torn. The last line is `nights: N passed, M failed`.
 """
 import base64
 import collections
@@ -32,11 +32,11 @@ import sys
 import tempfile
 
 from review_examples import A, ALL, B, C, CI, M1, M2, S, S7, S7I, certificate, h, signature
-from review_logs import Made, Maker, SAME_SHA1
+from review_logs import Made, Maker, SAME_SHA1, make
 from review_model import Log, review
-from review_runs import answers_text, answers_to, frame, report_text
+from review_runs import answers_text, answers_to, frame, line, read_frames, read_lines, report_text
 
-LOGS, OVER_PROGRAM = 10_000, 25
+LOGS, OVER_PROGRAM, CARRIED_BY_PROGRAM = 10_000, 100, 400
 SHOWN = 3
 PREMISES = ["joined", "hash", "again", "lost", "collision"]
 KINDS = ["certificates", "unjudged", "gaps", "listed", "unlisted"]
@@ -122,22 +122,22 @@ def has(pair, hash_of):
 def carried(told, kinds=KINDS, more=frozenset()):
     """The places that a night carries over, and the keys that the carried blocks announce. In the order of their places:
 
-    certificates   of a joined session, each verified certificate block with an octet that those before it don't cover
+    certificates   of a joined session, each verified certificate block, but for one with the INDEX and FLEN of one before it
     unjudged       of any other session, all blocks
     gaps           each verified signature block with a number that is lost or disputed, and more of them, if somebody likes
     listed         each message that is listed under a number of such a block
     unlisted       each message that is unlisted"""
-    places, keys, covered = set(), set(), collections.defaultdict(set)
+    places, keys, known = set(), set(), set()
     if "unlisted" in kinds:
         places.update(told.unlisted)
     if "unjudged" in kinds:
         places.update(block.place for block in told.log.blocks if told.states[block.session] != "joined")
     for block in told.verified:
         if block.is_certificate:
-            indexes = set(range(block.index, block.index + len(block.fragment))) - covered[block.session]
-            covered[block.session] |= indexes
-            if indexes and "certificates" in kinds:
+            extent = (block.session, block.index, len(block.fragment))
+            if extent not in known and "certificates" in kinds:
                 places.add(block.place)
+            known.add(extent)
         elif block.place in more or any(key in told.gaps for key, _ in announced(block)) and "gaps" in kinds:
             places.add(block.place)
             keys.update(key for key, _ in announced(block))
@@ -414,18 +414,15 @@ def by_hand():
             tell("%s, carried over: %s" % (kind, not differ), differ, differences(log, Told(log, answers), nights) != [])
 
 
-# ---- the recipe over the program
+# ---- over the program
 
-def recipe():
-    """The script carry.py of docs/scale.md."""
-    page = (pathlib.Path(__file__).parent.parent / "docs" / "scale.md").read_text().split("\n")
-    start = page.index("    #!/usr/bin/env python3")
-    end = next(it for it in range(start, len(page)) if page[it] and not page[it].startswith("    "))
-    return "\n".join(line[4:] for line in page[start:end]).rstrip() + "\n"
+def say(program, folder, words, octets):
+    said = subprocess.run([program, *words, "--answers", "answers"], input=octets, cwd=folder, capture_output=True, timeout=60)
+    return said.returncode, said.stdout, said.stderr
 
 
 def over_program(name, program, folder, messages, answers, files):
-    """The reports of the program night by night, and what the recipe carries over, against the model."""
+    """The reports of the program night by night, and what it carries over, against the model."""
     nights = Nights(Log(messages), answers, files)
     (folder / "answers").write_bytes(answers_text(*answers))
     front = b""
@@ -433,13 +430,31 @@ def over_program(name, program, folder, messages, answers, files):
         before = nights.carried[number - 1] if number else []
         own = [messages[place] for place in [*before, *file]]
         log = front + b"".join(frame(messages[place]) for place in file)
-        (folder / "log").write_bytes(log)
-        said = subprocess.run([program, "review", "--answers", "answers"], input=log, cwd=folder, capture_output=True, timeout=60)
-        tell("%s, night %d: the report" % (name, number + 1), report_text(review(Log(own), *answers)), said.stdout.decode().splitlines())
-        said = subprocess.run([sys.executable, "carry.py", "log", "answers"], cwd=folder, capture_output=True, timeout=60,
-                              env={**os.environ, "SSIGN": program})
+        report = say(program, folder, ["review"], log)[1].decode().splitlines()
+        tell("%s, night %d: the report" % (name, number + 1), report_text(review(Log(own), *answers)), report)
         front = b"".join(frame(messages[place]) for place in nights.carried[number])
-        tell("%s, night %d: the recipe" % (name, number + 1), (0, front, b""), (said.returncode, said.stdout, said.stderr))
+        tell("%s, night %d: what is carried over" % (name, number + 1), (0, front, b""), say(program, folder, ["carry"], log))
+
+
+def carries(seed, program, folder):
+    """What the program carries over of a log, as frames or as lines, whole or torn. If no two texts have one SHA-1, all of it
+    is carried over again by a night with an empty file."""
+    chance = random.Random(seed)
+    messages, *answers = make(seed)
+    of_lines = chance.random() < 0.3
+    # a frame has an octet, and a line has no LF in it
+    messages = [it for it in messages if it and not (of_lines and b"\n" in it)]
+    torn = chance.random() < 0.2
+    octets = b"".join(map(line if of_lines else frame, messages)) + (b"y" if of_lines else b"12") * torn
+    read, tear = (read_lines if of_lines else read_frames)(octets)
+    tell("seed %d: the log" % seed, (messages, torn), (read, tear is not None))
+    (folder / "answers").write_bytes(answers_text(*answers))
+    places = carried(Told(Log(messages), answers))[0]
+    wanted = b"".join(frame(messages[place]) for place in sorted(places))
+    words = ["carry", *(["--lines"] if of_lines else [])]
+    tell("seed %d: carry" % seed, (int(torn), wanted, b""), say(program, folder, words, octets))
+    if not has_twins(Log(messages)):
+        tell("seed %d: carry once more" % seed, (0, wanted, b""), say(program, folder, ["carry"], wanted))
 
 
 def main():
@@ -454,13 +469,14 @@ def main():
         tell("some log: %s" % kind, True, reached[kind] > 0)
     with tempfile.TemporaryDirectory() as scratch:
         folder = pathlib.Path(scratch)
-        (folder / "carry.py").write_text(recipe())
         for it in by_hand():
             over_program(it[0], program, folder, *it[1:])
         # a frame isn't empty
         logs = [(seed, *it) for seed in range(2 * OVER_PROGRAM) for it in [made(seed)] if all(it[0])]
         for seed, *it in logs[:OVER_PROGRAM]:
             over_program("seed %d" % seed, program, folder, *it)
+        for seed in range(CARRIED_BY_PROGRAM):
+            carries(seed, program, folder)
     print("nights: %d passed, %d failed" % (passed, failed))
     return failed > 0 or passed == 0
 

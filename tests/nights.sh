@@ -1,6 +1,6 @@
 #!/usr/bin/env bash
-# A log that is reviewed night by night, against one review of everything: tests/nights.py, by the second review in Python,
-# and the recipe of docs/scale.md over the built program.
+# A log that is reviewed night by night, against one review of everything: tests/nights.py, by the second review in Python.
+# What the built program carries over is compared with it too.
 # shellcheck source=tests/lib.sh
 . "$(dirname -- "$0")/lib.sh"
 need_program

@@ -26,6 +26,7 @@ import threading
 import cost_logs as logs
 from counters import counters_text
 from kept import kept_text, status_of as kept_status_of
+from nights import Told, carried
 from review_examples import A, A2, ALL, B, C, CX, C9A, C9B, H, M1, M2, P1, READINGS, S, S7, certificate, signature
 from review_model import Log, review
 from review_runs import answers_text, answers_to, frame, joined, line, read_frames, read_lines, report_text, run
@@ -37,6 +38,7 @@ HERE = os.path.dirname(os.path.abspath(__file__))
 CODES = {
     "review": "(W2 )+(C4 )*(A4 )*((F4|V1|W2) )*",
     "extract": "(W2 )+(A4 )*((F4|V1|W2) )*",
+    "carry": "(W2 )+(A4 )*((F4|V1|W2) )*",
     "counters": "(W2 )+(A4 )*((F4|V1|W2) )*",
     "questions": "(W2 )*((F4|V1|W2) )*",
     "inspect": "(W2 )*((F4|W2) )*",
@@ -45,7 +47,7 @@ CODES = {
     "explain": "(W2 )*",
 }
 # those that do without a list that they couldn't make as long as it will be
-DO_WITHOUT = ("review", "extract", "counters")
+DO_WITHOUT = ("review", "extract", "carry", "counters")
 # fewer allocations than reading any command line takes: these are tried once for each command line
 WORDS_ALONE = 80
 BUFFER = 65536
@@ -119,11 +121,23 @@ def counted(octets, answers, of_lines, **limits):
     return Said(int(torn is not None), joined(counters_text(Log(messages), *answers)), b"")
 
 
+def carried_over(octets, answers, of_lines, **limits):
+    """What is carried over, as the second review says. A log is refused as by `questions`."""
+    said = Said(*run("questions", octets, of_lines, **limits))
+    if said.status == 2:
+        return said
+    messages, torn = (read_lines if of_lines else read_frames)(octets)
+    places = carried(Told(Log(messages), answers))[0]
+    return Said(int(torn is not None), b"".join(frame(messages[place]) for place in sorted(places)), b"")
+
+
 def reviewed(name, command, octets, answers, *words, of_lines=False, **limits):
-    """A review, extract, questions or counters, as the second review says."""
+    """A review, extract, questions, counters or what is carried over, as the second review says."""
     trusted, valid = answers
     if command == "counters":
         wanted = counted(octets, answers, of_lines, **limits)
+    elif command == "carry":
+        wanted = carried_over(octets, answers, of_lines, **limits)
     elif "--whole" in words:
         wanted = with_missing_blocks(octets, answers, of_lines)
     else:
@@ -140,12 +154,12 @@ def reviews():
     example, nobody = answers_of(EXAMPLE, ALL), (frozenset(), frozenset())
     for unit, of_lines in ((frame, False), (line, True)):
         log = b"".join(map(unit, EVERYTHING))
-        for command in ("review", "extract", "questions", "counters"):
+        for command in ("review", "extract", "questions", "counters", "carry"):
             words = ["--whole"] if command == "review" and not of_lines else []
             yield reviewed("everything" + ", as lines" * of_lines, command, log + unit(M1)[:-1], everything, *words,
                            of_lines=of_lines)
     log = b"".join(map(frame, EXAMPLE))
-    for command in ("review", "extract", "questions"):
+    for command in ("review", "extract", "questions", "carry"):
         yield reviewed("a clean log", command, log, example, max_len=1048576, max_messages=10000000)
         yield reviewed("an empty log", command, b"", nobody)
         yield reviewed("a log with no digit behind it", command, log + b"x", example)
@@ -334,7 +348,7 @@ def long_outputs():
     """Runs whose output is longer than a buffer, and begins to be written before its end is known."""
     made = logs.signed(5000)
     log, text = b"".join(map(frame, made.messages)), b"".join(it + b"\n" for it in made.answers)
-    for words in (["review", "--whole"], ["extract"], ["questions"], ["inspect"], ["questions", "--json"], ["inspect", "--json"]):
+    for words in (["review", "--whole"], ["extract"], ["carry"], ["questions"], ["inspect"], ["questions", "--json"], ["inspect", "--json"]):
         asks = words[0] in ("review", "extract")
         yield Case("%s of a long log" % " ".join(words), words, log, 0, text if asks else None, True)
     log = b"".join(map(frame, logs.sent(800).messages))

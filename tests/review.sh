@@ -135,7 +135,7 @@ for option in '--max-len 159' '--max-len 1048576' '--max-messages 4' '--max-mess
 done
 run --help </dev/null
 expect '--help' 0 'SOME TEXT' ''
-for command in review questions extract inspect counters explain; do
+for command in review questions extract inspect counters carry explain; do
     run "$command" --help </dev/null
     expect "$command --help" 0 'SOME TEXT' ''
 done

@@ -11,6 +11,7 @@ use Rattle.clap.specs.declared.parser.matches.ArgMatches.{ArgMatches}
 use Rattle.ss_frame.specs.Limits.{Allowance, longest_message, most_messages}
 use Rattle.ss_frame.specs.declared.limits.Form.{Form}
 use Rattle.ss_frame.specs.declared.limits.Form.TheVariants.{Frames, Lines}
+use Rattle.ssign.specs.declared.commands.carry.TheConstants as carry
 use Rattle.ssign.specs.declared.commands.counters.TheConstants as counters
 use Rattle.ssign.specs.declared.commands.explain.TheConstants as explain
 use Rattle.ssign.specs.declared.commands.extract.TheConstants as extract
@@ -23,7 +24,7 @@ use Rattle.ssign.specs.declared.command_line.Order.{Order}
 use Rattle.ssign.specs.declared.command_line.Order.TheVariants.{Log, Sent, Explain}
 use Rattle.ssign.specs.declared.task.Reporting.{Reporting}
 use Rattle.ssign.specs.declared.task.Task.{Task}
-use Rattle.ssign.specs.declared.task.Task.TheVariants.{Review, Questions, Extract, Inspect, Counters}
+use Rattle.ssign.specs.declared.task.Task.TheVariants.{Review, Questions, Extract, Inspect, Counters, Carry}
 use Rattle.ssign.specs.declared.signing.Signing.{Signing}
 use Rattle.ssign.specs.declared.signing.Signing.TheVariants.{Plan, Sign}
 use Rattle.ssign.specs.SigningOptions.{AreVersions, Kept, number_rule, text_rule, usual_rule, with_signing_options}
@@ -158,6 +159,9 @@ sign_app versions = with_limits (with_signing_options versions (with_rule (new_a
 abbrev pub counters_app : App
 counters_app = with_limits (with_rule (with_rule (new_app counters.NAME.now) answers_rule) json_rule)
 
+abbrev pub carry_app : App
+carry_app = with_limits (with_rule (new_app carry.NAME.now) answers_rule)
+
 abbrev pub explain_app : App
 explain_app = with_rule (new_app explain.NAME.now) code_rule
 
@@ -174,7 +178,7 @@ with_commands app (command ∷ commands) = with_commands (with_subcommand app co
 -- of the versions of blocks it takes those that are kept
 abbrev pub ssign_app : Kept → App
 ssign_app versions = with_commands bare_app (
-    review_app ∷ questions_app ∷ extract_app ∷ inspect_app ∷ plan_app versions ∷ sign_app versions ∷ counters_app ∷ explain_app ∷ [])
+    review_app ∷ questions_app ∷ extract_app ∷ inspect_app ∷ plan_app versions ∷ sign_app versions ∷ counters_app ∷ carry_app ∷ explain_app ∷ [])
 
 -- a command is this one, and has no global argument
 pub record IsLocalApp (command : Command) (app : App) : Type 0 where
@@ -189,6 +193,7 @@ task_name Questions = questions.NAME.now
 task_name Extract = extract.NAME.now
 task_name Inspect = inspect.NAME.now
 task_name Counters = counters.NAME.now
+task_name Carry = carry.NAME.now
 
 abbrev pub signing_name : Signing → List ℕ
 signing_name Plan = plan.NAME.now
@@ -202,7 +207,8 @@ name_of Explain = explain.NAME.now
 -- no command has this name
 abbrev pub IsNoCommand : List ℕ → Type 0
 IsNoCommand name = (name ≢ review.NAME.now) × (name ≢ questions.NAME.now) × (name ≢ extract.NAME.now)
-    × (name ≢ inspect.NAME.now) × (name ≢ plan.NAME.now) × (name ≢ sign.NAME.now) × (name ≢ counters.NAME.now) × (name ≢ explain.NAME.now)
+    × (name ≢ inspect.NAME.now) × (name ≢ plan.NAME.now) × (name ≢ sign.NAME.now) × (name ≢ counters.NAME.now)
+    × (name ≢ carry.NAME.now) × (name ≢ explain.NAME.now)
 
 -- ---- the exit status
 

@@ -6,7 +6,7 @@ use Rattle.clap.specs.Words.{found_of, matched_of, raw_values}
 use Rattle.clap.specs.declared.parser.matches.ArgMatches.{ArgMatches}
 use Rattle.ss_report.specs.declared.extraction.Extraction.{Extraction}
 use Rattle.ss_report.specs.declared.extraction.Selection.{Selection}
-use Rattle.ss_report.specs.declared.extraction.Selection.TheVariants.{Listed, Unlisted, At}
+use Rattle.ss_report.specs.declared.extraction.Selection.TheVariants.{Listed, Unlisted, Carried, At}
 use Rattle.ssign.specs.CommandLine.{SpellsNumber, form_of}
 use Rattle.ssign.specs.declared.extraction.ExtractionFault.{ExtractionFault}
 use Rattle.ssign.specs.declared.extraction.ExtractionFault.TheVariants.{Both, NoNumber, Memory}
@@ -30,6 +30,7 @@ pub record AreInOrder (given numbers : List ℕ) : Type 0 where
 abbrev pub Selects : Bool → Option (List (List ℕ)) → Result Selection ExtractionFault → Type 0
 Selects unlisted texts (Ok Listed) = (unlisted ≡ false) × (texts ≡ None)
 Selects unlisted texts (Ok Unlisted) = (unlisted ≡ true) × (texts ≡ None)
+Selects unlisted texts (Ok Carried) = ⊥
 Selects unlisted texts (Ok (At places)) = (unlisted ≡ false) × IfSome texts (λ ts. (given : List ℕ) × SpellNumbers ts given × AreInOrder given places) × IsSome texts
 Selects unlisted texts (Err Both) = (unlisted ≡ true) × IsSome texts
 Selects unlisted texts (Err NoNumber) = (unlisted ≡ false)

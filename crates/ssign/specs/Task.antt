@@ -5,14 +5,20 @@ use Rattle.ss_review.specs.declared.counted.counter.Counter.{Counter}
 use Rattle.ss_report.specs.Forms.{notation_of}
 use Rattle.ss_report.specs.Run.{Job}
 use Rattle.ss_report.specs.Jobs.{asking, counting, extracting_as, inspecting, reviewing_as, reviewing_whole}
+use Rattle.ss_frame.specs.declared.limits.Form.TheVariants.{Frames}
 use Rattle.ss_report.specs.declared.extraction.Extraction.{Extraction}
+use Rattle.ss_report.specs.declared.extraction.Selection.TheVariants.{Carried}
 use Rattle.ssign.specs.declared.task.Reporting.{Reporting}
 use Rattle.ssign.specs.declared.task.Task.{Task}
-use Rattle.ssign.specs.declared.task.Task.TheVariants.{Review, Questions, Extract, Inspect, Counters}
+use Rattle.ssign.specs.declared.task.Task.TheVariants.{Review, Questions, Extract, Inspect, Counters, Carry}
 
 -- a review, with or without what is missing beside the report, up to these counters
 abbrev pub review_of : Answers → Reporting → List Counter → Job
 review_of says r counters = if r.whole then reviewing_whole r.form r.detail counters says else reviewing_as r.form r.detail says
+
+-- what is carried over to the next log, as frames
+abbrev pub carrying : Extraction
+carrying = record { selection = Carried; form = Frames }
 
 -- what a run makes of a log: under these answers, or without any, and as it is to be reported; of a review that is to be
 -- whole, up to these counters, and of an extract what is to be written
@@ -22,3 +28,4 @@ job_of says r counters e Questions = asking (notation_of r.form)
 job_of says r counters e Extract = extracting_as e says
 job_of says r counters e Inspect = inspecting r.form
 job_of says r counters e Counters = counting (notation_of r.form) says
+job_of says r counters e Carry = extracting_as carrying says

@@ -5,7 +5,7 @@ ghost use Rattle.clap.specs.Words.{App, app_of, first_value, found_of, kind_of, 
 ghost use Rattle.ss_frame.specs.Limits.{InRange};
 ghost use Rattle.ssign.specs.CommandLine.{answers_rule, code_rule, findings_rule, json_rule, kept_rule, lines_rule, max_len_rule, max_messages_rule, tally_rule, whole_rule};
 ghost use Rattle.ssign.specs.CommandLine.{lines_out_rule, place_rule, unlisted_rule};
-ghost use Rattle.ssign.specs.CommandLine.{bare_app, counters_app, explain_app, extract_app, inspect_app, plan_app, questions_app, review_app, sign_app, ssign_app};
+ghost use Rattle.ssign.specs.CommandLine.{bare_app, carry_app, counters_app, explain_app, extract_app, inspect_app, plan_app, questions_app, review_app, sign_app, ssign_app};
 ghost use Rattle.ssign.specs.Explanation.{asked_of};
 ghost use Rattle.ssign.specs.SigningOptions.{AreVersions, Kept};
 ghost use Rattle.ssign.specs.CommandLine.{FlagIs, HasNumber, IsLocalApp, IsNoCommand, limits_with, detail_of, name_of, report_form, reporting, text_of};
@@ -61,7 +61,7 @@ pub enum Order {
 }
 
 /// What the commands ask for, in their order.
-const ORDERS: [Order; 8] = [
+const ORDERS: [Order; 9] = [
     Order::Log(Task::Review),
     Order::Log(Task::Questions),
     Order::Log(Task::Extract),
@@ -69,6 +69,7 @@ const ORDERS: [Order; 8] = [
     Order::Sent(Signing::Plan),
     Order::Sent(Signing::Sign),
     Order::Log(Task::Counters),
+    Order::Log(Task::Carry),
     Order::Explain,
 ];
 
@@ -80,7 +81,8 @@ pub fn command<'a>(alloc: Global) -> Result<Command<'a>, AllocError>
     let command = with_review_and_questions(alloc, bare(alloc))?;
     let command = with_extract_and_inspect(alloc, command)?;
     let command = with_plan_and_sign(alloc, command, versions)?;
-    with_counters_and_explain(alloc, command)
+    let command = with_counters_and_carry(alloc, command)?;
+    command.subcommand(explain(alloc)?)
 }
 
 /// The program with the commands `review` and `questions`.
@@ -120,16 +122,16 @@ fn with_plan_and_sign<'a>(
     command.subcommand(sign(alloc, versions)?)
 }
 
-/// The program with the commands `counters` and `explain`.
-fn with_counters_and_explain<'a>(
+/// The program with the commands `counters` and `carry`.
+fn with_counters_and_carry<'a>(
     alloc: Global,
     command: Command<'a>,
 ) -> Result<Command<'a>, AllocError>
     ensures { (app : App) → IsLocalApp command.entry app
-        → IfOk result (λ c. IsLocalApp c (with_commands app (counters_app ∷ explain_app ∷ []))) }
+        → IfOk result (λ c. IsLocalApp c (with_commands app (counters_app ∷ carry_app ∷ []))) }
 {
     let command = command.subcommand(counters(alloc)?)?;
-    command.subcommand(explain(alloc)?)
+    command.subcommand(carry(alloc)?)
 }
 
 /// The same commands, of which each option of a number takes a negative one as its value, and then says its range.
@@ -149,6 +151,7 @@ fn command_of<'a>(alloc: Global, order: Order) -> Result<Command<'a>, AllocError
         Order::Log(Task::Extract) => extract(alloc),
         Order::Log(Task::Inspect) => inspect(alloc),
         Order::Log(Task::Counters) => counters(alloc),
+        Order::Log(Task::Carry) => carry(alloc),
         Order::Sent(Signing::Plan) => plan(alloc, versions()),
         Order::Sent(Signing::Sign) => sign(alloc, versions()),
         Order::Explain => explain(alloc),
@@ -265,6 +268,18 @@ fn counters<'a>(alloc: Global) -> Result<Command<'a>, AllocError>
     )
     .arg(answers(alloc, CHECKED))?;
     limited(alloc, counters.arg(json(alloc))?)
+}
+
+fn carry<'a>(alloc: Global) -> Result<Command<'a>, AllocError>
+    ensures { IfOk result (λ c. IsLocalApp c carry_app) }
+{
+    let carry = over_log(
+        alloc,
+        commands::carry::NAME,
+        commands::carry::ABOUT,
+        commands::carry::USAGE,
+    );
+    limited(alloc, carry.arg(answers(alloc, CHECKED))?)
 }
 
 fn explain<'a>(alloc: Global) -> Result<Command<'a>, AllocError>
@@ -478,6 +493,7 @@ pub fn order_of(name: &str) -> Option<Order>
         commands::extract::NAME => Some(Order::Log(Task::Extract)),
         commands::inspect::NAME => Some(Order::Log(Task::Inspect)),
         commands::counters::NAME => Some(Order::Log(Task::Counters)),
+        commands::carry::NAME => Some(Order::Log(Task::Carry)),
         commands::plan::NAME => Some(Order::Sent(Signing::Plan)),
         commands::sign::NAME => Some(Order::Sent(Signing::Sign)),
         commands::explain::NAME => Some(Order::Explain),

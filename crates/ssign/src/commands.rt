@@ -1,4 +1,5 @@
 //! The commands: a file for each has its name and what its help says.
+pub mod carry;
 pub mod counters;
 pub mod explain;
 pub mod extract;

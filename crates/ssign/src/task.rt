@@ -3,12 +3,12 @@ ghost use Rattle.std.specs.Prelude.{◌≡◌, ◌≢◌, false, IfOk, IfErr};
 ghost use Rattle.ss_frame.specs.Watched.{has_failed, source_of, sink_of};
 ghost use Rattle.ss_review.specs.sessions.Verified.{answers};
 ghost use Rattle.ss_report.specs.Run.{Runs, Stops};
-ghost use Rattle.ssign.specs.Task.{review_of, job_of};
+ghost use Rattle.ssign.specs.Task.{carrying, review_of, job_of};
 
-use ss_frame::{Limits, Watched};
+use ss_frame::{Form, Limits, Watched};
 use ss_report::{
-    Detail, Extraction, ReportForm, RunFault, Verdict, run_counters, run_extract_as, run_inspect,
-    run_questions, run_review_as, run_review_whole,
+    Detail, Extraction, ReportForm, RunFault, Selection, Verdict, run_counters, run_extract_as,
+    run_inspect, run_questions, run_review_as, run_review_whole,
 };
 use ss_review::{Counter, Judge};
 use std::alloc::Global;
@@ -27,6 +27,8 @@ pub enum Task {
     Inspect,
     /// How far the signature blocks reach.
     Counters,
+    /// What the review of the next log needs of this one.
+    Carry,
 }
 
 /// How what is asked of a log is reported.
@@ -78,6 +80,17 @@ pub fn run_task<R: Read, W: Write, J: Judge + Drop>(
         Task::Extract => run_extract_as(alloc, reader, writer, judge, limits, extraction),
         Task::Inspect => run_inspect(alloc, reader, writer, limits, reporting.form),
         Task::Counters => run_counters(alloc, reader, writer, judge, limits, notation),
+        Task::Carry => run_extract_as(alloc, reader, writer, judge, limits, carrying()),
+    }
+}
+
+/// What is carried over to the next log, as octet-counted frames (RFC 6587, section 3.4.1).
+fn carrying() -> Extraction
+    ensures { result ≡ carrying }
+{
+    Extraction {
+        selection: Selection::Carried,
+        form: Form::Frames,
     }
 }
 
