@@ -11,7 +11,7 @@ A number is *settled* by a night that lists it and carries over no block that an
   hash       no settled number is announced later with another hash
   again      no settled number is listed later
   lost       no number that is lost in the end comes before a settled one whose message has the hash that is lost
-  collision  no message that is listed later under a hash differs from an earlier, settled one with that hash
+  collision  no message that a number wants later by its hash differs from an earlier, settled one with that hash
 
 Where all hold, the nights together have to say what the whole says: states, listed numbers with their texts, gaps, holes,
 unlisted texts, refused and spoilt places, and the count. Equal messages may be exchanged, and nothing else. If no two texts
@@ -24,6 +24,7 @@ torn. The last line is `nights: N passed, M failed`.
 import base64
 import collections
 import copy
+import hashlib
 import os
 import pathlib
 import random
@@ -105,6 +106,13 @@ class Told:
 
     def keys(self):
         return self.listed.keys() | self.gaps.keys()
+
+    def wanted(self):
+        """Each hash that alone is announced for some key, and the first place whose message has it."""
+        for hashes in self.hashes.values():
+            places = [place for it in hashes for place, pair in self.log.pairs.items() if has(pair, it)]
+            if len(hashes) == 1 and places:
+                yield *hashes, min(places)
 
 
 def announced(block):
@@ -203,7 +211,7 @@ class Nights:
         if any(key < settled and has(pairs[place], it) for key, it in lost for settled, (_, place, _) in self.settled.items()):
             yield "lost"
         if any(place < other and pairs[place] != pairs[other] and has(pairs[place], it) for _, place, _, told in self.later()
-               for key, other in told.listed.items() for it in told.hashes[key]):
+               for it, other in told.wanted()):
             yield "collision"
 
     def reports_show(self):
@@ -352,6 +360,10 @@ def compare(seed, reached):
 
 # ---- by hand
 
+def h2(text):
+    return base64.b64encode(hashlib.sha256(text).digest())
+
+
 ANOTHER_LENGTH = certificate(total=28)
 # the first and the second number, each in a block of its own
 ONE, TWO, THREE = S7, signature(B, gbc=1, first=2), signature(A, gbc=2, first=3)
@@ -375,6 +387,10 @@ BY_HAND = [
     ("a lost number behind a settled one with its hash", [[C, M1, ONE], [CI, S7I]], [], []),
     ("two texts with one SHA-1", [[C, SHA1_TWINS[0], signature(h(SHA1_TWINS[0]))],
                                   [SHA1_TWINS[1], signature(h(SHA1_TWINS[0]), gbc=1, first=2)]],
+     ["collision"], ["listed", "gaps", "unlisted"]),
+    ("two texts with one SHA-1, and a number that is lost since it wants the other",
+     [[C, SHA1_TWINS[0], signature(h(SHA1_TWINS[0]))],
+      [*SHA1_TWINS[::-1], signature(h2(SHA1_TWINS[1]), ver=b"0121", gbc=1, first=2), signature(h(SHA1_TWINS[0]), gbc=2, first=3)]],
      ["collision"], ["listed", "gaps", "unlisted"]),
 ]
 # what goes wrong if one kind isn't carried over, though all premises hold
