@@ -29,7 +29,7 @@ TEST_CRATES = {
     "ss_signing": "test_signings",
 }
 # libraries of laws alone, which have no example
-LAW_CRATES = {"ss_nights"}
+LAW_CRATES = {"ss_carried", "ss_nights"}
 
 
 def lines_of(*path):

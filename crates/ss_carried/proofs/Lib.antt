@@ -1,0 +1,5 @@
+pub mod ToldApart
+pub mod CarriedEnough
+pub mod CarriedMoved
+pub mod OwnLogs
+pub mod CarriedTexts

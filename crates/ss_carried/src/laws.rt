@@ -1,0 +1,33 @@
+//! What holds of every log that is reviewed night by night, where each night leaves over what is carried over of its log.
+ghost use Rattle.ss_carried.specs.CarriedNights.{CarriedIsEnough, CarriedNightsAreTheWhole, CarriedOfOwnLogs, NightsOfTexts};
+
+use ss_nights::laws::{nights_are_logs, nights_are_the_whole};
+
+/// What is carried over of each night's log is enough to leave over.
+pub fn carried_is_enough()
+    ensures { CarriedIsEnough }
+{}
+
+/// What is carried over of a night's log is what is carried over of a log of its own, at the places in the whole.
+pub fn carried_of_own_logs()
+    ensures { CarriedOfOwnLogs }
+{}
+
+/// The logs that a keeper makes, each of what is carried over of the one before and of the night's file, are those of
+/// nights that leave enough over, and so are their reports. The premise is that each file stands behind those before.
+pub fn nights_of_texts()
+    ensures { NightsOfTexts }
+{
+    carried_is_enough();
+    carried_of_own_logs();
+    nights_are_logs();
+}
+
+/// The report of a whole log is put together from the reports on the logs that a keeper makes night by night. The premises
+/// are those of `ss_nights::laws::nights_are_the_whole` but that each night leaves enough over.
+pub fn carried_nights_are_the_whole()
+    ensures { CarriedNightsAreTheWhole }
+{
+    nights_of_texts();
+    nights_are_the_whole();
+}
