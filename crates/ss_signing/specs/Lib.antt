@@ -1,4 +1,5 @@
 pub mod Accepted
+pub mod Asked
 pub mod Wants
 pub mod Run
 pub mod Jobs

@@ -11,7 +11,7 @@ pub(crate) struct Blank {
 }
 
 impl Seals for Blank {
-    ghost use Rattle.std.specs.Prelude.{true};
+    ghost use Rattle.std.specs.Prelude.{◌≡◌, true};
     ghost use Rattle.ss_signing.specs.Jobs.{gives_0};
 
     ghost sound = { λ _. Unit {0} };
@@ -22,11 +22,14 @@ impl Seals for Blank {
 
     ghost answers = { λ _ octets answer. gives_0 octets answer };
 
+    // It is the same behind each question.
+    ghost asked = { λ old octets answer new. (new ≡ old) × gives_0 octets answer };
+
     fn payload_block(&self) -> &Payload {
         &self.payload
     }
 
-    fn seal(&self, alloc: Global, _octets: &[u8]) -> Result<Vec<u8>, SealFault> {
+    fn seal(&mut self, alloc: Global, _octets: &[u8]) -> Result<Vec<u8>, SealFault> {
         let mut signature = Vec::new(alloc);
         match signature.push(0) {
             Ok(()) => Ok(signature),
