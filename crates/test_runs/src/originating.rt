@@ -41,11 +41,13 @@ impl Seals for Zeros {
 
     ghost answers = { λ _ _ _. Unit {0} };
 
+    ghost asked = { λ _ _ _ _. Unit {0} };
+
     fn payload_block(&self) -> &Payload {
         &self.payload
     }
 
-    fn seal(&self, alloc: Global, _octets: &[u8]) -> Result<Vec<u8>, SealFault> {
+    fn seal(&mut self, alloc: Global, _octets: &[u8]) -> Result<Vec<u8>, SealFault> {
         match Vec::from_slice(alloc, &[0, 0, 0]) {
             Ok(signature) => Ok(signature),
             Err(_) => Err(SealFault::Memory),

@@ -85,13 +85,15 @@ impl<'d> Seals for Signer<'d> {
 
     ghost answers = { λ _ _ _. Unit {0} };
 
+    ghost asked = { λ _ _ _ _. Unit {0} };
+
     fn payload_block(&self) -> &Payload {
         &self.payload
     }
 
     /// Signs with no octet for `0`, one for `1`, 32 for `s`, 1,024 for `k` and 1,025 for `l`; wants memory for `m`, and
     /// refuses for any other letter.
-    fn seal(&self, alloc: Global, octets: &[u8]) -> Result<Vec<u8>, SealFault> {
+    fn seal(&mut self, alloc: Global, octets: &[u8]) -> Result<Vec<u8>, SealFault> {
         let letter = self.desk.next();
         let Some(length) = length_of(letter) else {
             return Err(if letter == b'm' {
