@@ -26,31 +26,31 @@ use Rattle.ss_review.specs.declared.report.session_report.SessionReport.{Session
 use Rattle.ss_review.specs.declared.report.session_report.SessionState.{SessionState}
 use Rattle.ss_review.specs.declared.report.session_report.SessionState.TheVariants as states
 use Rattle.ss_review.specs.declared.report.report.Report.{Report}
-use Rattle.ss_review.specs.Contents.{Contents}
+use Rattle.ss_review.specs.keep.Contents.{Contents}
 use Rattle.ss_review.specs.Ordered.{in_order}
-use Rattle.ss_review.specs.Sessions.{same_session, sessions, of_session}
-use Rattle.ss_review.specs.Verified.{Answers, joined, state_in, is_verified}
-use Rattle.ss_review.specs.Verdict.{is_joined}
-use Rattle.ss_review.specs.Announced.{Key, Row, rows}
-use Rattle.ss_review.specs.Announcing.{Announces}
-use Rattle.ss_review.specs.Assigned.{assigned, is_taken}
-use Rattle.ss_review.specs.Entries.{same_group}
-use Rattle.ss_review.specs.Meaning.{Tells, first_number}
-use Rattle.ss_review.specs.Extract.{place_listed}
-use Rattle.ss_review.specs.Report.{session_report, report_of}
+use Rattle.ss_review.specs.sessions.Sessions.{same_session, sessions, of_session}
+use Rattle.ss_review.specs.sessions.Verified.{Answers, joined, state_in, is_verified}
+use Rattle.ss_review.specs.report.Verdict.{is_joined}
+use Rattle.ss_review.specs.announced.Announced.{Key, Row, rows}
+use Rattle.ss_review.specs.announced.Announcing.{Announces}
+use Rattle.ss_review.specs.assign.Assigned.{assigned, is_taken}
+use Rattle.ss_review.specs.report.Entries.{same_group}
+use Rattle.ss_review.specs.report.Meaning.{Tells, first_number}
+use Rattle.ss_review.specs.report.Extract.{place_listed}
+use Rattle.ss_review.specs.report.Report.{session_report, report_of}
 use Rattle.ss_origin.proofs.Members.{Has, has_from_contains, contains_from_has, has-append_left, has-append_right, has-append_cases, has-map, from_has-map, from_has-flat_map}
-use Rattle.ss_review.proofs.Leftovers.{takes, unlisted_are, refused_are}
-use Rattle.ss_review.proofs.Listings.{listed_assigned, assigned_listed, gaps_are}
-use Rattle.ss_review.proofs.Members.{has-filter, from_has-filter, has-flat_map, has-filter_map, from_has-filter_map}
-use Rattle.ss_review.proofs.OnePlaceOneKey.{one_key, assigned_cases, from_has-places_with}
-use Rattle.ss_review.proofs.PartBlocks.{session_is, has-sessions}
-use Rattle.ss_review.proofs.Rising.{has-in_order, from_has-in_order}
-use Rattle.ss_review.proofs.StatesTold.{joined_under, state_told}
-use Rattle.ss_review.proofs.Tests.{any_member, member_any}
-use Rattle.ss_review.proofs.Keyed.{has-slice_get}
-use Rattle.ss_review.specs.Assigned.{places_with, rank}
-use Rattle.ss_carried.specs.Carrying as carrying
-use Rattle.ss_carried.specs.Carrying.{told_of, is_joined_in, entries_in, is_numbered, entries_said, entries_under, places_of, is_refused_in, is_verified_in, has_fragment_at, is_fragment_of, is_first_said, is_gap, is_unjudged, is_first_certificate, has_gap, carried_by}
+use Rattle.ss_review.proofs.of_reports.Leftovers.{takes, unlisted_are, refused_are}
+use Rattle.ss_review.proofs.of_reports.Listings.{listed_assigned, assigned_listed, gaps_are}
+use Rattle.ss_review.proofs.of_lists.Members.{has-filter, from_has-filter, has-flat_map, has-filter_map, from_has-filter_map}
+use Rattle.ss_review.proofs.of_assignment.OnePlaceOneKey.{one_key, assigned_cases, from_has-places_with}
+use Rattle.ss_review.proofs.of_parts.PartBlocks.{session_is, has-sessions}
+use Rattle.ss_review.proofs.of_lists.Rising.{has-in_order, from_has-in_order}
+use Rattle.ss_review.proofs.of_sessions.StatesTold.{joined_under, state_told}
+use Rattle.ss_review.proofs.of_lists.Tests.{any_member, member_any}
+use Rattle.ss_review.proofs.of_lists.Keyed.{has-slice_get}
+use Rattle.ss_review.specs.assign.Assigned.{places_with, rank}
+use Rattle.ss_report.specs.Carrying as carrying
+use Rattle.ss_report.specs.Carrying.{told_of, is_joined_in, entries_in, is_numbered, entries_said, entries_under, places_of, is_refused_in, is_verified_in, has_fragment_at, is_fragment_of, is_first_said, is_gap, is_unjudged, is_first_certificate, has_gap, carried_by}
 use Rattle.ss_carried.specs.CarriedNights.{is_carried}
 use Rattle.ss_nights.specs.Nights.{IsJoined, HasVerifiedOctet, IsKept, LeavesEnough}
 use Rattle.ss_nights.proofs.AnnouncedNights.{verified_joined}

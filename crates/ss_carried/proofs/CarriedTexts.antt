@@ -12,22 +12,22 @@ use Rattle.std.proofs.lemmas.Map.Lookups.{exact_unsigned}
 use Rattle.std.proofs.lemmas.Option.{slice_get_within, slice_get-get_or, slice_get-map}
 use Rattle.ss_review.specs.declared.keep.message.NormalMessage.{NormalMessage}
 use Rattle.ss_review.specs.declared.keep.message.BlockMessage.{BlockMessage}
-use Rattle.ss_review.specs.Notes.{Normal, Block, note, notes}
-use Rattle.ss_review.specs.Contents.{Contents, normals, blocks, contents}
-use Rattle.ss_review.specs.Parts.{placed_of, messages_of, places_of}
-use Rattle.ss_review.specs.Report.{report_of}
-use Rattle.ss_review.specs.Verified.{Answers}
+use Rattle.ss_review.specs.keep.Notes.{Normal, Block, note, notes}
+use Rattle.ss_review.specs.keep.Contents.{Contents, normals, blocks, contents}
+use Rattle.ss_review.specs.parts.Parts.{placed_of, messages_of, places_of}
+use Rattle.ss_review.specs.report.Report.{report_of}
+use Rattle.ss_review.specs.sessions.Verified.{Answers}
 use Rattle.ss_origin.proofs.Members.{Has, has-append_left, has-append_right, has-append_cases, has-map, from_has-map}
-use Rattle.ss_review.proofs.Announcements.{numbered_from, has-numbered}
-use Rattle.ss_review.proofs.Keyed.{less}
-use Rattle.ss_review.proofs.Mapped.{map-map}
-use Rattle.ss_review.proofs.Members.{has-filter, from_has-filter}
-use Rattle.ss_review.proofs.NotesTold.{normal_noted, block_noted}
-use Rattle.ss_review.proofs.Rising.{all_below, below_all, same_members, rises-in_order, from_has-in_order}
-use Rattle.ss_review.proofs.Sections.{map_agree}
-use Rattle.ss_review.proofs.Tests.{any_member, member_any}
-use Rattle.ss_carried.specs.Carrying as carrying
-use Rattle.ss_carried.specs.Carrying.{carried_by, carried}
+use Rattle.ss_review.proofs.of_numbers.Announcements.{numbered_from, has-numbered}
+use Rattle.ss_review.proofs.of_lists.Keyed.{less}
+use Rattle.ss_review.proofs.of_lists.Mapped.{map-map}
+use Rattle.ss_review.proofs.of_lists.Members.{has-filter, from_has-filter}
+use Rattle.ss_review.proofs.of_kept_messages.NotesTold.{normal_noted, block_noted}
+use Rattle.ss_review.proofs.of_lists.Rising.{all_below, below_all, same_members, rises-in_order, from_has-in_order}
+use Rattle.ss_review.proofs.of_lists.Sections.{map_agree}
+use Rattle.ss_review.proofs.of_lists.Tests.{any_member, member_any}
+use Rattle.ss_report.specs.Carrying as carrying
+use Rattle.ss_report.specs.Carrying.{carried_by, carried}
 use Rattle.ss_carried.specs.CarriedNights.{is_carried, CarryOver, CarriedOfOwnLogs, carried_texts, night_texts, is_gone_over, carried_nights}
 use Rattle.ss_nights.specs.Nights.{Nights, is_reviewed, at_places, night_log}
 use Rattle.ss_nights.specs.NightLaws.{reviewed_part}

@@ -15,24 +15,24 @@ use Rattle.ss_review.specs.declared.keep.message.NormalMessage.{NormalMessage}
 use Rattle.ss_review.specs.declared.keep.message.BlockMessage.{BlockMessage}
 use Rattle.ss_review.specs.declared.keep.message.Said.{Said}
 use Rattle.ss_review.specs.declared.report.report.Report.{Report}
-use Rattle.ss_review.specs.Notes.{Note, Normal, Block, Spoilt, note, notes}
-use Rattle.ss_review.specs.Contents.{said_in, block_with, block_in, block_at, normals, blocks, contents}
-use Rattle.ss_review.specs.Parts.{blocks_of, moved, placed_of, messages_of, places_of}
-use Rattle.ss_review.specs.Report.{report_of}
-use Rattle.ss_review.specs.Verified.{Answers}
+use Rattle.ss_review.specs.keep.Notes.{Note, Normal, Block, Spoilt, note, notes}
+use Rattle.ss_review.specs.keep.Contents.{said_in, block_with, block_in, block_at, normals, blocks, contents}
+use Rattle.ss_review.specs.parts.Parts.{blocks_of, moved, placed_of, messages_of, places_of}
+use Rattle.ss_review.specs.report.Report.{report_of}
+use Rattle.ss_review.specs.sessions.Verified.{Answers}
 use Rattle.ss_origin.proofs.Members.{Has, has_from_contains, contains_from_has}
-use Rattle.ss_review.proofs.Leftovers.{refused_are}
-use Rattle.ss_review.proofs.Keyed.{less, from_less, keys_rise-filter}
-use Rattle.ss_review.proofs.Mapped.{map-map, filter-map}
-use Rattle.ss_review.proofs.MovedBlocks.{moved_block}
-use Rattle.ss_review.proofs.NotesTold.{block_place, normal_noted, block_noted}
-use Rattle.ss_review.proofs.PartLogs.{told_of_part}
-use Rattle.ss_review.proofs.Rising.{all_below, below_all, from_has-in_order}
+use Rattle.ss_review.proofs.of_reports.Leftovers.{refused_are}
+use Rattle.ss_review.proofs.of_lists.Keyed.{less, from_less, keys_rise-filter}
+use Rattle.ss_review.proofs.of_lists.Mapped.{map-map, filter-map}
+use Rattle.ss_review.proofs.of_parts.MovedBlocks.{moved_block}
+use Rattle.ss_review.proofs.of_kept_messages.NotesTold.{block_place, normal_noted, block_noted}
+use Rattle.ss_review.proofs.of_parts.PartLogs.{told_of_part}
+use Rattle.ss_review.proofs.of_lists.Rising.{all_below, below_all, from_has-in_order}
 use Rattle.std.specs.Cmp.{nat_cmp_total}
 use Rattle.std.proofs.lemmas.Map.Lookups.{exact_unsigned}
-use Rattle.ss_review.proofs.Tests.{from_in_range}
-use Rattle.ss_carried.specs.Carrying as carrying
-use Rattle.ss_carried.specs.Carrying.{carried_by, carried, is_unjudged, is_first_certificate, has_gap}
+use Rattle.ss_review.proofs.of_lists.Tests.{from_in_range}
+use Rattle.ss_report.specs.Carrying as carrying
+use Rattle.ss_report.specs.Carrying.{carried_by, carried, is_unjudged, is_first_certificate, has_gap}
 use Rattle.ss_carried.proofs.CarriedMoved.{carried_moved}
 use Rattle.ss_carried.proofs.CarriedEnough.{carried_places}
 use Rattle.ss_carried.proofs.ToldApart.{notes_apart}

@@ -8,13 +8,13 @@ use Rattle.std.proofs.lemmas.Map.Lookups.{exact_unsigned}
 use Rattle.ss_review.specs.declared.keep.message.NormalMessage.{NormalMessage}
 use Rattle.ss_review.specs.declared.keep.message.BlockMessage.{BlockMessage}
 use Rattle.ss_review.specs.declared.keep.spoilt.SpoiltPlace.{SpoiltPlace}
-use Rattle.ss_review.specs.Notes.{Note, Normal, Block, Spoilt, notes}
-use Rattle.ss_review.specs.Contents.{Contents, blocks, contents}
+use Rattle.ss_review.specs.keep.Notes.{Note, Normal, Block, Spoilt, notes}
+use Rattle.ss_review.specs.keep.Contents.{Contents, blocks, contents}
 use Rattle.ss_origin.proofs.Members.{Has}
-use Rattle.ss_review.proofs.Members.{from_has-filter}
-use Rattle.ss_review.proofs.Keyed.{one_of_key, keys_rise-filter}
-use Rattle.ss_review.proofs.NotesTold.{normal_noted, block_noted, spoilt_noted}
-use Rattle.ss_review.proofs.PlacesRise.{normals_rise, blocks_rise}
+use Rattle.ss_review.proofs.of_lists.Members.{from_has-filter}
+use Rattle.ss_review.proofs.of_lists.Keyed.{one_of_key, keys_rise-filter}
+use Rattle.ss_review.proofs.of_kept_messages.NotesTold.{normal_noted, block_noted, spoilt_noted}
+use Rattle.ss_review.proofs.of_kept_messages.PlacesRise.{normals_rise, blocks_rise}
 use Rattle.ss_nights.specs.Nights.{at_places, AreContents}
 
 pub record AreApart (log : Contents) : Type 0 where

@@ -1,12 +1,12 @@
 -- What is carried over of each night's log is enough to leave over.
 use Rattle.std.specs.Prelude.{◌≡◌, ◌==◌, ◌||◌, ◌&&◌, ◌<◌, ◌≤◌, ℕ, zero, suc, Bool, List, ◌++◌, length, map, filter_map, slice_get, slice_index}
 use Rattle.std.specs.List.{list_any}
-use Rattle.ss_review.specs.Notes.{notes}
-use Rattle.ss_review.specs.Contents.{Contents, contents}
-use Rattle.ss_review.specs.Verified.{Answers}
-use Rattle.ss_review.specs.Report.{report_of, report}
-use Rattle.ss_review.specs.Parts.{moved, messages_of, places_of}
-use Rattle.ss_carried.specs.Carrying.{carried_by, carried}
+use Rattle.ss_review.specs.keep.Notes.{notes}
+use Rattle.ss_review.specs.keep.Contents.{Contents, contents}
+use Rattle.ss_review.specs.sessions.Verified.{Answers}
+use Rattle.ss_review.specs.report.Report.{report_of, report}
+use Rattle.ss_review.specs.parts.Parts.{moved, messages_of, places_of}
+use Rattle.ss_report.specs.Carrying.{carried_by, carried}
 use Rattle.ss_nights.specs.Nights.{Nights, at_places, night_log, AreContents, LeaveEnough}
 use Rattle.ss_nights.specs.NightLaws.{reviewed_part}
 use Rattle.ss_nights.specs.Reports.{night_report, IsPutTogether}

@@ -1,6 +1,6 @@
 use Rattle.std.proofs.Common.{refl, arith}
 use Rattle.std.proofs.lemmas.List.{length-map}
-use Rattle.ss_review.specs.Notes.{note}
+use Rattle.ss_review.specs.keep.Notes.{note}
 use Rattle.ss_carried.specs.CarriedNights.{nights_of}
 use Rattle.ss_carried.proofs.laws.carried_nights_are_the_whole.Goals as goal
 

@@ -1,10 +1,10 @@
 use Rattle.std.proofs.Common.{◌≡◌, ℕ, refl, sym, ap, ◌∙◌, arith}
 use Rattle.std.specs.Prelude.{slice_index}
 use Rattle.std.proofs.lemmas.List.{length-map}
-use Rattle.ss_review.specs.Notes.{note, notes}
-use Rattle.ss_review.specs.Contents.{contents}
-use Rattle.ss_review.specs.Parts.{moved, messages_of, places_of}
-use Rattle.ss_review.specs.Report.{report}
+use Rattle.ss_review.specs.keep.Notes.{note, notes}
+use Rattle.ss_review.specs.keep.Contents.{contents}
+use Rattle.ss_review.specs.parts.Parts.{moved, messages_of, places_of}
+use Rattle.ss_review.specs.report.Report.{report}
 use Rattle.ss_nights.specs.NightLaws.{reviewed_part}
 use Rattle.ss_carried.specs.CarriedNights.{night_texts, nights_of}
 use Rattle.ss_carried.proofs.CarriedTexts.{carry_over, texts_of_nights}
