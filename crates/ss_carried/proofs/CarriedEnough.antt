@@ -49,8 +49,8 @@ use Rattle.ss_review.proofs.of_sessions.StatesTold.{joined_under, state_told}
 use Rattle.ss_review.proofs.of_lists.Tests.{any_member, member_any}
 use Rattle.ss_review.proofs.of_lists.Keyed.{has-slice_get}
 use Rattle.ss_review.specs.assign.Assigned.{places_with, rank}
-use Rattle.ss_report.specs.Carrying as carrying
-use Rattle.ss_report.specs.Carrying.{told_of, is_joined_in, entries_in, is_numbered, entries_said, entries_under, places_of, is_refused_in, is_verified_in, has_fragment_at, is_fragment_of, is_first_said, is_gap, is_unjudged, is_first_certificate, has_gap, carried_by}
+use Rattle.ss_report.specs.runs.Carrying as carrying
+use Rattle.ss_report.specs.runs.Carrying.{told_of, is_joined_in, entries_in, is_numbered, entries_said, entries_under, places_of, is_refused_in, is_verified_in, has_fragment_at, is_fragment_of, is_first_said, is_gap, is_unjudged, is_first_certificate, has_gap, carried_by}
 use Rattle.ss_carried.specs.CarriedNights.{is_carried}
 use Rattle.ss_nights.specs.Nights.{IsJoined, HasVerifiedOctet, IsKept, LeavesEnough}
 use Rattle.ss_nights.proofs.AnnouncedNights.{verified_joined}

@@ -32,8 +32,8 @@ use Rattle.ss_review.proofs.of_lists.Keyed.{less, from_less}
 use Rattle.ss_review.proofs.of_lists.Mapped.{map-map, filter-map, map-flat_map, filter_agree}
 use Rattle.ss_review.proofs.of_parts.MovedBlocks.{moved_block}
 use Rattle.ss_review.proofs.of_lists.Rising.{below_all, all_below, same_members, rises-in_order, has-in_order, from_has-in_order}
-use Rattle.ss_report.specs.Carrying as carrying
-use Rattle.ss_report.specs.Carrying.{told_of, is_joined_in, entries_in, is_numbered, entries_said, entries_under, places_of, is_refused_in, is_verified_in, has_fragment_at, is_fragment_of, is_first_said, is_gap, is_unjudged, is_first_certificate, has_gap, carried_by}
+use Rattle.ss_report.specs.runs.Carrying as carrying
+use Rattle.ss_report.specs.runs.Carrying.{told_of, is_joined_in, entries_in, is_numbered, entries_said, entries_under, places_of, is_refused_in, is_verified_in, has_fragment_at, is_fragment_of, is_first_said, is_gap, is_unjudged, is_first_certificate, has_gap, carried_by}
 
 -- ---- lists
 

@@ -26,8 +26,8 @@ use Rattle.ss_review.proofs.of_kept_messages.NotesTold.{normal_noted, block_note
 use Rattle.ss_review.proofs.of_lists.Rising.{all_below, below_all, same_members, rises-in_order, from_has-in_order}
 use Rattle.ss_review.proofs.of_lists.Sections.{map_agree}
 use Rattle.ss_review.proofs.of_lists.Tests.{any_member, member_any}
-use Rattle.ss_report.specs.Carrying as carrying
-use Rattle.ss_report.specs.Carrying.{carried_by, carried}
+use Rattle.ss_report.specs.runs.Carrying as carrying
+use Rattle.ss_report.specs.runs.Carrying.{carried_by, carried}
 use Rattle.ss_carried.specs.CarriedNights.{is_carried, CarryOver, CarriedOfOwnLogs, carried_texts, night_texts, is_gone_over, carried_nights}
 use Rattle.ss_nights.specs.Nights.{Nights, is_reviewed, at_places, night_log}
 use Rattle.ss_nights.specs.NightLaws.{reviewed_part}

@@ -31,8 +31,8 @@ use Rattle.ss_review.proofs.of_lists.Rising.{all_below, below_all, from_has-in_o
 use Rattle.std.specs.Cmp.{nat_cmp_total}
 use Rattle.std.proofs.lemmas.Map.Lookups.{exact_unsigned}
 use Rattle.ss_review.proofs.of_lists.Tests.{from_in_range}
-use Rattle.ss_report.specs.Carrying as carrying
-use Rattle.ss_report.specs.Carrying.{carried_by, carried, is_unjudged, is_first_certificate, has_gap}
+use Rattle.ss_report.specs.runs.Carrying as carrying
+use Rattle.ss_report.specs.runs.Carrying.{carried_by, carried, is_unjudged, is_first_certificate, has_gap}
 use Rattle.ss_carried.proofs.CarriedMoved.{carried_moved}
 use Rattle.ss_carried.proofs.CarriedEnough.{carried_places}
 use Rattle.ss_carried.proofs.ToldApart.{notes_apart}

@@ -25,8 +25,8 @@ use Rattle.ss_review.proofs.of_lists.Keyed.{from_less}
 use Rattle.ss_review.proofs.of_lists.Lookups.{any_none}
 use Rattle.ss_review.proofs.of_lists.Members.{has-append_cases, has-filter, from_has-filter, from_has-map, has-flat_map, from_has-flat_map}
 use Rattle.ss_review.proofs.of_lists.Rising.{below_all, in_order_same}
-use Rattle.ss_report.specs.Carrying.{places_of, is_joined_in, is_refused_in, is_verified_in, is_fragment_of, is_first_said, is_gap, entries_said, entries_under, is_unjudged, is_first_certificate, has_gap}
-use Rattle.ss_report.specs.Carrying.{unjudged, certificates, gaps, listed, carried_by}
+use Rattle.ss_report.specs.runs.Carrying.{places_of, is_joined_in, is_refused_in, is_verified_in, is_fragment_of, is_first_said, is_gap, entries_said, entries_under, is_unjudged, is_first_certificate, has_gap}
+use Rattle.ss_report.specs.runs.Carrying.{unjudged, certificates, gaps, listed, carried_by}
 use Rattle.ss_report.specs.CarriedSoFar.{carried_numbers, carried_verified, carried_with, carried_at, carried_along}
 
 -- ---- one more block

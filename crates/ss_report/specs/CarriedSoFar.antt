@@ -16,8 +16,8 @@ use Rattle.ss_review.specs.declared.report.report.Report.{Report}
 use Rattle.ss_review.specs.report.Extract.{place_listed}
 use Rattle.ss_review.specs.report.Meaning.{first_number}
 use Rattle.ss_review.specs.report.Verdict.{is_joined}
-use Rattle.ss_report.specs.declared.carrying.Extent.{Extent}
-use Rattle.ss_report.specs.Carrying.{told_of, is_joined_in, is_refused_in, is_fragment_of, is_gap, entries_under}
+use Rattle.ss_report.specs.declared.runs.carrying.Extent.{Extent}
+use Rattle.ss_report.specs.runs.Carrying.{told_of, is_joined_in, is_refused_in, is_fragment_of, is_gap, entries_under}
 
 -- ---- what a report says of a joined session
 

@@ -2,8 +2,8 @@
 use Rattle.std.specs.Prelude.{ℕ, List, ◌++◌, codes, decimal}
 use Rattle.ss_frame.specs.FaultText.{frame_fault_text}
 use Rattle.ss_review.specs.FaultText.{review_fault_text}
-use Rattle.ss_report.specs.declared.extraction.ExtractFault.{ExtractFault}
-use Rattle.ss_report.specs.declared.extraction.ExtractFault.TheVariants.{Absent, HoldsLf}
+use Rattle.ss_report.specs.declared.runs.extraction.ExtractFault.{ExtractFault}
+use Rattle.ss_report.specs.declared.runs.extraction.ExtractFault.TheVariants.{Absent, HoldsLf}
 use Rattle.ss_report.specs.declared.fault.RunFault.{RunFault}
 use Rattle.ss_report.specs.declared.fault.RunFault.TheVariants.{Frame, Review, Extract, Write, Memory}
 

@@ -4,8 +4,8 @@ use Rattle.ss_frame.specs.declared.step.Tail.{Tail}
 use Rattle.ss_frame.specs.declared.step.Tail.TheVariants as tails
 use Rattle.ss_review.specs.declared.report.report.Report.{Report}
 use Rattle.ss_review.specs.report.Verdict.{is_clean}
-use Rattle.ss_report.specs.declared.verdict.Verdict.{Verdict}
-use Rattle.ss_report.specs.declared.verdict.Verdict.TheVariants as verdicts
+use Rattle.ss_report.specs.declared.verdict.verdict.Verdict.{Verdict}
+use Rattle.ss_report.specs.declared.verdict.verdict.Verdict.TheVariants as verdicts
 
 -- clean at a clean end
 abbrev pub end_verdict : Tail → Verdict

@@ -2,7 +2,7 @@
 ghost use Rattle.std.specs.Prelude.{◌≡◌};
 ghost use Rattle.ss_report.specs.declared.fault.RunFault.TheVariants.{Extract, Frame, Memory, Review};
 
-use crate::extraction::ExtractFault;
+use crate::runs::extraction::ExtractFault;
 use ss_frame::FrameFault;
 use ss_message::NoMemory;
 use ss_review::ReviewFault;

@@ -3,10 +3,10 @@ use Rattle.std.proofs.Common.{ℕ, List, sym, ap, flat_map, subst}
 use Rattle.ss_review.specs.counted.KeptLaws.{CountersGivenBack, LogCountersAddNothing, LogCountersAreInRange, log_counters}
 use Rattle.ss_review.specs.report.Report.{report}
 use Rattle.ss_review.specs.sessions.Verified.{Answers}
-use Rattle.ss_report.specs.CounterLaws.{CountersAreTheLogs}
-use Rattle.ss_report.specs.Forms.{line_as}
-use Rattle.ss_report.specs.Jobs.{counting}
-use Rattle.ss_report.specs.Whole.{lines_with, verdict_with}
+use Rattle.ss_report.specs.runs.CounterLaws.{CountersAreTheLogs}
+use Rattle.ss_report.specs.forms.Forms.{line_as}
+use Rattle.ss_report.specs.runs.Jobs.{counting}
+use Rattle.ss_report.specs.lines.Whole.{lines_with, verdict_with}
 use Rattle.ss_report.specs.declared.notation.Notation.TheVariants.{Plain}
 use Rattle.ss_answers.specs.CounterLine.{HasOnly, LinesHaveTheirCounters}
 use Rattle.ssign.specs.ReadBack.{ChangeNothing, CountersAreReadBack}

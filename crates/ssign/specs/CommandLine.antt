@@ -34,8 +34,8 @@ use Rattle.ss_report.specs.declared.forms.report_form.ReportForm.{ReportForm}
 use Rattle.ss_report.specs.declared.forms.report_form.ReportForm.TheVariants as forms
 use Rattle.ss_report.specs.declared.lines.detail.Detail.{Detail}
 use Rattle.ss_report.specs.declared.lines.detail.Detail.TheVariants as details
-use Rattle.ss_report.specs.declared.verdict.Verdict.{Verdict}
-use Rattle.ss_report.specs.declared.verdict.Verdict.TheVariants.{Clean, Findings}
+use Rattle.ss_report.specs.declared.verdict.verdict.Verdict.{Verdict}
+use Rattle.ss_report.specs.declared.verdict.verdict.Verdict.TheVariants.{Clean, Findings}
 
 -- ---- the options of a command
 

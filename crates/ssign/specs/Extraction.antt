@@ -4,9 +4,9 @@ use Rattle.std.specs.List.{AllByRecursion}
 use Rattle.std.specs.List.Sorted.{IsStrictlyIncreasing}
 use Rattle.clap.specs.Words.{found_of, matched_of, raw_values}
 use Rattle.clap.specs.declared.parser.matches.ArgMatches.{ArgMatches}
-use Rattle.ss_report.specs.declared.extraction.Extraction.{Extraction}
-use Rattle.ss_report.specs.declared.extraction.Selection.{Selection}
-use Rattle.ss_report.specs.declared.extraction.Selection.TheVariants.{Listed, Unlisted, Carried, At}
+use Rattle.ss_report.specs.declared.runs.extraction.Extraction.{Extraction}
+use Rattle.ss_report.specs.declared.runs.extraction.Selection.{Selection}
+use Rattle.ss_report.specs.declared.runs.extraction.Selection.TheVariants.{Listed, Unlisted, Carried, At}
 use Rattle.ssign.specs.CommandLine.{SpellsNumber, form_of}
 use Rattle.ssign.specs.declared.extraction.ExtractionFault.{ExtractionFault}
 use Rattle.ssign.specs.declared.extraction.ExtractionFault.TheVariants.{Both, NoNumber, Memory}

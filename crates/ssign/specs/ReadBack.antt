@@ -7,7 +7,7 @@ use Rattle.ss_review.specs.keep.Contents.{blocks}
 use Rattle.ss_review.specs.sessions.Verified.{Answers}
 use Rattle.ss_review.specs.counted.Counted.{counted_sessions}
 use Rattle.ss_review.specs.counted.KeptLaws.{AddNothing, log_counters, shortfalls_of}
-use Rattle.ss_report.specs.Jobs.{counting, reviewing_whole}
+use Rattle.ss_report.specs.runs.Jobs.{counting, reviewing_whole}
 use Rattle.ss_report.specs.declared.forms.report_form.ReportForm.{ReportForm}
 use Rattle.ss_report.specs.declared.lines.detail.Detail.{Detail}
 use Rattle.ss_report.specs.declared.notation.Notation.TheVariants.{Plain}

@@ -2,12 +2,12 @@
 use Rattle.std.specs.Prelude.{List, if◌then◌else◌}
 use Rattle.ss_review.specs.sessions.Verified.{Answers}
 use Rattle.ss_review.specs.declared.counted.counter.Counter.{Counter}
-use Rattle.ss_report.specs.Forms.{notation_of}
-use Rattle.ss_report.specs.Run.{Job}
-use Rattle.ss_report.specs.Jobs.{asking, counting, extracting_as, inspecting, reviewing_as, reviewing_whole}
+use Rattle.ss_report.specs.forms.Forms.{notation_of}
+use Rattle.ss_report.specs.runs.Run.{Job}
+use Rattle.ss_report.specs.runs.Jobs.{asking, counting, extracting_as, inspecting, reviewing_as, reviewing_whole}
 use Rattle.ss_frame.specs.declared.limits.Form.TheVariants.{Frames}
-use Rattle.ss_report.specs.declared.extraction.Extraction.{Extraction}
-use Rattle.ss_report.specs.declared.extraction.Selection.TheVariants.{Carried}
+use Rattle.ss_report.specs.declared.runs.extraction.Extraction.{Extraction}
+use Rattle.ss_report.specs.declared.runs.extraction.Selection.TheVariants.{Carried}
 use Rattle.ssign.specs.declared.task.Reporting.{Reporting}
 use Rattle.ssign.specs.declared.task.Task.{Task}
 use Rattle.ssign.specs.declared.task.Task.TheVariants.{Review, Questions, Extract, Inspect, Counters, Carry}

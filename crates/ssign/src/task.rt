@@ -2,7 +2,7 @@
 ghost use Rattle.std.specs.Prelude.{◌≡◌, ◌≢◌, false, IfOk, IfErr};
 ghost use Rattle.ss_frame.specs.Watched.{has_failed, source_of, sink_of};
 ghost use Rattle.ss_review.specs.sessions.Verified.{answers};
-ghost use Rattle.ss_report.specs.Run.{Runs, Stops};
+ghost use Rattle.ss_report.specs.runs.Run.{Runs, Stops};
 ghost use Rattle.ssign.specs.Task.{carrying, review_of, job_of};
 
 use ss_frame::{Form, Limits, Watched};

@@ -1,7 +1,7 @@
 //! The findings of a report.
 ghost use Rattle.std.specs.Prelude.{◌≡◌};
-ghost use Rattle.ss_report.specs.Lines.{seen};
-ghost use Rattle.ss_report.specs.Findings.{is_ok, finding_text, finding_object};
+ghost use Rattle.ss_report.specs.lines.Lines.{seen};
+ghost use Rattle.ss_report.specs.forms.Findings.{is_ok, finding_text, finding_object};
 
 use crate::forms::json::write_object;
 use crate::forms::text::write_line;

@@ -1,9 +1,9 @@
 //! A report as JSON (RFC 8259): an object a line.
 ghost use Rattle.ss_frame.specs.Watched.{sink_of};
-ghost use Rattle.ss_report.specs.Writing.{Writes};
-ghost use Rattle.ss_report.specs.Lines.{seen};
-ghost use Rattle.ss_report.specs.Json.{session_object, ok_object, gap_object, hole_object, tail_object, blocks_object, absent_object, tally_object};
-ghost use Rattle.ss_report.specs.Json.{number_object, spoilt_object, line_object};
+ghost use Rattle.ss_report.specs.log.Writing.{Writes};
+ghost use Rattle.ss_report.specs.lines.Lines.{seen};
+ghost use Rattle.ss_report.specs.forms.Json.{session_object, ok_object, gap_object, hole_object, tail_object, blocks_object, absent_object, tally_object};
+ghost use Rattle.ss_report.specs.forms.Json.{number_object, spoilt_object, line_object};
 
 use crate::forms::members::{
     write_group_members, write_number_member, write_session_members, write_wide_member,
@@ -13,8 +13,8 @@ use crate::forms::text::{word_of_state, word_of_why};
 use crate::lines::form::Form;
 use crate::lines::line::Line;
 use crate::lines::tally::Tally;
-use crate::output::{write_number, write_text};
-use crate::words::number_of_cause;
+use crate::log::output::{write_number, write_text};
+use crate::texts::words::number_of_cause;
 use ss_block::{Group, Session, Spoil};
 use ss_frame::Watched;
 use ss_review::{GroupTail, MissingRun, SessionState, Why};

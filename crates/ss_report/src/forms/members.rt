@@ -2,11 +2,11 @@
 ghost use Rattle.std.specs.Prelude.{◌≡◌, flat_map};
 ghost use Rattle.std.specs.List.{list_any};
 ghost use Rattle.ss_frame.specs.Watched.{sink_of};
-ghost use Rattle.ss_report.specs.Writing.{Writes};
-ghost use Rattle.ss_report.specs.Words.{field_word};
-ghost use Rattle.ss_report.specs.Json.{is_escaped, escaped, number_member, word_member, text_member, session_members, group_members};
+ghost use Rattle.ss_report.specs.log.Writing.{Writes};
+ghost use Rattle.ss_report.specs.texts.Words.{field_word};
+ghost use Rattle.ss_report.specs.forms.Json.{is_escaped, escaped, number_member, word_member, text_member, session_members, group_members};
 
-use crate::output::{write_number, write_text, write_wide_number};
+use crate::log::output::{write_number, write_text, write_wide_number};
 use ss_block::{Group, Session};
 use ss_frame::Watched;
 use ss_message::Field;

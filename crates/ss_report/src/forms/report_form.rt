@@ -1,9 +1,9 @@
 //! The forms of a review's output.
 ghost use Rattle.std.specs.Prelude.{◌≡◌, flat_map};
 ghost use Rattle.ss_frame.specs.Watched.{sink_of};
-ghost use Rattle.ss_report.specs.Writing.{Writes};
-ghost use Rattle.ss_report.specs.Forms.{line_as, notation_of, has_findings_alone, report_as};
-ghost use Rattle.ss_report.specs.Whole.{lines_with};
+ghost use Rattle.ss_report.specs.log.Writing.{Writes};
+ghost use Rattle.ss_report.specs.forms.Forms.{line_as, notation_of, has_findings_alone, report_as};
+ghost use Rattle.ss_report.specs.lines.Whole.{lines_with};
 
 use crate::forms::findings::{Findings, JsonFindings};
 use crate::forms::json::Json;

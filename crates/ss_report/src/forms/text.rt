@@ -1,16 +1,16 @@
 //! The plain text of a report.
 ghost use Rattle.std.specs.Prelude.{◌≡◌};
 ghost use Rattle.ss_frame.specs.Watched.{sink_of};
-ghost use Rattle.ss_report.specs.Writing.{Writes};
-ghost use Rattle.ss_report.specs.Lines.{seen};
-ghost use Rattle.ss_report.specs.ReportText.{state_word, why_word, session_text, ok_text, gap_text, hole_text, tail_text, blocks_text, absent_text};
-ghost use Rattle.ss_report.specs.ReportText.{tally_text, line_text};
+ghost use Rattle.ss_report.specs.log.Writing.{Writes};
+ghost use Rattle.ss_report.specs.lines.Lines.{seen};
+ghost use Rattle.ss_report.specs.forms.ReportText.{state_word, why_word, session_text, ok_text, gap_text, hole_text, tail_text, blocks_text, absent_text};
+ghost use Rattle.ss_report.specs.forms.ReportText.{tally_text, line_text};
 
 use crate::lines::form::Form;
 use crate::lines::line::Line;
 use crate::lines::tally::Tally;
-use crate::output::write_text;
-use crate::words::{
+use crate::log::output::write_text;
+use crate::texts::words::{
     write_group, write_number_line, write_session, write_spaced, write_spoilt, write_wide,
     write_word,
 };

@@ -1,8 +1,8 @@
 //! What takes the lines of a report.
 ghost use Rattle.std.specs.Prelude.{ℕ, List};
 ghost use Rattle.ss_frame.specs.Watched.{sink_of};
-ghost use Rattle.ss_report.specs.Writing.{Writes};
-ghost use Rattle.ss_report.specs.Lines.{ReportLine, seen};
+ghost use Rattle.ss_report.specs.log.Writing.{Writes};
+ghost use Rattle.ss_report.specs.lines.Lines.{ReportLine, seen};
 
 use crate::lines::line::Line;
 use ss_frame::Watched;

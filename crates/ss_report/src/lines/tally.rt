@@ -1,6 +1,6 @@
 //! The tally of a group: how many of its numbers are what.
 ghost use Rattle.std.specs.Prelude.{◌≡◌, ◌≤◌, ◌+◌, ◌-◌, ◌^◌};
-ghost use Rattle.ss_report.specs.Tally.{announcing, tally, HasOneMore, IsWithin};
+ghost use Rattle.ss_report.specs.lines.Tally.{announcing, tally, HasOneMore, IsWithin};
 
 use ss_review::{Entry, Why};
 

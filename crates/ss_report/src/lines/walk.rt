@@ -1,9 +1,9 @@
 //! The walk through a report, line by line.
 ghost use Rattle.std.specs.Prelude.{◌≡◌, ◌++◌, ◌∷◌, [], map, flat_map};
 ghost use Rattle.ss_frame.specs.Watched.{sink_of};
-ghost use Rattle.ss_report.specs.Writing.{Writes};
-ghost use Rattle.ss_report.specs.Lines.{UnlistedLine, RefusedLine, EndLine};
-ghost use Rattle.ss_report.specs.Lines.{entry_line, group_lines, session_lines, spoilt_place_line, single_lines, tail_lines, other_lines, lines, seen};
+ghost use Rattle.ss_report.specs.log.Writing.{Writes};
+ghost use Rattle.ss_report.specs.lines.Lines.{UnlistedLine, RefusedLine, EndLine};
+ghost use Rattle.ss_report.specs.lines.Lines.{entry_line, group_lines, session_lines, spoilt_place_line, single_lines, tail_lines, other_lines, lines, seen};
 
 use crate::lines::detail::Detail;
 use crate::lines::form::Form;

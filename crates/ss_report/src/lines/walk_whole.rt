@@ -2,8 +2,8 @@
 ghost use Rattle.std.specs.Prelude.{◌≡◌, ◌++◌, map, flat_map};
 ghost use Rattle.std.specs.List.{zip};
 ghost use Rattle.ss_frame.specs.Watched.{sink_of};
-ghost use Rattle.ss_report.specs.Writing.{Writes};
-ghost use Rattle.ss_report.specs.Whole.{tail_line, missing_line, shortfall_lines, lines_beside, absent_lines, lines_with};
+ghost use Rattle.ss_report.specs.log.Writing.{Writes};
+ghost use Rattle.ss_report.specs.lines.Whole.{tail_line, missing_line, shortfall_lines, lines_beside, absent_lines, lines_with};
 
 use crate::lines::detail::Detail;
 use crate::lines::form::Form;

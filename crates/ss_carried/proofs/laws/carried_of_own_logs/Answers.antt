@@ -4,7 +4,7 @@ use Rattle.ss_review.specs.keep.Contents.{Contents, contents}
 use Rattle.ss_review.specs.parts.Parts.{part_of}
 use Rattle.ss_review.specs.report.Report.{report_of}
 use Rattle.ss_review.proofs.of_parts.PartLogs.{part_told}
-use Rattle.ss_report.specs.Carrying.{carried_by}
+use Rattle.ss_report.specs.runs.Carrying.{carried_by}
 use Rattle.ss_nights.specs.Nights.{is_reviewed, at_places}
 use Rattle.ss_nights.specs.NightLaws.{reviewed_part}
 use Rattle.ss_carried.proofs.OwnLogs.{carried_there}

@@ -1,4 +1,4 @@
-use Rattle.ss_report.proofs.LogCounters as laws
+use Rattle.ss_report.proofs.of_reports.LogCounters as laws
 use Rattle.ss_report.proofs.laws.counters_are_the_logs.Goals as goal
 
 pub returns : goal.returns

@@ -1,5 +1,5 @@
-use Rattle.ss_report.specs.Json.{blocks_object}
-use Rattle.ss_report.proofs.Writings.{writes_then}
+use Rattle.ss_report.specs.forms.Json.{blocks_object}
+use Rattle.ss_report.proofs.of_writing.Writings.{writes_then}
 use Rattle.ss_report.proofs.forms.json.write_blocks.Goals as goal
 
 pub returns : goal.returns

@@ -1,5 +1,5 @@
-use Rattle.ss_report.specs.Json.{hole_object}
-use Rattle.ss_report.proofs.Writings.{writes_then}
+use Rattle.ss_report.specs.forms.Json.{hole_object}
+use Rattle.ss_report.proofs.of_writing.Writings.{writes_then}
 use Rattle.ss_report.proofs.forms.json.write_hole.Goals as goal
 
 pub returns : goal.returns

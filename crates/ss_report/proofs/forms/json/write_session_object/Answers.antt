@@ -1,5 +1,5 @@
-use Rattle.ss_report.specs.Json.{session_object}
-use Rattle.ss_report.proofs.Writings.{writes_then}
+use Rattle.ss_report.specs.forms.Json.{session_object}
+use Rattle.ss_report.proofs.of_writing.Writings.{writes_then}
 use Rattle.ss_report.proofs.forms.json.write_session_object.Goals as goal
 
 pub returns : goal.returns

@@ -1,6 +1,6 @@
 use Rattle.std.proofs.Common.{refl}
-use Rattle.ss_report.specs.Json.{escaped}
-use Rattle.ss_report.proofs.Writings.{writes_more}
+use Rattle.ss_report.specs.forms.Json.{escaped}
+use Rattle.ss_report.proofs.of_writing.Writings.{writes_more}
 use Rattle.ss_report.proofs.forms.members.write_each.Goals as goal
 
 pub loop-octet-preserved : goal.loop-octet-preserved

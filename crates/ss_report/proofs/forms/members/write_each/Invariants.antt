@@ -1,7 +1,7 @@
 use Rattle.std.proofs.Common.{take, flat_map}
 use Rattle.ss_frame.specs.Watched.{sink_of}
-use Rattle.ss_report.specs.Writing.{Writes}
-use Rattle.ss_report.specs.Json.{escaped}
+use Rattle.ss_report.specs.log.Writing.{Writes}
+use Rattle.ss_report.specs.forms.Json.{escaped}
 use Rattle.ss_report.proofs.forms.members.write_each.Given as goal
 
 abbrev pub invariant-loop-octet : goal.invariant-loop-octet

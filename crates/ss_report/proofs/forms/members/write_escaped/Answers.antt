@@ -1,6 +1,6 @@
 use Rattle.std.proofs.Common.{sym, ◌∙◌}
-use Rattle.ss_report.proofs.Writings.{writes_same}
-use Rattle.ss_report.proofs.EscapedText.{nothing_escaped}
+use Rattle.ss_report.proofs.of_writing.Writings.{writes_same}
+use Rattle.ss_report.proofs.of_writing.EscapedText.{nothing_escaped}
 use Rattle.ss_report.proofs.forms.members.write_escaped.Goals as goal
 
 pub returns-else-has_escaped : goal.returns-else-has_escaped

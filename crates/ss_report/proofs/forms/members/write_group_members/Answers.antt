@@ -1,5 +1,5 @@
-use Rattle.ss_report.specs.Json.{group_members}
-use Rattle.ss_report.proofs.Writings.{writes_then, writes_same}
+use Rattle.ss_report.specs.forms.Json.{group_members}
+use Rattle.ss_report.proofs.of_writing.Writings.{writes_then, writes_same}
 use Rattle.ss_report.proofs.forms.members.write_group_members.Goals as goal
 
 pub returns : goal.returns

@@ -1,5 +1,5 @@
-use Rattle.ss_report.specs.Json.{session_members}
-use Rattle.ss_report.proofs.Writings.{writes_then}
+use Rattle.ss_report.specs.forms.Json.{session_members}
+use Rattle.ss_report.proofs.of_writing.Writings.{writes_then}
 use Rattle.ss_report.proofs.forms.members.write_session_members.Goals as goal
 
 pub returns : goal.returns

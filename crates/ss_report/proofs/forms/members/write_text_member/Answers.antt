@@ -1,5 +1,5 @@
-use Rattle.ss_report.specs.Json.{text_member}
-use Rattle.ss_report.proofs.Writings.{writes_then}
+use Rattle.ss_report.specs.forms.Json.{text_member}
+use Rattle.ss_report.proofs.of_writing.Writings.{writes_then}
 use Rattle.ss_report.proofs.forms.members.write_text_member.Goals as goal
 
 pub returns : goal.returns

@@ -1,5 +1,5 @@
-use Rattle.ss_report.specs.ReportText.{ok_text}
-use Rattle.ss_report.proofs.Writings.{writes_then}
+use Rattle.ss_report.specs.forms.ReportText.{ok_text}
+use Rattle.ss_report.proofs.of_writing.Writings.{writes_then}
 use Rattle.ss_report.proofs.forms.text.write_ok.Goals as goal
 
 pub returns : goal.returns

@@ -1,7 +1,7 @@
 use Rattle.std.proofs.Common.{◌++◌, codes}
-use Rattle.ss_report.specs.ReportText.{session_text, state_word}
-use Rattle.ss_report.specs.Words.{session_words}
-use Rattle.ss_report.proofs.Writings.{writes_then, writes_same, word_then}
+use Rattle.ss_report.specs.forms.ReportText.{session_text, state_word}
+use Rattle.ss_report.specs.texts.Words.{session_words}
+use Rattle.ss_report.proofs.of_writing.Writings.{writes_then, writes_same, word_then}
 use Rattle.ss_report.proofs.forms.text.write_session_line.Goals as goal
 
 pub returns : goal.returns

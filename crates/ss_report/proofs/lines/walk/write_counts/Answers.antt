@@ -1,6 +1,6 @@
 use Rattle.std.proofs.Common.{length, ◌∷◌, []}
-use Rattle.ss_report.specs.Lines.{UnlistedCountLine, RefusedCountLine, SpoiltCountLine, single_lines}
-use Rattle.ss_report.proofs.LinesWritten.{line_then, one_line}
+use Rattle.ss_report.specs.lines.Lines.{UnlistedCountLine, RefusedCountLine, SpoiltCountLine, single_lines}
+use Rattle.ss_report.proofs.of_writing.LinesWritten.{line_then, one_line}
 use Rattle.ss_report.proofs.lines.walk.write_counts.Goals as goal
 
 pub returns : goal.returns

@@ -1,6 +1,6 @@
 use Rattle.std.proofs.Common.{map, ◌++◌}
-use Rattle.ss_report.specs.Lines.{UnlistedLine, RefusedLine, spoilt_place_line, single_lines}
-use Rattle.ss_report.proofs.LinesWritten.{lines_then}
+use Rattle.ss_report.specs.lines.Lines.{UnlistedLine, RefusedLine, spoilt_place_line, single_lines}
+use Rattle.ss_report.proofs.of_writing.LinesWritten.{lines_then}
 use Rattle.ss_report.proofs.lines.walk.write_each.Goals as goal
 
 pub returns : goal.returns

@@ -1,6 +1,6 @@
 use Rattle.std.proofs.Common.{flat_map}
-use Rattle.ss_report.specs.Lines.{session_lines, other_lines, lines}
-use Rattle.ss_report.proofs.LinesWritten.{lines_then}
+use Rattle.ss_report.specs.lines.Lines.{session_lines, other_lines, lines}
+use Rattle.ss_report.proofs.of_writing.LinesWritten.{lines_then}
 use Rattle.ss_report.proofs.lines.walk.write_lines.Goals as goal
 
 pub returns : goal.returns

@@ -1,6 +1,6 @@
 use Rattle.std.proofs.Common.{◌++◌, ◌∷◌, []}
-use Rattle.ss_report.specs.Lines.{EndLine, tail_lines, single_lines, other_lines}
-use Rattle.ss_report.proofs.LinesWritten.{lines_then}
+use Rattle.ss_report.specs.lines.Lines.{EndLine, tail_lines, single_lines, other_lines}
+use Rattle.ss_report.proofs.of_writing.LinesWritten.{lines_then}
 use Rattle.ss_report.proofs.lines.walk.write_others.Goals as goal
 
 pub returns : goal.returns

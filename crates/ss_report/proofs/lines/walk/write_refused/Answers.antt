@@ -1,6 +1,6 @@
 use Rattle.std.proofs.Common.{refl}
-use Rattle.ss_report.specs.Lines.{RefusedLine}
-use Rattle.ss_report.proofs.LinesWritten.{line_more}
+use Rattle.ss_report.specs.lines.Lines.{RefusedLine}
+use Rattle.ss_report.proofs.of_writing.LinesWritten.{line_more}
 use Rattle.ss_report.proofs.lines.walk.write_refused.Goals as goal
 
 pub loop-place-preserved : goal.loop-place-preserved

@@ -1,4 +1,4 @@
-use Rattle.ss_report.proofs.Writings.{writes_then, writes_same}
+use Rattle.ss_report.proofs.of_writing.Writings.{writes_then, writes_same}
 use Rattle.ss_report.proofs.lines.walk.write_session.Goals as goal
 
 pub returns : goal.returns

@@ -1,6 +1,6 @@
 use Rattle.std.proofs.Common.{ap}
-use Rattle.ss_report.specs.Lines.{session_lines}
-use Rattle.ss_report.proofs.LinesWritten.{lines_more}
+use Rattle.ss_report.specs.lines.Lines.{session_lines}
+use Rattle.ss_report.proofs.of_writing.LinesWritten.{lines_more}
 use Rattle.ss_report.proofs.lines.walk.write_sessions.Goals as goal
 
 pub loop-session-preserved : goal.loop-session-preserved

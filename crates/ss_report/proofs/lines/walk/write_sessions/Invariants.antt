@@ -1,8 +1,8 @@
 use Rattle.std.proofs.Common.{take}
 use Rattle.ss_frame.specs.Watched.{sink_of}
-use Rattle.ss_report.specs.Writing.{Writes}
-use Rattle.ss_report.specs.Lines.{session_lines}
-use Rattle.ss_report.proofs.LinesWritten.{octets_of}
+use Rattle.ss_report.specs.log.Writing.{Writes}
+use Rattle.ss_report.specs.lines.Lines.{session_lines}
+use Rattle.ss_report.proofs.of_writing.LinesWritten.{octets_of}
 use Rattle.ss_report.proofs.lines.walk.write_sessions.Given as goal
 
 abbrev pub invariant-loop-session : goal.invariant-loop-session

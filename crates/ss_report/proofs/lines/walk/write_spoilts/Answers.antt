@@ -1,6 +1,6 @@
 use Rattle.std.proofs.Common.{refl}
-use Rattle.ss_report.specs.Lines.{spoilt_place_line}
-use Rattle.ss_report.proofs.LinesWritten.{line_more}
+use Rattle.ss_report.specs.lines.Lines.{spoilt_place_line}
+use Rattle.ss_report.proofs.of_writing.LinesWritten.{line_more}
 use Rattle.ss_report.proofs.lines.walk.write_spoilts.Goals as goal
 
 pub loop-spoilt-preserved : goal.loop-spoilt-preserved

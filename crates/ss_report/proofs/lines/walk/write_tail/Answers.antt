@@ -1,5 +1,5 @@
-use Rattle.ss_report.specs.Lines.{TornLine}
-use Rattle.ss_report.proofs.LinesWritten.{one_line}
+use Rattle.ss_report.specs.lines.Lines.{TornLine}
+use Rattle.ss_report.proofs.of_writing.LinesWritten.{one_line}
 use Rattle.ss_report.proofs.lines.walk.write_tail.Goals as goal
 
 pub returns-in-Torn : goal.returns-in-Torn

@@ -1,6 +1,6 @@
-use Rattle.ss_report.specs.Lines.{TallyLine}
-use Rattle.ss_report.specs.Tally.{tally}
-use Rattle.ss_report.proofs.LinesWritten.{one_line}
+use Rattle.ss_report.specs.lines.Lines.{TallyLine}
+use Rattle.ss_report.specs.lines.Tally.{tally}
+use Rattle.ss_report.proofs.of_writing.LinesWritten.{one_line}
 use Rattle.ss_report.proofs.lines.walk.write_tally.Goals as goal
 
 pub returns : goal.returns

@@ -1,6 +1,6 @@
 use Rattle.std.proofs.Common.{refl}
-use Rattle.ss_report.specs.Lines.{UnlistedLine}
-use Rattle.ss_report.proofs.LinesWritten.{line_more}
+use Rattle.ss_report.specs.lines.Lines.{UnlistedLine}
+use Rattle.ss_report.proofs.of_writing.LinesWritten.{line_more}
 use Rattle.ss_report.proofs.lines.walk.write_unlisted.Goals as goal
 
 pub loop-place-preserved : goal.loop-place-preserved

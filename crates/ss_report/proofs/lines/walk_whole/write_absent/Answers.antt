@@ -1,6 +1,6 @@
 use Rattle.std.proofs.Common.{ap}
-use Rattle.ss_report.specs.Whole.{absent_lines}
-use Rattle.ss_report.proofs.LinesWritten.{lines_more}
+use Rattle.ss_report.specs.lines.Whole.{absent_lines}
+use Rattle.ss_report.proofs.of_writing.LinesWritten.{lines_more}
 use Rattle.ss_report.proofs.lines.walk_whole.write_absent.Goals as goal
 
 pub loop-short-preserved : goal.loop-short-preserved

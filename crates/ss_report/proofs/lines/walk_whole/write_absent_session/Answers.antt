@@ -1,6 +1,6 @@
-use Rattle.ss_report.specs.Lines.{AbsentLine}
-use Rattle.ss_report.specs.Whole.{shortfall_lines}
-use Rattle.ss_report.proofs.LinesWritten.{line_then}
+use Rattle.ss_report.specs.lines.Lines.{AbsentLine}
+use Rattle.ss_report.specs.lines.Whole.{shortfall_lines}
+use Rattle.ss_report.proofs.of_writing.LinesWritten.{line_then}
 use Rattle.ss_report.proofs.lines.walk_whole.write_absent_session.Goals as goal
 
 pub returns : goal.returns

@@ -1,8 +1,8 @@
 use Rattle.std.proofs.Common.{flat_map, ◌++◌}
 use Rattle.std.specs.List.{zip}
-use Rattle.ss_report.specs.Lines.{other_lines}
-use Rattle.ss_report.specs.Whole.{lines_beside, absent_lines, lines_with}
-use Rattle.ss_report.proofs.LinesWritten.{lines_then}
+use Rattle.ss_report.specs.lines.Lines.{other_lines}
+use Rattle.ss_report.specs.lines.Whole.{lines_beside, absent_lines, lines_with}
+use Rattle.ss_report.proofs.of_writing.LinesWritten.{lines_then}
 use Rattle.ss_report.proofs.lines.walk_whole.write_lines_with.Goals as goal
 
 pub returns : goal.returns

@@ -1,6 +1,6 @@
 use Rattle.std.proofs.Common.{refl}
-use Rattle.ss_report.specs.Whole.{missing_line}
-use Rattle.ss_report.proofs.LinesWritten.{line_more}
+use Rattle.ss_report.specs.lines.Whole.{missing_line}
+use Rattle.ss_report.proofs.of_writing.LinesWritten.{line_more}
 use Rattle.ss_report.proofs.lines.walk_whole.write_missing.Goals as goal
 
 pub loop-run-preserved : goal.loop-run-preserved

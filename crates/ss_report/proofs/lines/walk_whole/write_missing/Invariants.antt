@@ -1,8 +1,8 @@
 use Rattle.std.proofs.Common.{take}
 use Rattle.ss_frame.specs.Watched.{sink_of}
-use Rattle.ss_report.specs.Writing.{Writes}
-use Rattle.ss_report.specs.Whole.{missing_line}
-use Rattle.ss_report.proofs.LinesWritten.{octets_by_one}
+use Rattle.ss_report.specs.log.Writing.{Writes}
+use Rattle.ss_report.specs.lines.Whole.{missing_line}
+use Rattle.ss_report.proofs.of_writing.LinesWritten.{octets_by_one}
 use Rattle.ss_report.proofs.lines.walk_whole.write_missing.Given as goal
 
 abbrev pub invariant-loop-run : goal.invariant-loop-run

@@ -1,6 +1,6 @@
 use Rattle.std.proofs.Common.{rules, ◌∷◌, [], ◌++◌, length, length-append}
 use Rattle.std.proofs.lemmas.Slice.Zip.{zip_turn, zip_end}
-use Rattle.ss_report.proofs.MissingWritten.{sessions_more, all_sessions}
+use Rattle.ss_report.proofs.of_reports.MissingWritten.{sessions_more, all_sessions}
 use Rattle.ss_report.proofs.lines.walk_whole.write_sessions.Goals as goal
 
 pub loop-session-preserved : goal.loop-session-preserved

@@ -1,9 +1,9 @@
 use Rattle.std.proofs.Common.{length, take}
 use Rattle.std.specs.List.{zip}
 use Rattle.ss_frame.specs.Watched.{sink_of}
-use Rattle.ss_report.specs.Writing.{Writes}
-use Rattle.ss_report.specs.Whole.{lines_beside}
-use Rattle.ss_report.proofs.LinesWritten.{octets_of}
+use Rattle.ss_report.specs.log.Writing.{Writes}
+use Rattle.ss_report.specs.lines.Whole.{lines_beside}
+use Rattle.ss_report.proofs.of_writing.LinesWritten.{octets_of}
 use Rattle.ss_report.proofs.lines.walk_whole.write_sessions.Given as goal
 
 abbrev pub invariant-loop-session : goal.invariant-loop-session

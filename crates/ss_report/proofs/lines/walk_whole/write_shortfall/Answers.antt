@@ -1,6 +1,6 @@
 use Rattle.std.proofs.Common.{map}
-use Rattle.ss_report.specs.Whole.{tail_line, missing_line}
-use Rattle.ss_report.proofs.LinesWritten.{lines_then}
+use Rattle.ss_report.specs.lines.Whole.{tail_line, missing_line}
+use Rattle.ss_report.proofs.of_writing.LinesWritten.{lines_then}
 use Rattle.ss_report.proofs.lines.walk_whole.write_shortfall.Goals as goal
 
 pub returns : goal.returns

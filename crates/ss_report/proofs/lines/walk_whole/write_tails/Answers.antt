@@ -1,6 +1,6 @@
 use Rattle.std.proofs.Common.{refl}
-use Rattle.ss_report.specs.Whole.{tail_line}
-use Rattle.ss_report.proofs.LinesWritten.{line_more}
+use Rattle.ss_report.specs.lines.Whole.{tail_line}
+use Rattle.ss_report.proofs.of_writing.LinesWritten.{line_more}
 use Rattle.ss_report.proofs.lines.walk_whole.write_tails.Goals as goal
 
 pub loop-tail-preserved : goal.loop-tail-preserved

@@ -1,6 +1,6 @@
-use Rattle.ss_report.specs.Lines.{session_lines}
-use Rattle.ss_report.specs.Whole.{shortfall_lines}
-use Rattle.ss_report.proofs.LinesWritten.{lines_then}
+use Rattle.ss_report.specs.lines.Lines.{session_lines}
+use Rattle.ss_report.specs.lines.Whole.{shortfall_lines}
+use Rattle.ss_report.proofs.of_writing.LinesWritten.{lines_then}
 use Rattle.ss_report.proofs.lines.walk_whole.write_whole_session.Goals as goal
 
 pub returns : goal.returns

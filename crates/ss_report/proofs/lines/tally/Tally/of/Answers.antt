@@ -1,7 +1,7 @@
 use Rattle.std.proofs.Common.{◌∙◌, fold, ap}
 use Rattle.std.proofs.lemmas.List.{take_all}
-use Rattle.ss_report.specs.Tally.{of_none, with_entry, tally}
-use Rattle.ss_report.proofs.Tallies.{one_more}
+use Rattle.ss_report.specs.lines.Tally.{of_none, with_entry, tally}
+use Rattle.ss_report.proofs.of_reports.Tallies.{one_more}
 use Rattle.ss_report.proofs.lines.tally.Tally.of.Goals as goal
 
 pub loop-entry-preserved : goal.loop-entry-preserved

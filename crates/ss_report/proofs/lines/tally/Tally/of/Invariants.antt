@@ -1,5 +1,5 @@
 use Rattle.std.proofs.Common.{◌≡◌, take, fold}
-use Rattle.ss_report.specs.Tally.{of_none, with_entry, IsWithin}
+use Rattle.ss_report.specs.lines.Tally.{of_none, with_entry, IsWithin}
 use Rattle.ss_report.proofs.lines.tally.Tally.of.Given as goal
 
 abbrev pub invariant-loop-entry : goal.invariant-loop-entry

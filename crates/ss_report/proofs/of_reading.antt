@@ -1,0 +1,3 @@
+pub mod LogSoFar
+pub mod FedSoFar
+pub mod Answered

@@ -1,0 +1,82 @@
+-- The plain text of the counters of a log is the lines of the counters that the log gives.
+use Rattle.std.proofs.Common.{◌≡◌, ℕ, Bool, true, false, codes, List, [], ◌∷◌, ◌++◌, map, flat_map, refl, sym, ap, ◌∙◌, append_assoc}
+use Rattle.std.specs.Prelude.{zip, if◌then◌else◌}
+use Rattle.std.proofs.lemmas.Grind.{flat_map-append}
+use Rattle.ss_frame.specs.Ascii.{lf}
+use Rattle.ss_message.specs.declared.draft.Field.{Field}
+use Rattle.ss_message.specs.declared.draft.Field.TheVariants.{Nil, Text}
+use Rattle.ss_block.specs.declared.block.Group.{Group}
+use Rattle.ss_block.specs.declared.session.Session.{Session}
+use Rattle.ss_review.specs.declared.counted.counted_session.CountedSession.{CountedSession}
+use Rattle.ss_review.specs.declared.counted.counter.Counter.{Counter}
+use Rattle.ss_review.specs.declared.counted.counter.Counts.TheVariants.{Blocks, Messages}
+use Rattle.ss_review.specs.declared.report.group_report.GroupReport.{GroupReport}
+use Rattle.ss_review.specs.declared.report.session_report.SessionReport.{SessionReport}
+use Rattle.ss_review.specs.keep.Notes.{notes}
+use Rattle.ss_review.specs.keep.Contents.{blocks}
+use Rattle.ss_review.specs.counted.Counted.{counted_sessions, next_after, next_number}
+use Rattle.ss_review.specs.counted.CounterText as spelling
+use Rattle.ss_review.specs.counted.CounterText.{counter_line, counter_text, lines_of_counters}
+use Rattle.ss_review.specs.counted.KeptLaws.{group_given, session_given, given_beside, counters_given}
+use Rattle.ss_review.specs.report.Report.{report}
+use Rattle.ss_review.specs.report.Verdict.{is_joined}
+use Rattle.ss_report.specs.runs.CounterLaws.{CountersAreTheLogs}
+use Rattle.ss_report.specs.runs.Counters.{block_counter_text, message_counter_text, group_counter, session_counters, counters_beside, counter_lines_with}
+use Rattle.ss_report.specs.texts.Words.{spaced, field_word, session_words, group_words}
+use Rattle.ss_report.specs.declared.notation.Notation.TheVariants.{Plain}
+use Rattle.ss_report.proofs.of_reports.CountersWritten.{counters_are}
+
+-- ---- a line
+
+same_word : (f : Field) → field_word f ≡ spelling.field_word f
+same_word Nil = refl
+same_word (Text octets) = refl
+
+same_words : (s : Session) → session_words s ≡ spelling.session_words s
+same_words s i =
+    codes " " ++ same_word s.host i ++ codes " " ++ same_word s.app i ++ codes " " ++ same_word s.procid i
+    ++ spaced s.rsid
+
+regroup : (a b c d : List ℕ) → a ++ b ++ c ++ d ≡ (a ++ b ++ c) ++ d
+regroup a b c d = simp append_assoc
+
+regroup_group : (a b c d e : List ℕ) → a ++ b ++ c ++ d ++ e ≡ (a ++ b ++ c ++ d) ++ e
+regroup_group a b c d e = simp append_assoc
+
+block_line : (s : Session) (gbc : ℕ) → block_counter_text s gbc ≡ counter_text s Blocks gbc ++ lf ∷ []
+unfolding block_counter_text
+block_line s gbc =
+    ap (λ words. codes "count" ++ words ++ spaced gbc ++ codes "\n") (same_words s)
+    ∙ regroup (codes "count") (spelling.session_words s) (spaced gbc) (codes "\n")
+
+message_line : (s : Session) (g : Group) (number : ℕ)
+    → message_counter_text s g number ≡ counter_text s (Messages g) number ++ lf ∷ []
+unfolding message_counter_text
+message_line s g number =
+    ap (λ words. codes "count" ++ words ++ group_words g ++ spaced number ++ codes "\n") (same_words s)
+    ∙ regroup_group (codes "count") (spelling.session_words s) (group_words g) (spaced number) (codes "\n")
+
+-- ---- the lines of a log
+
+group_lines : (s : Session) (gs : List GroupReport)
+    → flat_map (group_counter Plain s) gs ≡ lines_of_counters (map (group_given s) gs)
+group_lines s [] = refl
+group_lines s (g ∷ gs) = λ i. message_line s g.group (next_number g) i ++ group_lines s gs i
+
+lines_if : (b : Bool) (s : SessionReport) (c : CountedSession)
+    → (if b then session_counters Plain s c else []) ≡ lines_of_counters (if b then session_given s c else [])
+lines_if true s c = λ i. block_line s.session (next_after c.gbcs) i ++ group_lines s.session s.groups i
+lines_if false s c = refl
+
+lines_beside : (ps : List (SessionReport × CountedSession))
+    → flat_map (counters_beside Plain) ps ≡ lines_of_counters (flat_map given_beside ps)
+lines_beside [] = refl
+lines_beside (p ∷ ps) =
+    (λ i. lines_if (is_joined p.0.state) p.0 p.1 i ++ lines_beside ps i)
+    ∙ sym (flat_map-append (λ (c : Counter). counter_line c ++ lf ∷ []) (given_beside p) (flat_map given_beside ps))
+
+pub counters_are_the_logs : CountersAreTheLogs
+unfolding counter_lines_with counters_given
+counters_are_the_logs says log tail =
+    sym (counters_are Plain says log)
+    ∙ lines_beside (zip (report says log).sessions (counted_sessions says (blocks (notes log))))

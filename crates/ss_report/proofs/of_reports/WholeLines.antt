@@ -1,0 +1,42 @@
+-- The lines and the verdict that are made of a report, and of what was found to be missing beside it.
+use Rattle.std.proofs.Common.{◌≡◌, false, List, ℕ, flat_map, refl, ap, ◌∙◌}
+use Rattle.ss_frame.specs.Limits.{Allowance}
+use Rattle.ss_frame.specs.Watched.{Source}
+use Rattle.ss_frame.specs.declared.step.Tail.{Tail}
+use Rattle.ss_review.specs.declared.counted.counted_session.CountedSession.{CountedSession}
+use Rattle.ss_review.specs.declared.counted.counter.Counter.{Counter}
+use Rattle.ss_review.specs.declared.counted.shortfall.LogShortfalls.{LogShortfalls}
+use Rattle.ss_review.specs.declared.report.report.Report.{Report}
+use Rattle.ss_review.specs.keep.Notes.{notes}
+use Rattle.ss_review.specs.keep.Contents.{blocks}
+use Rattle.ss_review.specs.sessions.Verified.{Answers}
+use Rattle.ss_review.specs.counted.Counted.{counted_sessions}
+use Rattle.ss_review.specs.counted.Kept.{log_shortfalls}
+use Rattle.ss_review.specs.counted.KeptLaws.{shortfalls_of}
+use Rattle.ss_review.specs.report.Report.{report}
+use Rattle.ss_report.specs.log.Log.{ReadsLog, tail_end}
+use Rattle.ss_report.specs.declared.lines.detail.Detail.{Detail}
+use Rattle.ss_report.specs.forms.Forms.{line_as}
+use Rattle.ss_report.specs.declared.forms.report_form.ReportForm.{ReportForm}
+use Rattle.ss_report.specs.declared.verdict.verdict.Verdict.{Verdict}
+use Rattle.ss_report.specs.lines.Whole.{lines_with, verdict_with}
+use Rattle.ss_report.specs.runs.Run.{Makes}
+use Rattle.ss_report.specs.runs.Jobs.{reviewing_whole}
+
+pub makes_whole : (form : ReportForm) (detail : Detail) (counters : List Counter) (says : Answers) (limits : Allowance) (before after : Source) (messages : List (List ℕ)) (tail : Tail)
+    → ReadsLog limits before after messages (tail_end tail) → after.failed ≡ false
+    → (r : Report) (cs : List CountedSession) (short : LogShortfalls) (verdict : Verdict)
+    → r ≡ report says messages → cs ≡ counted_sessions says (blocks (notes messages)) → short ≡ log_shortfalls counters r.sessions cs → verdict ≡ verdict_with r short tail
+    → Makes (reviewing_whole form detail counters says) limits before after (flat_map (line_as form) (lines_with detail r short tail)) verdict
+makes_whole form detail counters says limits before after messages tail reading no_read_failed r cs short verdict told counted found judged =
+    let of_log : short ≡ shortfalls_of says messages counters =
+    found ∙ (ap (λ (x : Report). log_shortfalls counters x.sessions cs) told ∙ ap (log_shortfalls counters (report says messages).sessions) counted) in
+    record {
+      messages = messages;
+      tail = tail;
+      reading = reading;
+      no_read_failed = no_read_failed;
+      unrefused = refl;
+      output_is = ap (flat_map (line_as form)) (ap (λ x. lines_with detail x short tail) told ∙ ap (λ x. lines_with detail (report says messages) x tail) of_log);
+      verdict_is = judged ∙ (ap (λ x. verdict_with x short tail) told ∙ ap (λ x. verdict_with (report says messages) x tail) of_log);
+    }

@@ -1,8 +1,0 @@
-use Rattle.std.proofs.Common.{take, flat_map}
-use Rattle.ss_frame.specs.Watched.{sink_of}
-use Rattle.ss_report.specs.Writing.{Writes}
-use Rattle.ss_report.proofs.QuestionLines.{asked_lines}
-use Rattle.ss_report.proofs.question_text.write_questions.Given as goal
-
-abbrev pub invariant-loop-session : goal.invariant-loop-session
-invariant-loop-session g l = Writes (sink_of g.W.Write.contents l.initial.writer) (sink_of g.W.Write.contents l.writer) (flat_map (asked_lines l.notation) (take l.session-index l.sessions))

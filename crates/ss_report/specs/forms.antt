@@ -1,0 +1,4 @@
+pub mod ReportText
+pub mod Findings
+pub mod Json
+pub mod Forms

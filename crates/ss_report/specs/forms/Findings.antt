@@ -1,0 +1,32 @@
+-- The findings of a report: what it says without its `ok` lines.
+use Rattle.std.specs.Prelude.{ℕ, Bool, true, false, List, [], if◌then◌else◌}
+use Rattle.ss_report.specs.lines.Lines.{ReportLine, SessionLine, OkLine, GapLine, HoleLine, TailLine, BlocksLine, AbsentLine, TallyLine}
+use Rattle.ss_report.specs.lines.Lines.{UnlistedLine, RefusedLine, SpoiltLine, UnlistedCountLine, RefusedCountLine, SpoiltCountLine, TornLine, EndLine}
+use Rattle.ss_report.specs.forms.ReportText.{line_text}
+use Rattle.ss_report.specs.forms.Json.{line_object}
+
+abbrev pub is_ok : ReportLine → Bool
+is_ok (OkLine s g number place) = true
+is_ok (SessionLine s state) = false
+is_ok (GapLine s g number why) = false
+is_ok (HoleLine s g first last) = false
+is_ok (TailLine s g first last) = false
+is_ok (BlocksLine s first last) = false
+is_ok (AbsentLine s) = false
+is_ok (TallyLine s g t) = false
+is_ok (UnlistedLine place) = false
+is_ok (RefusedLine place) = false
+is_ok (SpoiltLine place cause) = false
+is_ok (UnlistedCountLine count) = false
+is_ok (RefusedCountLine count) = false
+is_ok (SpoiltCountLine count) = false
+is_ok (TornLine offset) = false
+is_ok (EndLine count) = false
+
+-- each other line as it is
+abbrev pub finding_text : ReportLine → List ℕ
+finding_text line = if is_ok line then [] else line_text line
+
+-- the same as JSON
+abbrev pub finding_object : ReportLine → List ℕ
+finding_object line = if is_ok line then [] else line_object line

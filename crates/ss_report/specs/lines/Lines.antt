@@ -1,0 +1,95 @@
+-- The lines of a report as data, in the order in which every form of it has them: one for each thing, or tallies. Those
+-- of missing signature blocks, of tails and of absent sessions are told where they are asked for (`Whole.antt`).
+use Rattle.std.specs.Prelude.{ℕ, List, [], ◌∷◌, ◌++◌, length, map, flat_map}
+use Rattle.ss_frame.specs.declared.step.Tail.{Tail}
+use Rattle.ss_frame.specs.declared.step.Tail.TheVariants as tails
+use Rattle.ss_block.specs.declared.block.Group.{Group}
+use Rattle.ss_block.specs.declared.session.Session.{Session}
+use Rattle.ss_block.specs.declared.spoil.Spoil.{Spoil}
+use Rattle.ss_review.specs.declared.keep.spoilt.SpoiltPlace.{SpoiltPlace}
+use Rattle.ss_review.specs.declared.report.entry.Why.{Why}
+use Rattle.ss_review.specs.declared.report.entry.Entry.{Entry}
+use Rattle.ss_review.specs.declared.report.entry.Entry.TheVariants as entries
+use Rattle.ss_review.specs.declared.report.group_report.GroupReport.{GroupReport}
+use Rattle.ss_review.specs.declared.report.session_report.SessionState.{SessionState}
+use Rattle.ss_review.specs.declared.report.session_report.SessionReport.{SessionReport}
+use Rattle.ss_review.specs.declared.report.report.Report.{Report}
+use Rattle.ss_report.specs.declared.lines.detail.Detail.{Detail}
+use Rattle.ss_report.specs.declared.lines.detail.Detail.TheVariants as details
+use Rattle.ss_report.specs.declared.lines.tally.Tally.{Tally}
+use Rattle.ss_report.specs.lines.Tally.{tally}
+use Rattle.ss_report.specs.declared.lines.line.Line.{Line}
+use Rattle.ss_report.specs.declared.lines.line.Line.TheVariants as line
+
+-- a thing that a report says
+pub data ReportLine : Type 0 where
+  SessionLine : Session → SessionState → ReportLine
+  OkLine : Session → Group → (number place : ℕ) → ReportLine
+  GapLine : Session → Group → (number : ℕ) → Why → ReportLine
+  HoleLine : Session → Group → (first last : ℕ) → ReportLine
+  TailLine : Session → Group → (first last : ℕ) → ReportLine
+  BlocksLine : Session → (first last : ℕ) → ReportLine
+  AbsentLine : Session → ReportLine
+  TallyLine : Session → Group → Tally → ReportLine
+  UnlistedLine : (place : ℕ) → ReportLine
+  RefusedLine : (place : ℕ) → ReportLine
+  SpoiltLine : (place : ℕ) → Spoil → ReportLine
+  UnlistedCountLine : (count : ℕ) → ReportLine
+  RefusedCountLine : (count : ℕ) → ReportLine
+  SpoiltCountLine : (count : ℕ) → ReportLine
+  TornLine : (offset : ℕ) → ReportLine
+  EndLine : (count : ℕ) → ReportLine
+
+-- what is said of a number, or of several
+abbrev pub entry_line : Session → Group → Entry → ReportLine
+entry_line s g (entries.Listed number place) = OkLine s g number place
+entry_line s g (entries.Gap number why) = GapLine s g number why
+entry_line s g (entries.Hole first last) = HoleLine s g first last
+
+abbrev pub group_lines : Detail → Session → GroupReport → List ReportLine
+group_lines details.Each s g = map (entry_line s g.group) g.entries
+group_lines details.Tally s g = TallyLine s g.group (tally g.entries) ∷ []
+
+-- the session's line, and those of its groups
+abbrev pub session_lines : Detail → SessionReport → List ReportLine
+session_lines detail s = SessionLine s.session s.state ∷ flat_map (group_lines detail s.session) s.groups
+
+abbrev pub spoilt_place_line : SpoiltPlace → ReportLine
+spoilt_place_line s = SpoiltLine s.place s.cause
+
+-- the torn end
+abbrev pub tail_lines : Tail → List ReportLine
+tail_lines tails.Clean = []
+tail_lines (tails.Torn pos) = TornLine pos ∷ []
+
+-- those of single messages
+unfoldable pub single_lines : Detail → Report → List ReportLine
+single_lines details.Each report = map UnlistedLine report.unlisted ++ map RefusedLine report.refused ++ map spoilt_place_line report.spoilt
+single_lines details.Tally report = UnlistedCountLine (length report.unlisted) ∷ RefusedCountLine (length report.refused) ∷ SpoiltCountLine (length report.spoilt) ∷ []
+
+-- those behind the lines of the sessions
+unfoldable pub other_lines : Detail → Report → Tail → List ReportLine
+other_lines detail report tail = single_lines detail report ++ (tail_lines tail ++ EndLine report.count ∷ [])
+
+-- all of a report that says nothing of missing signature blocks
+unfoldable pub lines : Detail → Report → Tail → List ReportLine
+lines detail report tail = flat_map (session_lines detail) report.sessions ++ other_lines detail report tail
+
+-- the line that the code hands on, which refers to its session
+abbrev pub seen : Line → ReportLine
+seen (line.Session s state) = SessionLine s.now state
+seen (line.Ok s g number place) = OkLine s.now g number place
+seen (line.Gap s g number why) = GapLine s.now g number why
+seen (line.Hole s g first last) = HoleLine s.now g first last
+seen (line.Tail s t) = TailLine s.now t.group t.first t.last
+seen (line.Blocks s run) = BlocksLine s.now run.first run.last
+seen (line.Absent s) = AbsentLine s.now
+seen (line.Tally s g t) = TallyLine s.now g t
+seen (line.Unlisted place) = UnlistedLine place
+seen (line.Refused place) = RefusedLine place
+seen (line.Spoilt place cause) = SpoiltLine place cause
+seen (line.UnlistedCount count) = UnlistedCountLine count
+seen (line.RefusedCount count) = RefusedCountLine count
+seen (line.SpoiltCount count) = SpoiltCountLine count
+seen (line.Torn offset) = TornLine offset
+seen (line.End count) = EndLine count

@@ -1,0 +1,80 @@
+-- The report of a log with what is missing beside it: of each session's signature blocks, which state their Global Block
+-- Counter, GBC, how many were sent before them in their session over all groups (RFC 5848, section 4.2.4); and, up to
+-- counters that somebody kept, of the messages of each group and of sessions that the log has no block of.
+use Rattle.std.specs.Prelude.{ℕ, ◌&&◌, Bool, List, ◌∷◌, ◌++◌, map, flat_map, if◌then◌else◌}
+use Rattle.std.specs.List.{list_all, zip}
+use Rattle.ss_frame.specs.declared.step.Tail.{Tail}
+use Rattle.ss_block.specs.declared.session.Session.{Session}
+use Rattle.ss_review.specs.declared.counted.counter.Counter.{Counter}
+use Rattle.ss_review.specs.declared.counted.missing.MissingRun.{MissingRun}
+use Rattle.ss_review.specs.declared.counted.shortfall.GroupTail.{GroupTail}
+use Rattle.ss_review.specs.declared.counted.shortfall.Shortfall.{Shortfall}
+use Rattle.ss_review.specs.declared.counted.shortfall.LogShortfalls.{LogShortfalls}
+use Rattle.ss_review.specs.declared.keep.message.BlockMessage.{BlockMessage}
+use Rattle.ss_review.specs.declared.report.session_report.SessionReport.{SessionReport}
+use Rattle.ss_review.specs.declared.report.report.Report.{Report}
+use Rattle.ss_review.specs.sessions.Verified.{Answers}
+use Rattle.ss_review.specs.counted.Counted.{gbcs, missing}
+use Rattle.ss_review.specs.counted.CountedLaws.{AreMissing, IsCounted}
+use Rattle.ss_review.specs.counted.Kept.{counters_of, end_of_blocks}
+use Rattle.ss_review.specs.counted.KeptLaws.{shortfalls_of}
+use Rattle.ss_review.specs.report.Report.{report}
+use Rattle.ss_review.specs.report.Verdict.{is_none}
+use Rattle.ss_report.specs.declared.lines.detail.Detail.{Detail}
+use Rattle.ss_report.specs.lines.Lines.{ReportLine, TailLine, BlocksLine, AbsentLine, session_lines, other_lines}
+use Rattle.ss_report.specs.Verdict.{report_verdict}
+use Rattle.ss_report.specs.declared.verdict.verdict.Verdict.{Verdict}
+use Rattle.ss_report.specs.declared.verdict.verdict.Verdict.TheVariants as verdicts
+
+-- ---- the lines
+
+abbrev pub tail_line : Session → GroupTail → ReportLine
+tail_line s t = TailLine s t.group t.first t.last
+
+abbrev pub missing_line : Session → MissingRun → ReportLine
+missing_line s r = BlocksLine s r.first r.last
+
+-- what is missing of a session: its tails, and then its signature blocks
+abbrev pub shortfall_lines : Shortfall → List ReportLine
+shortfall_lines f = map (tail_line f.session) f.tails ++ map (missing_line f.session) f.blocks
+
+-- a session's lines, and behind its groups those of what is missing of it
+abbrev pub lines_beside : Detail → SessionReport × Shortfall → List ReportLine
+lines_beside detail p = session_lines detail p.0 ++ shortfall_lines p.1
+
+-- a session that the log has no block of
+abbrev pub absent_lines : Shortfall → List ReportLine
+absent_lines f = AbsentLine f.session ∷ shortfall_lines f
+
+-- all lines of a report, with what is missing of its sessions, and then of absent ones
+unfoldable pub lines_with : Detail → Report → LogShortfalls → Tail → List ReportLine
+lines_with detail report short tail =
+    flat_map (lines_beside detail) (zip report.sessions short.known) ++ flat_map absent_lines short.absent ++ other_lines detail report tail
+
+-- ---- the verdict
+
+abbrev pub is_complete : Shortfall → Bool
+is_complete f = is_none f.tails && is_none f.blocks
+
+-- nothing is missing of any session, and none is absent
+abbrev pub is_nothing_short : LogShortfalls → Bool
+is_nothing_short short = list_all is_complete short.known && is_none short.absent
+
+-- clean where the report is, at a clean end, and nothing is missing beside it
+abbrev pub verdict_with : Report → LogShortfalls → Tail → Verdict
+verdict_with report short tail = if is_nothing_short short then report_verdict report tail else verdicts.Findings
+
+-- ---- of a log
+
+-- the lines with what is missing of the sessions of a log, and up to these counters
+abbrev pub whole_lines : Detail → Answers → List Counter → List (List ℕ) → Tail → List ReportLine
+whole_lines detail says counters messages tail = lines_with detail (report says messages) (shortfalls_of says messages counters) tail
+
+abbrev pub whole_verdict : Answers → List Counter → List (List ℕ) → Tail → Verdict
+whole_verdict says counters messages tail = verdict_with (report says messages) (shortfalls_of says messages counters) tail
+
+-- Each GBC below the greatest of a session, and below its counter, is that of a verified signature block, or missing, and
+-- never both.
+abbrev pub TellsMissing : Answers → List Counter → List BlockMessage → Session → Type 0
+TellsMissing says counters bs s =
+    let end = end_of_blocks (counters_of counters s) (gbcs says bs s) in AreMissing (IsCounted says bs s) end (missing (gbcs says bs s) end)

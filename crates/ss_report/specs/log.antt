@@ -1,0 +1,4 @@
+pub mod Log
+pub mod Next
+pub mod Fed
+pub mod Writing

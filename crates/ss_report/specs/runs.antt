@@ -1,0 +1,6 @@
+pub mod Carrying
+pub mod Extraction
+pub mod Counters
+pub mod Run
+pub mod Jobs
+pub mod CounterLaws

@@ -1,0 +1,121 @@
+-- The runs over a log: what each writes of its messages and its tail, and its verdict.
+use Rattle.std.specs.Prelude.{true, false, ℕ, List, flat_map}
+use Rattle.ss_frame.specs.Frame.{frames, units_in}
+use Rattle.ss_frame.specs.Limits.{Allowance}
+use Rattle.ss_frame.specs.Watched.{Source, Sink}
+use Rattle.ss_review.specs.keep.Notes.{notes}
+use Rattle.ss_review.specs.keep.Contents.{blocks}
+use Rattle.ss_review.specs.sessions.Verified.{Answers}
+use Rattle.ss_review.specs.report.Report.{report}
+use Rattle.ss_review.specs.questions.Questions.{questions}
+use Rattle.ss_review.specs.report.Extract.{extract}
+use Rattle.ss_review.specs.Laws.{ListsWhatIsAnnounced}
+use Rattle.ss_review.specs.announced.Announced.{Key}
+use Rattle.ss_review.specs.counted.KeptLaws.{NumberIsTold, BlockIsTold}
+use Rattle.ss_report.specs.texts.Inspection.{inspection}
+use Rattle.ss_report.specs.forms.ReportText.{report_lines}
+use Rattle.ss_report.specs.forms.Forms.{line_as, report_as}
+use Rattle.ss_block.specs.declared.session.Session.{Session}
+use Rattle.ss_report.specs.lines.Whole.{TellsMissing, whole_lines, whole_verdict}
+use Rattle.ss_review.specs.declared.counted.counter.Counter.{Counter}
+use Rattle.ss_report.specs.texts.QuestionText.{question_lines}
+use Rattle.ss_report.specs.runs.Counters.{counter_lines}
+use Rattle.ss_report.specs.Verdict.{end_verdict, report_verdict}
+use Rattle.ss_report.specs.runs.Extraction.{is_reviewed, messages_at, refusal, selected, selected_verdict}
+use Rattle.ss_report.specs.runs.Run.{Job, Runs, nothing}
+use Rattle.ss_report.specs.declared.runs.extraction.Extraction.{Extraction}
+use Rattle.ss_report.specs.declared.forms.report_form.ReportForm.{ReportForm}
+use Rattle.ss_report.specs.declared.lines.detail.Detail.{Detail}
+use Rattle.ss_report.specs.declared.notation.Notation.{Notation}
+use Rattle.ss_report.specs.declared.verdict.verdict.Verdict.{Verdict}
+
+-- a line a message, in a form
+abbrev pub inspecting : ReportForm → Job
+inspecting form = record {
+  output = inspection form;
+  verdict = λ messages tail. end_verdict tail;
+  reviews = false;
+  refusal = nothing;
+}
+
+-- the text of the report
+abbrev pub reviewing : Answers → Job
+reviewing says = record {
+  output = λ messages tail. report_lines (report says messages) tail;
+  verdict = λ messages tail. report_verdict (report says messages) tail;
+  reviews = true;
+  refusal = nothing;
+}
+
+-- the report in a form, with the verdict of the whole report
+abbrev pub reviewing_as : ReportForm → Detail → Answers → Job
+reviewing_as form detail says = record {
+  output = λ messages tail. report_as form detail (report says messages) tail;
+  verdict = λ messages tail. report_verdict (report says messages) tail;
+  reviews = true;
+  refusal = nothing;
+}
+
+-- the report in a form, with what is missing of each session's signature blocks, and of all up to these counters
+abbrev pub reviewing_whole : ReportForm → Detail → List Counter → Answers → Job
+reviewing_whole form detail counters says = record {
+  output = λ messages tail. flat_map (line_as form) (whole_lines detail says counters messages tail);
+  verdict = λ messages tail. whole_verdict says counters messages tail;
+  reviews = true;
+  refusal = nothing;
+}
+
+-- what a review asks of a signature scheme
+abbrev pub asking : Notation → Job
+asking notation = record {
+  output = λ messages tail. question_lines notation (questions (blocks (notes messages)));
+  verdict = λ messages tail. end_verdict tail;
+  reviews = true;
+  refusal = nothing;
+}
+
+-- the counters of the joined sessions
+abbrev pub counting : Notation → Answers → Job
+counting notation says = record {
+  output = λ messages tail. counter_lines notation says (blocks (notes messages)) (report says messages);
+  verdict = λ messages tail. end_verdict tail;
+  reviews = true;
+  refusal = nothing;
+}
+
+-- the messages that are selected, in a form, whatever the form of the log; what the log hasn't is refused, and what is no
+-- line of it
+abbrev pub extracting_as : Extraction → Answers → Job
+extracting_as e says = record {
+  output = λ messages tail. units_in e.form (messages_at messages (selected e.selection says messages));
+  verdict = λ messages tail. selected_verdict e.selection says messages tail;
+  reviews = is_reviewed e.selection;
+  refusal = refusal e says;
+}
+
+-- the messages that the report lists, in its order, as octet-counted frames
+abbrev pub extracting : Answers → Job
+extracting says = record {
+  output = λ messages tail. frames (extract messages (report says messages));
+  verdict = λ messages tail. report_verdict (report says messages) tail;
+  reviews = true;
+  refusal = nothing;
+}
+
+-- a review that succeeds, and its report lists what is announced
+pub record Reviews (says : Answers) (limits : Allowance) (before after : Source) (was is : Sink) (verdict : Verdict) : Type 0 where
+  pub run : Runs (reviewing says) limits before after was is verdict
+  pub listed : ListsWhatIsAnnounced says run.messages (report says run.messages)
+
+-- the same of a review in a form
+pub record ReviewsAs (form : ReportForm) (detail : Detail) (says : Answers) (limits : Allowance) (before after : Source) (was is : Sink) (verdict : Verdict) : Type 0 where
+  pub run : Runs (reviewing_as form detail says) limits before after was is verdict
+  pub listed : ListsWhatIsAnnounced says run.messages (report says run.messages)
+
+-- the same of a review in a form with what is missing of each session's signature blocks, and of all up to these counters
+pub record ReviewsWhole (form : ReportForm) (detail : Detail) (counters : List Counter) (says : Answers) (limits : Allowance) (before after : Source) (was is : Sink) (verdict : Verdict) : Type 0 where
+  pub run : Runs (reviewing_whole form detail counters says) limits before after was is verdict
+  pub listed : ListsWhatIsAnnounced says run.messages (report says run.messages)
+  pub missing : (s : Session) → TellsMissing says counters (blocks (notes run.messages)) s
+  pub numbers_told : (k : Key) → NumberIsTold says run.messages counters k
+  pub blocks_told : (s : Session) (gbc : ℕ) → BlockIsTold says run.messages counters s gbc

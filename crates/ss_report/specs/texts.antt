@@ -1,0 +1,4 @@
+pub mod Words
+pub mod Ending
+pub mod Inspection
+pub mod QuestionText

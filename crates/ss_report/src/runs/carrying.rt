@@ -1,0 +1,231 @@
+//! What of a log is carried over to the next one, where sessions go on from log to log.
+ghost use Rattle.std.specs.Prelude.{◌≡◌, ◌≤◌, ◌++◌, ◌∷◌, [], ℕ, true, List, length, IfOk, OnOk, if◌then◌else◌};
+ghost use Rattle.std.specs.List.{cons_option};
+ghost use Rattle.std.specs.BTreeSet.{Updates, contains};
+ghost use Rattle.ss_frame.specs.Limits.{most_messages};
+ghost use Rattle.ss_review.specs.declared.keep.message.BlockMessage.{BlockMessage};
+ghost use Rattle.ss_review.specs.declared.keep.message.Said.TheVariants.{Hashes, Fragment};
+ghost use Rattle.ss_review.specs.keep.Notes.{note, notes};
+ghost use Rattle.ss_review.specs.keep.Contents.{block_at, block_with, blocks, said_in};
+ghost use Rattle.ss_review.specs.report.Meaning.{IsInOrder};
+ghost use Rattle.ss_review.specs.declared.report.report.Report.{Report};
+ghost use Rattle.ss_report.specs.runs.Carrying.{carried_by, is_verified_in};
+ghost use Rattle.ss_report.specs.CarriedSoFar.{KnowsExtents, carried_at, carried_numbers, carried_verified, carried_with, extent_cmp};
+
+use crate::places::put_in_order;
+use crate::runs::selecting::add_of_entries;
+use crate::told::{entries_under, has_gap, is_refused, told_joined};
+use ss_block::{CertBlock, FullReading, Reading, Session, SigBlock, may_hold_block, read_fully};
+use ss_frame::Bytes;
+use ss_message::NoMemory;
+use ss_review::{Entry, Places, Report};
+use std::alloc::Global;
+use std::collections::BTreeSet;
+
+/// Where the fragment of a certificate block stands in the payload of its session: INDEX and FLEN (RFC 5848, section
+/// 5.3.2).
+#[derive(Clone, Copy, PartialEq, Eq, PartialOrd, Ord)]
+struct Extent<'a> {
+    session: &'a Session,
+    index: u32,
+    length: usize,
+}
+
+/// The places of the messages that are carried over, each once, rising. The report is that on these messages.
+pub(crate) fn carried_places(
+    alloc: Global,
+    report: &Report,
+    messages: &[Bytes],
+) -> Result<Places, NoMemory>
+    requires rising { IsInOrder report.now }
+    requires few { length messages.now ≤ most_messages }
+    ensures { IfOk result (λ places. places ≡ carried_by report.now (blocks (notes messages.now))) }
+{
+    let mut places = Vec::from_slice(alloc, report.unlisted.as_slice())?;
+    let mut known = BTreeSet::new(alloc);
+    let mut place = 0;
+    for message in messages {
+        carry_message(alloc, &mut places, &mut known, report, place, message.as_slice())?;
+        place += 1;
+    }
+    put_in_order(&mut places);
+    Ok(Places::from_vec(places))
+}
+
+/// Adds what is carried for the message at this place, if it is a block: `known` has the extents of the verified
+/// certificate blocks before it.
+fn carry_message<'a>(
+    alloc: Global,
+    places: &mut Vec<u32>,
+    known: &mut BTreeSet<Extent<'a>>,
+    report: &'a Report,
+    place: u32,
+    text: &[u8],
+) -> Result<(), NoMemory>
+    requires { IsInOrder report.now }
+    ensures carried { (before : List BlockMessage)
+        → KnowsExtents report.now before known.old
+        → OnOk result (places.new.items ≡ places.old.items ++ carried_at report.now before (block_at place (note text.now))) }
+    ensures known { (before : List BlockMessage)
+        → KnowsExtents report.now before known.old
+        → OnOk result (KnowsExtents report.now (before ++ cons_option (block_at place (note text.now)) []) known.new) }
+{
+    if !may_hold_block(text) {
+        return Ok(());
+    }
+    let read = read_fully(alloc, text)?;
+    carry_read(places, known, report, place, &read)
+}
+
+/// Adds what is carried for the message at this place that was read as this, if it is a block.
+fn carry_read<'a>(
+    places: &mut Vec<u32>,
+    known: &mut BTreeSet<Extent<'a>>,
+    report: &'a Report,
+    place: u32,
+    read: &FullReading,
+) -> Result<(), NoMemory>
+    requires { IsInOrder report.now }
+    ensures carried { (before : List BlockMessage)
+        → KnowsExtents report.now before known.old
+        → OnOk result (places.new.items ≡ places.old.items
+        ++ carried_at report.now before (block_with place (said_in read.now.reading) read.now.session read.now.signed)) }
+    ensures known { (before : List BlockMessage)
+        → KnowsExtents report.now before known.old
+        → OnOk result (KnowsExtents report.now
+        (before ++ cons_option (block_with place (said_in read.now.reading) read.now.session read.now.signed) []) known.new) }
+{
+    let Some(session) = &read.session else {
+        return Ok(());
+    };
+    let Some(_) = &read.signed else {
+        return Ok(());
+    };
+    match &read.reading {
+        Reading::Signature(block) => carry_signature(places, report, place, session, block),
+        Reading::Certificate(block) => {
+            carry_certificate(places, known, report, place, session, block)
+        }
+        Reading::Plain | Reading::Unparsed { .. } | Reading::Spoilt(_) => Ok(()),
+    }
+}
+
+/// Adds what is carried for a signature block.
+fn carry_signature(
+    places: &mut Vec<u32>,
+    report: &Report,
+    place: u32,
+    session: &Session,
+    block: &SigBlock,
+) -> Result<(), NoMemory>
+    requires { IsInOrder report.now }
+    ensures { (before : List BlockMessage) (octets : List ℕ)
+        → OnOk result (places.new.items ≡ places.old.items ++ carried_with report.now before (record {
+          place = place;
+          session = session.now;
+          said = Hashes block.now;
+          signed = octets;
+        })) }
+{
+    let Some(told) = told_joined(report, session) else {
+        places.push(place)?;
+        return Ok(());
+    };
+    let refused = is_refused(report, place);
+    if refused {
+        return Ok(());
+    }
+    carry_numbers(places, place, entries_under(told, block))
+}
+
+/// Adds the place of a verified signature block and those that are listed under its numbers, whose entries these are, if
+/// one of them is a gap.
+fn carry_numbers(places: &mut Vec<u32>, place: u32, entries: &[Entry]) -> Result<(), NoMemory>
+    ensures { OnOk result (places.new.items ≡ places.old.items ++ carried_numbers entries.now place) }
+{
+    if !has_gap(entries) {
+        return Ok(());
+    }
+    places.push(place)?;
+    add_of_entries(places, entries)?;
+    Ok(())
+}
+
+/// Adds what is carried for a certificate block.
+fn carry_certificate<'a>(
+    places: &mut Vec<u32>,
+    known: &mut BTreeSet<Extent<'a>>,
+    report: &'a Report,
+    place: u32,
+    session: &Session,
+    block: &CertBlock,
+) -> Result<(), NoMemory>
+    requires { IsInOrder report.now }
+    ensures carried { (before : List BlockMessage) (octets : List ℕ)
+        → KnowsExtents report.now before known.old
+        → OnOk result (places.new.items ≡ places.old.items ++ carried_with report.now before (record {
+          place = place;
+          session = session.now;
+          said = Fragment block.now;
+          signed = octets;
+        })) }
+    ensures known { (before : List BlockMessage) (octets : List ℕ)
+        → KnowsExtents report.now before known.old
+        → OnOk result (KnowsExtents report.now (before ++ record {
+          place = place;
+          session = session.now;
+          said = Fragment block.now;
+          signed = octets;
+        } ∷ []) known.new) }
+{
+    let Some(told) = told_joined(report, session) else {
+        places.push(place)?;
+        return Ok(());
+    };
+    if is_refused(report, place) {
+        return Ok(());
+    }
+    carry_verified(places, known, place, &told.session, block)
+}
+
+/// Adds the place of a verified certificate block of this session, if none of its extent stands before it.
+fn carry_verified<'a>(
+    places: &mut Vec<u32>,
+    known: &mut BTreeSet<Extent<'a>>,
+    place: u32,
+    session: &'a Session,
+    block: &CertBlock,
+) -> Result<(), NoMemory>
+    ensures carried { (r : Report) (before : List BlockMessage) (b : BlockMessage)
+        → KnowsExtents r before known.old
+        → b.place ≡ place → b.session ≡ session.now → b.said ≡ Fragment block.now
+        → OnOk result (places.new.items ≡ places.old.items ++ carried_verified r before b b.said) }
+    ensures known { (r : Report) (before : List BlockMessage) (b : BlockMessage)
+        → KnowsExtents r before known.old
+        → b.session ≡ session.now → b.said ≡ Fragment block.now → is_verified_in r b ≡ true
+        → OnOk result (KnowsExtents r (before ++ b ∷ []) known.new) }
+{
+    let extent = Extent {
+        session,
+        index: block.index(),
+        length: block.fragment().as_slice().len(),
+    };
+    carry_first(places, known, place, extent)
+}
+
+/// Adds the place of a verified certificate block, if it is the first of its extent.
+fn carry_first<'a>(
+    places: &mut Vec<u32>,
+    known: &mut BTreeSet<Extent<'a>>,
+    place: u32,
+    extent: Extent<'a>,
+) -> Result<(), NoMemory>
+    ensures carried { OnOk result (places.new.items
+        ≡ places.old.items ++ (if contains extent_cmp known.old extent.entry then [] else place ∷ [])) }
+    ensures known { OnOk result (Updates extent_cmp known.old known.new extent.entry true) }
+{
+    if known.insert(extent)? {
+        places.push(place)?;
+    }
+    Ok(())
+}

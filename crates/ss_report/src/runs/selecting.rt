@@ -1,0 +1,113 @@
+//! The places of messages that are to be written, and what keeps them from it.
+ghost use Rattle.std.specs.Prelude.{◌≡◌, ◌==◌, ◌++◌, ◌∷◌, [], ℕ, None, Some, nat_le, find, flat_map, filter_map, IfOk, OnOk, MatchResult};
+ghost use Rattle.ss_review.specs.report.Extract.{place_listed, listed_places};
+ghost use Rattle.ss_report.specs.runs.Extraction.{absent, holds_lf, no_line};
+
+use crate::runs::extraction::{ExtractFault, Selection};
+use ss_frame::{Bytes, Form};
+use ss_review::{Entry, GroupReport, Places, Report};
+use std::alloc::{AllocError, Global};
+
+/// The places of the messages that a report lists, in its order.
+pub(crate) fn listed_places(alloc: Global, report: &Report) -> Result<Places, AllocError>
+    ensures { IfOk result (λ places. places ≡ listed_places report.now) }
+{
+    let mut places = Vec::new(alloc);
+    for session in report.sessions.as_slice() {
+        add_of_groups(&mut places, session.groups.as_slice())?;
+    }
+    Ok(Places::from_vec(places))
+}
+
+/// Adds the places that groups list.
+fn add_of_groups(places: &mut Vec<u32>, groups: &[GroupReport]) -> Result<(), AllocError>
+    ensures { OnOk result (places.new.items
+        ≡ places.old.items ++ flat_map (λ g. filter_map place_listed g.entries) groups.now) }
+{
+    for group in groups {
+        add_of_entries(places, group.entries.as_slice())?;
+    }
+    Ok(())
+}
+
+/// Adds the places that entries list.
+pub(crate) fn add_of_entries(places: &mut Vec<u32>, entries: &[Entry]) -> Result<(), AllocError>
+    ensures { OnOk result (places.new.items ≡ places.old.items ++ filter_map place_listed entries.now) }
+{
+    for entry in entries {
+        add_of_entry(places, *entry)?;
+    }
+    Ok(())
+}
+
+/// Adds the place that an entry lists, if it lists one.
+fn add_of_entry(places: &mut Vec<u32>, entry: Entry) -> Result<(), AllocError>
+    ensures { OnOk result (places.new.items ≡ places.old.items ++ filter_map place_listed (entry ∷ [])) }
+{
+    let Entry::Listed { place, .. } = entry else {
+        return Ok(());
+    };
+    places.push(place)?;
+    Ok(())
+}
+
+/// Refuses the first of the given places that a log of so many messages hasn't (E1).
+pub(crate) fn refuse_absent(selection: &Selection, count: usize) -> Result<(), ExtractFault>
+    ensures { MatchResult result (λ _. absent selection.now count ≡ None) (λ fault. absent selection.now count ≡ Some fault) }
+{
+    let Selection::At(places) = selection else {
+        return Ok(());
+    };
+    match first_past(places.as_slice(), count) {
+        Some(place) => Err(ExtractFault::Absent { place }),
+        None => Ok(()),
+    }
+}
+
+/// The first of the places that isn't below `count`.
+fn first_past(places: &[u32], count: usize) -> Option<u32>
+    ensures { result ≡ find (λ place. nat_le count place) places.now }
+{
+    places
+        .iter()
+        .copied()
+        .find(|place| count <= *place as usize)
+}
+
+/// Refuses the first of the messages at these places that isn't one of the form (E2).
+pub(crate) fn refuse_no_line(
+    form: Form,
+    messages: &[Bytes],
+    places: &[u32],
+) -> Result<(), ExtractFault>
+    ensures { MatchResult result (λ _. no_line form messages.now places.now ≡ None)
+        (λ fault. no_line form messages.now places.now ≡ Some fault) }
+{
+    match form {
+        Form::Frames => Ok(()),
+        Form::Lines => match first_with_lf(messages, places) {
+            Some(place) => Err(ExtractFault::HoldsLf { place }),
+            None => Ok(()),
+        },
+    }
+}
+
+/// The first of the places whose message holds LF.
+fn first_with_lf(messages: &[Bytes], places: &[u32]) -> Option<u32>
+    ensures { result ≡ find (holds_lf messages.now) places.now }
+{
+    places
+        .iter()
+        .copied()
+        .find(|place| holds_lf(messages, *place))
+}
+
+/// Whether the message at the place holds LF.
+fn holds_lf(messages: &[Bytes], place: u32) -> bool
+    ensures { result ≡ holds_lf messages.now place }
+{
+    match messages.get(place as usize) {
+        Some(message) => message.as_slice().contains(&b'\n'),
+        None => false,
+    }
+}

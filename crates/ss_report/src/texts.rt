@@ -1,0 +1,7 @@
+//! The texts about a log that are no report: questions and inspections.
+pub(crate) mod encoded;
+pub(crate) mod ending;
+pub(crate) mod inspection;
+pub(crate) mod inspection_objects;
+pub(crate) mod question_text;
+pub(crate) mod words;
