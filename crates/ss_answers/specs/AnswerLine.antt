@@ -1,5 +1,6 @@
 -- A line of an answer file as it is read, and as the program keeps it.
-use Rattle.std.specs.Prelude.{◌≡◌, ℕ, ◌≤◌, Bool, ◌&&◌, nat_le, if◌then◌else◌, List, [], ◌∷◌, ◌++◌, length, map, slice_range, Option, Some, None}
+use Rattle.std.specs.Prelude.{◌≡◌, ℕ, ◌≤◌, Bool, ◌&&◌, nat_le, if◌then◌else◌, List, [], ◌∷◌, ◌++◌, length, map}
+use Rattle.std.specs.Prelude.{slice_range, Option, Some, None}
 use Rattle.std.specs.List.{All, AllByRecursion}
 use Rattle.std.specs.Ordering.{is_eq, is_lt}
 use Rattle.std.specs.List.Sorted.{IsSortedBy}
@@ -63,7 +64,8 @@ no_span = record { start = 0; end = 0 }
 
 -- the place of a line whose signature stands behind its octets
 abbrev pub place_of : Span → Span → Span → Place
-place_of payload octets signature = record { payload = payload; start = octets.start; middle = octets.end; end = signature.end }
+place_of payload octets signature =
+    record { payload = payload; start = octets.start; middle = octets.end; end = signature.end }
 
 -- ---- a step of the reading: a text is spelt, and the octets of its fields come behind the others
 

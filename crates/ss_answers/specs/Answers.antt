@@ -1,6 +1,7 @@
 -- Files that hold the answers of a signature checker: what a line says, how it is spelt, which lines a text
 -- has, and what lines say together.
-use Rattle.std.specs.Prelude.{◌≡◌, ℕ, ◌<◌, Bool, false, ◌&&◌, List, ◌∷◌, ◌++◌, length, codes, Option, Some, None, option_and_then}
+use Rattle.std.specs.Prelude.{◌≡◌, ℕ, ◌<◌, Bool, false, ◌&&◌, List, ◌∷◌, ◌++◌, length, codes, Option, Some, None}
+use Rattle.std.specs.Prelude.{option_and_then}
 use Rattle.std.specs.List.{find, list_any}
 use Rattle.std.specs.Str.{bytes_eq}
 use Rattle.base64.specs.GeneralPurpose.{IsBytes}
@@ -64,11 +65,13 @@ IsNoTriple text = (first second third : List ℕ) → IsTriple text first second
 
 -- no text has lines and a first bad line
 abbrev pub NoTextIsGoodAndBad : Type 0
-NoTextIsGoodAndBad = (text : List ℕ) (lines : List Answer) (number : ℕ) → HasLines text lines → HasFirstBadLine text number → ⊥
+NoTextIsGoodAndBad = (text : List ℕ) (lines : List Answer) (number : ℕ) → HasLines text lines
+    → HasFirstBadLine text number → ⊥
 
 -- a text has its lines in one way
 abbrev pub LinesAreDetermined : Type 0
-LinesAreDetermined = (text : List ℕ) (lines others : List Answer) → HasLines text lines → HasLines text others → lines ≡ others
+LinesAreDetermined = (text : List ℕ) (lines others : List Answer) → HasLines text lines → HasLines text others
+    → lines ≡ others
 
 -- a text has one first bad line
 abbrev pub BadLineIsDetermined : Type 0

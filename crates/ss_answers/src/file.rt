@@ -26,8 +26,10 @@ pub fn read_answers<R: Read>(
     max: u32,
 ) -> Result<Answers, AnswerFault>
     requires { has_failed reader.old ≡ false }
-    ensures ok { IfOk result (λ answers. AreRead (R.remaining (inner_of reader.old)) (R.remaining (inner_of reader.new)) max answers) }
-    ensures err { IfErr result (λ fault. IsAnswerFault (R.remaining (inner_of reader.old)) (R.remaining (inner_of reader.new)) max fault) }
+    ensures ok { IfOk result (λ answers.
+        AreRead (R.remaining (inner_of reader.old)) (R.remaining (inner_of reader.new)) max answers) }
+    ensures err { IfErr result (λ fault.
+        IsAnswerFault (R.remaining (inner_of reader.old)) (R.remaining (inner_of reader.new)) max fault) }
     ensures failed { has_failed reader.new ≡ failed_read result }
 {
     let text = read_all(alloc, reader, max)?;
@@ -58,8 +60,10 @@ pub fn open_answers<R: Files + AllocGlobal>(rt: &R, path: &str) -> Result<Answer
 /// The answers that a file gives.
 fn read_file<R: Read>(alloc: Global, reader: &mut Watched<R>) -> Result<Answers, AnswerFault>
     requires { has_failed reader.old ≡ false }
-    ensures ok { IfOk result (λ answers. AreRead (R.remaining (inner_of reader.old)) (R.remaining (inner_of reader.new)) 4294967295 answers) }
-    ensures err { IfErr result (λ fault. IsAnswerFault (R.remaining (inner_of reader.old)) (R.remaining (inner_of reader.new)) 4294967295 fault) }
+    ensures ok { IfOk result (λ answers.
+        AreRead (R.remaining (inner_of reader.old)) (R.remaining (inner_of reader.new)) 4294967295 answers) }
+    ensures err { IfErr result (λ fault.
+        IsAnswerFault (R.remaining (inner_of reader.old)) (R.remaining (inner_of reader.new)) 4294967295 fault) }
 {
     read_answers(alloc, reader, u32::MAX)
 }

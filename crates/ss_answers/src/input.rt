@@ -32,8 +32,10 @@ pub fn read_all<R: Read>(
     max: u32,
 ) -> Result<Vec<u8>, InputFault>
     requires { has_failed reader.old ≡ false }
-    ensures ok { IfOk result (λ text. GivesAll (R.remaining (inner_of reader.old)) (R.remaining (inner_of reader.new)) max text.items) }
-    ensures err { IfErr result (λ fault. IsInputFault (R.remaining (inner_of reader.old)) (R.remaining (inner_of reader.new)) max fault) }
+    ensures ok { IfOk result (λ text.
+        GivesAll (R.remaining (inner_of reader.old)) (R.remaining (inner_of reader.new)) max text.items) }
+    ensures err { IfErr result (λ fault.
+        IsInputFault (R.remaining (inner_of reader.old)) (R.remaining (inner_of reader.new)) max fault) }
     ensures failed { has_failed reader.new ≡ failed_input result }
 {
     let limit = max as usize;
@@ -67,7 +69,9 @@ fn read_some<R: Read>(
     text: &mut Vec<u8>,
 ) -> Result<usize, InputFault>
     requires { 0 < length chunk.old }
-    ensures ok { IfOk result (λ count. TakesSome (R.remaining (inner_of reader.old)) (R.remaining (inner_of reader.new)) text.old.items text.new.items (length chunk.old) count) }
+    ensures ok { IfOk result (λ count.
+        TakesSome (R.remaining (inner_of reader.old)) (R.remaining (inner_of reader.new)) text.old.items text.new.items
+        (length chunk.old) count) }
     ensures err { IfErr result (λ fault. IsReadOrMemory fault) }
     ensures failed { has_failed reader.new ≡ (has_failed reader.old || failed_input result) }
 {

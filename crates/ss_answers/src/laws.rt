@@ -33,8 +33,8 @@ pub fn bad_counter_is_determined()
     ensures { BadCounterIsDetermined }
 {}
 
-/// The lines of counters that are in range, each ended by a line feed, are a text that has these counters and no others.
-/// None of its lines is bad.
+/// The lines of counters that are in range, each ended by a line feed, are a text that has these counters and no
+/// others. None of its lines is bad.
 pub fn lines_have_their_counters()
     ensures { LinesHaveTheirCounters }
 {}

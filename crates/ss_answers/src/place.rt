@@ -8,8 +8,8 @@ ghost use Rattle.ss_answers.specs.AnswerLine.{part};
 use crate::field::Span;
 use crate::key::Key;
 
-/// The places of the fields of a line: its payload, which other lines may have too, and octets and signature, one behind
-/// the other. A field that the line lacks is empty.
+/// The places of the fields of a line: its payload, which other lines may have too, and octets and signature, one
+/// behind the other. A field that the line lacks is empty.
 #[derive(Clone, Copy, Debug)]
 pub struct Place {
     payload: Span,

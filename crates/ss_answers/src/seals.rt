@@ -6,8 +6,8 @@ use ss_block::Payload;
 use ss_origin::{SealFault, Seals};
 use std::alloc::Global;
 
-/// Gives the signatures of the `seal` lines of an answers file, and refuses octets that none of them has. Without a file
-/// it refuses everything.
+/// Gives the signatures of the `seal` lines of an answers file, and refuses octets that none of them has. Without a
+/// file it refuses everything.
 #[derive(Debug, Drop)]
 pub struct GivenSeals {
     answers: Option<Answers>,

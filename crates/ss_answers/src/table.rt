@@ -126,7 +126,8 @@ impl Judge for Answers {
 /// Puts places in the order of the keys of their lines. Lines of one key stay in the order in which they were.
 fn sort(octets: &[u8], places: &mut Vec<Place>) -> Result<(), AllocError>
     ensures in_order { OnOk result (IsInOrder octets.now places.new.items) }
-    ensures same { OnOk result (SaysTheSame (answers_at octets.now places.old.items) (answers_at octets.now places.new.items)) }
+    ensures same { OnOk result
+        (SaysTheSame (answers_at octets.now places.old.items) (answers_at octets.now places.new.items)) }
 {
     places.sort_by(|a, b| a.key(octets).compare(&b.key(octets)))
 }

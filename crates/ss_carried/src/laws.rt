@@ -1,5 +1,7 @@
-//! What holds of every log that is reviewed night by night, where each night leaves over what is carried over of its log.
-ghost use Rattle.ss_carried.specs.CarriedNights.{CarriedIsEnough, CarriedNightsAreTheWhole, CarriedOfOwnLogs, NightsOfTexts};
+//! What holds of every log that is reviewed night by night, where each night leaves over what is carried over of its
+//! log.
+ghost use Rattle.ss_carried.specs.CarriedNights.{CarriedIsEnough, CarriedNightsAreTheWhole, CarriedOfOwnLogs};
+ghost use Rattle.ss_carried.specs.CarriedNights.{NightsOfTexts};
 
 use ss_nights::laws::{nights_are_logs, nights_are_the_whole};
 
@@ -23,8 +25,8 @@ pub fn nights_of_texts()
     nights_are_logs();
 }
 
-/// The report of a whole log is put together from the reports on the logs that a keeper makes night by night. The premises
-/// are those of `ss_nights::laws::nights_are_the_whole` but that each night leaves enough over.
+/// The report of a whole log is put together from the reports on the logs that a keeper makes night by night. The
+/// premises are those of `ss_nights::laws::nights_are_the_whole` but that each night leaves enough over.
 pub fn carried_nights_are_the_whole()
     ensures { CarriedNightsAreTheWhole }
 {

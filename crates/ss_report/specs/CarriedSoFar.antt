@@ -1,5 +1,6 @@
 -- What a walk over the blocks of a log carries for each, and what it knows of those that it passed.
-use Rattle.std.specs.Prelude.{◌≡◌, ℕ, not, true, List, [], ◌∷◌, ◌++◌, length, map, filter_map, All, Option, Some, None, if◌then◌else◌}
+use Rattle.std.specs.Prelude.{◌≡◌, ℕ, not, true, List, [], ◌∷◌, ◌++◌, length, map, filter_map, All, Option, Some, None}
+use Rattle.std.specs.Prelude.{if◌then◌else◌}
 use Rattle.std.specs.declared.cmp.Ordering.{Ordering}
 use Rattle.std.specs.Ordering.{nat_cmp, ordering_then}
 use Rattle.std.specs.List.{list_any}
@@ -62,8 +63,11 @@ carried_along r before (b ∷ bs) = carried_with r before b ++ carried_along r (
 
 -- by session, INDEX and FLEN
 abbrev pub extent_cmp : Extent → Extent → Ordering
-extent_cmp a b = ordering_then (session_cmp a.session.now b.session.now) (ordering_then (nat_cmp a.index b.index) (nat_cmp a.length b.length))
+extent_cmp a b =
+    ordering_then (session_cmp a.session.now b.session.now)
+    (ordering_then (nat_cmp a.index b.index) (nat_cmp a.length b.length))
 
 -- the extents of their verified certificate blocks
 abbrev pub KnowsExtents : Report → (before : List BlockMessage) → BTreeSet Extent → Type 0
-KnowsExtents r before known = (e : Extent) → contains extent_cmp known e ≡ list_any (is_fragment_of r e.session.now e.index e.length) before
+KnowsExtents r before known = (e : Extent)
+    → contains extent_cmp known e ≡ list_any (is_fragment_of r e.session.now e.index e.length) before

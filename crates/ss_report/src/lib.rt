@@ -1,5 +1,5 @@
-//! The runs over a stored log: it is read to its end, and a text about it, or frames from it, are written whole; how the
-//! run ended; and the text of a review.
+//! The runs over a stored log: it is read to its end, and a text about it, or frames from it, are written whole; how
+//! the run ended; and the text of a review.
 #![tactic(auto)]
 
 mod fault;
@@ -15,16 +15,16 @@ mod texts;
 mod told;
 mod verdict;
 
+pub use fault::RunFault;
+pub use forms::report_form::ReportForm;
+pub use lines::detail::Detail;
+pub use log::log::{Log, read_log};
+pub use log::output::write_whole;
+pub use notation::Notation;
 pub use runs::counters::run_counters;
 pub use runs::extract::{run_extract, run_extract_as};
 pub use runs::extraction::{ExtractFault, Extraction, Selection};
-pub use fault::RunFault;
-pub use forms::report_form::ReportForm;
 pub use runs::inspect::run_inspect;
-pub use lines::detail::Detail;
-pub use log::log::{Log, read_log};
-pub use notation::Notation;
-pub use log::output::write_whole;
 pub use runs::questions::run_questions;
 pub use runs::review::run_review;
 pub use runs::review_as::run_review_as;

@@ -1,5 +1,6 @@
 //! What a report says of a session, of a group of it, and of some of its numbers.
-ghost use Rattle.std.specs.Prelude.{◌≡◌, ◌==◌, ◌&&◌, false, [], nat_le, nat_lt, length, map, filter, flat_map, MatchOption};
+ghost use Rattle.std.specs.Prelude.{◌≡◌, ◌==◌, ◌&&◌, false, [], nat_le, nat_lt, length, map, filter, flat_map};
+ghost use Rattle.std.specs.Prelude.{MatchOption};
 ghost use Rattle.std.specs.List.{list_any};
 ghost use Rattle.std.specs.List.Sorted.{IsStrictlySortedBy};
 ghost use Rattle.std.specs.Ordering.{nat_cmp};
@@ -15,7 +16,8 @@ use ss_review::{Entry, Report, SessionReport};
 /// What a report says of a session, if it is joined.
 pub(crate) fn told_joined<'a>(report: &'a Report, session: &Session) -> Option<&'a SessionReport>
     requires { IsInOrder report.now }
-    ensures { MatchOption result (is_joined_in report.now session.now ≡ false) (λ t. IsToldJoined report.now session.now t.now) }
+    ensures { MatchOption result (is_joined_in report.now session.now ≡ false) (λ t.
+        IsToldJoined report.now session.now t.now) }
 {
     let sessions = report.sessions.as_slice();
     match sessions.binary_search_by(|known| known.session.cmp(session)) {

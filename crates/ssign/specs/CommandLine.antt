@@ -1,7 +1,9 @@
 -- What the command line gives: its commands, the limits that its options spell, and the exit status of a run.
-use Rattle.std.specs.Prelude.{◌≡◌, ◌≢◌, ◌⊎◌, ℕ, pos, Bool, true, false, List, [], ◌∷◌, Option, Some, None, Result, Ok, Err, codes}
+use Rattle.std.specs.Prelude.{◌≡◌, ◌≢◌, ◌⊎◌, ℕ, pos, Bool, true, false, List, [], ◌∷◌, Option, Some, None, Result, Ok}
+use Rattle.std.specs.Prelude.{Err, codes}
 use Rattle.std.specs.Str.Parse.{IsNumeral, digits_value, without_leading_plus}
-use Rattle.clap.specs.Words.{App, IsAmong, Kinds, Rule, app_of, fault_of, found_of, new_app, new_rule, one_text, with_rule, with_subcommand}
+use Rattle.clap.specs.Words.{App, IsAmong, Kinds, Rule, app_of, fault_of, found_of, new_app, new_rule, one_text}
+use Rattle.clap.specs.Words.{with_rule, with_subcommand}
 use Rattle.clap.specs.Lexer.{usize_max}
 use Rattle.clap.specs.declared.builder.command.Command.{Command}
 use Rattle.clap.specs.declared.builder.command.Command.TheViews.{out-Command}
@@ -74,7 +76,8 @@ detail_of false = details.Each
 
 -- how a log is reported, with or without these flags, `--whole`, which counters ask for too, and `--tally`
 abbrev pub reporting : (findings json whole tally : Bool) → Reporting
-reporting findings json whole tally = record { form = report_form findings json; whole = whole; detail = detail_of tally }
+reporting findings json whole tally =
+    record { form = report_form findings json; whole = whole; detail = detail_of tally }
 
 -- the limits of a command with these numbers, and with or without `--lines`
 abbrev pub limits_with : (max_len max_messages : ℕ) (lines : Bool) → Allowance
@@ -139,13 +142,19 @@ with_limits a = with_rule (with_rule (with_rule a lines_rule) max_len_rule) max_
 abbrev pub review_app : App
 review_app =
     with_limits
-    (with_rule (with_rule (with_rule (with_rule (with_rule (with_rule (new_app review.NAME.now) answers_rule) findings_rule) json_rule) whole_rule) tally_rule) kept_rule)
+    (with_rule
+    (with_rule
+    (with_rule (with_rule (with_rule (with_rule (new_app review.NAME.now) answers_rule) findings_rule) json_rule)
+    whole_rule) tally_rule) kept_rule)
 
 abbrev pub questions_app : App
 questions_app = with_limits (with_rule (new_app questions.NAME.now) json_rule)
 
 abbrev pub extract_app : App
-extract_app = with_limits (with_rule (with_rule (with_rule (with_rule (new_app extract.NAME.now) answers_rule) unlisted_rule) place_rule) lines_out_rule)
+extract_app =
+    with_limits
+    (with_rule (with_rule (with_rule (with_rule (new_app extract.NAME.now) answers_rule) unlisted_rule) place_rule)
+    lines_out_rule)
 
 abbrev pub inspect_app : App
 inspect_app = with_limits (with_rule (with_rule (new_app inspect.NAME.now) findings_rule) json_rule)
@@ -178,7 +187,8 @@ with_commands app (command ∷ commands) = with_commands (with_subcommand app co
 -- of the versions of blocks it takes those that are kept
 abbrev pub ssign_app : Kept → App
 ssign_app versions = with_commands bare_app (
-    review_app ∷ questions_app ∷ extract_app ∷ inspect_app ∷ plan_app versions ∷ sign_app versions ∷ counters_app ∷ carry_app ∷ explain_app ∷ [])
+    review_app ∷ questions_app ∷ extract_app ∷ inspect_app ∷ plan_app versions ∷ sign_app versions ∷ counters_app
+    ∷ carry_app ∷ explain_app ∷ [])
 
 -- a command is this one, and has no global argument
 pub record IsLocalApp (command : Command) (app : App) : Type 0 where

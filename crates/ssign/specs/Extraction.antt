@@ -1,5 +1,6 @@
 -- What the options of an extract ask for.
-use Rattle.std.specs.Prelude.{◌≡◌, ◌↔◌, ◌<◌, ◌^◌, ℕ, Bool, true, false, List, [], ◌∷◌, Contains, Option, Some, None, IsSome, IfSome, option_map, Result, Ok, Err}
+use Rattle.std.specs.Prelude.{◌≡◌, ◌↔◌, ◌<◌, ◌^◌, ℕ, Bool, true, false, List, [], ◌∷◌, Contains, Option, Some, None}
+use Rattle.std.specs.Prelude.{IsSome, IfSome, option_map, Result, Ok, Err}
 use Rattle.std.specs.List.{AllByRecursion}
 use Rattle.std.specs.List.Sorted.{IsStrictlyIncreasing}
 use Rattle.clap.specs.Words.{found_of, matched_of, raw_values}
@@ -31,7 +32,9 @@ abbrev pub Selects : Bool → Option (List (List ℕ)) → Result Selection Extr
 Selects unlisted texts (Ok Listed) = (unlisted ≡ false) × (texts ≡ None)
 Selects unlisted texts (Ok Unlisted) = (unlisted ≡ true) × (texts ≡ None)
 Selects unlisted texts (Ok Carried) = ⊥
-Selects unlisted texts (Ok (At places)) = (unlisted ≡ false) × IfSome texts (λ ts. (given : List ℕ) × SpellNumbers ts given × AreInOrder given places) × IsSome texts
+Selects unlisted texts (Ok (At places)) =
+    (unlisted ≡ false) × IfSome texts (λ ts. (given : List ℕ) × SpellNumbers ts given × AreInOrder given places)
+    × IsSome texts
 Selects unlisted texts (Err Both) = (unlisted ≡ true) × IsSome texts
 Selects unlisted texts (Err NoNumber) = (unlisted ≡ false)
     × IfSome texts (λ ts. (ns : List ℕ) → SpellNumbers ts ns → ¬ AllByRecursion (λ n. n < 2 ^ 32) ns) × IsSome texts

@@ -1,5 +1,6 @@
 -- What the first octets of a log, and the form that it is read in, say of why it can't be read.
-use Rattle.std.specs.Prelude.{ℕ, Bool, true, false, ◌&&◌, nat_le, List, [], ◌∷◌, length, take, Option, Some, None, codes, if◌then◌else◌}
+use Rattle.std.specs.Prelude.{ℕ, Bool, true, false, ◌&&◌, nat_le, List, [], ◌∷◌, length, take, Option, Some, None}
+use Rattle.std.specs.Prelude.{codes, if◌then◌else◌}
 use Rattle.std.specs.Str.{bytes_eq}
 use Rattle.ss_frame.specs.declared.fault.FrameFault.{FrameFault}
 use Rattle.ss_frame.specs.declared.fault.FrameFault.TheVariants.{BadLength, TooLong, TooManyMessages, EmptyLine}

@@ -13,8 +13,8 @@ use Rattle.ss_report.specs.declared.lines.detail.Detail.{Detail}
 use Rattle.ss_report.specs.declared.notation.Notation.TheVariants.{Plain}
 use Rattle.ss_answers.specs.CounterLine.{HasCounters, HasOnly}
 
--- A whole review up to these counters writes what one without counters writes, in each form, and has its verdict. It has
--- no tail and no absent session, and the missing blocks are those that the log shows by itself.
+-- A whole review up to these counters writes what one without counters writes, in each form, and has its verdict. It
+-- has no tail and no absent session, and the missing blocks are those that the log shows by itself.
 pub record ChangeNothing (says : Answers) (log : List (List ℕ)) (counters : List Counter) : Type 0 where
   pub output : (form : ReportForm) (detail : Detail) (tail : Tail)
       → (reviewing_whole form detail counters says).output log tail

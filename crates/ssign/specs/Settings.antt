@@ -1,5 +1,6 @@
 -- What the options of a command that signs say: their numbers and texts, and the settings that these spell.
-use Rattle.std.specs.Prelude.{◌≡◌, ℕ, ◌≤◌, Bool, true, false, ◌&&◌, not, List, Option, Some, None, Result, Ok, Err, nat_le, codes, is_some, option_and_then, if◌then◌else◌}
+use Rattle.std.specs.Prelude.{◌≡◌, ℕ, ◌≤◌, Bool, true, false, ◌&&◌, not, List, Option, Some, None, Result, Ok, Err}
+use Rattle.std.specs.Prelude.{nat_le, codes, is_some, option_and_then, if◌then◌else◌}
 use Rattle.clap.specs.Words.{first_value, found_of}
 use Rattle.clap.specs.declared.parser.matches.ArgMatches.{ArgMatches}
 use Rattle.ss_message.specs.Message.{is_field}
@@ -108,7 +109,8 @@ refused_option t =
 
 -- what becomes of the text of a field, of at most so many octets
 abbrev pub FieldGives : ℕ → List ℕ → TextOption → Result Field SettingsFault → Type 0
-FieldGives limit text option (Ok field) = (drafted_field field ≡ field_in text) × (is_field limit (field_in text) ≡ true)
+FieldGives limit text option (Ok field) =
+    (drafted_field field ≡ field_in text) × (is_field limit (field_in text) ≡ true)
 FieldGives limit text option (Err (OutOfForm refused)) = (is_field limit (field_in text) ≡ false) × (refused ≡ option)
 FieldGives limit text option (Err Memory) = Unit {0}
 

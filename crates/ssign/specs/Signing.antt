@@ -12,7 +12,13 @@ use Rattle.ssign.specs.declared.signing.Signing.TheVariants.{Plan, Sign}
 -- The scheme of a log that is signed with a file is the file: a signature of octets is valid where it is the one given
 -- them. Whether a checker says yes to it isn't asked.
 abbrev pub setting_with : Settings → Option (List Answer) → Setting
-setting_with s answers = record { config = s.config; payload = s.payload; valid = λ text octets signature. is_given answers octets signature }
+setting_with s answers =
+    record {
+      config = s.config;
+      payload = s.payload;
+      valid = λ text octets signature.
+          is_given answers octets signature;
+    }
 
 -- what is made of a log with these settings, and with the answers of a file or without
 abbrev pub signing_job : Signing → Settings → Option (List Answer) → Job

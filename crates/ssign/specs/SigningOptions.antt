@@ -96,11 +96,13 @@ abbrev pub with_key_options : App → App
 with_key_options a = with_rule (with_rule (with_rule a payload_rule) rsid_rule) stamp_rule
 
 abbrev pub with_header_options : App → App
-with_header_options a = with_rule (with_rule (with_rule (with_rule (with_rule a pri_rule) host_rule) app_rule) procid_rule) msgid_rule
+with_header_options a =
+    with_rule (with_rule (with_rule (with_rule (with_rule a pri_rule) host_rule) app_rule) procid_rule) msgid_rule
 
 abbrev pub with_block_options : Kept → App → App
 with_block_options versions a =
-    with_rule (with_rule (with_rule (with_rule (with_rule a (ver_rule versions)) groups_rule) count_rule) frag_rule) copies_rule
+    with_rule (with_rule (with_rule (with_rule (with_rule a (ver_rule versions)) groups_rule) count_rule) frag_rule)
+    copies_rule
 
 -- the options in their order
 abbrev pub with_signing_options : Kept → App → App

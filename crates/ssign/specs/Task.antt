@@ -14,14 +14,15 @@ use Rattle.ssign.specs.declared.task.Task.TheVariants.{Review, Questions, Extrac
 
 -- a review, with or without what is missing beside the report, up to these counters
 abbrev pub review_of : Answers → Reporting → List Counter → Job
-review_of says r counters = if r.whole then reviewing_whole r.form r.detail counters says else reviewing_as r.form r.detail says
+review_of says r counters = if r.whole then reviewing_whole r.form r.detail counters says
+    else reviewing_as r.form r.detail says
 
 -- what is carried over to the next log, as frames
 abbrev pub carrying : Extraction
 carrying = record { selection = Carried; form = Frames }
 
--- what a run makes of a log: under these answers, or without any, and as it is to be reported; of a review that is to be
--- whole, up to these counters, and of an extract what is to be written
+-- what a run makes of a log: under these answers, or without any, and as it is to be reported; of a review that is to
+-- be whole, up to these counters, and of an extract what is to be written
 abbrev pub job_of : Answers → Reporting → List Counter → Extraction → Task → Job
 job_of says r counters e Review = review_of says r counters
 job_of says r counters e Questions = asking (notation_of r.form)

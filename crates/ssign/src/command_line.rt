@@ -1,14 +1,19 @@
 //! The command line.
-ghost use Rattle.std.specs.Prelude.{◌≡◌, ◌<◌, ◌^◌, ◌||◌, ◌∷◌, [], ℕ, Bool, false, Some, codes, decimal, IfOk, IfSome, MatchOption, option_and_then, option_map};
+ghost use Rattle.std.specs.Prelude.{◌≡◌, ◌<◌, ◌^◌, ◌||◌, ◌∷◌, [], ℕ, Bool, false, Some, codes, decimal, IfOk, IfSome};
+ghost use Rattle.std.specs.Prelude.{MatchOption, option_and_then, option_map};
 ghost use Rattle.std.specs.Option.{SomeIff, is_some};
-ghost use Rattle.clap.specs.Words.{App, app_of, first_value, found_of, kind_of, matched_of, new_app, raw_values, rule_of};
+ghost use Rattle.clap.specs.Words.{App, app_of, first_value, found_of, kind_of, matched_of, new_app, raw_values};
+ghost use Rattle.clap.specs.Words.{rule_of};
 ghost use Rattle.ss_frame.specs.Limits.{InRange};
-ghost use Rattle.ssign.specs.CommandLine.{answers_rule, code_rule, findings_rule, json_rule, kept_rule, lines_rule, max_len_rule, max_messages_rule, tally_rule, whole_rule};
+ghost use Rattle.ssign.specs.CommandLine.{answers_rule, code_rule, findings_rule, json_rule, kept_rule, lines_rule};
+ghost use Rattle.ssign.specs.CommandLine.{max_len_rule, max_messages_rule, tally_rule, whole_rule};
 ghost use Rattle.ssign.specs.CommandLine.{lines_out_rule, place_rule, unlisted_rule};
-ghost use Rattle.ssign.specs.CommandLine.{bare_app, carry_app, counters_app, explain_app, extract_app, inspect_app, plan_app, questions_app, review_app, sign_app, ssign_app};
+ghost use Rattle.ssign.specs.CommandLine.{bare_app, carry_app, counters_app, explain_app, extract_app, inspect_app};
+ghost use Rattle.ssign.specs.CommandLine.{plan_app, questions_app, review_app, sign_app, ssign_app};
 ghost use Rattle.ssign.specs.Explanation.{asked_of};
 ghost use Rattle.ssign.specs.SigningOptions.{AreVersions, Kept};
-ghost use Rattle.ssign.specs.CommandLine.{FlagIs, HasNumber, IsLocalApp, IsNoCommand, limits_with, detail_of, name_of, report_form, reporting, text_of};
+ghost use Rattle.ssign.specs.CommandLine.{FlagIs, HasNumber, IsLocalApp, IsNoCommand, limits_with, detail_of, name_of};
+ghost use Rattle.ssign.specs.CommandLine.{report_form, reporting, text_of};
 ghost use Rattle.ssign.specs.CommandLine.{with_commands, with_limits};
 
 use crate::asked::asked_of;
@@ -558,7 +563,8 @@ pub fn reporting_of(matches: &ArgMatches<'_>) -> Reporting
     ensures { (findings json whole tally : Bool) → FlagIs matches.now (codes "findings") findings
         → FlagIs matches.now (codes "json") json → FlagIs matches.now (codes "whole") whole
         → FlagIs matches.now (codes "tally") tally
-        → result ≡ reporting findings json (whole || is_some (first_value (found_of matches.now) (codes "counters"))) tally }
+        → result ≡ reporting findings json (whole
+        || is_some (first_value (found_of matches.now) (codes "counters"))) tally }
 {
     Reporting {
         form: form_of_report(matches),

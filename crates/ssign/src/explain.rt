@@ -43,10 +43,12 @@ pub fn write_explanation<W: Write>(
     explanation: &Explanation,
 ) -> Result<(), RunFault>
     requires { has_failed writer.old ≡ false }
-    ensures told { IfOk result (λ _. WritesWhole (sink_of W.contents writer.old) (sink_of W.contents writer.new) (told_text explanation.now)) }
+    ensures told { IfOk result (λ _.
+        WritesWhole (sink_of W.contents writer.old) (sink_of W.contents writer.new) (told_text explanation.now)) }
     ensures failed { IfErr result (λ fault. fault ≡ RunFault.Write
         → WritesPrefix (sink_of W.contents writer.old) (sink_of W.contents writer.new) (told_text explanation.now)) }
-    ensures untouched { IfErr result (λ fault. fault ≢ RunFault.Write → (fault ≡ RunFault.Memory) × (writer.new ≡ writer.old)) }
+    ensures untouched { IfErr result (λ fault.
+        fault ≢ RunFault.Write → (fault ≡ RunFault.Memory) × (writer.new ≡ writer.old)) }
 {
     let mut line = Vec::from_slice(alloc, explanation.text.as_bytes())?;
     line.push(b'\n')?;

@@ -7,10 +7,10 @@ use ss_review::laws::kept::{
     counters_given_back, log_counters_add_nothing, log_counters_are_in_range,
 };
 
-/// The text that `counters` writes of a log, without `--json`, is read by `review --counters` as the log's own counters.
-/// It is read as nothing else, and none of its lines is refused. A review of the same log that is given them writes what
-/// one with `--whole` writes, and has its verdict. So it has no tail, no absent session, and no missing blocks but those
-/// that the log shows by itself.
+/// The text that `counters` writes of a log, without `--json`, is read by `review --counters` as the log's own
+/// counters. It is read as nothing else, and none of its lines is refused. A review of the same log that is given them
+/// writes what one with `--whole` writes, and has its verdict. So it has no tail, no absent session, and no missing
+/// blocks but those that the log shows by itself.
 pub fn counters_are_read_back()
     ensures { CountersAreReadBack }
 {

@@ -55,7 +55,8 @@ impl<R: Read> Read for Opening<R> {
     fn read(&mut self, buf: &mut [u8]) -> io::Result<usize>
         ensures bound { ReadsAtMost result buf.new }
         ensures bytes { ReadConsumes (R.remaining self.old.inner) (R.remaining self.new.inner) result buf.new }
-        ensures kept { MatchResult result (λ count. kept_octets self.new ≡ take 6 (kept_octets self.old ++ take count buf.new))
+        ensures kept { MatchResult result (λ count.
+            kept_octets self.new ≡ take 6 (kept_octets self.old ++ take count buf.new))
             (λ _. kept_octets self.new ≡ kept_octets self.old) }
     {
         let count = self.inner.read(buf)?;

@@ -228,7 +228,8 @@ fn explain<R: Print + Eprint + Screen + AllocGlobal>(
     code: &str,
 ) -> u8
     ensures most { result ≤ 2 }
-    ensures unknown { find (has_code code.now) (refusals.now ++ words.now ++ faults.now ++ unprinted.now) ≡ None → result ≡ 2 }
+    ensures unknown { find (has_code code.now) (refusals.now ++ words.now ++ faults.now ++ unprinted.now) ≡ None
+        → result ≡ 2 }
 {
     let Some(explanation) = explanation_of(refusals, words, faults, unprinted, code) else {
         return refuse_code(rt, refusals, words, faults, code);

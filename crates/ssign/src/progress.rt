@@ -36,8 +36,8 @@ struct Meter {
 }
 
 impl<'r, R: Eprint + Screen + Clock, I> Progress<'r, R, I> {
-    /// A reader of a log in this form, of which nothing was read. It is silent where no person looks, or the clock can't
-    /// be read.
+    /// A reader of a log in this form, of which nothing was read. It is silent where no person looks, or the clock
+    /// can't be read.
     pub fn new(rt: &'r R, inner: I, form: Form) -> Progress<'r, R, I>
         ensures { read_from result ≡ inner }
     {
@@ -123,7 +123,8 @@ impl<R: Eprint + Clock, I: Read> Read for Progress<'_, R, I> {
 
     fn read(&mut self, buf: &mut [u8]) -> io::Result<usize>
         ensures bound { ReadsAtMost result buf.new }
-        ensures bytes { ReadConsumes (I.remaining (read_from self.old)) (I.remaining (read_from self.new)) result buf.new }
+        ensures bytes { ReadConsumes (I.remaining (read_from self.old)) (I.remaining (read_from self.new)) result
+            buf.new }
     {
         let result = self.inner.read(buf);
         let count = match &result {

@@ -4,7 +4,8 @@ ghost use Rattle.clap.specs.Words.{App, Rule, rule_of, with_rule};
 ghost use Rattle.ssign.specs.CommandLine.{IsLocalApp};
 ghost use Rattle.ssign.specs.SigningOptions.{number_rule, required_rule, text_rule};
 ghost use Rattle.ssign.specs.SigningOptions.{usual_rule, ver_rule};
-ghost use Rattle.ssign.specs.SigningOptions.{with_block_options, with_header_options, with_key_options, with_signing_options};
+ghost use Rattle.ssign.specs.SigningOptions.{with_block_options, with_header_options, with_key_options};
+ghost use Rattle.ssign.specs.SigningOptions.{with_signing_options};
 
 use crate::options::{
     app, copies, count, frag, groups, host, msgid, payload, pri, procid, rsid, stamp, ver,
@@ -19,7 +20,8 @@ pub fn with_signing_options<'a>(
     command: Command<'a>,
     versions: &'a [&'a str],
 ) -> Result<Command<'a>, AllocError>
-    ensures { (app : App) → IsLocalApp command.entry app → IfOk result (λ c. IsLocalApp c (with_signing_options versions.entry app)) }
+    ensures { (app : App) → IsLocalApp command.entry app
+        → IfOk result (λ c. IsLocalApp c (with_signing_options versions.entry app)) }
 {
     let command = with_key_options(alloc, command)?;
     let command = with_header_options(alloc, command)?;
@@ -57,7 +59,8 @@ fn with_block_options<'a>(
     command: Command<'a>,
     versions: &'a [&'a str],
 ) -> Result<Command<'a>, AllocError>
-    ensures { (app : App) → IsLocalApp command.entry app → IfOk result (λ c. IsLocalApp c (with_block_options versions.entry app)) }
+    ensures { (app : App) → IsLocalApp command.entry app
+        → IfOk result (λ c. IsLocalApp c (with_block_options versions.entry app)) }
 {
     let command = with_version(alloc, command, versions)?;
     let option = text(alloc, groups::NAME, "TEXT");
@@ -111,7 +114,8 @@ fn with_usual<'a>(
     help: &'a str,
 ) -> Result<Command<'a>, AllocError>
     ensures { (app : App) (rule : Rule) → IsLocalApp command.entry app → rule_of option.entry ≡ rule
-        → option.entry.global ≡ false → IfOk result (λ c. IsLocalApp c (with_rule app (usual_rule rule usual.entry.now))) }
+        → option.entry.global ≡ false → IfOk result (λ c.
+        IsLocalApp c (with_rule app (usual_rule rule usual.entry.now))) }
 {
     command.arg(option.default_value(usual).help(help))
 }

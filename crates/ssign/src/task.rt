@@ -43,14 +43,14 @@ pub struct Reporting {
     pub detail: Detail,
 }
 
-/// Reads a log to its end, and writes what is asked of it as it is to be reported: of a review that is to be whole, up to
-/// these counters, and of an extract, the messages that are wanted. Questions, inspections and extracts of given places
-/// ask the judge nothing. The judge is let go once it is known which blocks are verified.
+/// Reads a log to its end, and writes what is asked of it as it is to be reported: of a review that is to be whole, up
+/// to these counters, and of an extract, the messages that are wanted. Questions, inspections and extracts of given
+/// places ask the judge nothing. The judge is let go once it is known which blocks are verified.
 ///
-/// Nothing is written before the log is read and all that it leads to stands. `RunFault::Write` exactly where a call of the
-/// writer failed; what was written then is a prefix of the output. After any other fault nothing was written:
-/// `RunFault::Frame` where the log can't be read to its end, `RunFault::Extract` (E1, E2) where the log hasn't what is to be
-/// extracted, or not as lines, `RunFault::Review` (V1) and `RunFault::Memory` for want of memory.
+/// Nothing is written before the log is read and all that it leads to stands. `RunFault::Write` exactly where a call of
+/// the writer failed; what was written then is a prefix of the output. After any other fault nothing was written:
+/// `RunFault::Frame` where the log can't be read to its end, `RunFault::Extract` (E1, E2) where the log hasn't what is
+/// to be extracted, or not as lines, `RunFault::Review` (V1) and `RunFault::Memory` for want of memory.
 pub fn run_task<R: Read, W: Write, J: Judge + Drop>(
     alloc: Global,
     reader: &mut Watched<R>,
@@ -65,10 +65,12 @@ pub fn run_task<R: Read, W: Write, J: Judge + Drop>(
     requires reader { has_failed reader.old ≡ false }
     requires writer { has_failed writer.old ≡ false }
     requires sound { J.sound judge }
-    ensures done { IfOk result (Runs (job_of (answers J.trusted J.valid judge) reporting counters.now extraction task) limits
+    ensures done { IfOk result
+        (Runs (job_of (answers J.trusted J.valid judge) reporting counters.now extraction task) limits
         (source_of R.remaining reader.old) (source_of R.remaining reader.new)
         (sink_of W.contents writer.old) (sink_of W.contents writer.new)) }
-    ensures stopped { IfErr result (Stops (job_of (answers J.trusted J.valid judge) reporting counters.now extraction task) limits
+    ensures stopped { IfErr result
+        (Stops (job_of (answers J.trusted J.valid judge) reporting counters.now extraction task) limits
         (source_of R.remaining reader.old) (source_of R.remaining reader.new)
         (sink_of W.contents writer.old) (sink_of W.contents writer.new)) }
     ensures untouched { IfErr result (λ fault. fault ≢ RunFault.Write → writer.new ≡ writer.old) }

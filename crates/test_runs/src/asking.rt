@@ -112,8 +112,8 @@ pub const ROWS: [Row; 10] = [
 ];
 
 /// How many octets something that is signed has at least, for a judge to take its signature. 0 takes all; 130 takes the
-/// certificate block with the whole payload (130) and `Both` (147), and neither a fragment (114 and 123) nor `ShortAlone`
-/// (118); the greatest takes none.
+/// certificate block with the whole payload (130) and `Both` (147), and neither a fragment (114 and 123) nor
+/// `ShortAlone` (118); the greatest takes none.
 const JUDGES: [usize; 3] = [0, 130, usize::MAX];
 
 /// A log, and how often each judge is asked about a signature: about equal blocks once to accept a payload, if they are

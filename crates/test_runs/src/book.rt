@@ -59,7 +59,8 @@ impl<'b> Book<'b> {
     }
 
     fn accepts(&self, payload: &[u8], octets: &[u8], sign: &[u8]) -> bool
-        ensures { result ≡ (self.now.all || (bytes_eq payload.now self.now.payload.now && bytes_eq sign.now self.now.sign.now
+        ensures { result
+            ≡ (self.now.all || (bytes_eq payload.now self.now.payload.now && bytes_eq sign.now self.now.sign.now
             && (bytes_eq octets.now self.now.signed.0.now || bytes_eq octets.now self.now.signed.1.now))) }
     {
         self.all

@@ -49,14 +49,16 @@ const ROWS: [Row; 4] = [
         name: "all that was sent",
         steps: ONE,
         log: &[0, 1, 2, 3, 4, 5, 6, 7, 8, 9],
-        text: b"session h s - 1 joined\nok h s - 1 1 13 1 2\nok h s - 1 1 13 2 4\nok h s - 1 1 13 3 8\nok h s - 1 1 14 1 3\nok h s - 1 1 14 2 6\nend 10\n",
+        text: b"session h s - 1 joined\nok h s - 1 1 13 1 2\nok h s - 1 1 13 2 4\nok h s - 1 1 13 3 8\nok h s - 1 1 14 \
+            1 3\nok h s - 1 1 14 2 6\nend 10\n",
         verdict: Verdict::Clean,
     },
     Row {
         name: "some of it in another order, and a foreign message",
         steps: ONE,
         log: &[1, 0, 0, 8, 9, 6, 2, 7, FOREIGN],
-        text: b"session h s - 1 joined\nhole h s - 1 1 13 1 2\nok h s - 1 1 13 3 3\ngap h s - 1 1 14 1 lost\nok h s - 1 1 14 2 5\nunlisted 6\nunlisted 8\nend 9\n",
+        text: b"session h s - 1 joined\nhole h s - 1 1 13 1 2\nok h s - 1 1 13 3 3\ngap h s - 1 1 14 1 lost\nok h s - \
+            1 1 14 2 5\nunlisted 6\nunlisted 8\nend 9\n",
         verdict: Verdict::Findings,
     },
     Row {
@@ -70,7 +72,8 @@ const ROWS: [Row; 4] = [
         name: "an originator that goes on behind another one",
         steps: RESUMED,
         log: &[0, 1, 2, 3, 4, 5, 6, 7],
-        text: b"session h s - 1 joined\nok h s - 1 1 13 1 2\nok h s - 1 1 13 2 4\nhole h s - 1 1 14 1 1\nok h s - 1 1 14 2 6\nunlisted 3\nend 8\n",
+        text: b"session h s - 1 joined\nok h s - 1 1 13 1 2\nok h s - 1 1 13 2 4\nhole h s - 1 1 14 1 1\nok h s - 1 1 \
+            14 2 6\nunlisted 3\nend 8\n",
         verdict: Verdict::Findings,
     },
 ];

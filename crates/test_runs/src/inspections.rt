@@ -1,5 +1,5 @@
-//! Inspections of logs that cannot be read, over devices that fail, and where memory runs out: nothing is written then but
-//! by a write that failed.
+//! Inspections of logs that cannot be read, over devices that fail, and where memory runs out: nothing is written then
+//! but by a write that failed.
 use ss_frame::{FrameFault, Limits, Watched};
 use ss_report::{ReportForm, RunFault, Verdict, run_inspect};
 use std::alloc::Global;
@@ -10,7 +10,10 @@ use test_devices::{Paper, Pieces, Refusal};
 
 /// Two messages and their blocks, 373 octets.
 pub const LOG: &[u8] =
-    b"3 abc56 abcdbcdecdefdefgefghfghighijhijkijkljklmklmnlmnomnopnopq142 <110>1 - h s - - [ssign-cert VER=\"0111\" RSID=\"1\" SG=\"0\" SPRI=\"0\" TPBL=\"27\" INDEX=\"1\" FLEN=\"27\" FRAG=\"2009-05-03T14:00:39Z K S0VZ\" SIGN=\"AAAA\"]159 <110>1 - h s - - [ssign VER=\"0111\" RSID=\"1\" SG=\"0\" SPRI=\"0\" GBC=\"0\" FMN=\"1\" CNT=\"2\" HB=\"qZk+NkcGgWq6PiVxeFDCbJzQ2J0= hJg+RBw70m66rkqh+VEp5eVGcPE=\" SIGN=\"AAAA\"]";
+    b"3 abc56 abcdbcdecdefdefgefghfghighijhijkijkljklmklmnlmnomnopnopq142 <110>1 - h s - - [ssign-cert VER=\"0111\" \
+        RSID=\"1\" SG=\"0\" SPRI=\"0\" TPBL=\"27\" INDEX=\"1\" FLEN=\"27\" FRAG=\"2009-05-03T14:00:39Z K S0VZ\" \
+        SIGN=\"AAAA\"]159 <110>1 - h s - - [ssign VER=\"0111\" RSID=\"1\" SG=\"0\" SPRI=\"0\" GBC=\"0\" FMN=\"1\" \
+        CNT=\"2\" HB=\"qZk+NkcGgWq6PiVxeFDCbJzQ2J0= hJg+RBw70m66rkqh+VEp5eVGcPE=\" SIGN=\"AAAA\"]";
 
 /// What an inspection says of it, 102 octets.
 const INSPECTION: &[u8] =
@@ -95,8 +98,8 @@ fn stops_at_flush(rt: &(impl Abort + AllocGlobal)) {
     assert_eq!(rt; writer.into_inner().text(), INSPECTION);
 }
 
-/// A log that can't be read, and then octet by octet each read and each write that fails in turn, the read of the log's end
-/// among them, and the flush.
+/// A log that can't be read, and then octet by octet each read and each write that fails in turn, the read of the log's
+/// end among them, and the flush.
 #[test]
 fn stops_with_nothing_else_written(rt: HostRuntime) -> Result<(), Fail> {
     for (log, (max_len, max_messages), fault) in &STOPS {
@@ -132,8 +135,8 @@ fn inspect(rt: &(impl Abort + AllocGlobal)) -> Result<Verdict, RunFault> {
     said
 }
 
-/// `tests/memory.sh` refuses each allocation of this test in turn, and it passes each time: after want of memory nothing
-/// is written, and the next call gives the output.
+/// `tests/memory.sh` refuses each allocation of this test in turn, and it passes each time: after want of memory
+/// nothing is written, and the next call gives the output.
 #[test]
 fn wants_memory_or_says_what_there_is(rt: HostRuntime) {
     let mut said = inspect(&rt);

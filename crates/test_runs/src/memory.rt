@@ -1,5 +1,5 @@
-//! Calls of a reviewer, of a questioner and of the runs with counters, of which `tests/memory.sh` refuses each allocation
-//! in turn: a call answers want of memory then, changes nothing, and gives its answer when it is made again.
+//! Calls of a reviewer, of a questioner and of the runs with counters, of which `tests/memory.sh` refuses each
+//! allocation in turn: a call answers want of memory then, changes nothing, and gives its answer when it is made again.
 use crate::asking::{Asked, ROWS, Row, is_asked, is_signed};
 use crate::book::{PAYLOAD, SIGN, Yes};
 use crate::inspections::LOG;
@@ -197,12 +197,14 @@ const RUNS: [(Run, &[u8], Verdict); 3] = [
     ),
     (
         Run::Tally,
-        b"session h s - 1 joined\ntally h s - 1 0 0 2 0 0 0 1 2\nunlisted-count 0\nrefused-count 0\nspoilt-count 0\nend 4\n",
+        b"session h s - 1 joined\ntally h s - 1 0 0 2 0 0 0 1 2\nunlisted-count 0\nrefused-count 0\nspoilt-count 0\n\
+            end 4\n",
         Verdict::Clean,
     ),
     (
         Run::Whole,
-        b"session h s - 1 joined\nok h s - 1 0 0 1 0\nok h s - 1 0 0 2 1\ntail h s - 1 0 0 3 3\nblocks h s - 1 1 1\nend 4\n",
+        b"session h s - 1 joined\nok h s - 1 0 0 1 0\nok h s - 1 0 0 2 1\ntail h s - 1 0 0 3 3\nblocks h s - 1 1 1\n\
+            end 4\n",
         Verdict::Findings,
     ),
 ];

@@ -16,18 +16,27 @@ pub const REPORT: &[u8] =
 
 /// What is asked about it, 509 octets.
 pub const QUESTIONS: &[u8] =
-    b"trust MjAwOS0wNS0wM1QxNDowMDozOVogSyBTMFZa\nyes MjAwOS0wNS0wM1QxNDowMDozOVogSyBTMFZa PDExMD4xIC0gaCBzIC0gLSBbc3NpZ24tY2VydCBWRVI9IjAxMTEiIFJTSUQ9IjEiIFNHPSIwIiBTUFJJPSIwIiBUUEJMPSIyNyIgSU5ERVg9IjEiIEZMRU49IjI3IiBGUkFHPSIyMDA5LTA1LTAzVDE0OjAwOjM5WiBLIFMwVloiXQ== AAAA\nyes MjAwOS0wNS0wM1QxNDowMDozOVogSyBTMFZa PDExMD4xIC0gaCBzIC0gLSBbc3NpZ24gVkVSPSIwMTExIiBSU0lEPSIxIiBTRz0iMCIgU1BSST0iMCIgR0JDPSIwIiBGTU49IjEiIENOVD0iMiIgSEI9InFaaytOa2NHZ1dxNlBpVnhlRkRDYkp6UTJKMD0gaEpnK1JCdzcwbTY2cmtxaCtWRXA1ZVZHY1BFPSJd AAAA\n";
+    b"trust MjAwOS0wNS0wM1QxNDowMDozOVogSyBTMFZa\nyes MjAwOS0wNS0wM1QxNDowMDozOVogSyBTMFZa \
+        PDExMD4xIC0gaCBzIC0gLSBbc3NpZ24tY2VydCBWRVI9IjAxMTEiIFJTSUQ9IjEiIFNHPSIwIiBTUFJJPSIwIiBUUEJMPSIyNyIgSU5ERVg9IjE\
+        iIEZMRU49IjI3IiBGUkFHPSIyMDA5LTA1LTAzVDE0OjAwOjM5WiBLIFMwVloiXQ== AAAA\nyes \
+        MjAwOS0wNS0wM1QxNDowMDozOVogSyBTMFZa PDExMD4xIC0gaCBzIC0gLSBbc3NpZ24gVkVSPSIwMTExIiBSU0lEPSIxIiBTRz0iMCIgU1BSST\
+        0iMCIgR0JDPSIwIiBGTU49IjEiIENOVD0iMiIgSEI9InFaaytOa2NHZ1dxNlBpVnhlRkRDYkp6UTJKMD0gaEpnK1JCdzcwbTY2cmtxaCtWRXA1Z\
+        VZHY1BFPSJd AAAA\n";
 
 /// What is extracted of it, 64 octets.
 pub const EXTRACT: &[u8] = b"3 abc56 abcdbcdecdefdefgefghfghighijhijkijkljklmklmnlmnomnopnopq";
 
 /// What is carried over of it to the next log, 146 octets.
 pub const CARRIED: &[u8] =
-    b"142 <110>1 - h s - - [ssign-cert VER=\"0111\" RSID=\"1\" SG=\"0\" SPRI=\"0\" TPBL=\"27\" INDEX=\"1\" FLEN=\"27\" FRAG=\"2009-05-03T14:00:39Z K S0VZ\" SIGN=\"AAAA\"]";
+    b"142 <110>1 - h s - - [ssign-cert VER=\"0111\" RSID=\"1\" SG=\"0\" SPRI=\"0\" TPBL=\"27\" INDEX=\"1\" FLEN=\"27\" \
+        FRAG=\"2009-05-03T14:00:39Z K S0VZ\" SIGN=\"AAAA\"]";
 
 /// A message that nobody signed, the certificate block, and what is left of a session that isn't joined.
 const CARRIED_BESIDE: &[u8] =
-    b"3 abc142 <110>1 - h s - - [ssign-cert VER=\"0111\" RSID=\"1\" SG=\"0\" SPRI=\"0\" TPBL=\"27\" INDEX=\"1\" FLEN=\"27\" FRAG=\"2009-05-03T14:00:39Z K S0VZ\" SIGN=\"AAAA\"]56 abcdbcdecdefdefgefghfghighijhijkijkljklmklmnlmnomnopnopq130 <110>1 - h s - - [ssign VER=\"0111\" RSID=\"2\" SG=\"0\" SPRI=\"0\" GBC=\"0\" FMN=\"1\" CNT=\"1\" HB=\"qZk+NkcGgWq6PiVxeFDCbJzQ2J0=\" SIGN=\"AAAA\"]";
+    b"3 abc142 <110>1 - h s - - [ssign-cert VER=\"0111\" RSID=\"1\" SG=\"0\" SPRI=\"0\" TPBL=\"27\" INDEX=\"1\" \
+        FLEN=\"27\" FRAG=\"2009-05-03T14:00:39Z K S0VZ\" SIGN=\"AAAA\"]56 \
+        abcdbcdecdefdefgefghfghighijhijkijkljklmklmnlmnomnopnopq130 <110>1 - h s - - [ssign VER=\"0111\" RSID=\"2\" \
+        SG=\"0\" SPRI=\"0\" GBC=\"0\" FMN=\"1\" CNT=\"1\" HB=\"qZk+NkcGgWq6PiVxeFDCbJzQ2J0=\" SIGN=\"AAAA\"]";
 
 /// A run over a log, who answers for its signatures, what is written, and the verdict.
 #[derive(Clone, Copy)]
@@ -366,7 +375,12 @@ const ROWS: [Row; 34] = [
     Row {
         name: "a message that nobody signed is carried over, and a session without a certificate block",
         job: Job::Carry,
-        log: &[Text::Short, Text::Certificate, Text::Long, Text::ShortOfSecondSession],
+        log: &[
+            Text::Short,
+            Text::Certificate,
+            Text::Long,
+            Text::ShortOfSecondSession,
+        ],
         who: Who::All,
         text: CARRIED_BESIDE,
         verdict: Verdict::Clean,

@@ -31,8 +31,8 @@ struct Row {
     absent: &'static [Missing],
 }
 
-/// The session of the report has the RSID 1. The message 1 is listed and the message 2 lost, and the blocks with the GBC
-/// 1 and 3 are there.
+/// The session of the report has the RSID 1. The message 1 is listed and the message 2 lost, and the blocks with the
+/// GBC 1 and 3 are there.
 const ROWS: [Row; 6] = [
     Row {
         counters: &[],

@@ -114,8 +114,8 @@ fn has_memory(rt: &(impl Abort + AllocGlobal), job: Job, text: &[u8]) -> bool {
     }
 }
 
-/// `tests/memory.sh` refuses each allocation of this test in turn, and it passes each time: after want of memory nothing
-/// is written, and a run that is called again gives its output.
+/// `tests/memory.sh` refuses each allocation of this test in turn, and it passes each time: after want of memory
+/// nothing is written, and a run that is called again gives its output.
 #[test]
 fn wants_memory_or_gives_the_output(rt: HostRuntime) {
     for (job, text) in [(SIGN, BOTH_FRAMES), (Job::Plan, BOTH_WANTS)] {

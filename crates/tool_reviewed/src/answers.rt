@@ -25,7 +25,9 @@ impl<'a> Judge for Answers<'a> {
 
     ghost trusted = { λ a p. list_any (λ t. bytes_eq t.now p) a.trusted.items };
 
-    ghost valid = { λ a p x s. list_any (λ t. bytes_eq t.payload.now p && (bytes_eq t.octets.now x && bytes_eq t.signature.now s)) a.signed.items };
+    ghost valid = { λ a p x s.
+        list_any (λ t.
+        bytes_eq t.payload.now p && (bytes_eq t.octets.now x && bytes_eq t.signature.now s)) a.signed.items };
 
     fn trusts(&self, payload: &[u8]) -> bool {
         self.trusted.as_slice().contains(&payload)

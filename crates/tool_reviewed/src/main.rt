@@ -3,12 +3,12 @@
 //!
 //! - `m`: the next message of the log.
 //! - `t`: a payload that is trusted.
-//! - `p`, `o`, `s`: a payload, octets and a signature; the signature is valid of the octets under the payload. A payload
-//!   and octets stay for the next signature.
+//! - `p`, `o`, `s`: a payload, octets and a signature; the signature is valid of the octets under the payload. A
+//!   payload and octets stay for the next signature.
 //! - `.`: the end of a log; the next frame begins another one.
 //!
-//! For each log a line `pairs` and what `Reviewer` says, and a line `whole` and what `plain::Reviewer` says: the report and
-//! the questions. Octets are hexadecimal, and an absent field is `-`.
+//! For each log a line `pairs` and what `Reviewer` says, and a line `whole` and what `plain::Reviewer` says: the report
+//! and the questions. Octets are hexadecimal, and an absent field is `-`.
 #![tactic(auto)]
 
 mod answers;

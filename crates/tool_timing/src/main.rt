@@ -1,10 +1,10 @@
-//! Runs one part of the libraries over its input, so that the scripts of `bench/` can time that part and nothing else. Its
-//! words:
+//! Runs one part of the libraries over its input, so that the scripts of `bench/` can time that part and nothing else.
+//! Its words:
 //!
 //! - `frames`, `lines`: reads the messages of standard input in that form.
 //! - `messages`: reads each line of standard input as a message; with the word `scan` it finds the lines alone.
-//! - `joining ORDER COUNT`: joins so many fragments of one octet each, in the order `rising`, `falling`, `shuffled`, `whole`
-//!   or `joiners` (`joining.rt`).
+//! - `joining ORDER COUNT`: joins so many fragments of one octet each, in the order `rising`, `falling`, `shuffled`,
+//!   `whole` or `joiners` (`joining.rt`).
 //! - `review`: reviews the frames of standard input under a scheme that says yes to everything; with the word `feed` it
 //!   feeds them to the reviewer alone.
 //!

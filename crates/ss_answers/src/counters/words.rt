@@ -5,7 +5,8 @@ ghost use Rattle.ss_message.specs.Octets.{is_printable, is_text};
 ghost use Rattle.ss_review.specs.declared.counted.counter.Counts.TheVariants.{Messages};
 ghost use Rattle.ss_answers.specs.CounterLine.{BeginsWithNoNumber, BeginsWithNoSession, BeginsWithNoWord};
 ghost use Rattle.ss_answers.specs.CounterLine.{BeginsWithNumber, BeginsWithSession, BeginsWithWord, IsNoCounter};
-ghost use Rattle.ss_answers.specs.CounterLine.{SpellsCounter, SpellsNext, SpellsNoGroup, SpellsNoNext, counter_by, session_by};
+ghost use Rattle.ss_answers.specs.CounterLine.{SpellsCounter, SpellsNext, SpellsNoGroup, SpellsNoNext, counter_by};
+ghost use Rattle.ss_answers.specs.CounterLine.{session_by};
 
 use crate::cut::cut_word;
 use ss_block::{Group, LAST_NUMBER, PAST_LAST_NUMBER, number_of};

@@ -1,7 +1,9 @@
 -- The findings of a report: what it says without its `ok` lines.
 use Rattle.std.specs.Prelude.{ℕ, Bool, true, false, List, [], if◌then◌else◌}
-use Rattle.ss_report.specs.lines.Lines.{ReportLine, SessionLine, OkLine, GapLine, HoleLine, TailLine, BlocksLine, AbsentLine, TallyLine}
-use Rattle.ss_report.specs.lines.Lines.{UnlistedLine, RefusedLine, SpoiltLine, UnlistedCountLine, RefusedCountLine, SpoiltCountLine, TornLine, EndLine}
+use Rattle.ss_report.specs.lines.Lines.{ReportLine, SessionLine, OkLine, GapLine, HoleLine, TailLine, BlocksLine}
+use Rattle.ss_report.specs.lines.Lines.{AbsentLine, TallyLine}
+use Rattle.ss_report.specs.lines.Lines.{UnlistedLine, RefusedLine, SpoiltLine, UnlistedCountLine, RefusedCountLine}
+use Rattle.ss_report.specs.lines.Lines.{SpoiltCountLine, TornLine, EndLine}
 use Rattle.ss_report.specs.forms.ReportText.{line_text}
 use Rattle.ss_report.specs.forms.Json.{line_object}
 

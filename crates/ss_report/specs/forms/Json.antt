@@ -1,5 +1,5 @@
--- The lines of a report as JSON (RFC 8259): an object a line, ended by LF, its keys in one order, with no space behind a
--- colon or a comma.
+-- The lines of a report as JSON (RFC 8259): an object a line, ended by LF, its keys in one order, with no space behind
+-- a colon or a comma.
 use Rattle.std.specs.Prelude.{ℕ, Bool, List, [], ◌∷◌, ◌++◌, ◌==◌, ◌||◌, if◌then◌else◌, codes, decimal, flat_map}
 use Rattle.ss_block.specs.declared.block.Group.{Group}
 use Rattle.ss_block.specs.declared.session.Session.{Session}
@@ -9,8 +9,10 @@ use Rattle.ss_review.specs.declared.report.session_report.SessionState.{SessionS
 use Rattle.ss_report.specs.declared.lines.tally.Tally.{Tally}
 use Rattle.ss_report.specs.texts.Words.{field_word, cause_number}
 use Rattle.ss_report.specs.forms.ReportText.{state_word, why_word}
-use Rattle.ss_report.specs.lines.Lines.{ReportLine, SessionLine, OkLine, GapLine, HoleLine, TailLine, BlocksLine, AbsentLine, TallyLine}
-use Rattle.ss_report.specs.lines.Lines.{UnlistedLine, RefusedLine, SpoiltLine, UnlistedCountLine, RefusedCountLine, SpoiltCountLine, TornLine, EndLine}
+use Rattle.ss_report.specs.lines.Lines.{ReportLine, SessionLine, OkLine, GapLine, HoleLine, TailLine, BlocksLine}
+use Rattle.ss_report.specs.lines.Lines.{AbsentLine, TallyLine}
+use Rattle.ss_report.specs.lines.Lines.{UnlistedLine, RefusedLine, SpoiltLine, UnlistedCountLine, RefusedCountLine}
+use Rattle.ss_report.specs.lines.Lines.{SpoiltCountLine, TornLine, EndLine}
 
 -- `"` and `\`
 abbrev pub is_escaped : ℕ → Bool
@@ -35,7 +37,8 @@ text_member key octets = codes ",\"" ++ key ++ codes "\":\"" ++ flat_map escaped
 -- host, app, procid and rsid
 unfoldable pub session_members : Session → List ℕ
 session_members s =
-    text_member (codes "host") (field_word s.host) ++ text_member (codes "app") (field_word s.app) ++ text_member (codes "procid") (field_word s.procid)
+    text_member (codes "host") (field_word s.host) ++ text_member (codes "app") (field_word s.app)
+    ++ text_member (codes "procid") (field_word s.procid)
     ++ number_member (codes "rsid") s.rsid
 
 -- sg and spri
@@ -43,35 +46,44 @@ unfoldable pub group_members : Group → List ℕ
 group_members g = number_member (codes "sg") g.sg ++ number_member (codes "spri") g.spri
 
 unfoldable pub session_object : Session → SessionState → List ℕ
-session_object s state = codes "{\"line\":\"session\"" ++ session_members s ++ word_member (codes "state") (state_word state) ++ codes "}\n"
+session_object s state =
+    codes "{\"line\":\"session\"" ++ session_members s ++ word_member (codes "state") (state_word state) ++ codes "}\n"
 
 unfoldable pub ok_object : Session → Group → (number place : ℕ) → List ℕ
 ok_object s g number place =
-    codes "{\"line\":\"ok\"" ++ session_members s ++ group_members g ++ number_member (codes "number") number ++ number_member (codes "place") place ++ codes "}\n"
+    codes "{\"line\":\"ok\"" ++ session_members s ++ group_members g ++ number_member (codes "number") number
+    ++ number_member (codes "place") place ++ codes "}\n"
 
 unfoldable pub gap_object : Session → Group → (number : ℕ) → Why → List ℕ
 gap_object s g number why =
-    codes "{\"line\":\"gap\"" ++ session_members s ++ group_members g ++ number_member (codes "number") number ++ word_member (codes "why") (why_word why) ++ codes "}\n"
+    codes "{\"line\":\"gap\"" ++ session_members s ++ group_members g ++ number_member (codes "number") number
+    ++ word_member (codes "why") (why_word why) ++ codes "}\n"
 
 unfoldable pub hole_object : Session → Group → (first last : ℕ) → List ℕ
 hole_object s g first last =
-    codes "{\"line\":\"hole\"" ++ session_members s ++ group_members g ++ number_member (codes "first") first ++ number_member (codes "last") last ++ codes "}\n"
+    codes "{\"line\":\"hole\"" ++ session_members s ++ group_members g ++ number_member (codes "first") first
+    ++ number_member (codes "last") last ++ codes "}\n"
 
 unfoldable pub blocks_object : Session → (first last : ℕ) → List ℕ
 blocks_object s first last =
-    codes "{\"line\":\"blocks\"" ++ session_members s ++ number_member (codes "first") first ++ number_member (codes "last") last ++ codes "}\n"
+    codes "{\"line\":\"blocks\"" ++ session_members s ++ number_member (codes "first") first
+    ++ number_member (codes "last") last ++ codes "}\n"
 
 unfoldable pub tail_object : Session → Group → (first last : ℕ) → List ℕ
 tail_object s g first last =
-    codes "{\"line\":\"tail\"" ++ session_members s ++ group_members g ++ number_member (codes "first") first ++ number_member (codes "last") last ++ codes "}\n"
+    codes "{\"line\":\"tail\"" ++ session_members s ++ group_members g ++ number_member (codes "first") first
+    ++ number_member (codes "last") last ++ codes "}\n"
 
 unfoldable pub absent_object : Session → List ℕ
-absent_object s = codes "{\"line\":\"session\"" ++ session_members s ++ word_member (codes "state") (codes "absent") ++ codes "}\n"
+absent_object s =
+    codes "{\"line\":\"session\"" ++ session_members s ++ word_member (codes "state") (codes "absent") ++ codes "}\n"
 
 unfoldable pub tally_object : Session → Group → Tally → List ℕ
 tally_object s g t =
-    codes "{\"line\":\"tally\"" ++ session_members s ++ group_members g ++ number_member (codes "ok") t.listed ++ number_member (codes "lost") t.lost
-    ++ number_member (codes "disputed") t.disputed ++ number_member (codes "holes") t.holes ++ number_member (codes "first") t.first ++ number_member (codes "last") t.last
+    codes "{\"line\":\"tally\"" ++ session_members s ++ group_members g ++ number_member (codes "ok") t.listed
+    ++ number_member (codes "lost") t.lost
+    ++ number_member (codes "disputed") t.disputed ++ number_member (codes "holes") t.holes
+    ++ number_member (codes "first") t.first ++ number_member (codes "last") t.last
     ++ codes "}\n"
 
 -- the line of a kind that says one number
@@ -81,7 +93,8 @@ number_object kind key number = codes "{\"line\":\"" ++ kind ++ codes "\"" ++ nu
 -- the cause is S1 to S9
 unfoldable pub spoilt_object : (place : ℕ) → Spoil → List ℕ
 spoilt_object place cause =
-    codes "{\"line\":\"spoilt\"" ++ number_member (codes "place") place ++ codes ",\"cause\":\"S" ++ decimal (cause_number cause) ++ codes "\"}\n"
+    codes "{\"line\":\"spoilt\"" ++ number_member (codes "place") place ++ codes ",\"cause\":\"S"
+    ++ decimal (cause_number cause) ++ codes "\"}\n"
 
 -- the object of a line
 abbrev pub line_object : ReportLine → List ℕ

@@ -1,5 +1,5 @@
--- The text of a report: each of its lines (`Lines.antt`: the sessions with their entries, then the unlisted, refused and
--- spoilt messages, then the end), ended by LF, with one SP between two fields.
+-- The text of a report: each of its lines (`Lines.antt`: the sessions with their entries, then the unlisted, refused
+-- and spoilt messages, then the end), ended by LF, with one SP between two fields.
 use Rattle.std.specs.Prelude.{List, ℕ, ◌++◌, codes, flat_map}
 use Rattle.ss_frame.specs.declared.step.Tail.{Tail}
 use Rattle.ss_block.specs.declared.block.Group.{Group}
@@ -12,8 +12,10 @@ use Rattle.ss_review.specs.declared.report.report.Report.{Report}
 use Rattle.ss_report.specs.declared.lines.detail.Detail.TheVariants.{Each}
 use Rattle.ss_report.specs.declared.lines.tally.Tally.{Tally}
 use Rattle.ss_report.specs.texts.Words.{spaced, session_words, group_words, number_line, spoilt_line}
-use Rattle.ss_report.specs.lines.Lines.{ReportLine, SessionLine, OkLine, GapLine, HoleLine, TailLine, BlocksLine, AbsentLine, TallyLine}
-use Rattle.ss_report.specs.lines.Lines.{UnlistedLine, RefusedLine, SpoiltLine, UnlistedCountLine, RefusedCountLine, SpoiltCountLine, TornLine, EndLine, lines}
+use Rattle.ss_report.specs.lines.Lines.{ReportLine, SessionLine, OkLine, GapLine, HoleLine, TailLine, BlocksLine}
+use Rattle.ss_report.specs.lines.Lines.{AbsentLine, TallyLine}
+use Rattle.ss_report.specs.lines.Lines.{UnlistedLine, RefusedLine, SpoiltLine, UnlistedCountLine, RefusedCountLine}
+use Rattle.ss_report.specs.lines.Lines.{SpoiltCountLine, TornLine, EndLine, lines}
 
 abbrev pub state_word : SessionState → List ℕ
 state_word states.Joined = codes "joined"
@@ -37,7 +39,8 @@ ok_text s g number place = codes "ok" ++ session_words s ++ group_words g ++ spa
 
 -- gap HOST APP PROCID RSID SG SPRI NUMBER WHY
 unfoldable pub gap_text : Session → Group → (number : ℕ) → Why → List ℕ
-gap_text s g number why = codes "gap" ++ session_words s ++ group_words g ++ spaced number ++ codes " " ++ why_word why ++ codes "\n"
+gap_text s g number why =
+    codes "gap" ++ session_words s ++ group_words g ++ spaced number ++ codes " " ++ why_word why ++ codes "\n"
 
 -- hole HOST APP PROCID RSID SG SPRI FIRST LAST
 unfoldable pub hole_text : Session → Group → (first last : ℕ) → List ℕ
@@ -58,7 +61,8 @@ absent_text s = codes "session" ++ session_words s ++ codes " absent\n"
 -- tally HOST APP PROCID RSID SG SPRI OK LOST DISPUTED HOLES FIRST LAST
 unfoldable pub tally_text : Session → Group → Tally → List ℕ
 tally_text s g t =
-    codes "tally" ++ session_words s ++ group_words g ++ spaced t.listed ++ spaced t.lost ++ spaced t.disputed ++ spaced t.holes ++ spaced t.first ++ spaced t.last
+    codes "tally" ++ session_words s ++ group_words g ++ spaced t.listed ++ spaced t.lost ++ spaced t.disputed
+    ++ spaced t.holes ++ spaced t.first ++ spaced t.last
     ++ codes "\n"
 
 -- the text of a line

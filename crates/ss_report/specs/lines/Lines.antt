@@ -64,8 +64,11 @@ tail_lines (tails.Torn pos) = TornLine pos ∷ []
 
 -- those of single messages
 unfoldable pub single_lines : Detail → Report → List ReportLine
-single_lines details.Each report = map UnlistedLine report.unlisted ++ map RefusedLine report.refused ++ map spoilt_place_line report.spoilt
-single_lines details.Tally report = UnlistedCountLine (length report.unlisted) ∷ RefusedCountLine (length report.refused) ∷ SpoiltCountLine (length report.spoilt) ∷ []
+single_lines details.Each report =
+    map UnlistedLine report.unlisted ++ map RefusedLine report.refused ++ map spoilt_place_line report.spoilt
+single_lines details.Tally report =
+    UnlistedCountLine (length report.unlisted) ∷ RefusedCountLine (length report.refused)
+    ∷ SpoiltCountLine (length report.spoilt) ∷ []
 
 -- those behind the lines of the sessions
 unfoldable pub other_lines : Detail → Report → Tail → List ReportLine

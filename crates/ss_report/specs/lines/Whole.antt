@@ -1,6 +1,6 @@
--- The report of a log with what is missing beside it: of each session's signature blocks, which state their Global Block
--- Counter, GBC, how many were sent before them in their session over all groups (RFC 5848, section 4.2.4); and, up to
--- counters that somebody kept, of the messages of each group and of sessions that the log has no block of.
+-- The report of a log with what is missing beside it: of each session's signature blocks, which state their Global
+-- Block Counter, GBC, how many were sent before them in their session over all groups (RFC 5848, section 4.2.4); and,
+-- up to counters that somebody kept, of the messages of each group and of sessions that the log has no block of.
 use Rattle.std.specs.Prelude.{ℕ, ◌&&◌, Bool, List, ◌∷◌, ◌++◌, map, flat_map, if◌then◌else◌}
 use Rattle.std.specs.List.{list_all, zip}
 use Rattle.ss_frame.specs.declared.step.Tail.{Tail}
@@ -49,7 +49,8 @@ absent_lines f = AbsentLine f.session ∷ shortfall_lines f
 -- all lines of a report, with what is missing of its sessions, and then of absent ones
 unfoldable pub lines_with : Detail → Report → LogShortfalls → Tail → List ReportLine
 lines_with detail report short tail =
-    flat_map (lines_beside detail) (zip report.sessions short.known) ++ flat_map absent_lines short.absent ++ other_lines detail report tail
+    flat_map (lines_beside detail) (zip report.sessions short.known) ++ flat_map absent_lines short.absent
+    ++ other_lines detail report tail
 
 -- ---- the verdict
 
@@ -68,13 +69,16 @@ verdict_with report short tail = if is_nothing_short short then report_verdict r
 
 -- the lines with what is missing of the sessions of a log, and up to these counters
 abbrev pub whole_lines : Detail → Answers → List Counter → List (List ℕ) → Tail → List ReportLine
-whole_lines detail says counters messages tail = lines_with detail (report says messages) (shortfalls_of says messages counters) tail
+whole_lines detail says counters messages tail =
+    lines_with detail (report says messages) (shortfalls_of says messages counters) tail
 
 abbrev pub whole_verdict : Answers → List Counter → List (List ℕ) → Tail → Verdict
-whole_verdict says counters messages tail = verdict_with (report says messages) (shortfalls_of says messages counters) tail
+whole_verdict says counters messages tail =
+    verdict_with (report says messages) (shortfalls_of says messages counters) tail
 
--- Each GBC below the greatest of a session, and below its counter, is that of a verified signature block, or missing, and
--- never both.
+-- Each GBC below the greatest of a session, and below its counter, is that of a verified signature block, or missing,
+-- and never both.
 abbrev pub TellsMissing : Answers → List Counter → List BlockMessage → Session → Type 0
 TellsMissing says counters bs s =
-    let end = end_of_blocks (counters_of counters s) (gbcs says bs s) in AreMissing (IsCounted says bs s) end (missing (gbcs says bs s) end)
+    let end = end_of_blocks (counters_of counters s) (gbcs says bs s)
+    in AreMissing (IsCounted says bs s) end (missing (gbcs says bs s) end)

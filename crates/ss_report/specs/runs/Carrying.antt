@@ -1,6 +1,7 @@
--- What of a log is carried over to the next one, where sessions go on from log to log: which places, by the report and the
--- blocks of the log.
-use Rattle.std.specs.Prelude.{ℕ, ◌+◌, ◌==◌, nat_le, nat_lt, Bool, true, false, not, ◌&&◌, List, [], ◌∷◌, ◌++◌, length, map, filter, filter_map, flat_map}
+-- What of a log is carried over to the next one, where sessions go on from log to log: which places, by the report and
+-- the blocks of the log.
+use Rattle.std.specs.Prelude.{ℕ, ◌+◌, ◌==◌, nat_le, nat_lt, Bool, true, false, not, ◌&&◌, List, [], ◌∷◌, ◌++◌, length}
+use Rattle.std.specs.Prelude.{map, filter, filter_map, flat_map}
 use Rattle.std.specs.List.{list_any}
 use Rattle.std.specs.Ordering.{nat_cmp}
 use Rattle.ss_block.specs.declared.block.Group.{Group}
@@ -72,7 +73,8 @@ is_fragment_of r s index count b = same_session b.session s && has_fragment_at i
 -- no such block with its INDEX and FLEN stands before this one
 abbrev pub is_first_said : Report → List BlockMessage → BlockMessage → Said → Bool
 is_first_said r bs b (Fragment c) =
-    not (list_any (λ other. nat_lt other.place b.place && is_fragment_of r b.session c.index (length c.fragment) other) bs)
+    not (list_any (λ other.
+    nat_lt other.place b.place && is_fragment_of r b.session c.index (length c.fragment) other) bs)
 is_first_said r bs b (Hashes h) = false
 
 abbrev pub is_gap : Entry → Bool

@@ -27,11 +27,13 @@ message_counter_text s g number = codes "count" ++ session_words s ++ group_word
 
 -- the same as JSON
 unfoldable pub block_counter_object : Session → (gbc : ℕ) → List ℕ
-block_counter_object s gbc = codes "{\"line\":\"count\"" ++ session_members s ++ number_member (codes "gbc") gbc ++ codes "}\n"
+block_counter_object s gbc =
+    codes "{\"line\":\"count\"" ++ session_members s ++ number_member (codes "gbc") gbc ++ codes "}\n"
 
 unfoldable pub message_counter_object : Session → Group → (number : ℕ) → List ℕ
 message_counter_object s g number =
-    codes "{\"line\":\"count\"" ++ session_members s ++ group_members g ++ number_member (codes "number") number ++ codes "}\n"
+    codes "{\"line\":\"count\"" ++ session_members s ++ group_members g ++ number_member (codes "number") number
+    ++ codes "}\n"
 
 abbrev pub block_counter : Notation → Session → (gbc : ℕ) → List ℕ
 block_counter Plain s gbc = block_counter_text s gbc
@@ -47,7 +49,8 @@ group_counter notation s g = message_counter notation s g.group (next_number g)
 
 -- the GBC of the session's next signature block, then the number of the next message of each group that is announced
 abbrev pub session_counters : Notation → SessionReport → CountedSession → List ℕ
-session_counters notation s c = block_counter notation s.session (next_after c.gbcs) ++ flat_map (group_counter notation s.session) s.groups
+session_counters notation s c =
+    block_counter notation s.session (next_after c.gbcs) ++ flat_map (group_counter notation s.session) s.groups
 
 -- a session that isn't joined has no verified block, and no line
 abbrev pub counters_with : Notation → SessionReport → CountedSession → List ℕ

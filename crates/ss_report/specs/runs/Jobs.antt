@@ -83,8 +83,8 @@ counting notation says = record {
   refusal = nothing;
 }
 
--- the messages that are selected, in a form, whatever the form of the log; what the log hasn't is refused, and what is no
--- line of it
+-- the messages that are selected, in a form, whatever the form of the log; what the log hasn't is refused, and what is
+-- no line of it
 abbrev pub extracting_as : Extraction → Answers → Job
 extracting_as e says = record {
   output = λ messages tail. units_in e.form (messages_at messages (selected e.selection says messages));
@@ -103,17 +103,21 @@ extracting says = record {
 }
 
 -- a review that succeeds, and its report lists what is announced
-pub record Reviews (says : Answers) (limits : Allowance) (before after : Source) (was is : Sink) (verdict : Verdict) : Type 0 where
+pub record Reviews (says : Answers) (limits : Allowance) (before after : Source) (was is : Sink) (verdict : Verdict) :
+    Type 0 where
   pub run : Runs (reviewing says) limits before after was is verdict
   pub listed : ListsWhatIsAnnounced says run.messages (report says run.messages)
 
 -- the same of a review in a form
-pub record ReviewsAs (form : ReportForm) (detail : Detail) (says : Answers) (limits : Allowance) (before after : Source) (was is : Sink) (verdict : Verdict) : Type 0 where
+pub record ReviewsAs (form : ReportForm) (detail : Detail) (says : Answers) (limits : Allowance) (before after : Source)
+    (was is : Sink) (verdict : Verdict) : Type 0 where
   pub run : Runs (reviewing_as form detail says) limits before after was is verdict
   pub listed : ListsWhatIsAnnounced says run.messages (report says run.messages)
 
--- the same of a review in a form with what is missing of each session's signature blocks, and of all up to these counters
-pub record ReviewsWhole (form : ReportForm) (detail : Detail) (counters : List Counter) (says : Answers) (limits : Allowance) (before after : Source) (was is : Sink) (verdict : Verdict) : Type 0 where
+-- the same of a review in a form with what is missing of each session's signature blocks, and of all up to these
+-- counters
+pub record ReviewsWhole (form : ReportForm) (detail : Detail) (counters : List Counter) (says : Answers)
+    (limits : Allowance) (before after : Source) (was is : Sink) (verdict : Verdict) : Type 0 where
   pub run : Runs (reviewing_whole form detail counters says) limits before after was is verdict
   pub listed : ListsWhatIsAnnounced says run.messages (report says run.messages)
   pub missing : (s : Session) → TellsMissing says counters (blocks (notes run.messages)) s

@@ -22,24 +22,26 @@ abbrev pub nothing : List (List ℕ) → Option ExtractFault
 nothing messages = None
 
 -- the log was read to its end, and this is what the run makes of it
-pub record Makes (job : Job) (limits : Allowance) (before after : Source) (output : List ℕ) (verdict : Verdict) : Type 0 where
-  pub messages : List (List ℕ)
-  pub tail : Tail
-  pub reading : ReadsLog limits before after messages (tail_end tail)
-  pub no_read_failed : after.failed ≡ false
-  pub unrefused : job.refusal messages ≡ None
-  pub output_is : output ≡ job.output messages tail
-  pub verdict_is : verdict ≡ job.verdict messages tail
+pub record Makes (job : Job) (limits : Allowance) (before after : Source) (output : List ℕ) (verdict : Verdict) : Type 0
+  where
+    pub messages : List (List ℕ)
+    pub tail : Tail
+    pub reading : ReadsLog limits before after messages (tail_end tail)
+    pub no_read_failed : after.failed ≡ false
+    pub unrefused : job.refusal messages ≡ None
+    pub output_is : output ≡ job.output messages tail
+    pub verdict_is : verdict ≡ job.verdict messages tail
 
 -- a run that succeeds: the log was read to its end, and the output was written whole
-pub record Runs (job : Job) (limits : Allowance) (before after : Source) (was is : Sink) (verdict : Verdict) : Type 0 where
-  pub messages : List (List ℕ)
-  pub tail : Tail
-  pub reading : ReadsLog limits before after messages (tail_end tail)
-  pub no_read_failed : after.failed ≡ false
-  pub unrefused : job.refusal messages ≡ None
-  pub written : WritesWhole was is (job.output messages tail)
-  pub verdict_is : verdict ≡ job.verdict messages tail
+pub record Runs (job : Job) (limits : Allowance) (before after : Source) (was is : Sink) (verdict : Verdict) : Type 0
+  where
+    pub messages : List (List ℕ)
+    pub tail : Tail
+    pub reading : ReadsLog limits before after messages (tail_end tail)
+    pub no_read_failed : after.failed ≡ false
+    pub unrefused : job.refusal messages ≡ None
+    pub written : WritesWhole was is (job.output messages tail)
+    pub verdict_is : verdict ≡ job.verdict messages tail
 
 -- a run whose output couldn't be written: a prefix of it was
 pub record FailsToWrite (job : Job) (limits : Allowance) (before after : Source) (was is : Sink) : Type 0 where

@@ -1,6 +1,7 @@
 -- What each message of a log is, one line a message, each ended by LF: words with one SP between two, or a JSON object
 -- (RFC 8259). The findings alone leave out the plain messages.
-use Rattle.std.specs.Prelude.{ℕ, ◌+◌, Bool, true, false, ◌&&◌, if◌then◌else◌, List, [], ◌∷◌, ◌++◌, codes, decimal, length, Option, Some, None}
+use Rattle.std.specs.Prelude.{ℕ, ◌+◌, Bool, true, false, ◌&&◌, if◌then◌else◌, List, [], ◌∷◌, ◌++◌, codes, decimal}
+use Rattle.std.specs.Prelude.{length, Option, Some, None}
 use Rattle.ss_frame.specs.declared.step.Tail.{Tail}
 use Rattle.ss_message.specs.declared.fault.Part.{Part}
 use Rattle.ss_message.specs.declared.fault.Part.TheVariants as parts
@@ -40,11 +41,14 @@ known_session_words (Some s) = session_words s
 -- a line for a message: its kind, its place, and what it says
 abbrev pub line_of : Reading → Option Session → ℕ → List ℕ
 line_of readings.Plain s place = number_line (codes "plain") place
-line_of (readings.Unparsed part pos) s place = codes "unparsed" ++ spaced place ++ codes " M" ++ decimal (part_number part) ++ spaced pos ++ codes "\n"
+line_of (readings.Unparsed part pos) s place =
+    codes "unparsed" ++ spaced place ++ codes " M" ++ decimal (part_number part) ++ spaced pos ++ codes "\n"
 line_of (readings.Signature b) s place =
-    codes "signature" ++ spaced place ++ known_session_words s ++ group_words b.group ++ spaced b.gbc ++ spaced b.first ++ spaced (length b.hashes) ++ codes "\n"
+    codes "signature" ++ spaced place ++ known_session_words s ++ group_words b.group ++ spaced b.gbc ++ spaced b.first
+    ++ spaced (length b.hashes) ++ codes "\n"
 line_of (readings.Certificate b) s place =
-    codes "certificate" ++ spaced place ++ known_session_words s ++ group_words b.group ++ spaced b.total ++ spaced b.index ++ spaced (length b.fragment) ++ codes "\n"
+    codes "certificate" ++ spaced place ++ known_session_words s ++ group_words b.group ++ spaced b.total
+    ++ spaced b.index ++ spaced (length b.fragment) ++ codes "\n"
 line_of (readings.Spoilt cause) s place = spoilt_line place cause
 
 -- the members of a session, where one is known
@@ -56,14 +60,19 @@ known_session_members (Some s) = session_members s
 abbrev pub object_of : Reading → Option Session → ℕ → List ℕ
 object_of readings.Plain s place = number_object (codes "plain") (codes "place") place
 object_of (readings.Unparsed part pos) s place =
-    codes "{\"line\":\"unparsed\"" ++ number_member (codes "place") place ++ codes ",\"part\":\"M" ++ decimal (part_number part) ++ codes "\""
+    codes "{\"line\":\"unparsed\"" ++ number_member (codes "place") place ++ codes ",\"part\":\"M"
+    ++ decimal (part_number part) ++ codes "\""
     ++ number_member (codes "offset") pos ++ codes "}\n"
 object_of (readings.Signature b) s place =
-    codes "{\"line\":\"signature\"" ++ number_member (codes "place") place ++ known_session_members s ++ group_members b.group
-    ++ number_member (codes "gbc") b.gbc ++ number_member (codes "first") b.first ++ number_member (codes "count") (length b.hashes) ++ codes "}\n"
+    codes "{\"line\":\"signature\"" ++ number_member (codes "place") place ++ known_session_members s
+    ++ group_members b.group
+    ++ number_member (codes "gbc") b.gbc ++ number_member (codes "first") b.first
+    ++ number_member (codes "count") (length b.hashes) ++ codes "}\n"
 object_of (readings.Certificate b) s place =
-    codes "{\"line\":\"certificate\"" ++ number_member (codes "place") place ++ known_session_members s ++ group_members b.group
-    ++ number_member (codes "total") b.total ++ number_member (codes "index") b.index ++ number_member (codes "length") (length b.fragment) ++ codes "}\n"
+    codes "{\"line\":\"certificate\"" ++ number_member (codes "place") place ++ known_session_members s
+    ++ group_members b.group
+    ++ number_member (codes "total") b.total ++ number_member (codes "index") b.index
+    ++ number_member (codes "length") (length b.fragment) ++ codes "}\n"
 object_of (readings.Spoilt cause) s place = spoilt_object place cause
 
 abbrev pub reading_line : Notation → Reading → Option Session → ℕ → List ℕ
@@ -79,7 +88,8 @@ is_plain (readings.Spoilt cause) = false
 
 unfoldable pub message_line : ReportForm → ℕ → List ℕ → List ℕ
 message_line form place message =
-    if has_findings_alone form && is_plain (reading message) then [] else reading_line (notation_of form) (reading message) (session message) place
+    if has_findings_alone form && is_plain (reading message) then []
+    else reading_line (notation_of form) (reading message) (session message) place
 
 -- the lines of messages of which the first has this place
 abbrev pub message_lines : ReportForm → ℕ → List (List ℕ) → List ℕ

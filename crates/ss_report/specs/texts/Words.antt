@@ -1,4 +1,5 @@
--- What the texts about a log say in one way: the words of a line, with the SP before each, and the lines that they share.
+-- What the texts about a log say in one way: the words of a line, with the SP before each, and the lines that they
+-- share.
 use Rattle.std.specs.Prelude.{ℕ, List, ◌++◌, codes, decimal}
 use Rattle.ss_message.specs.declared.draft.Field.{Field}
 use Rattle.ss_message.specs.declared.draft.Field.TheVariants as fields
@@ -18,7 +19,8 @@ field_word (fields.Text octets) = octets
 
 -- HOST APP PROCID RSID, with the SP before each
 abbrev pub session_words : Session → List ℕ
-session_words s = codes " " ++ field_word s.host ++ codes " " ++ field_word s.app ++ codes " " ++ field_word s.procid ++ spaced s.rsid
+session_words s =
+    codes " " ++ field_word s.host ++ codes " " ++ field_word s.app ++ codes " " ++ field_word s.procid ++ spaced s.rsid
 
 -- SG SPRI, with the SP before each
 abbrev pub group_words : Group → List ℕ

@@ -2,7 +2,8 @@
 ghost use Rattle.ss_frame.specs.Watched.{sink_of};
 ghost use Rattle.ss_report.specs.log.Writing.{Writes};
 ghost use Rattle.ss_report.specs.lines.Lines.{seen};
-ghost use Rattle.ss_report.specs.forms.Json.{session_object, ok_object, gap_object, hole_object, tail_object, blocks_object, absent_object, tally_object};
+ghost use Rattle.ss_report.specs.forms.Json.{session_object, ok_object, gap_object, hole_object, tail_object};
+ghost use Rattle.ss_report.specs.forms.Json.{blocks_object, absent_object, tally_object};
 ghost use Rattle.ss_report.specs.forms.Json.{number_object, spoilt_object, line_object};
 
 use crate::forms::members::{
@@ -77,7 +78,8 @@ pub(crate) fn write_object<W: Write>(writer: &mut Watched<W>, line: Line<'_>)
 
 #[tactic(auto, unfolding(crate::specs::Json::session_object))]
 fn write_session_object<W: Write>(writer: &mut Watched<W>, session: &Session, state: SessionState)
-    ensures { Writes (sink_of W.contents writer.old) (sink_of W.contents writer.new) (session_object session.now state) }
+    ensures { Writes (sink_of W.contents writer.old) (sink_of W.contents writer.new)
+        (session_object session.now state) }
 {
     write_text(writer, b"{\"line\":\"session\"");
     write_session_members(writer, session);
@@ -93,7 +95,8 @@ fn write_ok<W: Write>(
     number: u64,
     place: u64,
 )
-    ensures { Writes (sink_of W.contents writer.old) (sink_of W.contents writer.new) (ok_object session.now group number place) }
+    ensures { Writes (sink_of W.contents writer.old) (sink_of W.contents writer.new)
+        (ok_object session.now group number place) }
 {
     write_text(writer, b"{\"line\":\"ok\"");
     write_session_members(writer, session);
@@ -111,7 +114,8 @@ fn write_gap<W: Write>(
     number: u64,
     why: Why,
 )
-    ensures { Writes (sink_of W.contents writer.old) (sink_of W.contents writer.new) (gap_object session.now group number why) }
+    ensures { Writes (sink_of W.contents writer.old) (sink_of W.contents writer.new)
+        (gap_object session.now group number why) }
 {
     write_text(writer, b"{\"line\":\"gap\"");
     write_session_members(writer, session);
@@ -129,7 +133,8 @@ fn write_hole<W: Write>(
     first: u64,
     last: u64,
 )
-    ensures { Writes (sink_of W.contents writer.old) (sink_of W.contents writer.new) (hole_object session.now group first last) }
+    ensures { Writes (sink_of W.contents writer.old) (sink_of W.contents writer.new)
+        (hole_object session.now group first last) }
 {
     write_text(writer, b"{\"line\":\"hole\"");
     write_session_members(writer, session);
@@ -141,7 +146,8 @@ fn write_hole<W: Write>(
 
 #[tactic(auto, unfolding(crate::specs::Json::tail_object))]
 fn write_tail<W: Write>(writer: &mut Watched<W>, session: &Session, tail: GroupTail)
-    ensures { Writes (sink_of W.contents writer.old) (sink_of W.contents writer.new) (tail_object session.now tail.group tail.first tail.last) }
+    ensures { Writes (sink_of W.contents writer.old) (sink_of W.contents writer.new)
+        (tail_object session.now tail.group tail.first tail.last) }
 {
     write_text(writer, b"{\"line\":\"tail\"");
     write_session_members(writer, session);
@@ -163,7 +169,8 @@ fn write_absent<W: Write>(writer: &mut Watched<W>, session: &Session)
 
 #[tactic(auto, unfolding(crate::specs::Json::blocks_object))]
 fn write_blocks<W: Write>(writer: &mut Watched<W>, session: &Session, run: MissingRun)
-    ensures { Writes (sink_of W.contents writer.old) (sink_of W.contents writer.new) (blocks_object session.now run.first run.last) }
+    ensures { Writes (sink_of W.contents writer.old) (sink_of W.contents writer.new)
+        (blocks_object session.now run.first run.last) }
 {
     write_text(writer, b"{\"line\":\"blocks\"");
     write_session_members(writer, session);
@@ -174,7 +181,8 @@ fn write_blocks<W: Write>(writer: &mut Watched<W>, session: &Session, run: Missi
 
 #[tactic(auto, unfolding(crate::specs::Json::tally_object))]
 fn write_tally<W: Write>(writer: &mut Watched<W>, session: &Session, group: Group, tally: Tally)
-    ensures { Writes (sink_of W.contents writer.old) (sink_of W.contents writer.new) (tally_object session.now group tally) }
+    ensures { Writes (sink_of W.contents writer.old) (sink_of W.contents writer.new)
+        (tally_object session.now group tally) }
 {
     write_text(writer, b"{\"line\":\"tally\"");
     write_session_members(writer, session);
@@ -191,7 +199,8 @@ fn write_tally<W: Write>(writer: &mut Watched<W>, session: &Session, group: Grou
 /// Writes the object of a line that says one number.
 #[tactic(auto, unfolding(crate::specs::Json::number_object))]
 pub(crate) fn write_one<W: Write>(writer: &mut Watched<W>, kind: &[u8], key: &[u8], number: u64)
-    ensures { Writes (sink_of W.contents writer.old) (sink_of W.contents writer.new) (number_object kind.now key.now number) }
+    ensures { Writes (sink_of W.contents writer.old) (sink_of W.contents writer.new)
+        (number_object kind.now key.now number) }
 {
     write_text(writer, b"{\"line\":\"");
     write_text(writer, kind);

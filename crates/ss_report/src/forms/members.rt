@@ -4,7 +4,8 @@ ghost use Rattle.std.specs.List.{list_any};
 ghost use Rattle.ss_frame.specs.Watched.{sink_of};
 ghost use Rattle.ss_report.specs.log.Writing.{Writes};
 ghost use Rattle.ss_report.specs.texts.Words.{field_word};
-ghost use Rattle.ss_report.specs.forms.Json.{is_escaped, escaped, number_member, word_member, text_member, session_members, group_members};
+ghost use Rattle.ss_report.specs.forms.Json.{is_escaped, escaped, number_member, word_member, text_member};
+ghost use Rattle.ss_report.specs.forms.Json.{session_members, group_members};
 
 use crate::log::output::{write_number, write_text, write_wide_number};
 use ss_block::{Group, Session};
@@ -103,7 +104,8 @@ fn write_octet<W: Write>(writer: &mut Watched<W>, octet: u8)
 
 /// Writes a header field as a member; `-` for an absent one.
 fn write_field_member<W: Write>(writer: &mut Watched<W>, key: &[u8], field: &Field)
-    ensures { Writes (sink_of W.contents writer.old) (sink_of W.contents writer.new) (text_member key.now (field_word field.now)) }
+    ensures { Writes (sink_of W.contents writer.old) (sink_of W.contents writer.new)
+        (text_member key.now (field_word field.now)) }
 {
     match field {
         Field::Nil => write_text_member(writer, key, b"-"),

@@ -59,7 +59,8 @@ pub(crate) fn write_report_as<W: Write>(
     form: ReportForm,
     detail: Detail,
 )
-    ensures { Writes (sink_of W.contents writer.old) (sink_of W.contents writer.new) (report_as form detail report.now tail) }
+    ensures { Writes (sink_of W.contents writer.old) (sink_of W.contents writer.new)
+        (report_as form detail report.now tail) }
 {
     match form {
         ReportForm::Text => write_lines(&Text, writer, report, tail, detail),
@@ -69,7 +70,8 @@ pub(crate) fn write_report_as<W: Write>(
     }
 }
 
-/// Writes a report on a log with this end, in a form and a detail, with what is missing beside it. Nothing is allocated.
+/// Writes a report on a log with this end, in a form and a detail, with what is missing beside it. Nothing is
+/// allocated.
 pub(crate) fn write_whole_as<W: Write>(
     writer: &mut Watched<W>,
     report: &Report,
@@ -78,7 +80,8 @@ pub(crate) fn write_whole_as<W: Write>(
     form: ReportForm,
     detail: Detail,
 )
-    ensures { Writes (sink_of W.contents writer.old) (sink_of W.contents writer.new) (flat_map (line_as form) (lines_with detail report.now short.now tail)) }
+    ensures { Writes (sink_of W.contents writer.old) (sink_of W.contents writer.new)
+        (flat_map (line_as form) (lines_with detail report.now short.now tail)) }
 {
     match form {
         ReportForm::Text => write_lines_with(&Text, writer, report, short, tail, detail),

@@ -3,7 +3,8 @@ ghost use Rattle.std.specs.Prelude.{◌≡◌};
 ghost use Rattle.ss_frame.specs.Watched.{sink_of};
 ghost use Rattle.ss_report.specs.log.Writing.{Writes};
 ghost use Rattle.ss_report.specs.lines.Lines.{seen};
-ghost use Rattle.ss_report.specs.forms.ReportText.{state_word, why_word, session_text, ok_text, gap_text, hole_text, tail_text, blocks_text, absent_text};
+ghost use Rattle.ss_report.specs.forms.ReportText.{state_word, why_word, session_text, ok_text, gap_text, hole_text};
+ghost use Rattle.ss_report.specs.forms.ReportText.{tail_text, blocks_text, absent_text};
 ghost use Rattle.ss_report.specs.forms.ReportText.{tally_text, line_text};
 
 use crate::lines::form::Form;
@@ -108,7 +109,8 @@ fn write_ok<W: Write>(
     number: u64,
     place: u64,
 )
-    ensures { Writes (sink_of W.contents writer.old) (sink_of W.contents writer.new) (ok_text session.now group number place) }
+    ensures { Writes (sink_of W.contents writer.old) (sink_of W.contents writer.new)
+        (ok_text session.now group number place) }
 {
     write_text(writer, b"ok");
     write_session(writer, session);
@@ -127,7 +129,8 @@ fn write_gap<W: Write>(
     number: u64,
     why: Why,
 )
-    ensures { Writes (sink_of W.contents writer.old) (sink_of W.contents writer.new) (gap_text session.now group number why) }
+    ensures { Writes (sink_of W.contents writer.old) (sink_of W.contents writer.new)
+        (gap_text session.now group number why) }
 {
     write_text(writer, b"gap");
     write_session(writer, session);
@@ -156,7 +159,8 @@ fn write_hole<W: Write>(
     first: u64,
     last: u64,
 )
-    ensures { Writes (sink_of W.contents writer.old) (sink_of W.contents writer.new) (hole_text session.now group first last) }
+    ensures { Writes (sink_of W.contents writer.old) (sink_of W.contents writer.new)
+        (hole_text session.now group first last) }
 {
     write_text(writer, b"hole");
     write_session(writer, session);
@@ -169,7 +173,8 @@ fn write_hole<W: Write>(
 /// tail HOST APP PROCID RSID SG SPRI FIRST LAST
 #[tactic(auto, unfolding(crate::specs::ReportText::tail_text))]
 fn write_tail<W: Write>(writer: &mut Watched<W>, session: &Session, tail: GroupTail)
-    ensures { Writes (sink_of W.contents writer.old) (sink_of W.contents writer.new) (tail_text session.now tail.group tail.first tail.last) }
+    ensures { Writes (sink_of W.contents writer.old) (sink_of W.contents writer.new)
+        (tail_text session.now tail.group tail.first tail.last) }
 {
     write_text(writer, b"tail");
     write_session(writer, session);
@@ -192,7 +197,8 @@ fn write_absent<W: Write>(writer: &mut Watched<W>, session: &Session)
 /// blocks HOST APP PROCID RSID FIRST LAST
 #[tactic(auto, unfolding(crate::specs::ReportText::blocks_text))]
 fn write_blocks<W: Write>(writer: &mut Watched<W>, session: &Session, run: MissingRun)
-    ensures { Writes (sink_of W.contents writer.old) (sink_of W.contents writer.new) (blocks_text session.now run.first run.last) }
+    ensures { Writes (sink_of W.contents writer.old) (sink_of W.contents writer.new)
+        (blocks_text session.now run.first run.last) }
 {
     write_text(writer, b"blocks");
     write_session(writer, session);
@@ -204,7 +210,8 @@ fn write_blocks<W: Write>(writer: &mut Watched<W>, session: &Session, run: Missi
 /// tally HOST APP PROCID RSID SG SPRI OK LOST DISPUTED HOLES FIRST LAST
 #[tactic(auto, unfolding(crate::specs::ReportText::tally_text))]
 fn write_tally<W: Write>(writer: &mut Watched<W>, session: &Session, group: Group, tally: Tally)
-    ensures { Writes (sink_of W.contents writer.old) (sink_of W.contents writer.new) (tally_text session.now group tally) }
+    ensures { Writes (sink_of W.contents writer.old) (sink_of W.contents writer.new)
+        (tally_text session.now group tally) }
 {
     write_text(writer, b"tally");
     write_session(writer, session);

@@ -15,5 +15,6 @@ pub(crate) trait Form {
 
     /// Writes the octets of a line, as far as no call of the writer has failed. Nothing is allocated.
     fn write<W: Write>(&self, writer: &mut Watched<W>, line: Line<'_>)
-        ensures { Writes (sink_of W.contents writer.old) (sink_of W.contents writer.new) (text self.now (seen line.entry)) };
+        ensures { Writes (sink_of W.contents writer.old) (sink_of W.contents writer.new)
+            (text self.now (seen line.entry)) };
 }

@@ -3,7 +3,8 @@ ghost use Rattle.std.specs.Prelude.{◌≡◌, ◌++◌, ◌∷◌, [], map, fla
 ghost use Rattle.ss_frame.specs.Watched.{sink_of};
 ghost use Rattle.ss_report.specs.log.Writing.{Writes};
 ghost use Rattle.ss_report.specs.lines.Lines.{UnlistedLine, RefusedLine, EndLine};
-ghost use Rattle.ss_report.specs.lines.Lines.{entry_line, group_lines, session_lines, spoilt_place_line, single_lines, tail_lines, other_lines, lines, seen};
+ghost use Rattle.ss_report.specs.lines.Lines.{entry_line, group_lines, session_lines, spoilt_place_line, single_lines};
+ghost use Rattle.ss_report.specs.lines.Lines.{tail_lines, other_lines, lines, seen};
 
 use crate::lines::detail::Detail;
 use crate::lines::form::Form;
@@ -23,7 +24,8 @@ pub(crate) fn write_lines<F: Form, W: Write>(
     tail: Tail,
     detail: Detail,
 )
-    ensures { Writes (sink_of W.contents writer.old) (sink_of W.contents writer.new) (flat_map (F.text form.now) (lines detail report.now tail)) }
+    ensures { Writes (sink_of W.contents writer.old) (sink_of W.contents writer.new)
+        (flat_map (F.text form.now) (lines detail report.now tail)) }
 {
     write_sessions(form, writer, report.sessions.as_slice(), detail);
     write_others(form, writer, report, tail, detail);
@@ -38,7 +40,8 @@ pub(crate) fn write_others<F: Form, W: Write>(
     tail: Tail,
     detail: Detail,
 )
-    ensures { Writes (sink_of W.contents writer.old) (sink_of W.contents writer.new) (flat_map (F.text form.now) (other_lines detail report.now tail)) }
+    ensures { Writes (sink_of W.contents writer.old) (sink_of W.contents writer.new)
+        (flat_map (F.text form.now) (other_lines detail report.now tail)) }
 {
     write_singles(form, writer, report, detail);
     write_end(form, writer, tail, report.count);
@@ -51,7 +54,8 @@ fn write_singles<F: Form, W: Write>(
     report: &Report,
     detail: Detail,
 )
-    ensures { Writes (sink_of W.contents writer.old) (sink_of W.contents writer.new) (flat_map (F.text form.now) (single_lines detail report.now)) }
+    ensures { Writes (sink_of W.contents writer.old) (sink_of W.contents writer.new)
+        (flat_map (F.text form.now) (single_lines detail report.now)) }
 {
     match detail {
         Detail::Each => write_each(form, writer, report),
@@ -62,7 +66,8 @@ fn write_singles<F: Form, W: Write>(
 /// The lines of single messages.
 #[tactic(auto, unfolding(crate::specs::Lines::single_lines))]
 fn write_each<F: Form, W: Write>(form: &F, writer: &mut Watched<W>, report: &Report)
-    ensures { Writes (sink_of W.contents writer.old) (sink_of W.contents writer.new) (flat_map (F.text form.now) (single_lines Detail.Each report.now)) }
+    ensures { Writes (sink_of W.contents writer.old) (sink_of W.contents writer.new)
+        (flat_map (F.text form.now) (single_lines Detail.Each report.now)) }
 {
     write_unlisted(form, writer, report.unlisted.as_slice());
     write_refused(form, writer, report.refused.as_slice());
@@ -72,7 +77,8 @@ fn write_each<F: Form, W: Write>(form: &F, writer: &mut Watched<W>, report: &Rep
 /// How many single messages there are.
 #[tactic(auto, unfolding(crate::specs::Lines::single_lines))]
 fn write_counts<F: Form, W: Write>(form: &F, writer: &mut Watched<W>, report: &Report)
-    ensures { Writes (sink_of W.contents writer.old) (sink_of W.contents writer.new) (flat_map (F.text form.now) (single_lines Detail.Tally report.now)) }
+    ensures { Writes (sink_of W.contents writer.old) (sink_of W.contents writer.new)
+        (flat_map (F.text form.now) (single_lines Detail.Tally report.now)) }
 {
     let unlisted = report.unlisted.as_slice().len() as u64;
     let refused = report.refused.as_slice().len() as u64;
@@ -88,7 +94,8 @@ fn write_sessions<F: Form, W: Write>(
     sessions: &[SessionReport],
     detail: Detail,
 )
-    ensures { Writes (sink_of W.contents writer.old) (sink_of W.contents writer.new) (flat_map (F.text form.now) (flat_map (session_lines detail) sessions.now)) }
+    ensures { Writes (sink_of W.contents writer.old) (sink_of W.contents writer.new)
+        (flat_map (F.text form.now) (flat_map (session_lines detail) sessions.now)) }
 {
     for session in sessions {
         write_session(form, writer, session, detail);
@@ -102,7 +109,8 @@ pub(crate) fn write_session<F: Form, W: Write>(
     report: &SessionReport,
     detail: Detail,
 )
-    ensures { Writes (sink_of W.contents writer.old) (sink_of W.contents writer.new) (flat_map (F.text form.now) (session_lines detail report.now)) }
+    ensures { Writes (sink_of W.contents writer.old) (sink_of W.contents writer.new)
+        (flat_map (F.text form.now) (session_lines detail report.now)) }
 {
     let session = &report.session;
     let state = report.state;
@@ -117,7 +125,8 @@ fn write_groups<F: Form, W: Write>(
     groups: &[GroupReport],
     detail: Detail,
 )
-    ensures { Writes (sink_of W.contents writer.old) (sink_of W.contents writer.new) (flat_map (F.text form.now) (flat_map (group_lines detail session.now) groups.now)) }
+    ensures { Writes (sink_of W.contents writer.old) (sink_of W.contents writer.new)
+        (flat_map (F.text form.now) (flat_map (group_lines detail session.now) groups.now)) }
 {
     for group in groups {
         write_group(form, writer, session, group, detail);
@@ -132,7 +141,8 @@ fn write_group<F: Form, W: Write>(
     report: &GroupReport,
     detail: Detail,
 )
-    ensures { Writes (sink_of W.contents writer.old) (sink_of W.contents writer.new) (flat_map (F.text form.now) (group_lines detail session.now report.now)) }
+    ensures { Writes (sink_of W.contents writer.old) (sink_of W.contents writer.new)
+        (flat_map (F.text form.now) (group_lines detail session.now report.now)) }
 {
     match detail {
         Detail::Each => write_entries(form, writer, session, report),
@@ -146,7 +156,8 @@ fn write_tally<F: Form, W: Write>(
     session: &Session,
     report: &GroupReport,
 )
-    ensures { Writes (sink_of W.contents writer.old) (sink_of W.contents writer.new) (flat_map (F.text form.now) (group_lines Detail.Tally session.now report.now)) }
+    ensures { Writes (sink_of W.contents writer.old) (sink_of W.contents writer.new)
+        (flat_map (F.text form.now) (group_lines Detail.Tally session.now report.now)) }
 {
     let group = report.group;
     let tally = Tally::of(report.entries.as_slice());
@@ -166,7 +177,8 @@ fn write_entries<F: Form, W: Write>(
     session: &Session,
     report: &GroupReport,
 )
-    ensures { Writes (sink_of W.contents writer.old) (sink_of W.contents writer.new) (flat_map (F.text form.now) (group_lines Detail.Each session.now report.now)) }
+    ensures { Writes (sink_of W.contents writer.old) (sink_of W.contents writer.new)
+        (flat_map (F.text form.now) (group_lines Detail.Each session.now report.now)) }
 {
     for entry in report.entries.as_slice() {
         form.write(writer, line_of_entry(session, report.group, *entry));
@@ -200,7 +212,8 @@ fn line_of_entry(session: &Session, group: Group, entry: Entry) -> Line<'_>
 }
 
 fn write_unlisted<F: Form, W: Write>(form: &F, writer: &mut Watched<W>, places: &[u32])
-    ensures { Writes (sink_of W.contents writer.old) (sink_of W.contents writer.new) (flat_map (F.text form.now) (map UnlistedLine places.now)) }
+    ensures { Writes (sink_of W.contents writer.old) (sink_of W.contents writer.new)
+        (flat_map (F.text form.now) (map UnlistedLine places.now)) }
 {
     for place in places {
         form.write(writer, Line::Unlisted { place: *place });
@@ -208,7 +221,8 @@ fn write_unlisted<F: Form, W: Write>(form: &F, writer: &mut Watched<W>, places: 
 }
 
 fn write_refused<F: Form, W: Write>(form: &F, writer: &mut Watched<W>, places: &[u32])
-    ensures { Writes (sink_of W.contents writer.old) (sink_of W.contents writer.new) (flat_map (F.text form.now) (map RefusedLine places.now)) }
+    ensures { Writes (sink_of W.contents writer.old) (sink_of W.contents writer.new)
+        (flat_map (F.text form.now) (map RefusedLine places.now)) }
 {
     for place in places {
         form.write(writer, Line::Refused { place: *place });
@@ -216,7 +230,8 @@ fn write_refused<F: Form, W: Write>(form: &F, writer: &mut Watched<W>, places: &
 }
 
 fn write_spoilts<F: Form, W: Write>(form: &F, writer: &mut Watched<W>, spoilts: &[SpoiltPlace])
-    ensures { Writes (sink_of W.contents writer.old) (sink_of W.contents writer.new) (flat_map (F.text form.now) (map spoilt_place_line spoilts.now)) }
+    ensures { Writes (sink_of W.contents writer.old) (sink_of W.contents writer.new)
+        (flat_map (F.text form.now) (map spoilt_place_line spoilts.now)) }
 {
     for spoilt in spoilts {
         let place = spoilt.place;
@@ -227,14 +242,16 @@ fn write_spoilts<F: Form, W: Write>(form: &F, writer: &mut Watched<W>, spoilts: 
 
 /// The torn end, and the count of the messages.
 fn write_end<F: Form, W: Write>(form: &F, writer: &mut Watched<W>, tail: Tail, count: u32)
-    ensures { Writes (sink_of W.contents writer.old) (sink_of W.contents writer.new) (flat_map (F.text form.now) (tail_lines tail ++ EndLine count ∷ [])) }
+    ensures { Writes (sink_of W.contents writer.old) (sink_of W.contents writer.new)
+        (flat_map (F.text form.now) (tail_lines tail ++ EndLine count ∷ [])) }
 {
     write_tail(form, writer, tail);
     form.write(writer, Line::End { count });
 }
 
 fn write_tail<F: Form, W: Write>(form: &F, writer: &mut Watched<W>, tail: Tail)
-    ensures { Writes (sink_of W.contents writer.old) (sink_of W.contents writer.new) (flat_map (F.text form.now) (tail_lines tail)) }
+    ensures { Writes (sink_of W.contents writer.old) (sink_of W.contents writer.new)
+        (flat_map (F.text form.now) (tail_lines tail)) }
 {
     match tail {
         Tail::Clean => {}

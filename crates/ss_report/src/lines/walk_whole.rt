@@ -3,7 +3,8 @@ ghost use Rattle.std.specs.Prelude.{◌≡◌, ◌++◌, map, flat_map};
 ghost use Rattle.std.specs.List.{zip};
 ghost use Rattle.ss_frame.specs.Watched.{sink_of};
 ghost use Rattle.ss_report.specs.log.Writing.{Writes};
-ghost use Rattle.ss_report.specs.lines.Whole.{tail_line, missing_line, shortfall_lines, lines_beside, absent_lines, lines_with};
+ghost use Rattle.ss_report.specs.lines.Whole.{tail_line, missing_line, shortfall_lines, lines_beside, absent_lines};
+ghost use Rattle.ss_report.specs.lines.Whole.{lines_with};
 
 use crate::lines::detail::Detail;
 use crate::lines::form::Form;
@@ -25,7 +26,8 @@ pub(crate) fn write_lines_with<F: Form, W: Write>(
     tail: Tail,
     detail: Detail,
 )
-    ensures { Writes (sink_of W.contents writer.old) (sink_of W.contents writer.new) (flat_map (F.text form.now) (lines_with detail report.now short.now tail)) }
+    ensures { Writes (sink_of W.contents writer.old) (sink_of W.contents writer.new)
+        (flat_map (F.text form.now) (lines_with detail report.now short.now tail)) }
 {
     write_sessions(
         form,
@@ -45,7 +47,8 @@ fn write_sessions<F: Form, W: Write>(
     known: &[Shortfall],
     detail: Detail,
 )
-    ensures { Writes (sink_of W.contents writer.old) (sink_of W.contents writer.new) (flat_map (F.text form.now) (flat_map (lines_beside detail) (zip sessions.now known.now))) }
+    ensures { Writes (sink_of W.contents writer.old) (sink_of W.contents writer.new)
+        (flat_map (F.text form.now) (flat_map (lines_beside detail) (zip sessions.now known.now))) }
 {
     for (session, short) in sessions.iter().zip(known) {
         write_whole_session(form, writer, session, short, detail);
@@ -60,7 +63,8 @@ fn write_whole_session<F: Form, W: Write>(
     short: &Shortfall,
     detail: Detail,
 )
-    ensures { Writes (sink_of W.contents writer.old) (sink_of W.contents writer.new) (flat_map (F.text form.now) (lines_beside detail (report.now, short.now))) }
+    ensures { Writes (sink_of W.contents writer.old) (sink_of W.contents writer.new)
+        (flat_map (F.text form.now) (lines_beside detail (report.now, short.now))) }
 {
     write_session(form, writer, report, detail);
     write_shortfall(form, writer, short);
@@ -68,7 +72,8 @@ fn write_whole_session<F: Form, W: Write>(
 
 /// The lines of the sessions that the log has no block of.
 fn write_absent<F: Form, W: Write>(form: &F, writer: &mut Watched<W>, absent: &[Shortfall])
-    ensures { Writes (sink_of W.contents writer.old) (sink_of W.contents writer.new) (flat_map (F.text form.now) (flat_map absent_lines absent.now)) }
+    ensures { Writes (sink_of W.contents writer.old) (sink_of W.contents writer.new)
+        (flat_map (F.text form.now) (flat_map absent_lines absent.now)) }
 {
     for short in absent {
         write_absent_session(form, writer, short);
@@ -76,7 +81,8 @@ fn write_absent<F: Form, W: Write>(form: &F, writer: &mut Watched<W>, absent: &[
 }
 
 fn write_absent_session<F: Form, W: Write>(form: &F, writer: &mut Watched<W>, short: &Shortfall)
-    ensures { Writes (sink_of W.contents writer.old) (sink_of W.contents writer.new) (flat_map (F.text form.now) (absent_lines short.now)) }
+    ensures { Writes (sink_of W.contents writer.old) (sink_of W.contents writer.new)
+        (flat_map (F.text form.now) (absent_lines short.now)) }
 {
     let session = &short.session;
     form.write(writer, Line::Absent { session });
@@ -85,7 +91,8 @@ fn write_absent_session<F: Form, W: Write>(form: &F, writer: &mut Watched<W>, sh
 
 /// What is missing of a session: its tails, and then its signature blocks.
 fn write_shortfall<F: Form, W: Write>(form: &F, writer: &mut Watched<W>, short: &Shortfall)
-    ensures { Writes (sink_of W.contents writer.old) (sink_of W.contents writer.new) (flat_map (F.text form.now) (shortfall_lines short.now)) }
+    ensures { Writes (sink_of W.contents writer.old) (sink_of W.contents writer.new)
+        (flat_map (F.text form.now) (shortfall_lines short.now)) }
 {
     write_tails(form, writer, &short.session, short.tails.as_slice());
     write_missing(form, writer, &short.session, short.blocks.as_slice());
@@ -97,7 +104,8 @@ fn write_tails<F: Form, W: Write>(
     session: &Session,
     tails: &[GroupTail],
 )
-    ensures { Writes (sink_of W.contents writer.old) (sink_of W.contents writer.new) (flat_map (F.text form.now) (map (tail_line session.now) tails.now)) }
+    ensures { Writes (sink_of W.contents writer.old) (sink_of W.contents writer.new)
+        (flat_map (F.text form.now) (map (tail_line session.now) tails.now)) }
 {
     for tail in tails {
         let tail = *tail;
@@ -111,7 +119,8 @@ fn write_missing<F: Form, W: Write>(
     session: &Session,
     runs: &[MissingRun],
 )
-    ensures { Writes (sink_of W.contents writer.old) (sink_of W.contents writer.new) (flat_map (F.text form.now) (map (missing_line session.now) runs.now)) }
+    ensures { Writes (sink_of W.contents writer.old) (sink_of W.contents writer.new)
+        (flat_map (F.text form.now) (map (missing_line session.now) runs.now)) }
 {
     for run in runs {
         let run = *run;

@@ -10,7 +10,8 @@ ghost use Rattle.ss_review.specs.keep.Contents.{block_at, block_with, blocks, sa
 ghost use Rattle.ss_review.specs.report.Meaning.{IsInOrder};
 ghost use Rattle.ss_review.specs.declared.report.report.Report.{Report};
 ghost use Rattle.ss_report.specs.runs.Carrying.{carried_by, is_verified_in};
-ghost use Rattle.ss_report.specs.CarriedSoFar.{KnowsExtents, carried_at, carried_numbers, carried_verified, carried_with, extent_cmp};
+ghost use Rattle.ss_report.specs.CarriedSoFar.{KnowsExtents, carried_at, carried_numbers, carried_verified};
+ghost use Rattle.ss_report.specs.CarriedSoFar.{carried_with, extent_cmp};
 
 use crate::places::put_in_order;
 use crate::runs::selecting::add_of_entries;
@@ -45,7 +46,14 @@ pub(crate) fn carried_places(
     let mut known = BTreeSet::new(alloc);
     let mut place = 0;
     for message in messages {
-        carry_message(alloc, &mut places, &mut known, report, place, message.as_slice())?;
+        carry_message(
+            alloc,
+            &mut places,
+            &mut known,
+            report,
+            place,
+            message.as_slice(),
+        )?;
         place += 1;
     }
     put_in_order(&mut places);
@@ -65,7 +73,8 @@ fn carry_message<'a>(
     requires { IsInOrder report.now }
     ensures carried { (before : List BlockMessage)
         → KnowsExtents report.now before known.old
-        → OnOk result (places.new.items ≡ places.old.items ++ carried_at report.now before (block_at place (note text.now))) }
+        → OnOk result (places.new.items ≡ places.old.items
+        ++ carried_at report.now before (block_at place (note text.now))) }
     ensures known { (before : List BlockMessage)
         → KnowsExtents report.now before known.old
         → OnOk result (KnowsExtents report.now (before ++ cons_option (block_at place (note text.now)) []) known.new) }
@@ -93,7 +102,8 @@ fn carry_read<'a>(
     ensures known { (before : List BlockMessage)
         → KnowsExtents report.now before known.old
         → OnOk result (KnowsExtents report.now
-        (before ++ cons_option (block_with place (said_in read.now.reading) read.now.session read.now.signed) []) known.new) }
+        (before ++ cons_option (block_with place (said_in read.now.reading) read.now.session read.now.signed) [])
+        known.new) }
 {
     let Some(session) = &read.session else {
         return Ok(());
@@ -138,8 +148,8 @@ fn carry_signature(
     carry_numbers(places, place, entries_under(told, block))
 }
 
-/// Adds the place of a verified signature block and those that are listed under its numbers, whose entries these are, if
-/// one of them is a gap.
+/// Adds the place of a verified signature block and those that are listed under its numbers, whose entries these are,
+/// if one of them is a gap.
 fn carry_numbers(places: &mut Vec<u32>, place: u32, entries: &[Entry]) -> Result<(), NoMemory>
     ensures { OnOk result (places.new.items ≡ places.old.items ++ carried_numbers entries.now place) }
 {

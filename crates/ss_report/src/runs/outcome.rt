@@ -26,8 +26,12 @@ impl Outcome {
         ensures { (job : Job) (limits : Allowance) (before after : Source)
             → Makes job limits before after self.now.output.items self.now.verdict
             → MatchResult result
-            (λ verdict. Runs job limits before after (sink_of W.contents writer.old) (sink_of W.contents writer.new) verdict)
-            (λ fault. (fault ≡ RunFault.Write) × FailsToWrite job limits before after (sink_of W.contents writer.old) (sink_of W.contents writer.new)) }
+            (λ verdict.
+            Runs job limits before after (sink_of W.contents writer.old) (sink_of W.contents writer.new) verdict)
+            (λ fault.
+            (fault ≡ RunFault.Write)
+            × FailsToWrite job limits before after (sink_of W.contents writer.old)
+            (sink_of W.contents writer.new)) }
     {
         write_whole(writer, self.output.as_slice())?;
         Ok(self.verdict)

@@ -1,5 +1,6 @@
 //! The places of messages that are to be written, and what keeps them from it.
-ghost use Rattle.std.specs.Prelude.{◌≡◌, ◌==◌, ◌++◌, ◌∷◌, [], ℕ, None, Some, nat_le, find, flat_map, filter_map, IfOk, OnOk, MatchResult};
+ghost use Rattle.std.specs.Prelude.{◌≡◌, ◌==◌, ◌++◌, ◌∷◌, [], ℕ, None, Some, nat_le, find, flat_map, filter_map, IfOk};
+ghost use Rattle.std.specs.Prelude.{OnOk, MatchResult};
 ghost use Rattle.ss_review.specs.report.Extract.{place_listed, listed_places};
 ghost use Rattle.ss_report.specs.runs.Extraction.{absent, holds_lf, no_line};
 
@@ -53,7 +54,8 @@ fn add_of_entry(places: &mut Vec<u32>, entry: Entry) -> Result<(), AllocError>
 
 /// Refuses the first of the given places that a log of so many messages hasn't (E1).
 pub(crate) fn refuse_absent(selection: &Selection, count: usize) -> Result<(), ExtractFault>
-    ensures { MatchResult result (λ _. absent selection.now count ≡ None) (λ fault. absent selection.now count ≡ Some fault) }
+    ensures { MatchResult result (λ _. absent selection.now count ≡ None) (λ fault.
+        absent selection.now count ≡ Some fault) }
 {
     let Selection::At(places) = selection else {
         return Ok(());

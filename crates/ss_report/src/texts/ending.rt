@@ -52,7 +52,8 @@ pub(crate) fn write_number_as<W: Write>(
     number: u64,
     notation: Notation,
 )
-    ensures { Writes (sink_of W.contents writer.old) (sink_of W.contents writer.new) (number_as notation kind.now key.now number) }
+    ensures { Writes (sink_of W.contents writer.old) (sink_of W.contents writer.new)
+        (number_as notation kind.now key.now number) }
 {
     match notation {
         Notation::Plain => write_number_line(writer, kind, number),

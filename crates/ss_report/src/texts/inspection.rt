@@ -3,13 +3,16 @@ ghost use Rattle.std.specs.Prelude.{◌≡◌, ◌++◌, None, IfOk, OnOk};
 ghost use Rattle.ss_frame.specs.Watched.{sink_of};
 ghost use Rattle.ss_report.specs.log.Writing.{Writes};
 ghost use Rattle.ss_report.specs.texts.Words.{spaced, group_words};
-ghost use Rattle.ss_report.specs.texts.Inspection.{part_number, known_session_words, line_of, reading_line, is_plain, message_line};
+ghost use Rattle.ss_report.specs.texts.Inspection.{part_number, known_session_words, line_of, reading_line, is_plain};
+ghost use Rattle.ss_report.specs.texts.Inspection.{message_line};
 
 use crate::forms::report_form::ReportForm;
-use crate::texts::inspection_objects::write_reading_object;
-use crate::notation::Notation;
 use crate::log::output::{write_number, write_text};
-use crate::texts::words::{write_group, write_number_line, write_session, write_spaced, write_spoilt};
+use crate::notation::Notation;
+use crate::texts::inspection_objects::write_reading_object;
+use crate::texts::words::{
+    write_group, write_number_line, write_session, write_spaced, write_spoilt,
+};
 use ss_block::{CertBlock, Group, Reading, Session, SigBlock, classify_with_session};
 use ss_frame::Watched;
 use ss_message::{NoMemory, Part};
@@ -42,7 +45,8 @@ fn write_message<W: Write>(
     message: &[u8],
     form: ReportForm,
 ) -> Result<(), NoMemory>
-    ensures { OnOk result (Writes (sink_of W.contents writer.old) (sink_of W.contents writer.new) (message_line form place message.now)) }
+    ensures { OnOk result
+        (Writes (sink_of W.contents writer.old) (sink_of W.contents writer.new) (message_line form place message.now)) }
 {
     let (reading, session) = classify_with_session(alloc, message)?;
     if form.has_findings_alone() && is_plain(&reading) {
@@ -65,7 +69,8 @@ fn write_reading<W: Write>(
     place: u64,
     notation: Notation,
 )
-    ensures { Writes (sink_of W.contents writer.old) (sink_of W.contents writer.new) (reading_line notation reading.now session.now place) }
+    ensures { Writes (sink_of W.contents writer.old) (sink_of W.contents writer.new)
+        (reading_line notation reading.now session.now place) }
 {
     match notation {
         Notation::Plain => write_reading_text(writer, reading, session, place),
@@ -79,7 +84,8 @@ fn write_reading_text<W: Write>(
     session: &Option<Session>,
     place: u64,
 )
-    ensures { Writes (sink_of W.contents writer.old) (sink_of W.contents writer.new) (line_of reading.now session.now place) }
+    ensures { Writes (sink_of W.contents writer.old) (sink_of W.contents writer.new)
+        (line_of reading.now session.now place) }
 {
     match reading {
         Reading::Plain => write_number_line(writer, b"plain", place),
@@ -92,7 +98,8 @@ fn write_reading_text<W: Write>(
 
 /// unparsed PLACE Mn POS
 fn write_unparsed<W: Write>(writer: &mut Watched<W>, place: u64, part: Part, pos: usize)
-    ensures { Writes (sink_of W.contents writer.old) (sink_of W.contents writer.new) (line_of (Reading.Unparsed part pos) None place) }
+    ensures { Writes (sink_of W.contents writer.old) (sink_of W.contents writer.new)
+        (line_of (Reading.Unparsed part pos) None place) }
 {
     write_text(writer, b"unparsed");
     write_spaced(writer, place);
@@ -109,7 +116,8 @@ fn write_signature<W: Write>(
     session: &Option<Session>,
     block: &SigBlock,
 )
-    ensures { Writes (sink_of W.contents writer.old) (sink_of W.contents writer.new) (line_of (Reading.Signature block.now) session.now place) }
+    ensures { Writes (sink_of W.contents writer.old) (sink_of W.contents writer.new)
+        (line_of (Reading.Signature block.now) session.now place) }
 {
     write_head(writer, b"signature", place, session, block.group());
     write_spaced(writer, block.gbc());
@@ -125,7 +133,8 @@ fn write_certificate<W: Write>(
     session: &Option<Session>,
     block: &CertBlock,
 )
-    ensures { Writes (sink_of W.contents writer.old) (sink_of W.contents writer.new) (line_of (Reading.Certificate block.now) session.now place) }
+    ensures { Writes (sink_of W.contents writer.old) (sink_of W.contents writer.new)
+        (line_of (Reading.Certificate block.now) session.now place) }
 {
     write_head(writer, b"certificate", place, session, block.group());
     write_spaced(writer, u64::from(block.total()));
@@ -142,7 +151,8 @@ fn write_head<W: Write>(
     session: &Option<Session>,
     group: Group,
 )
-    ensures { Writes (sink_of W.contents writer.old) (sink_of W.contents writer.new) (kind.now ++ spaced place ++ known_session_words session.now ++ group_words group) }
+    ensures { Writes (sink_of W.contents writer.old) (sink_of W.contents writer.new) (kind.now ++ spaced place
+        ++ known_session_words session.now ++ group_words group) }
 {
     write_text(writer, kind);
     write_spaced(writer, place);

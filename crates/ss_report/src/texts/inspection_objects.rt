@@ -7,8 +7,8 @@ ghost use Rattle.ss_report.specs.texts.Inspection.{known_session_members, object
 
 use crate::forms::json::{write_one, write_spoilt};
 use crate::forms::members::{write_group_members, write_number_member, write_session_members};
-use crate::texts::inspection::number_of_part;
 use crate::log::output::{write_number, write_text};
+use crate::texts::inspection::number_of_part;
 use ss_block::{CertBlock, Group, Reading, Session, SigBlock};
 use ss_frame::Watched;
 use ss_message::Part;
@@ -21,7 +21,8 @@ pub(crate) fn write_reading_object<W: Write>(
     session: &Option<Session>,
     place: u64,
 )
-    ensures { Writes (sink_of W.contents writer.old) (sink_of W.contents writer.new) (object_of reading.now session.now place) }
+    ensures { Writes (sink_of W.contents writer.old) (sink_of W.contents writer.new)
+        (object_of reading.now session.now place) }
 {
     match reading {
         Reading::Plain => write_one(writer, b"plain", b"place", place),
@@ -33,7 +34,8 @@ pub(crate) fn write_reading_object<W: Write>(
 }
 
 fn write_unparsed<W: Write>(writer: &mut Watched<W>, place: u64, part: Part, pos: usize)
-    ensures { Writes (sink_of W.contents writer.old) (sink_of W.contents writer.new) (object_of (Reading.Unparsed part pos) None place) }
+    ensures { Writes (sink_of W.contents writer.old) (sink_of W.contents writer.new)
+        (object_of (Reading.Unparsed part pos) None place) }
 {
     write_text(writer, b"{\"line\":\"unparsed\"");
     write_number_member(writer, b"place", place);
@@ -50,7 +52,8 @@ fn write_signature<W: Write>(
     session: &Option<Session>,
     block: &SigBlock,
 )
-    ensures { Writes (sink_of W.contents writer.old) (sink_of W.contents writer.new) (object_of (Reading.Signature block.now) session.now place) }
+    ensures { Writes (sink_of W.contents writer.old) (sink_of W.contents writer.new)
+        (object_of (Reading.Signature block.now) session.now place) }
 {
     let front = b"{\"line\":\"signature\"";
     write_head(writer, front, place, session, block.group());
@@ -66,7 +69,8 @@ fn write_certificate<W: Write>(
     session: &Option<Session>,
     block: &CertBlock,
 )
-    ensures { Writes (sink_of W.contents writer.old) (sink_of W.contents writer.new) (object_of (Reading.Certificate block.now) session.now place) }
+    ensures { Writes (sink_of W.contents writer.old) (sink_of W.contents writer.new)
+        (object_of (Reading.Certificate block.now) session.now place) }
 {
     let front = b"{\"line\":\"certificate\"";
     write_head(writer, front, place, session, block.group());
@@ -94,7 +98,8 @@ fn write_head<W: Write>(
 }
 
 fn write_known_session<W: Write>(writer: &mut Watched<W>, session: &Option<Session>)
-    ensures { Writes (sink_of W.contents writer.old) (sink_of W.contents writer.new) (known_session_members session.now) }
+    ensures { Writes (sink_of W.contents writer.old) (sink_of W.contents writer.new)
+        (known_session_members session.now) }
 {
     match session {
         None => {}

@@ -8,9 +8,9 @@ ghost use Rattle.ss_review.specs.questions.Questions.{question_under, session_qu
 ghost use Rattle.ss_report.specs.texts.QuestionText.{question_text, question_object, question_line, question_lines};
 ghost use Rattle.ss_report.specs.forms.Json.{word_member};
 
-use crate::texts::encoded::write_base64;
-use crate::notation::Notation;
 use crate::log::output::write_text;
+use crate::notation::Notation;
+use crate::texts::encoded::write_base64;
 use ss_frame::Watched;
 use ss_review::{AskedBlock, AskedSession};
 use std::io::Write;
@@ -22,7 +22,8 @@ pub(crate) fn write_questions<W: Write>(
     sessions: &[AskedSession],
     notation: Notation,
 )
-    ensures { Writes (sink_of W.contents writer.old) (sink_of W.contents writer.new) (question_lines notation (questions_shared sessions.now)) }
+    ensures { Writes (sink_of W.contents writer.old) (sink_of W.contents writer.new)
+        (question_lines notation (questions_shared sessions.now)) }
 {
     for session in sessions {
         write_session_questions(writer, session, notation);
@@ -35,7 +36,8 @@ fn write_session_questions<W: Write>(
     session: &AskedSession,
     notation: Notation,
 )
-    ensures { Writes (sink_of W.contents writer.old) (sink_of W.contents writer.new) (question_lines notation (session_questions session.now)) }
+    ensures { Writes (sink_of W.contents writer.old) (sink_of W.contents writer.new)
+        (question_lines notation (session_questions session.now)) }
 {
     let payload = session.payload.as_slice();
     write_trust(writer, payload, notation);
@@ -49,7 +51,8 @@ fn write_blocks<W: Write>(
     blocks: &[AskedBlock],
     notation: Notation,
 )
-    ensures { Writes (sink_of W.contents writer.old) (sink_of W.contents writer.new) (flat_map (λ b. question_line notation (question_under payload.now b)) blocks.now) }
+    ensures { Writes (sink_of W.contents writer.old) (sink_of W.contents writer.new) (flat_map (λ b.
+        question_line notation (question_under payload.now b)) blocks.now) }
 {
     for block in blocks {
         write_yes(
@@ -64,7 +67,8 @@ fn write_blocks<W: Write>(
 
 /// Writes the line that asks whether a payload's key is to be trusted.
 fn write_trust<W: Write>(writer: &mut Watched<W>, payload: &[u8], notation: Notation)
-    ensures { Writes (sink_of W.contents writer.old) (sink_of W.contents writer.new) (question_line notation (Trust payload.now)) }
+    ensures { Writes (sink_of W.contents writer.old) (sink_of W.contents writer.new)
+        (question_line notation (Trust payload.now)) }
 {
     match notation {
         Notation::Plain => write_trust_text(writer, payload),
@@ -75,7 +79,8 @@ fn write_trust<W: Write>(writer: &mut Watched<W>, payload: &[u8], notation: Nota
 /// Writes trust PAYLOAD.
 #[tactic(auto, unfolding(crate::specs::QuestionText::question_text))]
 fn write_trust_text<W: Write>(writer: &mut Watched<W>, payload: &[u8])
-    ensures { Writes (sink_of W.contents writer.old) (sink_of W.contents writer.new) (question_text (Trust payload.now)) }
+    ensures { Writes (sink_of W.contents writer.old) (sink_of W.contents writer.new)
+        (question_text (Trust payload.now)) }
 {
     write_text(writer, b"trust ");
     write_base64(writer, payload);
@@ -84,7 +89,8 @@ fn write_trust_text<W: Write>(writer: &mut Watched<W>, payload: &[u8])
 
 #[tactic(auto, unfolding(crate::specs::QuestionText::question_object))]
 fn write_trust_object<W: Write>(writer: &mut Watched<W>, payload: &[u8])
-    ensures { Writes (sink_of W.contents writer.old) (sink_of W.contents writer.new) (question_object (Trust payload.now)) }
+    ensures { Writes (sink_of W.contents writer.old) (sink_of W.contents writer.new)
+        (question_object (Trust payload.now)) }
 {
     write_text(writer, b"{\"line\":\"trust\"");
     write_base64_member(writer, b"payload", payload);
@@ -99,7 +105,8 @@ fn write_yes<W: Write>(
     signature: &[u8],
     notation: Notation,
 )
-    ensures { Writes (sink_of W.contents writer.old) (sink_of W.contents writer.new) (question_line notation (Yes payload.now octets.now signature.now)) }
+    ensures { Writes (sink_of W.contents writer.old) (sink_of W.contents writer.new)
+        (question_line notation (Yes payload.now octets.now signature.now)) }
 {
     match notation {
         Notation::Plain => write_yes_text(writer, payload, octets, signature),
@@ -115,7 +122,8 @@ fn write_yes_text<W: Write>(
     octets: &[u8],
     signature: &[u8],
 )
-    ensures { Writes (sink_of W.contents writer.old) (sink_of W.contents writer.new) (question_text (Yes payload.now octets.now signature.now)) }
+    ensures { Writes (sink_of W.contents writer.old) (sink_of W.contents writer.new)
+        (question_text (Yes payload.now octets.now signature.now)) }
 {
     write_text(writer, b"yes ");
     write_base64(writer, payload);
@@ -133,7 +141,8 @@ fn write_yes_object<W: Write>(
     octets: &[u8],
     signature: &[u8],
 )
-    ensures { Writes (sink_of W.contents writer.old) (sink_of W.contents writer.new) (question_object (Yes payload.now octets.now signature.now)) }
+    ensures { Writes (sink_of W.contents writer.old) (sink_of W.contents writer.new)
+        (question_object (Yes payload.now octets.now signature.now)) }
 {
     write_text(writer, b"{\"line\":\"yes\"");
     write_base64_member(writer, b"payload", payload);
@@ -145,7 +154,8 @@ fn write_yes_object<W: Write>(
 /// Writes ,"KEY":"BASE64".
 #[tactic(auto, unfolding(crate::specs::Json::word_member))]
 fn write_base64_member<W: Write>(writer: &mut Watched<W>, key: &[u8], value: &[u8])
-    ensures { Writes (sink_of W.contents writer.old) (sink_of W.contents writer.new) (word_member key.now (base64 value.now)) }
+    ensures { Writes (sink_of W.contents writer.old) (sink_of W.contents writer.new)
+        (word_member key.now (base64 value.now)) }
 {
     write_text(writer, b",\"");
     write_text(writer, key);

@@ -2,7 +2,8 @@
 ghost use Rattle.std.specs.Prelude.{◌≡◌, ◌++◌, codes};
 ghost use Rattle.ss_frame.specs.Watched.{sink_of};
 ghost use Rattle.ss_report.specs.log.Writing.{Writes};
-ghost use Rattle.ss_report.specs.texts.Words.{spaced, field_word, session_words, group_words, cause_number, number_line, spoilt_line};
+ghost use Rattle.ss_report.specs.texts.Words.{spaced, field_word, session_words, group_words, cause_number};
+ghost use Rattle.ss_report.specs.texts.Words.{number_line, spoilt_line};
 
 use crate::log::output::{write_number, write_text, write_wide_number};
 use ss_block::{Group, Session, Spoil};
@@ -36,7 +37,8 @@ pub(crate) fn write_word<W: Write>(writer: &mut Watched<W>, word: &[u8])
 
 /// Writes a header field and the SP before it; `-` for an absent one.
 fn write_field<W: Write>(writer: &mut Watched<W>, field: &Field)
-    ensures { Writes (sink_of W.contents writer.old) (sink_of W.contents writer.new) (codes " " ++ field_word field.now) }
+    ensures { Writes (sink_of W.contents writer.old) (sink_of W.contents writer.new) (codes " "
+        ++ field_word field.now) }
 {
     match field {
         Field::Nil => write_word(writer, b"-"),

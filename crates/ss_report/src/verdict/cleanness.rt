@@ -33,14 +33,16 @@ pub(crate) fn is_none<T>(items: &[T]) -> bool
 }
 
 fn are_whole(sessions: &[SessionReport]) -> bool
-    ensures { result ≡ list_all (λ s. is_joined s.state && list_all (λ g. list_all is_listed g.entries) s.groups) sessions.now }
+    ensures { result ≡ list_all (λ s.
+        is_joined s.state && list_all (λ g. list_all is_listed g.entries) s.groups) sessions.now }
 {
     sessions.iter().all(|session| is_whole(session))
 }
 
 /// Whether the session is joined, and every entry of it a listed message.
 fn is_whole(session: &SessionReport) -> bool
-    ensures { result ≡ (is_joined session.now.state && list_all (λ g. list_all is_listed g.entries) session.now.groups) }
+    ensures { result
+        ≡ (is_joined session.now.state && list_all (λ g. list_all is_listed g.entries) session.now.groups) }
 {
     is_joined(session.state) && are_listed(session.groups.as_slice())
 }

@@ -12,8 +12,8 @@ use ss_review::{LogShortfalls, Report};
 #[derive(Clone, Copy, Debug, PartialEq, Eq)]
 pub enum Verdict {
     /// Of a review: each announced message is listed, each stored message is listed or a verified block, each session
-    /// is joined, and the log has a clean end. Of a review that says what is missing beside the report: besides, nothing
-    /// is. Of an inspection, of questions and of counters: the log has a clean end.
+    /// is joined, and the log has a clean end. Of a review that says what is missing beside the report: besides,
+    /// nothing is. Of an inspection, of questions and of counters: the log has a clean end.
     Clean,
     /// Something of that isn't so.
     Findings,
