@@ -3,6 +3,5 @@ pub mod texts
 pub mod lines
 pub mod forms
 pub mod runs
-pub mod CarriedSoFar
 pub mod Verdict
 pub mod FaultText

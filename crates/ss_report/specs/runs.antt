@@ -4,3 +4,4 @@ pub mod Counters
 pub mod Run
 pub mod Jobs
 pub mod CounterLaws
+pub mod CarriedSoFar

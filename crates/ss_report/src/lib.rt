@@ -8,11 +8,9 @@ pub mod laws;
 mod lines;
 mod log;
 mod notation;
-mod places;
 pub mod report_text;
 mod runs;
 mod texts;
-mod told;
 mod verdict;
 
 pub use fault::RunFault;

@@ -10,12 +10,12 @@ ghost use Rattle.ss_review.specs.keep.Contents.{block_at, block_with, blocks, sa
 ghost use Rattle.ss_review.specs.report.Meaning.{IsInOrder};
 ghost use Rattle.ss_review.specs.declared.report.report.Report.{Report};
 ghost use Rattle.ss_report.specs.runs.Carrying.{carried_by, is_verified_in};
-ghost use Rattle.ss_report.specs.CarriedSoFar.{KnowsExtents, carried_at, carried_numbers, carried_verified};
-ghost use Rattle.ss_report.specs.CarriedSoFar.{carried_with, extent_cmp};
+ghost use Rattle.ss_report.specs.runs.CarriedSoFar.{KnowsExtents, carried_at, carried_numbers, carried_verified};
+ghost use Rattle.ss_report.specs.runs.CarriedSoFar.{carried_with, extent_cmp};
 
-use crate::places::put_in_order;
+use crate::runs::places::put_in_order;
 use crate::runs::selecting::add_of_entries;
-use crate::told::{entries_under, has_gap, is_refused, told_joined};
+use crate::runs::told::{entries_under, has_gap, is_refused, told_joined};
 use ss_block::{CertBlock, FullReading, Reading, Session, SigBlock, may_hold_block, read_fully};
 use ss_frame::Bytes;
 use ss_message::NoMemory;

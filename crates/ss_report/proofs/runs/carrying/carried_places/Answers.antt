@@ -7,8 +7,8 @@ use Rattle.ss_review.specs.keep.Contents.{block_at, blocks}
 use Rattle.ss_review.specs.keep.Notes.{note, notes}
 use Rattle.ss_review.specs.Ordered.{in_order}
 use Rattle.ss_review.proofs.of_kept_messages.PlacesRise.{blocks_rise}
-use Rattle.ss_report.specs.CarriedSoFar.{KnowsExtents, carried_along, carried_at, extent_cmp}
-use Rattle.ss_report.proofs.Carried.{along_more, blocks_more, carried_is}
+use Rattle.ss_report.specs.runs.CarriedSoFar.{KnowsExtents, carried_along, carried_at, extent_cmp}
+use Rattle.ss_report.proofs.of_carrying.Carried.{along_more, blocks_more, carried_is}
 use Rattle.ss_report.proofs.runs.carrying.carried_places.Goals as goal
 
 pub overflow_add-place : goal.overflow_add-place

@@ -1,7 +1,7 @@
 use Rattle.std.proofs.Common.{◌≡◌, ◌++◌, [], take}
 use Rattle.ss_review.specs.keep.Contents.{blocks}
 use Rattle.ss_review.specs.keep.Notes.{notes}
-use Rattle.ss_report.specs.CarriedSoFar.{KnowsExtents, carried_along}
+use Rattle.ss_report.specs.runs.CarriedSoFar.{KnowsExtents, carried_along}
 use Rattle.ss_report.proofs.runs.carrying.carried_places.Given as goal
 
 abbrev pub invariant-loop-message : goal.invariant-loop-message

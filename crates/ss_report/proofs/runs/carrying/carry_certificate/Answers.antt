@@ -3,7 +3,7 @@ use Rattle.std.proofs.lemmas.Result.{IfOk-weaker}
 use Rattle.ss_review.specs.declared.keep.message.BlockMessage.{BlockMessage}
 use Rattle.ss_review.specs.declared.keep.message.Said.TheVariants.{Fragment}
 use Rattle.ss_report.specs.runs.Carrying.{is_refused_in}
-use Rattle.ss_report.proofs.CarriedBlocks.{is_joined_there, carried_judged, knows_unverified}
+use Rattle.ss_report.proofs.of_carrying.CarriedBlocks.{is_joined_there, carried_judged, knows_unverified}
 use Rattle.ss_report.proofs.runs.carrying.carry_certificate.Goals as goal
 
 pub returns-in_default-clause-known : goal.returns-in_default-clause-known

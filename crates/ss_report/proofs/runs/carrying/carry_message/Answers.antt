@@ -4,8 +4,8 @@ use Rattle.std.proofs.lemmas.List.{append-nil}
 use Rattle.std.proofs.lemmas.Result.{IfOk-weaker}
 use Rattle.ss_review.specs.keep.Contents.{block_with, said_in}
 use Rattle.ss_review.proofs.of_kept_messages.NotedBlocks.{none_held}
-use Rattle.ss_report.specs.CarriedSoFar.{KnowsExtents, carried_at}
-use Rattle.ss_report.proofs.CarriedBlocks.{read_held}
+use Rattle.ss_report.specs.runs.CarriedSoFar.{KnowsExtents, carried_at}
+use Rattle.ss_report.proofs.of_carrying.CarriedBlocks.{read_held}
 use Rattle.ss_report.proofs.runs.carrying.carry_message.Goals as goal
 
 pub returns-then-not-may_hold_block-clause-carried : goal.returns-then-not-may_hold_block-clause-carried

@@ -4,8 +4,8 @@ use Rattle.std.proofs.lemmas.Result.{IfOk-weaker}
 use Rattle.ss_review.specs.declared.keep.message.BlockMessage.{BlockMessage}
 use Rattle.ss_review.specs.declared.keep.message.Said.TheVariants.{Hashes}
 use Rattle.ss_review.specs.keep.Contents.{block_with, said_in}
-use Rattle.ss_report.specs.CarriedSoFar.{KnowsExtents, carried_at}
-use Rattle.ss_report.proofs.CarriedBlocks.{knows_signature}
+use Rattle.ss_report.specs.runs.CarriedSoFar.{KnowsExtents, carried_at}
+use Rattle.ss_report.proofs.of_carrying.CarriedBlocks.{knows_signature}
 use Rattle.ss_report.proofs.runs.carrying.carry_read.Goals as goal
 
 pub returns-in-Signature-clause-carried : goal.returns-in-Signature-clause-carried

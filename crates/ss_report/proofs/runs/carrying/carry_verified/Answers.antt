@@ -1,8 +1,8 @@
 use Rattle.std.proofs.Common.{cond, [], ◌∷◌, ◌++◌, length, sym, ap, ◌∙◌}
 use Rattle.std.proofs.lemmas.Result.{IfOk-weaker}
 use Rattle.ss_report.specs.declared.runs.carrying.Extent.{Extent}
-use Rattle.ss_report.specs.CarriedSoFar.{carried_verified}
-use Rattle.ss_report.proofs.CarriedBlocks.{known_before, knows_verified}
+use Rattle.ss_report.specs.runs.CarriedSoFar.{carried_verified}
+use Rattle.ss_report.proofs.of_carrying.CarriedBlocks.{known_before, knows_verified}
 use Rattle.ss_report.proofs.runs.carrying.carry_verified.Goals as goal
 
 pub returns-clause-carried : goal.returns-clause-carried

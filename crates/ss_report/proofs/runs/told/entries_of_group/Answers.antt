@@ -3,8 +3,8 @@ use Rattle.std.specs.List.Sorted.{IsStrictlySortedBy}
 use Rattle.std.proofs.lemmas.Fn.{always_returns_same}
 use Rattle.ss_block.specs.Order.{group_cmp}
 use Rattle.ss_review.specs.declared.report.group_report.GroupReport.{GroupReport}
-use Rattle.ss_report.proofs.ToldSessions.{group_told, group_nowhere}
-use Rattle.ss_report.proofs.told.entries_of_group.Goals as goal
+use Rattle.ss_report.proofs.of_carrying.ToldSessions.{group_told, group_nowhere}
+use Rattle.ss_report.proofs.runs.told.entries_of_group.Goals as goal
 
 pub returns-in-Ok-clause-told : goal.returns-in-Ok-clause-told
 returns-in-Ok-clause-told c =

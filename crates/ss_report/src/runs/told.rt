@@ -7,7 +7,7 @@ ghost use Rattle.std.specs.Ordering.{nat_cmp};
 ghost use Rattle.ss_review.specs.report.Entries.{same_group};
 ghost use Rattle.ss_review.specs.report.Meaning.{IsInOrder, first_number};
 ghost use Rattle.ss_report.specs.runs.Carrying.{is_joined_in, is_gap, is_numbered};
-ghost use Rattle.ss_report.specs.CarriedSoFar.{IsToldInOrder, IsToldJoined};
+ghost use Rattle.ss_report.specs.runs.CarriedSoFar.{IsToldInOrder, IsToldJoined};
 
 use crate::verdict::cleanness::is_joined;
 use ss_block::{Group, Session, SigBlock};

@@ -22,7 +22,7 @@ use Rattle.ss_review.proofs.of_lists.Lookups.{found_alone, found_nowhere}
 use Rattle.ss_review.proofs.of_lists.Rising.{all_below}
 use Rattle.ss_review.proofs.of_lists.Sections.{keeps_none}
 use Rattle.ss_report.specs.runs.Carrying.{told_of, is_joined_in}
-use Rattle.ss_report.specs.CarriedSoFar.{IsToldInOrder, IsToldJoined}
+use Rattle.ss_report.specs.runs.CarriedSoFar.{IsToldInOrder, IsToldJoined}
 
 -- ---- the session of a report
 

@@ -3,9 +3,9 @@ use Rattle.std.proofs.lemmas.Fn.{always_returns_same}
 use Rattle.ss_block.specs.Order.{session_cmp}
 use Rattle.ss_review.specs.declared.report.session_report.SessionReport.{SessionReport}
 use Rattle.ss_review.specs.report.Verdict.{is_joined}
-use Rattle.ss_report.specs.CarriedSoFar.{IsToldJoined}
-use Rattle.ss_report.proofs.ToldSessions.{told_joined, told_unjoined, told_nowhere}
-use Rattle.ss_report.proofs.told.told_joined.Goals as goal
+use Rattle.ss_report.specs.runs.CarriedSoFar.{IsToldJoined}
+use Rattle.ss_report.proofs.of_carrying.ToldSessions.{told_joined, told_unjoined, told_nowhere}
+use Rattle.ss_report.proofs.runs.told.told_joined.Goals as goal
 
 pub returns-then-is_joined : goal.returns-then-is_joined
 returns-then-is_joined c =

@@ -34,7 +34,7 @@ use Rattle.ss_review.specs.report.Verdict.{is_joined}
 use Rattle.ss_review.proofs.of_kept_messages.NotedBlocks.{block_held}
 use Rattle.ss_report.specs.declared.runs.carrying.Extent.{Extent}
 use Rattle.ss_report.specs.runs.Carrying.{told_of, is_joined_in, is_refused_in, is_verified_in, is_numbered, has_fragment_at, is_fragment_of, entries_said, entries_under}
-use Rattle.ss_report.specs.CarriedSoFar.{IsToldJoined, KnowsExtents, carried_verified, carried_with, extent_cmp}
+use Rattle.ss_report.specs.runs.CarriedSoFar.{IsToldJoined, KnowsExtents, carried_verified, carried_with, extent_cmp}
 
 -- ---- what the report says of its session
 

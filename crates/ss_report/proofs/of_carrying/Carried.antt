@@ -27,7 +27,7 @@ use Rattle.ss_review.proofs.of_lists.Members.{has-append_cases, has-filter, from
 use Rattle.ss_review.proofs.of_lists.Rising.{below_all, in_order_same}
 use Rattle.ss_report.specs.runs.Carrying.{places_of, is_joined_in, is_refused_in, is_verified_in, is_fragment_of, is_first_said, is_gap, entries_said, entries_under, is_unjudged, is_first_certificate, has_gap}
 use Rattle.ss_report.specs.runs.Carrying.{unjudged, certificates, gaps, listed, carried_by}
-use Rattle.ss_report.specs.CarriedSoFar.{carried_numbers, carried_verified, carried_with, carried_at, carried_along}
+use Rattle.ss_report.specs.runs.CarriedSoFar.{carried_numbers, carried_verified, carried_with, carried_at, carried_along}
 
 -- ---- one more block
 

@@ -7,7 +7,7 @@ use Rattle.std.proofs.lemmas.Map.Keys.{IsStrictlyIncreasing-dedup, sorted_from_s
 use Rattle.std.proofs.lemmas.Map.Lookups.{exact_unsigned}
 use Rattle.ss_origin.proofs.Members.{has_from_contains, contains_from_has}
 use Rattle.ss_review.proofs.of_lists.Rising.{in_order_is}
-use Rattle.ss_report.proofs.places.put_in_order.Goals as goal
+use Rattle.ss_report.proofs.runs.places.put_in_order.Goals as goal
 
 pub returns : goal.returns
 returns c =

@@ -1,0 +1,4 @@
+pub mod EntriesBetween
+pub mod ToldSessions
+pub mod CarriedBlocks
+pub mod Carried
