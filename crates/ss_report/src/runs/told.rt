@@ -47,7 +47,7 @@ pub(crate) fn entries_under<'a>(told: &'a SessionReport, block: &SigBlock) -> &'
     ensures { result.now ≡ filter (is_numbered block.now.first (length block.now.hashes))
         (flat_map (λ h. h.entries) (filter (λ h. same_group h.group block.now.group) told.now.groups)) }
 {
-    block.in_range();
+    block.assure_in_range();
     let end = block.first() + block.hashes().as_slice().len() as u64;
     entries_between(entries_of_group(told, block.group()), block.first(), end)
 }
