@@ -76,7 +76,7 @@ pub(crate) fn write_object<W: Write>(writer: &mut Watched<W>, line: Line<'_>)
     }
 }
 
-#[tactic(auto, unfolding(crate::specs::Json::session_object))]
+#[tactic(auto, unfolding(crate::specs::forms::Json::session_object))]
 fn write_session_object<W: Write>(writer: &mut Watched<W>, session: &Session, state: SessionState)
     ensures { Writes (sink_of W.contents writer.old) (sink_of W.contents writer.new)
         (session_object session.now state) }
@@ -87,7 +87,7 @@ fn write_session_object<W: Write>(writer: &mut Watched<W>, session: &Session, st
     write_text(writer, b"}\n");
 }
 
-#[tactic(auto, unfolding(crate::specs::Json::ok_object))]
+#[tactic(auto, unfolding(crate::specs::forms::Json::ok_object))]
 fn write_ok<W: Write>(
     writer: &mut Watched<W>,
     session: &Session,
@@ -106,7 +106,7 @@ fn write_ok<W: Write>(
     write_text(writer, b"}\n");
 }
 
-#[tactic(auto, unfolding(crate::specs::Json::gap_object))]
+#[tactic(auto, unfolding(crate::specs::forms::Json::gap_object))]
 fn write_gap<W: Write>(
     writer: &mut Watched<W>,
     session: &Session,
@@ -125,7 +125,7 @@ fn write_gap<W: Write>(
     write_text(writer, b"}\n");
 }
 
-#[tactic(auto, unfolding(crate::specs::Json::hole_object))]
+#[tactic(auto, unfolding(crate::specs::forms::Json::hole_object))]
 fn write_hole<W: Write>(
     writer: &mut Watched<W>,
     session: &Session,
@@ -144,7 +144,7 @@ fn write_hole<W: Write>(
     write_text(writer, b"}\n");
 }
 
-#[tactic(auto, unfolding(crate::specs::Json::tail_object))]
+#[tactic(auto, unfolding(crate::specs::forms::Json::tail_object))]
 fn write_tail<W: Write>(writer: &mut Watched<W>, session: &Session, tail: GroupTail)
     ensures { Writes (sink_of W.contents writer.old) (sink_of W.contents writer.new)
         (tail_object session.now tail.group tail.first tail.last) }
@@ -157,7 +157,7 @@ fn write_tail<W: Write>(writer: &mut Watched<W>, session: &Session, tail: GroupT
     write_text(writer, b"}\n");
 }
 
-#[tactic(auto, unfolding(crate::specs::Json::absent_object))]
+#[tactic(auto, unfolding(crate::specs::forms::Json::absent_object))]
 fn write_absent<W: Write>(writer: &mut Watched<W>, session: &Session)
     ensures { Writes (sink_of W.contents writer.old) (sink_of W.contents writer.new) (absent_object session.now) }
 {
@@ -167,7 +167,7 @@ fn write_absent<W: Write>(writer: &mut Watched<W>, session: &Session)
     write_text(writer, b"}\n");
 }
 
-#[tactic(auto, unfolding(crate::specs::Json::blocks_object))]
+#[tactic(auto, unfolding(crate::specs::forms::Json::blocks_object))]
 fn write_blocks<W: Write>(writer: &mut Watched<W>, session: &Session, run: MissingRun)
     ensures { Writes (sink_of W.contents writer.old) (sink_of W.contents writer.new)
         (blocks_object session.now run.first run.last) }
@@ -179,7 +179,7 @@ fn write_blocks<W: Write>(writer: &mut Watched<W>, session: &Session, run: Missi
     write_text(writer, b"}\n");
 }
 
-#[tactic(auto, unfolding(crate::specs::Json::tally_object))]
+#[tactic(auto, unfolding(crate::specs::forms::Json::tally_object))]
 fn write_tally<W: Write>(writer: &mut Watched<W>, session: &Session, group: Group, tally: Tally)
     ensures { Writes (sink_of W.contents writer.old) (sink_of W.contents writer.new)
         (tally_object session.now group tally) }
@@ -197,7 +197,7 @@ fn write_tally<W: Write>(writer: &mut Watched<W>, session: &Session, group: Grou
 }
 
 /// Writes the object of a line that says one number.
-#[tactic(auto, unfolding(crate::specs::Json::number_object))]
+#[tactic(auto, unfolding(crate::specs::forms::Json::number_object))]
 pub(crate) fn write_one<W: Write>(writer: &mut Watched<W>, kind: &[u8], key: &[u8], number: u64)
     ensures { Writes (sink_of W.contents writer.old) (sink_of W.contents writer.new)
         (number_object kind.now key.now number) }
@@ -209,7 +209,7 @@ pub(crate) fn write_one<W: Write>(writer: &mut Watched<W>, kind: &[u8], key: &[u
     write_text(writer, b"}\n");
 }
 
-#[tactic(auto, unfolding(crate::specs::Json::spoilt_object))]
+#[tactic(auto, unfolding(crate::specs::forms::Json::spoilt_object))]
 pub(crate) fn write_spoilt<W: Write>(writer: &mut Watched<W>, place: u64, cause: Spoil)
     ensures { Writes (sink_of W.contents writer.old) (sink_of W.contents writer.new) (spoilt_object place cause) }
 {

@@ -14,7 +14,7 @@ use ss_message::Field;
 use std::io::Write;
 
 /// Writes ,"KEY":NUMBER.
-#[tactic(auto, unfolding(crate::specs::Json::number_member))]
+#[tactic(auto, unfolding(crate::specs::forms::Json::number_member))]
 pub(crate) fn write_number_member<W: Write>(writer: &mut Watched<W>, key: &[u8], number: u64)
     ensures { Writes (sink_of W.contents writer.old) (sink_of W.contents writer.new) (number_member key.now number) }
 {
@@ -25,7 +25,7 @@ pub(crate) fn write_number_member<W: Write>(writer: &mut Watched<W>, key: &[u8],
 }
 
 /// Writes ,"KEY":NUMBER, where the number has up to 128 bits.
-#[tactic(auto, unfolding(crate::specs::Json::number_member))]
+#[tactic(auto, unfolding(crate::specs::forms::Json::number_member))]
 pub(crate) fn write_wide_member<W: Write>(writer: &mut Watched<W>, key: &[u8], number: u128)
     ensures { Writes (sink_of W.contents writer.old) (sink_of W.contents writer.new) (number_member key.now number) }
 {
@@ -36,7 +36,7 @@ pub(crate) fn write_wide_member<W: Write>(writer: &mut Watched<W>, key: &[u8], n
 }
 
 /// Writes ,"KEY":"WORD", where the word has no octet that is escaped.
-#[tactic(auto, unfolding(crate::specs::Json::word_member))]
+#[tactic(auto, unfolding(crate::specs::forms::Json::word_member))]
 pub(crate) fn write_word_member<W: Write>(writer: &mut Watched<W>, key: &[u8], word: &[u8])
     ensures { Writes (sink_of W.contents writer.old) (sink_of W.contents writer.new) (word_member key.now word.now) }
 {
@@ -48,7 +48,7 @@ pub(crate) fn write_word_member<W: Write>(writer: &mut Watched<W>, key: &[u8], w
 }
 
 /// Writes ,"KEY":"TEXT".
-#[tactic(auto, unfolding(crate::specs::Json::text_member))]
+#[tactic(auto, unfolding(crate::specs::forms::Json::text_member))]
 fn write_text_member<W: Write>(writer: &mut Watched<W>, key: &[u8], octets: &[u8])
     ensures { Writes (sink_of W.contents writer.old) (sink_of W.contents writer.new) (text_member key.now octets.now) }
 {
@@ -114,7 +114,7 @@ fn write_field_member<W: Write>(writer: &mut Watched<W>, key: &[u8], field: &Fie
 }
 
 /// Writes host, app, procid and rsid.
-#[tactic(auto, unfolding(crate::specs::Json::session_members))]
+#[tactic(auto, unfolding(crate::specs::forms::Json::session_members))]
 pub(crate) fn write_session_members<W: Write>(writer: &mut Watched<W>, session: &Session)
     ensures { Writes (sink_of W.contents writer.old) (sink_of W.contents writer.new) (session_members session.now) }
 {
@@ -125,7 +125,7 @@ pub(crate) fn write_session_members<W: Write>(writer: &mut Watched<W>, session: 
 }
 
 /// Writes sg and spri.
-#[tactic(auto, unfolding(crate::specs::Json::group_members))]
+#[tactic(auto, unfolding(crate::specs::forms::Json::group_members))]
 pub(crate) fn write_group_members<W: Write>(writer: &mut Watched<W>, group: Group)
     ensures { Writes (sink_of W.contents writer.old) (sink_of W.contents writer.new) (group_members group) }
 {

@@ -76,7 +76,7 @@ pub(crate) fn write_line<W: Write>(writer: &mut Watched<W>, line: Line<'_>)
 }
 
 /// session HOST APP PROCID RSID STATE
-#[tactic(auto, unfolding(crate::specs::ReportText::session_text))]
+#[tactic(auto, unfolding(crate::specs::forms::ReportText::session_text))]
 fn write_session_line<W: Write>(writer: &mut Watched<W>, session: &Session, state: SessionState)
     ensures { Writes (sink_of W.contents writer.old) (sink_of W.contents writer.new) (session_text session.now state) }
 {
@@ -101,7 +101,7 @@ pub(crate) fn word_of_state(state: SessionState) -> &'static [u8]
 }
 
 /// ok HOST APP PROCID RSID SG SPRI NUMBER PLACE
-#[tactic(auto, unfolding(crate::specs::ReportText::ok_text))]
+#[tactic(auto, unfolding(crate::specs::forms::ReportText::ok_text))]
 fn write_ok<W: Write>(
     writer: &mut Watched<W>,
     session: &Session,
@@ -121,7 +121,7 @@ fn write_ok<W: Write>(
 }
 
 /// gap HOST APP PROCID RSID SG SPRI NUMBER WHY
-#[tactic(auto, unfolding(crate::specs::ReportText::gap_text))]
+#[tactic(auto, unfolding(crate::specs::forms::ReportText::gap_text))]
 fn write_gap<W: Write>(
     writer: &mut Watched<W>,
     session: &Session,
@@ -151,7 +151,7 @@ pub(crate) fn word_of_why(why: Why) -> &'static [u8]
 }
 
 /// hole HOST APP PROCID RSID SG SPRI FIRST LAST
-#[tactic(auto, unfolding(crate::specs::ReportText::hole_text))]
+#[tactic(auto, unfolding(crate::specs::forms::ReportText::hole_text))]
 fn write_hole<W: Write>(
     writer: &mut Watched<W>,
     session: &Session,
@@ -171,7 +171,7 @@ fn write_hole<W: Write>(
 }
 
 /// tail HOST APP PROCID RSID SG SPRI FIRST LAST
-#[tactic(auto, unfolding(crate::specs::ReportText::tail_text))]
+#[tactic(auto, unfolding(crate::specs::forms::ReportText::tail_text))]
 fn write_tail<W: Write>(writer: &mut Watched<W>, session: &Session, tail: GroupTail)
     ensures { Writes (sink_of W.contents writer.old) (sink_of W.contents writer.new)
         (tail_text session.now tail.group tail.first tail.last) }
@@ -185,7 +185,7 @@ fn write_tail<W: Write>(writer: &mut Watched<W>, session: &Session, tail: GroupT
 }
 
 /// session HOST APP PROCID RSID absent
-#[tactic(auto, unfolding(crate::specs::ReportText::absent_text))]
+#[tactic(auto, unfolding(crate::specs::forms::ReportText::absent_text))]
 fn write_absent<W: Write>(writer: &mut Watched<W>, session: &Session)
     ensures { Writes (sink_of W.contents writer.old) (sink_of W.contents writer.new) (absent_text session.now) }
 {
@@ -195,7 +195,7 @@ fn write_absent<W: Write>(writer: &mut Watched<W>, session: &Session)
 }
 
 /// blocks HOST APP PROCID RSID FIRST LAST
-#[tactic(auto, unfolding(crate::specs::ReportText::blocks_text))]
+#[tactic(auto, unfolding(crate::specs::forms::ReportText::blocks_text))]
 fn write_blocks<W: Write>(writer: &mut Watched<W>, session: &Session, run: MissingRun)
     ensures { Writes (sink_of W.contents writer.old) (sink_of W.contents writer.new)
         (blocks_text session.now run.first run.last) }
@@ -208,7 +208,7 @@ fn write_blocks<W: Write>(writer: &mut Watched<W>, session: &Session, run: Missi
 }
 
 /// tally HOST APP PROCID RSID SG SPRI OK LOST DISPUTED HOLES FIRST LAST
-#[tactic(auto, unfolding(crate::specs::ReportText::tally_text))]
+#[tactic(auto, unfolding(crate::specs::forms::ReportText::tally_text))]
 fn write_tally<W: Write>(writer: &mut Watched<W>, session: &Session, group: Group, tally: Tally)
     ensures { Writes (sink_of W.contents writer.old) (sink_of W.contents writer.new)
         (tally_text session.now group tally) }

@@ -42,7 +42,7 @@ impl Tally {
     }
 
     /// The tally with one more entry.
-    #[tactic(auto, unfolding(crate::specs::Tally::with_entry))]
+    #[tactic(auto, unfolding(crate::specs::lines::Tally::with_entry))]
     fn with(self, entry: Entry) -> Tally
         requires { IsWithin (2 ^ 63) self }
         ensures { HasOneMore self result entry }

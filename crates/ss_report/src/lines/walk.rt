@@ -16,7 +16,7 @@ use ss_review::{Entry, GroupReport, Report, SessionReport, SpoiltPlace};
 use std::io::Write;
 
 /// Writes the lines of a report on a log with this end, in their order, each in this form. Nothing is allocated.
-#[tactic(auto, unfolding(crate::specs::Lines::lines))]
+#[tactic(auto, unfolding(crate::specs::lines::Lines::lines))]
 pub(crate) fn write_lines<F: Form, W: Write>(
     form: &F,
     writer: &mut Watched<W>,
@@ -32,7 +32,7 @@ pub(crate) fn write_lines<F: Form, W: Write>(
 }
 
 /// The lines behind those of the sessions.
-#[tactic(auto, unfolding(crate::specs::Lines::other_lines))]
+#[tactic(auto, unfolding(crate::specs::lines::Lines::other_lines))]
 pub(crate) fn write_others<F: Form, W: Write>(
     form: &F,
     writer: &mut Watched<W>,
@@ -64,7 +64,7 @@ fn write_singles<F: Form, W: Write>(
 }
 
 /// The lines of single messages.
-#[tactic(auto, unfolding(crate::specs::Lines::single_lines))]
+#[tactic(auto, unfolding(crate::specs::lines::Lines::single_lines))]
 fn write_each<F: Form, W: Write>(form: &F, writer: &mut Watched<W>, report: &Report)
     ensures { Writes (sink_of W.contents writer.old) (sink_of W.contents writer.new)
         (flat_map (F.text form.now) (single_lines Detail.Each report.now)) }
@@ -75,7 +75,7 @@ fn write_each<F: Form, W: Write>(form: &F, writer: &mut Watched<W>, report: &Rep
 }
 
 /// How many single messages there are.
-#[tactic(auto, unfolding(crate::specs::Lines::single_lines))]
+#[tactic(auto, unfolding(crate::specs::lines::Lines::single_lines))]
 fn write_counts<F: Form, W: Write>(form: &F, writer: &mut Watched<W>, report: &Report)
     ensures { Writes (sink_of W.contents writer.old) (sink_of W.contents writer.new)
         (flat_map (F.text form.now) (single_lines Detail.Tally report.now)) }

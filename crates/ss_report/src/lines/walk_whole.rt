@@ -17,7 +17,7 @@ use std::io::Write;
 
 /// Writes the lines of a report on a log with this end, each in this form, with what is missing beside it. Nothing is
 /// allocated.
-#[tactic(auto, unfolding(crate::specs::Whole::lines_with))]
+#[tactic(auto, unfolding(crate::specs::lines::Whole::lines_with))]
 pub(crate) fn write_lines_with<F: Form, W: Write>(
     form: &F,
     writer: &mut Watched<W>,

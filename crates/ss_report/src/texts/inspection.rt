@@ -37,7 +37,7 @@ pub(crate) fn put_message(
     Ok(writer.into_inner())
 }
 
-#[tactic(auto, unfolding(crate::specs::Inspection::message_line))]
+#[tactic(auto, unfolding(crate::specs::texts::Inspection::message_line))]
 fn write_message<W: Write>(
     alloc: Global,
     writer: &mut Watched<W>,

@@ -77,7 +77,7 @@ fn write_trust<W: Write>(writer: &mut Watched<W>, payload: &[u8], notation: Nota
 }
 
 /// Writes trust PAYLOAD.
-#[tactic(auto, unfolding(crate::specs::QuestionText::question_text))]
+#[tactic(auto, unfolding(crate::specs::texts::QuestionText::question_text))]
 fn write_trust_text<W: Write>(writer: &mut Watched<W>, payload: &[u8])
     ensures { Writes (sink_of W.contents writer.old) (sink_of W.contents writer.new)
         (question_text (Trust payload.now)) }
@@ -87,7 +87,7 @@ fn write_trust_text<W: Write>(writer: &mut Watched<W>, payload: &[u8])
     write_text(writer, b"\n");
 }
 
-#[tactic(auto, unfolding(crate::specs::QuestionText::question_object))]
+#[tactic(auto, unfolding(crate::specs::texts::QuestionText::question_object))]
 fn write_trust_object<W: Write>(writer: &mut Watched<W>, payload: &[u8])
     ensures { Writes (sink_of W.contents writer.old) (sink_of W.contents writer.new)
         (question_object (Trust payload.now)) }
@@ -115,7 +115,7 @@ fn write_yes<W: Write>(
 }
 
 /// Writes yes PAYLOAD OCTETS SIGNATURE.
-#[tactic(auto, unfolding(crate::specs::QuestionText::question_text))]
+#[tactic(auto, unfolding(crate::specs::texts::QuestionText::question_text))]
 fn write_yes_text<W: Write>(
     writer: &mut Watched<W>,
     payload: &[u8],
@@ -134,7 +134,7 @@ fn write_yes_text<W: Write>(
     write_text(writer, b"\n");
 }
 
-#[tactic(auto, unfolding(crate::specs::QuestionText::question_object))]
+#[tactic(auto, unfolding(crate::specs::texts::QuestionText::question_object))]
 fn write_yes_object<W: Write>(
     writer: &mut Watched<W>,
     payload: &[u8],
@@ -152,7 +152,7 @@ fn write_yes_object<W: Write>(
 }
 
 /// Writes ,"KEY":"BASE64".
-#[tactic(auto, unfolding(crate::specs::Json::word_member))]
+#[tactic(auto, unfolding(crate::specs::forms::Json::word_member))]
 fn write_base64_member<W: Write>(writer: &mut Watched<W>, key: &[u8], value: &[u8])
     ensures { Writes (sink_of W.contents writer.old) (sink_of W.contents writer.new)
         (word_member key.now (base64 value.now)) }

@@ -6,7 +6,7 @@ ghost use Rattle.ss_review.specs.report.Verdict.{is_joined, is_listed, is_none, 
 use ss_review::{Entry, GroupReport, Report, SessionReport, SessionState};
 
 /// Whether every session is joined, every entry a listed message, and no place stands in another list.
-#[tactic(auto, unfolding(ss_review::specs::Verdict::is_clean))]
+#[tactic(auto, unfolding(ss_review::specs::report::Verdict::is_clean))]
 pub(crate) fn is_clean(report: &Report) -> bool
     ensures { result ≡ is_clean report.now }
 {

@@ -10,7 +10,7 @@ use std::alloc::Global;
 
 /// What a text is, as far as its note needs it. A text without `[ssign` holds no block, so it isn't parsed: it is
 /// answered as `Plain`, whether it is a message or not, since the note of either is its two hashes.
-#[tactic(auto, unfolding(crate::specs::Notes::note))]
+#[tactic(auto, unfolding(crate::specs::keep::Notes::note))]
 pub(crate) fn reading_to_note(alloc: Global, text: &[u8]) -> Result<Reading, NoMemory>
     ensures { IfOk result (λ r. noted text.now r ≡ note text.now) }
 {
@@ -22,7 +22,7 @@ pub(crate) fn reading_to_note(alloc: Global, text: &[u8]) -> Result<Reading, NoM
 }
 
 /// The block that a text holds, which stands at this place in its log; none where it holds none.
-#[tactic(auto, unfolding(crate::specs::Contents::block_in))]
+#[tactic(auto, unfolding(crate::specs::keep::Contents::block_in))]
 pub(crate) fn block_in(
     alloc: Global,
     place: u32,

@@ -28,7 +28,7 @@ pub(crate) struct ByHash {
 
 impl ByHash {
     /// No message. It takes no memory.
-    #[tactic(auto, unfolding(crate::specs::Assigned::places_with))]
+    #[tactic(auto, unfolding(crate::specs::assign::Assigned::places_with))]
     pub(crate) fn new(alloc: Global) -> ByHash
         ensures { KeepsNormal result [] }
     {

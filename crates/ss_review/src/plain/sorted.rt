@@ -41,7 +41,7 @@ pub(crate) fn sort_out(alloc: Global, messages: &[Bytes]) -> Result<Sorted, NoMe
 
 impl Sorted {
     /// Adds the next message.
-    #[tactic(auto, unfolding(crate::specs::Notes::note))]
+    #[tactic(auto, unfolding(crate::specs::keep::Notes::note))]
     fn sort_in(&mut self, alloc: Global, message: &[u8]) -> Result<(), NoMemory>
         ensures { (ns : List Note)
             → SortedOut self.old ns

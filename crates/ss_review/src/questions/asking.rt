@@ -44,7 +44,7 @@ fn asked_blocks(alloc: Global, blocks: &[&BlockMessage]) -> Result<Vec<AskedBloc
 }
 
 /// Adds a session, whose blocks these are, if they state a payload.
-#[tactic(auto, unfolding(crate::specs::Questions::questions_shared))]
+#[tactic(auto, unfolding(crate::specs::questions::Questions::questions_shared))]
 fn add_session(
     alloc: Global,
     sessions: &mut Vec<AskedSession>,
@@ -116,7 +116,7 @@ fn put_questions(
 }
 
 /// The questions about these sessions, each with a payload of its own.
-#[tactic(auto, unfolding(crate::specs::Questions::questions_shared))]
+#[tactic(auto, unfolding(crate::specs::questions::Questions::questions_shared))]
 fn questions_of(alloc: Global, sessions: &[AskedSession]) -> Result<Vec<Question>, NoMemory>
     ensures { IfOk result (λ v. v.items ≡ questions_shared sessions.now) }
 {
