@@ -4,7 +4,7 @@ use Rattle.std.specs.Prelude.{◌==◌, flat_map, Option, Some, None}
 use Rattle.std.specs.declared.cmp.Ordering.{Ordering}
 use Rattle.std.specs.declared.cmp.Ordering.TheVariants.{Less, Equal, Greater}
 use Rattle.std.specs.Ordering.{nat_cmp, ordering_then, is_eq}
-use Rattle.std.specs.List.{list_any, cons_option}
+use Rattle.std.specs.List.{list_any}
 use Rattle.std.specs.BTreeSet.{BTreeSet, Updates, contains}
 use Rattle.std.proofs.lemmas.Bool.{eq-eqb, ne_eqb}
 use Rattle.std.proofs.lemmas.Cmp.{ranked}
@@ -33,7 +33,7 @@ use Rattle.ss_review.specs.sessions.Sessions.{same_session}
 use Rattle.ss_review.specs.report.Verdict.{is_joined}
 use Rattle.ss_review.proofs.of_kept_messages.NotedBlocks.{block_held}
 use Rattle.ss_report.specs.declared.runs.carrying.Extent.{Extent}
-use Rattle.ss_report.specs.runs.Carrying.{told_of, is_joined_in, is_refused_in, is_verified_in, is_numbered, has_fragment_at, is_fragment_of, entries_said, entries_under}
+use Rattle.ss_report.specs.runs.Carrying.{is_joined_in, is_refused_in, is_verified_in, is_numbered, has_fragment_at, is_fragment_of, entries_said, entries_under}
 use Rattle.ss_report.specs.runs.CarriedSoFar.{IsToldJoined, KnowsExtents, carried_verified, carried_with, extent_cmp}
 
 -- ---- what the report says of its session

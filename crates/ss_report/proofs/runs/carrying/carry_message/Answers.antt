@@ -1,8 +1,6 @@
 use Rattle.std.proofs.Common.{◌++◌, [], sym, ap, subst, ◌∙◌}
 use Rattle.std.specs.List.{cons_option}
 use Rattle.std.proofs.lemmas.List.{append-nil}
-use Rattle.std.proofs.lemmas.Result.{IfOk-weaker}
-use Rattle.ss_review.specs.keep.Contents.{block_with, said_in}
 use Rattle.ss_review.proofs.of_kept_messages.NotedBlocks.{none_held}
 use Rattle.ss_report.specs.runs.CarriedSoFar.{KnowsExtents, carried_at}
 use Rattle.ss_report.proofs.of_carrying.CarriedBlocks.{read_held}
