@@ -1,10 +1,10 @@
 #!/usr/bin/env python3
 """Counts the memory of the libraries' calls, over inputs of up to 10,000 messages, against the octets of their input.
 
-    room.py LIBRARY TIMING ORIGINATED REVIEWED [--show]
+    room.py LIBRARY TIMING ORIGINATED REVIEWED SSIGN [--show]
 
 LIBRARY is made of tests/count.c; TIMING, ORIGINATED and REVIEWED are the programs tool_timing, tool_originated and
-tool_reviewed, which make the calls. What is counted is the most octets that a program had allocated at one time, less
+tool_reviewed, which make the calls, and SSIGN is the program itself. What is counted is the most octets that a program had allocated at one time, less
 what it has without an input. A list that grows has its old room and its new one at once, so a list that keeps N octets
 may take 3 times N while it grows.
 
@@ -14,12 +14,14 @@ Each check states a bound of its own:
   a reviewer that is fed        52 octets for each message without a block, three times, and the text of the blocks
   a review                      so many octets for each octet of the log
   joiners                       so many octets for each octet that is stated, and for each joiner of its own
+  answers                       where all lines have one payload, far less than where each has its own of that length
   an originator                 no more for 10,000 messages than for 2,000, for an input of the same length: what it
                                 keeps are the hashes of the messages that are pending, and its payload
 
 The last line is `room: N passed, M failed`.
 """
 import argparse
+import base64
 import subprocess
 import sys
 import tempfile
@@ -154,6 +156,24 @@ def joined(bench, timing):
 
 # ---- originators
 
+def answers(count, length, own):
+    """An answers file: each line has a payload of this length, one for all or one of its own."""
+    texts = (b"- K " + b"%07d" % (number if own else 0) * (length // 7) for number in range(count))
+    return b"".join(b"yes %s AAAA AAAA\n" % base64.b64encode(text) for text in texts)
+
+
+def answered(bench, ssign):
+    """Reads answers files: a payload that stands in many lines is kept once."""
+    for count, length in ((100, 7_000), (1_000, 700), (MOST, 70)):
+        peaks = []
+        for own in (False, True):
+            with tempfile.NamedTemporaryFile() as file:
+                file.write(answers(count, length, own))
+                file.flush()
+                peaks.append(bench.peak([ssign, "review", "--answers", file.name], b"", starts(b"end 0\n")))
+        bench.check("answers of %d lines, one payload of %d octets" % (count, length), peaks[0], peaks[1] - count * length // 2)
+
+
 def script(count, groups, length):
     """So many messages to an originator, in an input of so many octets."""
     config = "config 110 h s - - 0121 1 %s 10 1 20 %s" % (groups, PAYLOAD)
@@ -182,7 +202,7 @@ def originated(bench, originated_by):
 
 def main():
     parser = argparse.ArgumentParser(description=__doc__, formatter_class=argparse.RawDescriptionHelpFormatter)
-    for it in ("library", "timing", "originated", "reviewed"):
+    for it in ("library", "timing", "originated", "reviewed", "ssign"):
         parser.add_argument(it)
     parser.add_argument("--show", action="store_true")
     given = parser.parse_args()
@@ -192,6 +212,7 @@ def main():
     reviewed(bench, given.timing, given.reviewed)
     joined(bench, given.timing)
     originated(bench, given.originated)
+    answered(bench, given.ssign)
     print("room: %d passed, %d failed" % (passed, failed))
     return failed > 0 or passed == 0
 

@@ -19,4 +19,4 @@ if ! command -v cc >/dev/null; then
     finish
 fi
 cc -O1 -shared -fPIC -o "$scratch/count.so" "$root/tests/count.c" -ldl || exit 1
-python3 -B "$root/tests/room.py" "$scratch/count.so" "${programs[@]}" "$@"
+python3 -B "$root/tests/room.py" "$scratch/count.so" "${programs[@]}" "$program" "$@"
