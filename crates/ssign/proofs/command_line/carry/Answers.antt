@@ -8,4 +8,4 @@ use Rattle.ssign.proofs.command_line.carry.Goals as goal
 pub returns : goal.returns
 returns c =
     c.limited.ensures (with_rule (new_app carry.NAME.now) answers_rule)
-    (with_argument c.in_ok-arg.ensures c.over_log.ensures c.answers.ensures.rule c.answers.ensures.local)
+    (with_argument c.in_ok-arg.ensures c.over_log-carry.ensures c.answers.ensures.rule c.answers.ensures.local)

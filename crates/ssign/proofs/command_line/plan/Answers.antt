@@ -6,5 +6,5 @@ use Rattle.ssign.proofs.command_line.plan.Goals as goal
 
 pub returns : goal.returns
 returns c =
-    let plan = c.in_ok-with_signing_options.ensures (new_app plan.NAME.now) c.over_log-plan.ensures in
-    c.limited.ensures (with_signing_options c.args.versions (new_app plan.NAME.now)) plan
+    let signing = c.in_ok-with_signing_options.ensures (new_app plan.NAME.now) c.over_log-plan.ensures in
+    c.limited.ensures (with_signing_options c.args.versions (new_app plan.NAME.now)) signing
