@@ -110,6 +110,8 @@ impl Judge for Answers {
 
     ghost sound = { λ answers. Unit {0} };
 
+    ghost askable = { λ _ _. Unit {0} };
+
     ghost trusted = { λ answers payload. trusted answers payload };
 
     ghost valid = { λ answers payload bytes signature. valid answers payload bytes signature };

@@ -1,3 +1,4 @@
 pub mod AskedShared
 pub mod NeededBlocks
+pub mod AskableBlocks
 pub mod AgreeingSchemes

@@ -2,6 +2,7 @@
 ghost use Rattle.std.specs.Prelude.{◌≡◌, IfOk};
 ghost use Rattle.ss_review.specs.keep.Contents.{Contents};
 ghost use Rattle.ss_review.specs.sessions.Verified.{answers};
+ghost use Rattle.ss_review.specs.questions.Questions.{questions, AreAskable};
 ghost use Rattle.ss_review.specs.report.Report.{report_of};
 
 use crate::assign::index::Index;
@@ -27,7 +28,8 @@ pub(crate) fn review<J: Judge + Drop, I: Index + Drop>(
     spoilt: &[SpoiltPlace],
     count: u32,
 ) -> Result<Report, NoMemory>
-    requires { J.sound judge }
+    requires sound { J.sound judge }
+    requires askable { AreAskable J.askable judge (questions blocks.items) }
     ensures { (log : Contents)
         → I.has index log.normal
         → blocks.items ≡ log.blocks

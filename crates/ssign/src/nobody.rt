@@ -10,6 +10,8 @@ pub struct Nobody;
 impl Judge for Nobody {
     ghost sound = { λ _. Unit {0} };
 
+    ghost askable = { λ _ _. Unit {0} };
+
     ghost trusted = { λ _ _. false };
 
     ghost valid = { λ _ _ _ _. false };

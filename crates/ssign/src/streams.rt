@@ -1,6 +1,7 @@
 //! Runs from standard input to standard output.
 ghost use Rattle.std.specs.Prelude.{◌≡◌, false, IfOk};
 ghost use Rattle.ss_frame.specs.Watched.{has_failed};
+ghost use Rattle.ss_review.specs.declared.questions.question.Question.{Question};
 
 use crate::explain::write_explanation;
 use crate::explanations::Explanation;
@@ -30,7 +31,8 @@ pub fn run_streams<R: Print + AllocGlobal, I: Read + Drop, J: Judge + Drop>(
     judge: J,
     limits: Limits,
 ) -> Result<Verdict, RunFault>
-    requires { J.sound judge }
+    requires sound { J.sound judge }
+    requires askable { (q : Question) → J.askable judge q }
 {
     let mut reader = buffered(rt.alloc(), input)?;
     let mut writer = standard_output(rt)?;

@@ -1,6 +1,7 @@
 //! What the program makes of a log.
 ghost use Rattle.std.specs.Prelude.{◌≡◌, ◌≢◌, false, IfOk, IfErr};
 ghost use Rattle.ss_frame.specs.Watched.{has_failed, source_of, sink_of};
+ghost use Rattle.ss_review.specs.declared.questions.question.Question.{Question};
 ghost use Rattle.ss_review.specs.sessions.Verified.{answers};
 ghost use Rattle.ss_report.specs.runs.Run.{Runs, Stops};
 ghost use Rattle.ssign.specs.Task.{carrying, review_of, job_of};
@@ -65,6 +66,7 @@ pub fn run_task<R: Read, W: Write, J: Judge + Drop>(
     requires reader { has_failed reader.old ≡ false }
     requires writer { has_failed writer.old ≡ false }
     requires sound { J.sound judge }
+    requires askable { (q : Question) → J.askable judge q }
     ensures done { IfOk result
         (Runs (job_of (answers J.trusted J.valid judge) reporting counters.now extraction task) limits
         (source_of R.remaining reader.old) (source_of R.remaining reader.new)
@@ -109,6 +111,7 @@ fn run_reported<R: Read, W: Write, J: Judge + Drop>(
     requires reader { has_failed reader.old ≡ false }
     requires writer { has_failed writer.old ≡ false }
     requires sound { J.sound judge }
+    requires askable { (q : Question) → J.askable judge q }
     ensures done { IfOk result (Runs (review_of (answers J.trusted J.valid judge) reporting counters.now) limits
         (source_of R.remaining reader.old) (source_of R.remaining reader.new)
         (sink_of W.contents writer.old) (sink_of W.contents writer.new)) }

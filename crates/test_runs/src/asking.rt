@@ -116,10 +116,10 @@ pub const ROWS: [Row; 10] = [
 /// `ShortAlone` (118); the greatest takes none.
 const JUDGES: [usize; 3] = [0, 130, usize::MAX];
 
-/// A log, and how often each judge is asked about a signature: about equal blocks once to accept a payload, if they are
-/// certificate blocks, and once to verify them if it is accepted.
-const COUNTS: [(&[Text], [u32; 3]); 6] = [
-    (&[Text::Short, Text::Certificate, Text::Both], [3, 3, 1]),
+/// A log, how often each judge is asked about a payload, and how often about a signature: about equal blocks once to
+/// accept a payload, if they are certificate blocks, and once to verify them if it is accepted.
+const COUNTS: [(&[Text], u32, [u32; 3]); 6] = [
+    (&[Text::Short, Text::Certificate, Text::Both], 1, [3, 3, 1]),
     (
         &[
             Text::Both,
@@ -129,9 +129,10 @@ const COUNTS: [(&[Text], [u32; 3]); 6] = [
             Text::Certificate,
             Text::Both,
         ],
+        1,
         [3, 3, 1],
     ),
-    (&[Text::Back, Text::Front, Text::Back], [4, 2, 2]),
+    (&[Text::Back, Text::Front, Text::Back], 1, [4, 2, 2]),
     (
         &[
             Text::Certificate,
@@ -139,33 +140,38 @@ const COUNTS: [(&[Text], [u32; 3]); 6] = [
             Text::Both,
             Text::ShortAlone,
         ],
+        1,
         [4, 4, 1],
     ),
-    (&[Text::Both, Text::Both], [0, 0, 0]),
-    (&[Text::Certificate, Text::OtherPayload], [0, 0, 0]),
+    (&[Text::Both, Text::Both], 0, [0, 0, 0]),
+    (&[Text::Certificate, Text::OtherPayload], 0, [0, 0, 0]),
 ];
 
 /// Trusts every payload, says yes to each signature of so many octets at least, and counts how often it is asked about
-/// one.
+/// a payload, and about a signature.
 #[derive(Drop)]
 struct Counting {
     least: usize,
-    asked: Cell<u32>,
+    payloads: Cell<u32>,
+    signatures: Cell<u32>,
 }
 
 impl Judge for Counting {
     ghost sound = { λ _. Unit {0} };
+
+    ghost askable = { λ _ _. Unit {0} };
 
     ghost trusted = { λ _ _. true };
 
     ghost valid = { λ judge _ octets _. nat_le judge.least (length octets) };
 
     fn trusts(&self, _payload: &[u8]) -> bool {
+        self.payloads.set(self.payloads.get().saturating_add(1));
         true
     }
 
     fn accepts(&self, _payload: &[u8], octets: &[u8], _signature: &[u8]) -> bool {
-        self.asked.set(self.asked.get().saturating_add(1));
+        self.signatures.set(self.signatures.get().saturating_add(1));
         octets.len() >= self.least
     }
 }
@@ -203,14 +209,15 @@ fn questions_of(alloc: Global, log: &[Text]) -> Result<Questions, ReviewFault> {
     fed(alloc, log)?.questions()
 }
 
-/// How often a review of the log asks this judge about a signature.
-fn times_asked(alloc: Global, log: &[Text], least: usize) -> Result<u32, ReviewFault> {
+/// How often a review of the log asks this judge about a payload, and how often about a signature.
+fn times_asked(alloc: Global, log: &[Text], least: usize) -> Result<(u32, u32), ReviewFault> {
     let counting = Counting {
         least,
-        asked: Cell::new(0),
+        payloads: Cell::new(0),
+        signatures: Cell::new(0),
     };
     fed(alloc, log)?.finish(&counting)?;
-    Ok(counting.asked.get())
+    Ok((counting.payloads.get(), counting.signatures.get()))
 }
 
 /// The questions are those, in that order.
@@ -243,10 +250,11 @@ fn asking(rt: HostRuntime) -> Result<(), Fail> {
 
 #[test]
 fn asks_once_about_equal_blocks(rt: HostRuntime) -> Result<(), Fail> {
-    for (log, counts) in &COUNTS {
+    for (log, payloads, counts) in &COUNTS {
         for (least, count) in JUDGES.iter().zip(counts) {
-            let asked = times_asked(rt.alloc(), log, *least)?;
-            assert_eq!(rt; asked, *count, "{log:?}, {least}");
+            let (about_payloads, about_signatures) = times_asked(rt.alloc(), log, *least)?;
+            assert_eq!(rt; about_payloads, *payloads, "{log:?}, {least}");
+            assert_eq!(rt; about_signatures, *count, "{log:?}, {least}");
         }
     }
     Ok(())

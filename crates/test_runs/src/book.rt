@@ -117,6 +117,8 @@ pub struct Yes;
 impl Judge for Yes {
     ghost sound = { λ _. Unit {0} };
 
+    ghost askable = { λ _ _. Unit {0} };
+
     ghost trusted = { λ _ _. true };
 
     ghost valid = { λ _ _ _ _. true };

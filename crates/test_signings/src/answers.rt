@@ -1,6 +1,7 @@
 //! Answers files: the lines of them, made by hand from the format, and that a call succeeds.
 ghost use Rattle.std.specs.Prelude.{◌≡◌};
 ghost use Rattle.ss_answers.specs.Answers.{trusted, valid};
+ghost use Rattle.ss_review.specs.declared.questions.question.Question.{Question};
 
 use ss_answers::{AnswerFault, Answers, CounterFault, read_answers, read_counters};
 use ss_frame::Watched;
@@ -22,7 +23,8 @@ fn read(rt: &impl AllocGlobal, text: &[u8], max: u32) -> Result<Answers, AnswerF
 
 /// Asks a judge.
 fn ask<J: Judge>(judge: &J, payload: &[u8], bytes: &[u8], signature: &[u8]) -> (bool, bool)
-    requires { J.sound judge.now }
+    requires sound { J.sound judge.now }
+    requires askable { (q : Question) → J.askable judge.now q }
     ensures trusts { result.0 ≡ J.trusted judge.now payload.now }
     ensures accepts { result.1 ≡ J.valid judge.now payload.now bytes.now signature.now }
 {

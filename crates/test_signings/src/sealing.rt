@@ -18,6 +18,8 @@ impl Scheme for Lenient {
 impl Judge for Lenient {
     ghost sound = { λ _. Unit {0} };
 
+    ghost askable = { λ _ _. Unit {0} };
+
     ghost trusted = { λ _ _. true };
 
     ghost valid = { λ _ _ _ _. true };

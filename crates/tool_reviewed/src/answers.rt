@@ -23,6 +23,8 @@ pub struct Answers<'a> {
 impl<'a> Judge for Answers<'a> {
     ghost sound = { λ _. Unit {0} };
 
+    ghost askable = { λ _ _. Unit {0} };
+
     ghost trusted = { λ a p. list_any (λ t. bytes_eq t.now p) a.trusted.items };
 
     ghost valid = { λ a p x s.

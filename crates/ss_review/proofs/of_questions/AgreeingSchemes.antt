@@ -1,11 +1,8 @@
 -- Two schemes that answer alike all that is asked about a log give it one report.
 use Rattle.std.proofs.Common.{◌≡◌, inl, inr, Bool, true, false, cond, not, List, [], ◌∷◌, length, map, filter, refl, ap, ◌∙◌}
 use Rattle.std.specs.Prelude.{ℕ, Contains, Result, Ok, Err}
-use Rattle.std.specs.Ordering.{is_eq}
 use Rattle.std.specs.List.{flat_map}
-use Rattle.std.proofs.lemmas.Cmp.{tied_itself}
 use Rattle.ss_block.specs.declared.session.Session.{Session}
-use Rattle.ss_block.specs.OrderLaws.{session_cmp_total, session_cmp_exact}
 use Rattle.ss_review.specs.declared.report.session_report.SessionState.{SessionState}
 use Rattle.ss_review.specs.declared.report.session_report.SessionState.TheVariants as states
 use Rattle.ss_review.specs.declared.questions.question.Question.{Question}
@@ -13,16 +10,15 @@ use Rattle.ss_review.specs.declared.questions.question.Question.TheVariants as q
 use Rattle.ss_review.specs.declared.keep.message.BlockMessage.{BlockMessage}
 use Rattle.ss_review.specs.keep.Contents.{Contents}
 use Rattle.ss_review.specs.Ordered.{in_order}
-use Rattle.ss_review.specs.sessions.Sessions.{same_session, sessions, of_session}
+use Rattle.ss_review.specs.sessions.Sessions.{sessions, of_session}
 use Rattle.ss_review.specs.sessions.Payloads.{certificates, cover, stated_payload}
 use Rattle.ss_review.specs.sessions.Verified.{Answers, is_valid, is_accepted, judged, joined, state_in, is_valid_in, is_verified}
 use Rattle.ss_review.specs.announced.Announced.{row_cmp, rows_said, rows}
 use Rattle.ss_review.specs.questions.Questions.{question_about, asked, questions, answer}
 use Rattle.ss_review.specs.report.Report.{groups, group_report, session_report, unlisted, refused, report_of}
 use Rattle.ss_origin.proofs.Members.{Has, contains_from_has, has-map}
-use Rattle.ss_review.proofs.of_lists.Members.{has-filter, has-flat_map}
-use Rattle.ss_review.proofs.of_lists.Rising.{has-in_order}
 use Rattle.ss_review.proofs.of_lists.Sections.{map_agree}
+use Rattle.ss_review.proofs.of_questions.AskableBlocks.{has-questions, has-sessions, has-own}
 
 -- tests that agree at each member keep the same
 filter_agree : {X : Type 0} (p q : X → Bool) (xs : List X) → ((x : X) → Has xs x → p x ≡ q x) → filter p xs ≡ filter q xs
@@ -65,22 +61,6 @@ module _ (says other : Answers) (bs : List BlockMessage) where
       ∙ valid_in_judged payload b (valid_alike payload alike b h) (not (other.trusted payload)) (is_accepted other bs payload)
 
 -- ---- all of them
-
-abbrev asked_of : List BlockMessage → Session → List Question
-asked_of bs s = asked (of_session bs s) (stated_payload (certificates (of_session bs s)))
-
-has-questions : (bs : List BlockMessage) (s : Session) (q : Question) → Has (sessions bs) s → Has (asked_of bs s) q → Has (questions bs) q
-unfolding questions
-has-questions bs s q h i = has-flat_map (asked_of bs) (sessions bs) s q h i
-
-abbrev whose : BlockMessage → Session
-whose b = b.session
-
-has-sessions : (bs : List BlockMessage) (b : BlockMessage) → Has bs b → Has (sessions bs) b.session
-has-sessions bs b h = has-in_order session_cmp_total session_cmp_exact b.session (map whose bs) (has-map whose bs b h)
-
-has-own : (bs : List BlockMessage) (b : BlockMessage) → Has bs b → Has (of_session bs b.session) b
-has-own bs b h = has-filter (λ (d : BlockMessage). same_session d.session b.session) bs b h (ap is_eq (tied_itself session_cmp_total b.session))
 
 module _ (says other : Answers) (bs : List BlockMessage) (alike : (q : Question) → Contains (questions bs) q → answer says q ≡ answer other q) where
   alike_of : (s : Session) → Has (sessions bs) s → AgreeOn says other (of_session bs s) (stated_payload (certificates (of_session bs s)))

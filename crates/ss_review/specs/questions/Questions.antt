@@ -1,5 +1,5 @@
 -- What a review asks of a scheme, as often as a block stands in its log.
-use Rattle.std.specs.Prelude.{ℕ, Bool, List, [], ◌∷◌, map, flat_map, Option, Result, Ok, Err}
+use Rattle.std.specs.Prelude.{◌≡◌, ℕ, Bool, List, [], ◌∷◌, Contains, map, flat_map, Option, Result, Ok, Err}
 use Rattle.ss_block.specs.Block as block
 use Rattle.ss_block.specs.declared.session.Session.{Session}
 use Rattle.ss_review.specs.declared.report.session_report.SessionState.{SessionState}
@@ -8,6 +8,7 @@ use Rattle.ss_review.specs.declared.questions.asked.AskedSession.{AskedSession}
 use Rattle.ss_review.specs.declared.questions.question.Question.{Question}
 use Rattle.ss_review.specs.declared.questions.question.Question.TheVariants as question
 use Rattle.ss_review.specs.declared.keep.message.BlockMessage.{BlockMessage}
+use Rattle.ss_review.specs.declared.sessions.joined_session.JoinedSession.{JoinedSession}
 use Rattle.ss_review.specs.sessions.Sessions.{sessions, of_session}
 use Rattle.ss_review.specs.sessions.Payloads.{certificate_of, certificates, stated_payload}
 use Rattle.ss_review.specs.sessions.Verified.{Answers, signature_of}
@@ -29,6 +30,18 @@ questions bs = flat_map (λ s. asked (of_session bs s) (stated_payload (certific
 abbrev pub answer : Answers → Question → Bool
 answer says (question.Trust payload) = says.trusted payload
 answer says (question.Yes payload octets signature) = says.valid payload octets signature
+
+-- ---- what a judge may be asked
+
+-- the judge may be asked each of these
+abbrev pub AreAskable : {J : Type 0} → (J → Question → Type 0) → J → List Question → Type 0
+AreAskable askable judge qs = (q : Question) → Contains qs q → askable judge q
+
+-- if the block's session is one of these, and joined, the judge may be asked whether the block is valid under its payload
+abbrev pub IsAskableIn : {J : Type 0} → (J → Question → Type 0) → J → List JoinedSession → BlockMessage → Type 0
+IsAskableIn askable judge ss b =
+    (s : JoinedSession) (payload : List ℕ) → Contains ss s → s.session ≡ b.session → s.joined ≡ Ok payload
+    → askable judge (question_about payload b)
 
 -- ---- the same session by session, with each payload once
 

@@ -2,6 +2,7 @@
 ghost use Rattle.std.specs.Prelude.{◌≡◌, IfOk};
 ghost use Rattle.ss_review.specs.keep.Contents.{Contents};
 ghost use Rattle.ss_review.specs.sessions.Verified.{answers};
+ghost use Rattle.ss_review.specs.questions.Questions.{questions, AreAskable};
 ghost use Rattle.ss_review.specs.report.Report.{report_of};
 ghost use Rattle.ss_review.specs.counted.Counted.{counted_sessions};
 
@@ -28,7 +29,8 @@ pub(crate) fn review_counted<J: Judge + Drop, I: Index + Drop>(
     spoilt: &[SpoiltPlace],
     count: u32,
 ) -> Result<CountedReport, NoMemory>
-    requires { J.sound judge }
+    requires sound { J.sound judge }
+    requires askable { AreAskable J.askable judge (questions blocks.items) }
     ensures report { (log : Contents)
         → I.has index log.normal
         → blocks.items ≡ log.blocks

@@ -1,4 +1,7 @@
 //! What is kept of the messages of a log in a review.
+ghost use Rattle.std.specs.Prelude.{◌≡◌};
+ghost use Rattle.ss_review.specs.sessions.Verified.{signature_of};
+
 use ss_block::{CertBlock, HashPair, Session, SigBlock};
 use ss_frame::Bytes;
 
@@ -31,4 +34,14 @@ pub struct BlockMessage {
     pub said: Said,
     /// What is signed of it.
     pub signed: Bytes,
+}
+
+/// The signature of a block.
+pub(crate) fn signature_of(said: &Said) -> &Bytes
+    ensures { result.now ≡ signature_of said.now }
+{
+    match said {
+        Said::Hashes(block) => block.signature(),
+        Said::Fragment(block) => block.signature(),
+    }
 }

@@ -3,6 +3,7 @@ ghost use Rattle.std.specs.Prelude.{◌≡◌, List, IfOk, IfErr};
 ghost use Rattle.ss_review.specs.declared.fault.ReviewFault.TheVariants.{Memory};
 ghost use Rattle.ss_review.specs.keep.Notes.{Note};
 ghost use Rattle.ss_review.specs.keep.Contents.{contents};
+ghost use Rattle.ss_review.specs.declared.questions.question.Question.{Question};
 ghost use Rattle.ss_review.specs.sessions.Verified.{answers};
 ghost use Rattle.ss_review.specs.report.Report.{report_of};
 ghost use Rattle.ss_review.specs.keep.Keeping.{Keeps, KeepsAll};
@@ -20,7 +21,8 @@ pub fn reviewers_agree<J: Judge>(
     whole: &plain::Reviewer,
     judge: &J,
 ) -> Result<(Report, Report), ReviewFault>
-    requires { J.sound judge.now }
+    requires sound { J.sound judge.now }
+    requires askable { (q : Question) → J.askable judge.now q }
     ensures agree { (ns : List Note)
         → Keeps reviewer.now ns
         → KeepsAll whole.now ns

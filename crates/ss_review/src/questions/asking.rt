@@ -5,10 +5,9 @@ ghost use Rattle.ss_review.specs.questions.Questions.{asked, asked_block, questi
 ghost use Rattle.ss_review.specs.questions.Questions.{questions_shared};
 ghost use Rattle.ss_review.specs.sessions.Sectioned.{referred, SessionsRise};
 
-use crate::keep::message::BlockMessage;
+use crate::keep::message::{BlockMessage, signature_of};
 use crate::questions::asked::{AskedBlock, AskedSession, AskedSessions};
 use crate::questions::question::{Question, Questions};
-use crate::sessions::accepting::signature_of;
 use crate::sessions::joining::stated_payload;
 use crate::sessions::sectioning::{by_session, section_end};
 use ss_frame::{Bytes, List};

@@ -3,12 +3,13 @@ ghost use Rattle.std.specs.Prelude.{◌≡◌, Bool, map, filter, Some, Ok, IfOk
 ghost use Rattle.std.specs.BTreeMap.{get};
 ghost use Rattle.ss_review.specs.declared.keep.message.BlockMessage.{BlockMessage};
 ghost use Rattle.ss_review.specs.declared.sessions.found_blocks.Claim.{Claim};
-ghost use Rattle.ss_review.specs.sessions.Payloads.{certificates};
-ghost use Rattle.ss_review.specs.sessions.Verified.{answers, signature_of, is_valid, is_accepted, judged, joined};
+ghost use Rattle.ss_review.specs.sessions.Payloads.{certificates, stated_payload};
+ghost use Rattle.ss_review.specs.sessions.Verified.{answers, is_valid, is_accepted, judged, joined};
 ghost use Rattle.ss_review.specs.sessions.Covering.{spans_of, accepted_span};
+ghost use Rattle.ss_review.specs.questions.Questions.{question_about, asked, AreAskable};
 ghost use Rattle.ss_review.specs.sessions.FoundBlocks.{claim_cmp, IsClaimOf, TellsEqualsAlike, KeepsWhatHolds};
 
-use crate::keep::message::{BlockMessage, Said};
+use crate::keep::message::{BlockMessage, Said, signature_of};
 use crate::report::session_report::SessionState;
 use crate::sessions::found_blocks::FoundBlocks;
 use crate::sessions::joining::stated_payload;
@@ -18,19 +19,10 @@ use ss_frame::Bytes;
 use ss_message::NoMemory;
 use std::alloc::Global;
 
-/// The signature of a block.
-pub(crate) fn signature_of(said: &Said) -> &Bytes
-    ensures { result.now ≡ signature_of said.now }
-{
-    match said {
-        Said::Hashes(block) => block.signature(),
-        Said::Fragment(block) => block.signature(),
-    }
-}
-
 /// Whether the block's signature is valid under the payload.
 fn is_valid<J: Judge>(judge: &J, payload: &[u8], message: &BlockMessage) -> bool
-    requires { J.sound judge.now }
+    requires sound { J.sound judge.now }
+    requires askable { J.askable judge.now (question_about payload.now message.now) }
     ensures { result ≡ is_valid (answers J.trusted J.valid judge.now) payload.now message.now }
 {
     let signature = signature_of(&message.said);
@@ -45,7 +37,8 @@ pub(crate) fn valid_once<'a, J: Judge>(
     found: &mut FoundBlocks<'a>,
     message: &'a BlockMessage,
 ) -> Result<bool, NoMemory>
-    requires { J.sound judge.now }
+    requires sound { J.sound judge.now }
+    requires askable { J.askable judge.now (question_about payload.now message.now) }
     ensures valid { (f : BlockMessage → Bool)
         → KeepsWhatHolds f found.old
         → f message.now ≡ is_valid (answers J.trusted J.valid judge.now) payload.now message.now
@@ -75,7 +68,8 @@ fn accepted_span<'a, J: Judge>(
     found: &mut FoundBlocks<'a>,
     message: &'a BlockMessage,
 ) -> Result<Option<Span>, NoMemory>
-    requires { J.sound judge.now }
+    requires sound { J.sound judge.now }
+    requires askable { J.askable judge.now (question_about payload.now message.now) }
     ensures span { KeepsWhatHolds (is_valid (answers J.trusted J.valid judge.now) payload.now) found.old
         → IfOk result (λ o. o ≡ accepted_span (answers J.trusted J.valid judge.now) payload.now message.now) }
     ensures kept { KeepsWhatHolds (is_valid (answers J.trusted J.valid judge.now) payload.now) found.old
@@ -100,7 +94,8 @@ fn accepted_spans<J: Judge>(
     payload: &[u8],
     blocks: &[&BlockMessage],
 ) -> Result<Vec<Span>, NoMemory>
-    requires { J.sound judge.now }
+    requires sound { J.sound judge.now }
+    requires askable { AreAskable J.askable judge.now (map (question_about payload.now) (map (λ b. b.now) blocks.now)) }
     ensures { IfOk result (λ v. v.items
         ≡ spans_of (certificates (filter (is_valid (answers J.trusted J.valid judge.now) payload.now) (map (λ b.
         b.now) blocks.now)))) }
@@ -123,7 +118,8 @@ fn is_accepted<J: Judge>(
     payload: &[u8],
     blocks: &[&BlockMessage],
 ) -> Result<bool, NoMemory>
-    requires { J.sound judge.now }
+    requires sound { J.sound judge.now }
+    requires askable { AreAskable J.askable judge.now (map (question_about payload.now) (map (λ b. b.now) blocks.now)) }
     ensures { IfOk result (λ b. b
         ≡ is_accepted (answers J.trusted J.valid judge.now) (map (λ b. b.now) blocks.now) payload.now) }
 {
@@ -138,7 +134,8 @@ fn judged<J: Judge>(
     blocks: &[&BlockMessage],
     payload: Bytes,
 ) -> Result<Result<Bytes, SessionState>, NoMemory>
-    requires { J.sound judge.now }
+    requires sound { J.sound judge.now }
+    requires askable { AreAskable J.askable judge.now (asked (map (λ b. b.now) blocks.now) (Ok payload)) }
     ensures { IfOk result (λ r. r
         ≡ judged (answers J.trusted J.valid judge.now) (map (λ b. b.now) blocks.now) (Ok payload)) }
 {
@@ -158,7 +155,9 @@ pub(crate) fn joined<J: Judge>(
     judge: &J,
     blocks: &[&BlockMessage],
 ) -> Result<Result<Bytes, SessionState>, NoMemory>
-    requires { J.sound judge.now }
+    requires sound { J.sound judge.now }
+    requires askable { AreAskable J.askable judge.now (asked (map (λ b. b.now) blocks.now)
+        (stated_payload (certificates (map (λ b. b.now) blocks.now)))) }
     ensures { IfOk result (λ r. r
         ≡ joined (answers J.trusted J.valid judge.now) (map (λ b. b.now) blocks.now)) }
 {

@@ -5,8 +5,7 @@ ghost use Rattle.ss_review.specs.declared.keep.message.BlockMessage.{BlockMessag
 ghost use Rattle.ss_review.specs.declared.sessions.found_blocks.Claim.{Claim};
 ghost use Rattle.ss_review.specs.sessions.FoundBlocks.{claim_cmp, IsClaimOf, TellsEqualsAlike, KeepsWhatHolds};
 
-use crate::keep::message::BlockMessage;
-use crate::sessions::accepting::signature_of;
+use crate::keep::message::{BlockMessage, signature_of};
 use ss_block::Session;
 use ss_message::NoMemory;
 use std::alloc::Global;

@@ -2,6 +2,7 @@
 ghost use Rattle.std.specs.Prelude.{◌≡◌, map, IfOk};
 ghost use Rattle.ss_review.specs.sessions.Sectioned.{referred, SessionsRise};
 ghost use Rattle.ss_review.specs.sessions.Verified.{answers};
+ghost use Rattle.ss_review.specs.questions.Questions.{questions, AreAskable};
 ghost use Rattle.ss_review.specs.announced.Numbered.{session_with_joined, sessions_joined};
 
 use crate::keep::message::BlockMessage;
@@ -19,6 +20,7 @@ fn joined_sections<J: Judge>(
     blocks: &[&BlockMessage],
 ) -> Result<Vec<JoinedSession>, NoMemory>
     requires sound { J.sound judge.now }
+    requires askable { AreAskable J.askable judge.now (questions (referred blocks.now)) }
     requires rise { SessionsRise (referred blocks.now) }
     ensures { IfOk result (λ v. map session_with_joined v.items
         ≡ sessions_joined (answers J.trusted J.valid judge.now) (referred blocks.now)) }
@@ -42,7 +44,8 @@ pub(crate) fn joined_sessions<J: Judge>(
     judge: &J,
     blocks: &[BlockMessage],
 ) -> Result<Vec<JoinedSession>, NoMemory>
-    requires { J.sound judge.now }
+    requires sound { J.sound judge.now }
+    requires askable { AreAskable J.askable judge.now (questions blocks.now) }
     ensures { IfOk result (λ v. map session_with_joined v.items
         ≡ sessions_joined (answers J.trusted J.valid judge.now) blocks.now) }
 {

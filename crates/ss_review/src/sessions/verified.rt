@@ -1,7 +1,8 @@
 //! Which blocks of a log are verified, and the places of those that aren't (RFC 5848, section 7).
-ghost use Rattle.std.specs.Prelude.{◌≡◌, ◌++◌, ◌∷◌, [], List, Bool, map, IfOk, OnOk, if◌then◌else◌};
+ghost use Rattle.std.specs.Prelude.{◌≡◌, ◌++◌, ◌∷◌, [], ℕ, List, Contains, Bool, map, Ok, IfOk, OnOk, if◌then◌else◌};
 ghost use Rattle.ss_review.specs.declared.keep.message.BlockMessage.{BlockMessage};
 ghost use Rattle.ss_review.specs.sessions.Verified.{Answers, answers, is_valid_in, is_verified};
+ghost use Rattle.ss_review.specs.questions.Questions.{question_about, IsAskableIn};
 ghost use Rattle.ss_review.specs.announced.Numbered.{session_with_joined, sessions_joined};
 ghost use Rattle.ss_review.specs.report.Report.{refused};
 ghost use Rattle.ss_review.specs.sessions.FoundBlocks.{TellsEqualsAlike, KeepsWhatHolds};
@@ -25,7 +26,10 @@ fn is_valid_in<'a, J: Judge>(
     found: &mut FoundBlocks<'a>,
     block: &'a BlockMessage,
 ) -> Result<bool, NoMemory>
-    requires { J.sound judge.now }
+    requires sound { J.sound judge.now }
+    requires askable { (payload : List ℕ)
+        → joined.now ≡ Ok payload
+        → J.askable judge.now (question_about payload block.now) }
     ensures valid { (f : BlockMessage → Bool)
         → KeepsWhatHolds f found.old
         → f block.now ≡ is_valid_in (answers J.trusted J.valid judge.now) joined.now block.now
@@ -50,7 +54,8 @@ fn is_verified<'a, J: Judge>(
     found: &mut FoundBlocks<'a>,
     block: &'a BlockMessage,
 ) -> Result<bool, NoMemory>
-    requires { J.sound judge.now }
+    requires sound { J.sound judge.now }
+    requires askable { IsAskableIn J.askable judge.now sessions.now block.now }
     ensures verified { (bs : List BlockMessage)
         → map session_with_joined sessions.now ≡ sessions_joined (answers J.trusted J.valid judge.now) bs
         → KeepsWhatHolds (is_verified (answers J.trusted J.valid judge.now) bs) found.old
@@ -73,7 +78,10 @@ pub(crate) fn verified<J: Judge>(
     sessions: &[JoinedSession],
     blocks: &[BlockMessage],
 ) -> Result<Vec<bool>, NoMemory>
-    requires { J.sound judge.now }
+    requires sound { J.sound judge.now }
+    requires askable { (b : BlockMessage)
+        → Contains blocks.now b
+        → IsAskableIn J.askable judge.now sessions.now b }
     ensures { map session_with_joined sessions.now ≡ sessions_joined (answers J.trusted J.valid judge.now) blocks.now
         → IfOk result (λ v. v.items ≡ map (is_verified (answers J.trusted J.valid judge.now) blocks.now) blocks.now) }
 {

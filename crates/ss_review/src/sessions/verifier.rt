@@ -1,13 +1,18 @@
 //! Who answers a review's questions about signatures.
 ghost use Rattle.std.specs.Prelude.{◌≡◌, List, ℕ, Bool};
+ghost use Rattle.ss_review.specs.declared.questions.question.Question.{Question};
+ghost use Rattle.ss_review.specs.declared.questions.question.Question.TheVariants as question;
 
 use ss_block::Scheme;
 
 /// Whoever answers for a signature scheme: which payloads it trusts, and which signatures of which octets are valid
 /// under a payload.
 pub trait Judge {
-    /// It may be asked anything, and its answers are those of `trusted` and `valid`.
+    /// Its answers are those of `trusted` and `valid`, whatever it is asked of what it may be asked.
     ghost sound: { Self → Type 0 };
+
+    /// What it may be asked. A review asks nothing that `questions` doesn't tell of its log.
+    ghost askable: { Self → Question → Type 0 };
 
     /// What it answers of a payload.
     ghost trusted: { Self → List ℕ → Bool };
@@ -17,18 +22,22 @@ pub trait Judge {
 
     /// Whether the payload is trusted.
     fn trusts(&self, payload: &[u8]) -> bool
-        requires { sound self.now }
+        requires sound { sound self.now }
+        requires askable { askable self.now (question.Trust payload.now) }
         ensures { result ≡ trusted self.now payload.now };
 
     /// Whether, under the payload, the octets have this signature.
     fn accepts(&self, payload: &[u8], octets: &[u8], signature: &[u8]) -> bool
-        requires { sound self.now }
+        requires sound { sound self.now }
+        requires askable { askable self.now (question.Yes payload.now octets.now signature.now) }
         ensures { result ≡ valid self.now payload.now octets.now signature.now };
 }
 
 /// A judge that is lent answers as itself, so that whoever takes a judge for good takes one that is lent too.
 impl<'j, J: Judge> Judge for &'j J {
     ghost sound = { λ judge. J.sound judge.now };
+
+    ghost askable = { λ judge q. J.askable judge.now q };
 
     ghost trusted = { λ judge payload. J.trusted judge.now payload };
 
@@ -78,6 +87,8 @@ impl<'s, S: Scheme, T: Fn(&[u8]) -> bool, C: Fn(&[u8], &[u8], &[u8]) -> bool> Ju
     ghost sound = { λ v. T.IsAlwaysCallable v.trust × C.IsAlwaysCallable v.check
         × ((p : _) (b : Bool) → T.post v.trust p b → b ≡ S.trusted v.scheme.now p.now)
         × ((p x s : _) (b : Bool) → C.post v.check p x s b → b ≡ S.valid v.scheme.now p.now x.now s.now) };
+
+    ghost askable = { λ v q. Unit {0} };
 
     ghost trusted = { λ v p. S.trusted v.scheme.now p };
 

@@ -7,7 +7,8 @@ ghost use Rattle.ss_review.specs.sessions.Verified.{answers};
 ghost use Rattle.ss_review.specs.report.Report.{report_of};
 ghost use Rattle.ss_review.specs.counted.Counted.{counted_sessions};
 ghost use Rattle.ss_review.specs.Laws.{ListsWhatIsAnnounced};
-ghost use Rattle.ss_review.specs.keep.Keeping.{Keeps};
+ghost use Rattle.ss_review.specs.questions.Questions.{questions, AreAskable};
+ghost use Rattle.ss_review.specs.keep.Keeping.{Keeps, kept_blocks};
 
 use crate::counted::counted_report::CountedReport;
 use crate::counted::reviewing::review_counted;
@@ -21,7 +22,8 @@ impl Reviewer {
     /// What `conclude_with` says, and the GBC of the verified signature blocks of each session, which tells what blocks
     /// are missing (RFC 5848, section 4.2.4): `Memory` where memory runs out.
     pub fn conclude_counted<J: Judge + Drop>(self, judge: J) -> Result<CountedReport, ReviewFault>
-        requires { J.sound judge }
+        requires sound { J.sound judge }
+        requires askable { AreAskable J.askable judge (questions (kept_blocks self)) }
         ensures report { (ns : List Note)
             → Keeps self ns
             → IfOk result (λ r. r.report ≡ report_of (answers J.trusted J.valid judge) (contents ns)) }

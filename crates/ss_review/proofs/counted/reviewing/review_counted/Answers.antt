@@ -1,8 +1,22 @@
-use Rattle.std.proofs.Common.{◌≡◌, map, sym, ap, ◌∙◌}
+use Rattle.std.proofs.Common.{◌≡◌, map, sym, ap, ◌∙◌, subst}
 use Rattle.ss_review.specs.sessions.Verified.{answers, is_verified}
+use Rattle.ss_review.specs.questions.Questions.{questions, AreAskable}
+use Rattle.ss_review.proofs.of_questions.AskableBlocks.{askable_in}
 use Rattle.ss_review.specs.announced.Numbered.{session_with_joined, sessions_joined}
 use Rattle.ss_review.specs.counted.Counted.{counted_sessions}
 use Rattle.ss_review.proofs.counted.reviewing.review_counted.Goals as goal
+
+pub joined_sessions-requires-clause-askable : goal.joined_sessions-requires-clause-askable
+joined_sessions-requires-clause-askable g c =
+    subst (λ bs. AreAskable g.J.Judge.askable c.args.judge (questions bs)) (sym c.as_slice.ensures.value) c.requires.askable
+
+pub verified-requires-clause-askable : goal.verified-requires-clause-askable
+verified-requires-clause-askable g c =
+    let says = answers g.J.Judge.trusted g.J.Judge.valid c.args.judge in
+    let told = c.in_ok-sessions.ensures ∙ ap (sessions_joined says) c.as_slice.ensures.value in
+    askable_in g.J.Judge.askable c.args.judge says c.as_slice-3.result.now c.as_slice-2.result.now
+    (ap (map session_with_joined) c.as_slice-2.ensures.value ∙ told ∙ ap (sessions_joined says) (sym c.as_slice-3.ensures.value))
+    (subst (λ bs. AreAskable g.J.Judge.askable c.args.judge (questions bs)) (sym c.as_slice-3.ensures.value) c.requires.askable)
 
 pub returns : goal.returns
 returns g c =

@@ -1,17 +1,24 @@
-use Rattle.std.proofs.Common.{[], ◌∷◌, ◌++◌, take, map, filter, Bor, sym, ap, ◌∙◌}
+use Rattle.std.proofs.Common.{[], ◌∷◌, ◌++◌, take, map, filter, Bor, sym, ap, ◌∙◌, subst}
 use Rattle.std.specs.List.{cons_option}
 use Rattle.std.proofs.lemmas.List.{append-nil}
 use Rattle.ss_review.specs.declared.keep.message.BlockMessage.{BlockMessage}
 use Rattle.ss_review.specs.sessions.Payloads.{certificates}
 use Rattle.ss_review.specs.sessions.Verified.{answers, is_valid}
 use Rattle.ss_review.specs.sessions.Covering.{spans_of}
+use Rattle.ss_review.specs.questions.Questions.{question_about}
 use Rattle.ss_review.proofs.of_sessions.Covering.{accepted_more}
+use Rattle.ss_review.proofs.of_questions.AskableBlocks.{askable_at}
 use Rattle.ss_review.proofs.sessions.accepting.accepted_spans.Goals as goal
 use Rattle.ss_review.proofs.sessions.accepting.accepted_spans.Goals.{in-Some+in_ok-push-in-Some, in-None}
 
 pub loop-message-init : goal.loop-message-init
 loop-message-init g c =
     (c.new-spans.ensures.items, c.new-found.ensures (is_valid (answers g.J.Judge.trusted g.J.Judge.valid c.args.judge.now) c.args.payload.now))
+
+pub accepted_span-requires-clause-askable : goal.accepted_span-requires-clause-askable
+accepted_span-requires-clause-askable g c =
+    subst (λ (m : Bor BlockMessage). g.J.Judge.askable c.args.judge.now (question_about c.args.payload.now m.now)) (sym c.message-item.is)
+    (askable_at g.J.Judge.askable c.args.judge.now c.args.payload.now c.args.blocks.now c.loop-message.message-index c.message-item.result c.loop-message-test.true c.requires.askable)
 
 pub loop-message-preserved : goal.loop-message-preserved
 loop-message-preserved g c =

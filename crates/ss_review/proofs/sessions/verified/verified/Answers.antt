@@ -1,5 +1,16 @@
+use Rattle.std.proofs.Common.{get_or, sym, subst}
+use Rattle.std.proofs.lemmas.List.Elements.{Contains-get_or}
+use Rattle.ss_review.specs.questions.Questions.{IsAskableIn}
 use Rattle.ss_review.specs.sessions.Verified.{answers, is_verified}
 use Rattle.ss_review.proofs.sessions.verified.verified.Goals as goal
+
+pub is_verified-requires-clause-askable : goal.is_verified-requires-clause-askable
+is_verified-requires-clause-askable g c =
+    let bs = c.args.blocks.now in
+    let i = c.loop-block.block-index in
+    let b = c.block-item.result in
+    subst (IsAskableIn g.J.Judge.askable c.args.judge.now c.args.sessions.now) (sym c.block-item.is)
+    (c.requires.askable (get_or bs i b) (Contains-get_or bs i b c.loop-block-test.true))
 
 pub loop-block-init : goal.loop-block-init
 loop-block-init g c = λ told.
