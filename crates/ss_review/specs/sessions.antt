@@ -5,4 +5,5 @@ pub mod Verified
 pub mod States
 pub mod Stated
 pub mod Covering
+pub mod Verifiers
 pub mod FoundBlocks

@@ -2,6 +2,7 @@
 ghost use Rattle.std.specs.Prelude.{◌≡◌, List, ℕ, Bool};
 ghost use Rattle.ss_review.specs.declared.questions.question.Question.{Question};
 ghost use Rattle.ss_review.specs.declared.questions.question.Question.TheVariants as question;
+ghost use Rattle.ss_review.specs.sessions.Verifiers.{scheme_of, trust_of, check_of};
 
 use ss_block::Scheme;
 
@@ -70,9 +71,9 @@ impl<'s, S: Scheme, T: Fn(&[u8]) -> bool, C: Fn(&[u8], &[u8], &[u8]) -> bool> Ve
 > {
     /// Keeps the closures beside the scheme that they answer for. Takes no memory.
     pub fn new(scheme: &'s S, trust: T, check: C) -> Verifier<'s, S, T, C>
-        ensures scheme { result.scheme ≡ scheme.entry }
-        ensures trust { result.trust ≡ trust }
-        ensures check { result.check ≡ check }
+        ensures scheme { scheme_of result ≡ scheme.entry }
+        ensures trust { trust_of result ≡ trust }
+        ensures check { check_of result ≡ check }
     {
         Verifier {
             scheme,
