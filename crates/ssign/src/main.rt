@@ -37,7 +37,7 @@ pub use settings::{Settings, SettingsFault};
 pub use signing::{Signing, run_signing};
 use std::io::IsTerminal;
 use std::process::ExitCode;
-pub use task::{Task, run_task};
+pub use task::{Task, Wanted, run_task};
 pub use text_option::TextOption;
 
 impl refusing::Screen for HostRuntime {

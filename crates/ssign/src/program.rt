@@ -22,13 +22,13 @@ use crate::refusing::{
 use crate::settings::settings_of;
 use crate::signing::Signing;
 use crate::streams::{explain_on_output, run_streams, sign_streams};
-use crate::task::Task;
+use crate::task::{Task, Wanted};
 use clap::ArgMatches;
 use clap::error::ErrorKind;
 use ss_answers::{open_answers, open_counters};
-use ss_frame::{Form, Limits};
-use ss_report::{Extraction, RunFault, Verdict};
-use ss_review::{Counter, Counters};
+use ss_frame::Form;
+use ss_report::{RunFault, Verdict};
+use ss_review::Counters;
 use ss_signing::SignFault;
 use std::alloc::AllocError;
 use std::rt::{Clock, Env, Files};
@@ -125,35 +125,35 @@ fn run_log<R: Input + Print + Eprint + Screen + Files + Clock + AllocGlobal>(
             Err(fault) => return refuse(rt, &fault, Remark::CountersFile(file)),
         },
     };
-    run_counted(rt, task, counters.as_slice(), extraction, options, limits)
+    let wanted = Wanted {
+        task,
+        reporting: reporting_of(options),
+        counters: counters.as_slice(),
+        extraction,
+        limits,
+    };
+    run_wanted(rt, wanted, options)
 }
 
-/// Makes a run over standard input, up to these counters. The answers file is read before.
-fn run_counted<R: Input + Print + Eprint + Screen + Files + Clock + AllocGlobal>(
+/// Makes a run over standard input. The answers file is read before.
+fn run_wanted<R: Input + Print + Eprint + Screen + Files + Clock + AllocGlobal>(
     rt: &R,
-    task: Task,
-    counters: &[Counter],
-    extraction: Extraction,
+    wanted: Wanted<'_>,
     options: &ArgMatches<'_>,
-    limits: Limits,
 ) -> u8
     ensures { result ≤ 2 }
 {
-    let reporting = reporting_of(options);
-    let mut input = Progress::new(rt, Opening::new(rt.reader()), limits.form());
+    let form = wanted.limits.form();
+    let mut input = Progress::new(rt, Opening::new(rt.reader()), form);
     let ended = match answers_file(options) {
-        None => run_streams(
-            rt, &mut input, task, reporting, counters, extraction, Nobody, limits,
-        ),
+        None => run_streams(rt, &mut input, wanted, Nobody),
         Some(file) => match open_answers(rt, file) {
-            Ok(answers) => run_streams(
-                rt, &mut input, task, reporting, counters, extraction, answers, limits,
-            ),
+            Ok(answers) => run_streams(rt, &mut input, wanted, answers),
             Err(fault) => return refuse(rt, &fault, Remark::AnswersFile(file)),
         },
     };
     input.hide();
-    end(rt, ended, limits.form(), input.inner().kept())
+    end(rt, ended, form, input.inner().kept())
 }
 
 /// Says why options give no extract.

@@ -7,11 +7,11 @@ use crate::explain::write_explanation;
 use crate::explanations::Explanation;
 use crate::settings::Settings;
 use crate::signing::{Signing, run_signing};
-use crate::task::{Reporting, Task, run_task};
+use crate::task::{Wanted, run_task};
 use ss_answers::Answers;
 use ss_frame::{Buffered, Limits, Watched};
-use ss_report::{Extraction, RunFault, Verdict};
-use ss_review::{Counter, Judge};
+use ss_report::{RunFault, Verdict};
+use ss_review::Judge;
 use ss_signing::SignFault;
 use std::alloc::Global;
 use std::io;
@@ -24,29 +24,15 @@ const BUFFER_SIZE: usize = 65_536;
 pub fn run_streams<R: Print + AllocGlobal, I: Read + Drop, J: Judge + Drop>(
     rt: &R,
     input: I,
-    task: Task,
-    reporting: Reporting,
-    counters: &[Counter],
-    extraction: Extraction,
+    wanted: Wanted<'_>,
     judge: J,
-    limits: Limits,
 ) -> Result<Verdict, RunFault>
     requires sound { J.sound judge }
     requires askable { (q : Question) → J.askable judge q }
 {
     let mut reader = buffered(rt.alloc(), input)?;
     let mut writer = standard_output(rt)?;
-    run_task(
-        rt.alloc(),
-        &mut reader,
-        &mut writer,
-        task,
-        reporting,
-        counters,
-        extraction,
-        judge,
-        limits,
-    )
+    run_task(rt.alloc(), &mut reader, &mut writer, wanted, judge)
 }
 
 /// Makes a run that signs from the input to standard output.

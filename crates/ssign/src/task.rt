@@ -44,6 +44,21 @@ pub struct Reporting {
     pub detail: Detail,
 }
 
+/// What is wanted of a log.
+#[derive(Drop)]
+pub struct Wanted<'c> {
+    /// What is asked of it.
+    pub task: Task,
+    /// How that is reported.
+    pub reporting: Reporting,
+    /// Up to which counters a review is to be whole.
+    pub counters: &'c [Counter],
+    /// Which messages an extract writes, and in which form.
+    pub extraction: Extraction,
+    /// In which form the log is stored, and how long it and its messages may be.
+    pub limits: Limits,
+}
+
 /// Reads a log to its end, and writes what is asked of it as it is to be reported: of a review that is to be whole, up
 /// to these counters, and of an extract, the messages that are wanted. Questions, inspections and extracts of given
 /// places ask the judge nothing. The judge is let go once it is known which blocks are verified.
@@ -56,27 +71,32 @@ pub fn run_task<R: Read, W: Write, J: Judge + Drop>(
     alloc: Global,
     reader: &mut Watched<R>,
     writer: &mut Watched<W>,
-    task: Task,
-    reporting: Reporting,
-    counters: &[Counter],
-    extraction: Extraction,
+    wanted: Wanted<'_>,
     judge: J,
-    limits: Limits,
 ) -> Result<Verdict, RunFault>
     requires reader { has_failed reader.old ≡ false }
     requires writer { has_failed writer.old ≡ false }
     requires sound { J.sound judge }
     requires askable { (q : Question) → J.askable judge q }
     ensures done { IfOk result
-        (Runs (job_of (answers J.trusted J.valid judge) reporting counters.now extraction task) limits
+        (Runs (job_of (answers J.trusted J.valid judge) wanted.entry.reporting wanted.entry.counters.now
+        wanted.entry.extraction wanted.entry.task) wanted.entry.limits
         (source_of R.remaining reader.old) (source_of R.remaining reader.new)
         (sink_of W.contents writer.old) (sink_of W.contents writer.new)) }
     ensures stopped { IfErr result
-        (Stops (job_of (answers J.trusted J.valid judge) reporting counters.now extraction task) limits
+        (Stops (job_of (answers J.trusted J.valid judge) wanted.entry.reporting wanted.entry.counters.now
+        wanted.entry.extraction wanted.entry.task) wanted.entry.limits
         (source_of R.remaining reader.old) (source_of R.remaining reader.new)
         (sink_of W.contents writer.old) (sink_of W.contents writer.new)) }
     ensures untouched { IfErr result (λ fault. fault ≢ RunFault.Write → writer.new ≡ writer.old) }
 {
+    let Wanted {
+        task,
+        reporting,
+        counters,
+        extraction,
+        limits,
+    } = wanted;
     let notation = reporting.form.notation();
     match task {
         Task::Review => run_reported(alloc, reader, writer, reporting, counters, judge, limits),
