@@ -1,6 +1,6 @@
 -- What the options of a command that signs say: their numbers and texts, and the settings that these spell.
 use Rattle.std.specs.Prelude.{◌≡◌, ℕ, ◌≤◌, Bool, true, false, ◌&&◌, not, List, Option, Some, None, Result, Ok, Err}
-use Rattle.std.specs.Prelude.{nat_le, codes, is_some, option_and_then, if◌then◌else◌}
+use Rattle.std.specs.Prelude.{nat_le, is_some, option_and_then, if◌then◌else◌}
 use Rattle.clap.specs.Words.{first_value, found_of}
 use Rattle.clap.specs.declared.parser.matches.ArgMatches.{ArgMatches}
 use Rattle.ss_message.specs.Message.{is_field}

@@ -1,5 +1,4 @@
 use Rattle.ssign.specs.declared.commands.carry.TheConstants as carry
-use Rattle.std.proofs.Common.{codes}
 use Rattle.clap.specs.Words.{new_app, with_rule}
 use Rattle.ssign.specs.CommandLine.{answers_rule}
 use Rattle.ssign.proofs.FoundCommands.{with_argument}

@@ -1,5 +1,4 @@
 use Rattle.ssign.specs.declared.commands.plan.TheConstants as plan
-use Rattle.std.proofs.Common.{codes}
 use Rattle.clap.specs.Words.{new_app}
 use Rattle.ssign.specs.SigningOptions.{with_signing_options}
 use Rattle.ssign.proofs.command_line.plan.Goals as goal

@@ -1,5 +1,4 @@
 use Rattle.ssign.specs.declared.commands.review.TheConstants as review
-use Rattle.std.proofs.Common.{codes}
 use Rattle.clap.specs.Words.{new_app, with_rule}
 use Rattle.ssign.specs.CommandLine.{answers_rule, findings_rule, json_rule, kept_rule, tally_rule, whole_rule}
 use Rattle.ssign.proofs.FoundCommands.{with_argument}
