@@ -1,5 +1,5 @@
 //! The command line.
-ghost use Rattle.std.specs.Prelude.{◌≡◌, ◌<◌, ◌^◌, ◌||◌, ◌∷◌, [], ℕ, Bool, false, Some, codes, decimal, IfOk, IfSome};
+ghost use Rattle.std.specs.Prelude.{◌≡◌, ◌<◌, ◌^◌, ◌||◌, ◌∷◌, [], ℕ, Bool, false, Some, decimal, IfOk, IfSome};
 ghost use Rattle.std.specs.Prelude.{MatchOption, option_and_then, option_map};
 ghost use Rattle.std.specs.Option.{SomeIff, is_some};
 ghost use Rattle.clap.specs.Words.{App, app_of, first_value, found_of, kind_of, matched_of, new_app, raw_values};
@@ -15,43 +15,43 @@ ghost use Rattle.ssign.specs.SigningOptions.{AreVersions, Kept};
 ghost use Rattle.ssign.specs.CommandLine.{FlagIs, HasNumber, IsLocalApp, IsNoCommand, limits_with, detail_of, name_of};
 ghost use Rattle.ssign.specs.CommandLine.{report_form, reporting, text_of};
 ghost use Rattle.ssign.specs.CommandLine.{with_commands, with_limits};
+ghost use Rattle.ssign.specs.declared.options.answers.TheConstants as answers;
+ghost use Rattle.ssign.specs.declared.options.code.TheConstants as code;
+ghost use Rattle.ssign.specs.declared.options.counters.TheConstants as counters;
+ghost use Rattle.ssign.specs.declared.options.findings.TheConstants as findings;
+ghost use Rattle.ssign.specs.declared.options.json.TheConstants as json;
+ghost use Rattle.ssign.specs.declared.options.lines.TheConstants as lines;
+ghost use Rattle.ssign.specs.declared.options.max_len.TheConstants as max_len;
+ghost use Rattle.ssign.specs.declared.options.max_messages.TheConstants as max_messages;
+ghost use Rattle.ssign.specs.declared.options.tally.TheConstants as tally;
+ghost use Rattle.ssign.specs.declared.options.whole.TheConstants as whole;
 
 use crate::asked::asked_of;
-use crate::commands;
 use crate::signing::Signing;
 use crate::signing_options::with_signing_options;
 use crate::task::{Reporting, Task};
+use crate::{commands, options};
 use clap::builder::ValueParser;
 use clap::error::ErrorKind;
 use clap::{Arg, ArgAction, ArgMatches, Command, Error};
 use ss_block::versions;
-use ss_frame::{LONGEST_MESSAGE, Limits, MOST_MESSAGES};
+use ss_frame::Limits;
 use ss_report::{Detail, ReportForm};
 use std::alloc::{AllocError, Global};
 
 /// The version of the program.
 const VERSION: &str = "0.1.0";
-/// How an answers file helps a review.
-const CHECKED: &str =
-    "The file with the answers of a signature checker; without it no key is trusted, and no message counts as signed";
-/// How an answers file helps to sign.
-const SEALED: &str =
-    "The file with a line seal OCTETS SIGNATURE for each line of the plan; without it nothing is signed";
-/// What the findings of a review leave out.
-const LISTED: &str = "Leaves out the ok lines; the status stays as it is";
-/// What the findings of an inspection leave out.
-const PLAIN: &str = "Leaves out the plain lines; the status stays as it is";
 
 /// The options of a number.
 const NUMBERS: [&str; 8] = [
-    "max-len",
-    "max-messages",
-    "place",
-    "rsid",
-    "pri",
-    "count",
-    "frag",
-    "copies",
+    options::max_len::NAME,
+    options::max_messages::NAME,
+    options::place::NAME,
+    options::rsid::NAME,
+    options::pri::NAME,
+    options::count::NAME,
+    options::frag::NAME,
+    options::copies::NAME,
 ];
 
 /// What a command asks for.
@@ -192,8 +192,10 @@ fn review<'a>(alloc: Global) -> Result<Command<'a>, AllocError>
         commands::review::ABOUT,
         commands::review::USAGE,
     )
-    .arg(answers(alloc, CHECKED))?;
-    let review = review.arg(findings(alloc, LISTED))?.arg(json(alloc))?;
+    .arg(answers(alloc, options::answers::CHECKED))?;
+    let review = review
+        .arg(findings(alloc, options::findings::LISTED))?
+        .arg(json(alloc))?;
     let review = review.arg(whole(alloc))?.arg(tally(alloc))?;
     limited(alloc, review.arg(kept(alloc))?)
 }
@@ -219,7 +221,7 @@ fn extract<'a>(alloc: Global) -> Result<Command<'a>, AllocError>
         commands::extract::ABOUT,
         commands::extract::USAGE,
     )
-    .arg(answers(alloc, CHECKED))?;
+    .arg(answers(alloc, options::answers::CHECKED))?;
     let extract = extract.arg(unlisted(alloc))?.arg(place(alloc))?;
     limited(alloc, extract.arg(lines_out(alloc))?)
 }
@@ -233,7 +235,7 @@ fn inspect<'a>(alloc: Global) -> Result<Command<'a>, AllocError>
         commands::inspect::ABOUT,
         commands::inspect::USAGE,
     )
-    .arg(findings(alloc, PLAIN))?;
+    .arg(findings(alloc, options::findings::PLAIN))?;
     limited(alloc, inspect.arg(json(alloc))?)
 }
 
@@ -258,7 +260,7 @@ fn sign<'a>(alloc: Global, versions: &'a [&'a str]) -> Result<Command<'a>, Alloc
         commands::sign::ABOUT,
         commands::sign::USAGE,
     )
-    .arg(answers(alloc, SEALED))?;
+    .arg(answers(alloc, options::answers::SEALED))?;
     limited(alloc, with_signing_options(alloc, sign, versions)?)
 }
 
@@ -271,7 +273,7 @@ fn counters<'a>(alloc: Global) -> Result<Command<'a>, AllocError>
         commands::counters::ABOUT,
         commands::counters::USAGE,
     )
-    .arg(answers(alloc, CHECKED))?;
+    .arg(answers(alloc, options::answers::CHECKED))?;
     limited(alloc, counters.arg(json(alloc))?)
 }
 
@@ -284,7 +286,7 @@ fn carry<'a>(alloc: Global) -> Result<Command<'a>, AllocError>
         commands::carry::ABOUT,
         commands::carry::USAGE,
     );
-    limited(alloc, carry.arg(answers(alloc, CHECKED))?)
+    limited(alloc, carry.arg(answers(alloc, options::answers::CHECKED))?)
 }
 
 fn explain<'a>(alloc: Global) -> Result<Command<'a>, AllocError>
@@ -318,15 +320,12 @@ fn code<'a>(alloc: Global) -> Arg<'a>
     ensures rule { rule_of result ≡ code_rule }
     ensures local { result.global ≡ false }
 {
-    Arg::new(alloc, "code")
+    Arg::new(alloc, options::code::NAME)
         .value_name("CODE")
         .num_args(1..)
         .required(true)
         .action(ArgAction::Set)
-        .help(
-            "A refusal as it was printed, or its code (F1), a word of the output (gap, untrusted), or a cause (M8, S3), \
-                in letters of either case",
-        )
+        .help(options::code::HELP)
 }
 
 /// The option of an answers file.
@@ -334,8 +333,8 @@ fn answers<'a>(alloc: Global, help: &'a str) -> Arg<'a>
     ensures rule { rule_of result ≡ answers_rule }
     ensures local { result.global ≡ false }
 {
-    Arg::new(alloc, "answers")
-        .long("answers")
+    Arg::new(alloc, options::answers::NAME)
+        .long(options::answers::NAME)
         .value_name("FILE")
         .action(ArgAction::Set)
         .help(help)
@@ -346,8 +345,8 @@ fn findings<'a>(alloc: Global, help: &'a str) -> Arg<'a>
     ensures rule { rule_of result ≡ findings_rule }
     ensures local { result.global ≡ false }
 {
-    Arg::new(alloc, "findings")
-        .long("findings")
+    Arg::new(alloc, options::findings::NAME)
+        .long(options::findings::NAME)
         .action(ArgAction::SetTrue)
         .help(help)
 }
@@ -356,36 +355,30 @@ fn json<'a>(alloc: Global) -> Arg<'a>
     ensures rule { rule_of result ≡ json_rule }
     ensures local { result.global ≡ false }
 {
-    Arg::new(alloc, "json")
-        .long("json")
+    Arg::new(alloc, options::json::NAME)
+        .long(options::json::NAME)
         .action(ArgAction::SetTrue)
-        .help("Writes a JSON object (RFC 8259) for each line")
+        .help(options::json::HELP)
 }
 
 fn whole<'a>(alloc: Global) -> Arg<'a>
     ensures rule { rule_of result ≡ whole_rule }
     ensures local { result.global ≡ false }
 {
-    Arg::new(alloc, "whole")
-        .long("whole")
+    Arg::new(alloc, options::whole::NAME)
+        .long(options::whole::NAME)
         .action(ArgAction::SetTrue)
-        .help(
-            "Also reports which signature blocks of each session are missing, by their counter GBC; each such line is \
-                a finding",
-        )
+        .help(options::whole::HELP)
 }
 
 fn tally<'a>(alloc: Global) -> Arg<'a>
     ensures rule { rule_of result ≡ tally_rule }
     ensures local { result.global ≡ false }
 {
-    Arg::new(alloc, "tally")
-        .long("tally")
+    Arg::new(alloc, options::tally::NAME)
+        .long(options::tally::NAME)
         .action(ArgAction::SetTrue)
-        .help(
-            "Writes one line a group with its counts, and how many messages are unlisted, refused and spoilt; the \
-                status stays as it is",
-        )
+        .help(options::tally::HELP)
 }
 
 /// The option of a counters file.
@@ -393,89 +386,86 @@ fn kept<'a>(alloc: Global) -> Arg<'a>
     ensures rule { rule_of result ≡ kept_rule }
     ensures local { result.global ≡ false }
 {
-    Arg::new(alloc, "counters")
-        .long("counters")
+    Arg::new(alloc, options::counters::NAME)
+        .long(options::counters::NAME)
         .value_name("FILE")
         .action(ArgAction::Set)
-        .help(
-            "Also reports what is missing up to the counters of FILE, as ssign counters wrote them, and does what --whole \
-                does; each such line is a finding",
-        )
+        .help(options::counters::HELP)
 }
 
 fn unlisted<'a>(alloc: Global) -> Arg<'a>
     ensures rule { rule_of result ≡ unlisted_rule }
     ensures local { result.global ≡ false }
 {
-    Arg::new(alloc, "unlisted")
-        .long("unlisted")
+    Arg::new(alloc, options::unlisted::NAME)
+        .long(options::unlisted::NAME)
         .action(ArgAction::SetTrue)
-        .help("Writes the messages that the review leaves unlisted instead, by rising place")
+        .help(options::unlisted::HELP)
 }
 
 fn place<'a>(alloc: Global) -> Arg<'a>
     ensures rule { rule_of result ≡ place_rule }
     ensures local { result.global ≡ false }
 {
-    Arg::new(alloc, "place")
-        .long("place")
+    Arg::new(alloc, options::place::NAME)
+        .long(options::place::NAME)
         .value_name("N")
         .action(ArgAction::Append)
-        .value_parser(ValueParser::signed(0, (MOST_MESSAGES - 1) as i64))
-        .help(
-            "Writes the message at place N instead, 0 to 9999999, of any kind and without a review; it may be given \
-                often",
-        )
+        .value_parser(ValueParser::signed(
+            options::place::LEAST as i64,
+            options::place::MOST as i64,
+        ))
+        .help(options::place::HELP)
 }
 
 fn lines_out<'a>(alloc: Global) -> Arg<'a>
     ensures rule { rule_of result ≡ lines_out_rule }
     ensures local { result.global ≡ false }
 {
-    Arg::new(alloc, "lines-out")
-        .long("lines-out")
+    Arg::new(alloc, options::lines_out::NAME)
+        .long(options::lines_out::NAME)
         .action(ArgAction::SetTrue)
-        .help(
-            "Writes one message a line, each ended by LF; without it octet-counted frames are written",
-        )
+        .help(options::lines_out::HELP)
 }
 
 fn lines<'a>(alloc: Global) -> Arg<'a>
     ensures rule { rule_of result ≡ lines_rule }
     ensures local { result.global ≡ false }
 {
-    Arg::new(alloc, "lines")
-        .long("lines")
+    Arg::new(alloc, options::lines::NAME)
+        .long(options::lines::NAME)
         .action(ArgAction::SetTrue)
-        .help(
-            "Reads one message a line, each ended by LF; without it the log is octet-counted frames",
-        )
+        .help(options::lines::HELP)
 }
 
 fn max_len<'a>(alloc: Global) -> Arg<'a>
     ensures rule { rule_of result ≡ max_len_rule }
     ensures local { result.global ≡ false }
 {
-    Arg::new(alloc, "max-len")
-        .long("max-len")
+    Arg::new(alloc, options::max_len::NAME)
+        .long(options::max_len::NAME)
         .value_name("N")
         .action(ArgAction::Set)
-        .value_parser(clap::value_parser!(u32).range(1..=LONGEST_MESSAGE as i64))
-        .help("Refuses a message of more than N octets, 1 to 1048576")
-        .default_value("65536")
+        .value_parser(clap::value_parser!(u32).range(
+            options::max_len::LEAST as i64..=options::max_len::MOST as i64,
+        ))
+        .help(options::max_len::HELP)
+        .default_value(options::max_len::USUAL)
 }
 
 fn max_messages<'a>(alloc: Global) -> Arg<'a>
     ensures rule { rule_of result ≡ max_messages_rule }
     ensures local { result.global ≡ false }
 {
-    Arg::new(alloc, "max-messages")
-        .long("max-messages")
+    Arg::new(alloc, options::max_messages::NAME)
+        .long(options::max_messages::NAME)
         .value_name("N")
         .action(ArgAction::Set)
-        .value_parser(clap::value_parser!(u32).range(1..=MOST_MESSAGES as i64))
-        .help("Refuses a log of more than N messages, 1 to 10000000")
-        .default_value("10000000")
+        .value_parser(clap::value_parser!(u32).range(
+            options::max_messages::LEAST as i64..=options::max_messages::MOST as i64,
+        ))
+        .help(options::max_messages::HELP)
+        .default_value(options::max_messages::USUAL)
 }
 
 /// The mistake of an extract that is to write the unlisted messages and those at given places.
@@ -509,37 +499,37 @@ pub fn order_of(name: &str) -> Option<Order>
 /// The code that is asked about, if a word names one.
 pub fn asked_code<'a>(matches: &ArgMatches<'a>) -> Option<&'a str>
     ensures { option_map (λ s. s.now) result
-        ≡ option_and_then (λ found. asked_of (raw_values found)) (matched_of (found_of matches.now) (codes "code")) }
+        ≡ option_and_then (λ found. asked_of (raw_values found)) (matched_of (found_of matches.now) code.NAME.now) }
 {
-    asked_of(matches.get_strs("code")?)
+    asked_of(matches.get_strs(options::code::NAME)?)
 }
 
 /// The file of answers, if one was given.
 pub fn answers_file<'a>(matches: &ArgMatches<'a>) -> Option<&'a str>
-    ensures { option_map (λ s. s.now) result ≡ first_value (found_of matches.now) (codes "answers") }
+    ensures { option_map (λ s. s.now) result ≡ first_value (found_of matches.now) answers.NAME.now }
 {
-    matches.get_str("answers")
+    matches.get_str(options::answers::NAME)
 }
 
 /// The counters file, if one was given.
 pub fn counters_file<'a>(matches: &ArgMatches<'a>) -> Option<&'a str>
-    ensures { option_map (λ s. s.now) result ≡ first_value (found_of matches.now) (codes "counters") }
+    ensures { option_map (λ s. s.now) result ≡ first_value (found_of matches.now) counters.NAME.now }
 {
-    matches.get_str("counters")
+    matches.get_str(options::counters::NAME)
 }
 
 /// The form of a report that the flags ask for. A command without these flags has plain text.
 fn form_of_report(matches: &ArgMatches<'_>) -> ReportForm
-    ensures { (findings json : Bool) → FlagIs matches.now (codes "findings") findings
-        → FlagIs matches.now (codes "json") json → result ≡ report_form findings json }
+    ensures { (findings_given json_given : Bool) → FlagIs matches.now findings.NAME.now findings_given
+        → FlagIs matches.now json.NAME.now json_given → result ≡ report_form findings_given json_given }
 {
-    if matches.get_flag("findings") {
-        if matches.get_flag("json") {
+    if matches.get_flag(options::findings::NAME) {
+        if matches.get_flag(options::json::NAME) {
             ReportForm::JsonFindings
         } else {
             ReportForm::Findings
         }
-    } else if matches.get_flag("json") {
+    } else if matches.get_flag(options::json::NAME) {
         ReportForm::Json
     } else {
         ReportForm::Text
@@ -548,9 +538,9 @@ fn form_of_report(matches: &ArgMatches<'_>) -> ReportForm
 
 /// Whether the flag asks for tallies. A command without it says each thing.
 fn detail_of_report(matches: &ArgMatches<'_>) -> Detail
-    ensures { (tally : Bool) → FlagIs matches.now (codes "tally") tally → result ≡ detail_of tally }
+    ensures { (tally_given : Bool) → FlagIs matches.now tally.NAME.now tally_given → result ≡ detail_of tally_given }
 {
-    if matches.get_flag("tally") {
+    if matches.get_flag(options::tally::NAME) {
         Detail::Tally
     } else {
         Detail::Each
@@ -560,15 +550,15 @@ fn detail_of_report(matches: &ArgMatches<'_>) -> Detail
 /// How a log is to be reported: a review with what is missing beside it where `--whole` or `--counters` is given. A
 /// command without these flags has plain text alone.
 pub fn reporting_of(matches: &ArgMatches<'_>) -> Reporting
-    ensures { (findings json whole tally : Bool) → FlagIs matches.now (codes "findings") findings
-        → FlagIs matches.now (codes "json") json → FlagIs matches.now (codes "whole") whole
-        → FlagIs matches.now (codes "tally") tally
-        → result ≡ reporting findings json (whole
-        || is_some (first_value (found_of matches.now) (codes "counters"))) tally }
+    ensures { (findings_given json_given whole_given tally_given : Bool)
+        → FlagIs matches.now findings.NAME.now findings_given → FlagIs matches.now json.NAME.now json_given
+        → FlagIs matches.now whole.NAME.now whole_given → FlagIs matches.now tally.NAME.now tally_given
+        → result ≡ reporting findings_given json_given (whole_given
+        || is_some (first_value (found_of matches.now) counters.NAME.now)) tally_given }
 {
     Reporting {
         form: form_of_report(matches),
-        whole: matches.get_flag("whole") || counters_file(matches).is_some(),
+        whole: matches.get_flag(options::whole::NAME) || counters_file(matches).is_some(),
         detail: detail_of_report(matches),
     }
 }
@@ -576,20 +566,20 @@ pub fn reporting_of(matches: &ArgMatches<'_>) -> Reporting
 /// The limits that the options give. `None` where an option has no number in its range, which a parse by `command`
 /// doesn't let through.
 pub fn limits_of(matches: &ArgMatches<'_>) -> Option<Limits>
-    ensures value { (a b : ℕ) (lines : Bool) → HasNumber matches.now (codes "max-len") a
-        → HasNumber matches.now (codes "max-messages") b → FlagIs matches.now (codes "lines") lines
-        → SomeIff result (InRange a b) (limits_with a b lines) }
-    ensures decimal { (a b : ℕ) (lines : Bool) → a < 2 ^ 32 → b < 2 ^ 32
-        → text_of matches.now (codes "max-len") ≡ Some (decimal a)
-        → text_of matches.now (codes "max-messages") ≡ Some (decimal b)
-        → FlagIs matches.now (codes "lines") lines → SomeIff result (InRange a b) (limits_with a b lines) }
-    ensures numbers { IfSome result (λ l. HasNumber matches.now (codes "max-len") l.max_len
-        × HasNumber matches.now (codes "max-messages") l.max_messages) }
+    ensures value { (a b : ℕ) (lines_given : Bool) → HasNumber matches.now max_len.NAME.now a
+        → HasNumber matches.now max_messages.NAME.now b → FlagIs matches.now lines.NAME.now lines_given
+        → SomeIff result (InRange a b) (limits_with a b lines_given) }
+    ensures decimal { (a b : ℕ) (lines_given : Bool) → a < 2 ^ 32 → b < 2 ^ 32
+        → text_of matches.now max_len.NAME.now ≡ Some (decimal a)
+        → text_of matches.now max_messages.NAME.now ≡ Some (decimal b)
+        → FlagIs matches.now lines.NAME.now lines_given → SomeIff result (InRange a b) (limits_with a b lines_given) }
+    ensures numbers { IfSome result (λ l. HasNumber matches.now max_len.NAME.now l.max_len
+        × HasNumber matches.now max_messages.NAME.now l.max_messages) }
 {
-    let max_len = matches.get_one::<u32>("max-len")?;
-    let max_messages = matches.get_one::<u32>("max-messages")?;
+    let max_len = matches.get_one::<u32>(options::max_len::NAME)?;
+    let max_messages = matches.get_one::<u32>(options::max_messages::NAME)?;
     let limits = Limits::new(max_len, max_messages)?;
-    if matches.get_flag("lines") {
+    if matches.get_flag(options::lines::NAME) {
         Some(limits.lines())
     } else {
         Some(limits)

@@ -1,12 +1,16 @@
 //! What the options of an extract ask for.
-ghost use Rattle.std.specs.Prelude.{◌≡◌, ◌≢◌, ◌<◌, ◌^◌, ◌↔◌, ℕ, Bool, List, Contains, map, option_map, codes, None, Ok};
+ghost use Rattle.std.specs.Prelude.{◌≡◌, ◌≢◌, ◌<◌, ◌^◌, ◌↔◌, ℕ, Bool, List, Contains, map, option_map, None, Ok};
 ghost use Rattle.std.specs.Prelude.{IfOk, IfErr, IsErrOf};
 ghost use Rattle.std.specs.List.{AllByRecursion};
 ghost use Rattle.std.specs.List.Sorted.{IsStrictlyIncreasing};
 ghost use Rattle.ssign.specs.CommandLine.{FlagIs, form_of};
 ghost use Rattle.ssign.specs.Extraction.{AreInOrder, GivesExtraction, Selects, SpellNumbers, texts_given};
+ghost use Rattle.ssign.specs.declared.options.lines_out.TheConstants as lines_out;
+ghost use Rattle.ssign.specs.declared.options.place.TheConstants as place;
+ghost use Rattle.ssign.specs.declared.options.unlisted.TheConstants as unlisted;
 ghost use Rattle.ssign.specs.declared.extraction.ExtractionFault.TheVariants.{Both, Memory, NoNumber};
 
+use crate::options;
 use clap::ArgMatches;
 use ss_frame::Form;
 use ss_report::{Extraction, Selection};
@@ -34,14 +38,14 @@ impl<T: Drop> From<AllocFailed<T>> for ExtractionFault {
 
 /// What the options say is to be extracted. A command without them has the listed messages as frames.
 pub fn extraction_of(alloc: Global, matches: &ArgMatches<'_>) -> Result<Extraction, ExtractionFault>
-    ensures { (unlisted lines : Bool) → FlagIs matches.now (codes "unlisted") unlisted
-        → FlagIs matches.now (codes "lines-out") lines
-        → GivesExtraction unlisted (texts_given matches.now (codes "place")) lines result }
+    ensures { (unlisted_given lines : Bool) → FlagIs matches.now unlisted.NAME.now unlisted_given
+        → FlagIs matches.now lines_out.NAME.now lines
+        → GivesExtraction unlisted_given (texts_given matches.now place.NAME.now) lines result }
 {
     let selection = selection_of(
         alloc,
-        matches.get_strs("place"),
-        matches.get_flag("unlisted"),
+        matches.get_strs(options::place::NAME),
+        matches.get_flag(options::unlisted::NAME),
     )?;
     let form = form_out(matches);
     Ok(Extraction { selection, form })
@@ -49,9 +53,9 @@ pub fn extraction_of(alloc: Global, matches: &ArgMatches<'_>) -> Result<Extracti
 
 /// The form in which messages are to be written.
 fn form_out(matches: &ArgMatches<'_>) -> Form
-    ensures { (lines : Bool) → FlagIs matches.now (codes "lines-out") lines → result ≡ form_of lines }
+    ensures { (lines : Bool) → FlagIs matches.now lines_out.NAME.now lines → result ≡ form_of lines }
 {
-    if matches.get_flag("lines-out") {
+    if matches.get_flag(options::lines_out::NAME) {
         Form::Lines
     } else {
         Form::Frames

@@ -1,14 +1,27 @@
-//! The options that say how a log is signed: a file for each has its name, its range, its usual value and its help.
+//! The options of the commands: a file for each has its name, its range, its usual value and its help.
+pub mod answers;
 pub mod app;
+pub mod code;
 pub mod copies;
 pub mod count;
+pub mod counters;
+pub mod findings;
 pub mod frag;
 pub mod groups;
 pub mod host;
+pub mod json;
+pub mod lines;
+pub mod lines_out;
+pub mod max_len;
+pub mod max_messages;
 pub mod msgid;
 pub mod payload;
+pub mod place;
 pub mod pri;
 pub mod procid;
 pub mod rsid;
 pub mod stamp;
+pub mod tally;
+pub mod unlisted;
 pub mod ver;
+pub mod whole;

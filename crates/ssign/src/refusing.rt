@@ -6,6 +6,7 @@ use crate::asked::asked_word;
 use crate::explain::explanation_of;
 use crate::explanations::{Explanation, FAULTS, REFUSALS, UNPRINTED, WORDS};
 use crate::likely_cause::LikelyCause;
+use crate::options::{answers, counters};
 use crate::settings::SettingsFault;
 use crate::text_option::TextOption;
 use arrayvec::ArrayString;
@@ -44,8 +45,12 @@ impl Display for Remark<'_> {
     fn fmt<W: Write>(&self, f: &mut fmt::Formatter<W>) -> fmt::Result {
         match self {
             Remark::Nothing => Ok(()),
-            Remark::AnswersFile(file) => writeln!(f, "The answers file is --answers {file:?}."),
-            Remark::CountersFile(file) => writeln!(f, "The counters file is --counters {file:?}."),
+            Remark::AnswersFile(file) => {
+                writeln!(f, "The answers file is --{} {file:?}.", answers::NAME)
+            }
+            Remark::CountersFile(file) => {
+                writeln!(f, "The counters file is --{} {file:?}.", counters::NAME)
+            }
             Remark::Text(option, text) => {
                 writeln!(f, "The option is --{} {text:?}.", option.name())?;
                 if *option == TextOption::Payload && !text.contains(' ') {
