@@ -1,16 +1,14 @@
 -- What the command line gives: its commands, the limits that its options spell, and the exit status of a run.
-use Rattle.std.specs.Prelude.{◌≡◌, ◌≢◌, ◌⊎◌, ℕ, pos, Bool, true, false, List, [], ◌∷◌, Option, Some, None, Result, Ok}
-use Rattle.std.specs.Prelude.{◌-◌, Err, codes}
+use Rattle.std.specs.Prelude.{◌≡◌, ◌≢◌, ◌⊎◌, ℕ, Bool, true, false, List, [], ◌∷◌, Option, Some, None, Result, Ok}
+use Rattle.std.specs.Prelude.{Err, codes}
 use Rattle.std.specs.Str.Parse.{IsNumeral, digits_value, without_leading_plus}
-use Rattle.clap.specs.Words.{App, IsAmong, Kinds, Rule, app_of, fault_of, found_of, new_app, new_rule, one_text}
+use Rattle.clap.specs.Words.{App, IsAmong, Kinds, app_of, fault_of, found_of, new_app, one_text}
 use Rattle.clap.specs.Words.{with_rule, with_subcommand}
-use Rattle.clap.specs.Lexer.{usize_max}
 use Rattle.clap.specs.declared.builder.command.Command.{Command}
 use Rattle.clap.specs.declared.builder.command.Command.TheViews.{out-Command}
-use Rattle.clap.specs.declared.builder.ArgAction.TheVariants.{Append, Set, SetTrue}
 use Rattle.clap.specs.declared.error.kind.ErrorKind.TheVariants.{DisplayHelp, DisplayVersion}
 use Rattle.clap.specs.declared.parser.matches.ArgMatches.{ArgMatches}
-use Rattle.ss_frame.specs.Limits.{Allowance, longest_message, most_messages}
+use Rattle.ss_frame.specs.Limits.{Allowance}
 use Rattle.ss_frame.specs.declared.limits.Form.{Form}
 use Rattle.ss_frame.specs.declared.limits.Form.TheVariants.{Frames, Lines}
 use Rattle.ssign.specs.declared.commands.carry.TheConstants as carry
@@ -22,19 +20,6 @@ use Rattle.ssign.specs.declared.commands.plan.TheConstants as plan
 use Rattle.ssign.specs.declared.commands.questions.TheConstants as questions
 use Rattle.ssign.specs.declared.commands.review.TheConstants as review
 use Rattle.ssign.specs.declared.commands.sign.TheConstants as sign
-use Rattle.ssign.specs.declared.options.answers.TheConstants as answers
-use Rattle.ssign.specs.declared.options.code.TheConstants as code
-use Rattle.ssign.specs.declared.options.counters.TheConstants as kept
-use Rattle.ssign.specs.declared.options.findings.TheConstants as findings
-use Rattle.ssign.specs.declared.options.json.TheConstants as json
-use Rattle.ssign.specs.declared.options.lines.TheConstants as lines
-use Rattle.ssign.specs.declared.options.lines_out.TheConstants as lines_out
-use Rattle.ssign.specs.declared.options.max_len.TheConstants as max_len
-use Rattle.ssign.specs.declared.options.max_messages.TheConstants as max_messages
-use Rattle.ssign.specs.declared.options.place.TheConstants as place
-use Rattle.ssign.specs.declared.options.tally.TheConstants as tally
-use Rattle.ssign.specs.declared.options.unlisted.TheConstants as unlisted
-use Rattle.ssign.specs.declared.options.whole.TheConstants as whole
 use Rattle.ssign.specs.declared.command_line.Order.{Order}
 use Rattle.ssign.specs.declared.command_line.Order.TheVariants.{Log, Sent, Explain}
 use Rattle.ssign.specs.declared.task.Reporting.{Reporting}
@@ -42,7 +27,10 @@ use Rattle.ssign.specs.declared.task.Task.{Task}
 use Rattle.ssign.specs.declared.task.Task.TheVariants.{Review, Questions, Extract, Inspect, Counters, Carry}
 use Rattle.ssign.specs.declared.signing.Signing.{Signing}
 use Rattle.ssign.specs.declared.signing.Signing.TheVariants.{Plan, Sign}
-use Rattle.ssign.specs.SigningOptions.{AreVersions, Kept, number_rule, text_rule, usual_rule, with_signing_options}
+use Rattle.ssign.specs.SigningOptions.{AreVersions, Kept, with_signing_options}
+use Rattle.ssign.specs.LogOptions.{answers_rule, code_rule, findings_rule, json_rule, kept_rule, lines_out_rule}
+use Rattle.ssign.specs.LogOptions.{lines_rule, max_len_rule, max_messages_rule, place_rule, tally_rule, unlisted_rule}
+use Rattle.ssign.specs.LogOptions.{whole_rule}
 use Rattle.ss_signing.specs.declared.fault.SignFault.{SignFault}
 use Rattle.ss_report.specs.declared.fault.RunFault.{RunFault}
 use Rattle.ss_report.specs.declared.forms.report_form.ReportForm.{ReportForm}
@@ -98,61 +86,7 @@ limits_with a b lines = record { max_len = a; max_messages = b; form = form_of l
 
 -- ---- the commands
 
-abbrev pub answers_rule : Rule
-answers_rule = text_rule answers.NAME.now
-
--- a flag
-abbrev pub flag_rule : List ℕ → Rule
-flag_rule name = record (new_rule name) { long = Some name; action = Some SetTrue }
-
-abbrev pub findings_rule : Rule
-findings_rule = flag_rule findings.NAME.now
-
-abbrev pub json_rule : Rule
-json_rule = flag_rule json.NAME.now
-
-abbrev pub whole_rule : Rule
-whole_rule = flag_rule whole.NAME.now
-
-abbrev pub tally_rule : Rule
-tally_rule = flag_rule tally.NAME.now
-
-abbrev pub kept_rule : Rule
-kept_rule = text_rule kept.NAME.now
-
-abbrev pub unlisted_rule : Rule
-unlisted_rule = flag_rule unlisted.NAME.now
-
--- it may be given often, and is each time one place of a log of as many messages as are allowed
-abbrev pub place_rule : Rule
-place_rule =
-    record (number_rule place.NAME.now (pos place.LEAST) (pos (most_messages - 1))) { action = Some Append }
-
-abbrev pub lines_out_rule : Rule
-lines_out_rule = flag_rule lines_out.NAME.now
-
-abbrev pub lines_rule : Rule
-lines_rule = flag_rule lines.NAME.now
-
-abbrev pub max_len_rule : Rule
-max_len_rule =
-    usual_rule (number_rule max_len.NAME.now (pos max_len.LEAST) (pos longest_message)) max_len.USUAL.now
-
-abbrev pub max_messages_rule : Rule
-max_messages_rule =
-    usual_rule (number_rule max_messages.NAME.now (pos max_messages.LEAST) (pos most_messages))
-    max_messages.USUAL.now
-
--- what `explain` is asked about: one word or more
-abbrev pub code_rule : Rule
-code_rule = record (new_rule code.NAME.now) {
-  action = Some Set;
-  range = Some (record { start_inclusive = 1; end_inclusive = usize_max });
-  value_names = 1;
-  required = true;
-}
-
--- the options of a command over a log
+-- with the options that say how a log is read
 abbrev pub with_limits : App → App
 with_limits a = with_rule (with_rule (with_rule a lines_rule) max_len_rule) max_messages_rule
 

@@ -1,4 +1,5 @@
 pub mod SigningOptions
+pub mod LogOptions
 pub mod CommandLine
 pub mod GroupsText
 pub mod Settings

@@ -1,13 +1,9 @@
 //! The command line.
-ghost use Rattle.std.specs.Prelude.{◌≡◌, ◌<◌, ◌^◌, ◌||◌, ◌∷◌, [], ℕ, Bool, false, Some, decimal, IfOk, IfSome};
+ghost use Rattle.std.specs.Prelude.{◌≡◌, ◌<◌, ◌^◌, ◌||◌, ◌∷◌, [], ℕ, Bool, Some, decimal, IfOk, IfSome};
 ghost use Rattle.std.specs.Prelude.{MatchOption, option_and_then, option_map};
 ghost use Rattle.std.specs.Option.{SomeIff, is_some};
 ghost use Rattle.clap.specs.Words.{App, app_of, first_value, found_of, kind_of, matched_of, new_app, raw_values};
-ghost use Rattle.clap.specs.Words.{rule_of};
 ghost use Rattle.ss_frame.specs.Limits.{InRange};
-ghost use Rattle.ssign.specs.CommandLine.{answers_rule, code_rule, findings_rule, json_rule, kept_rule, lines_rule};
-ghost use Rattle.ssign.specs.CommandLine.{max_len_rule, max_messages_rule, tally_rule, whole_rule};
-ghost use Rattle.ssign.specs.CommandLine.{lines_out_rule, place_rule, unlisted_rule};
 ghost use Rattle.ssign.specs.CommandLine.{bare_app, carry_app, counters_app, explain_app, extract_app, inspect_app};
 ghost use Rattle.ssign.specs.CommandLine.{plan_app, questions_app, review_app, sign_app, ssign_app};
 ghost use Rattle.ssign.specs.Explanation.{asked_of};
@@ -27,13 +23,16 @@ ghost use Rattle.ssign.specs.declared.options.tally.TheConstants as tally;
 ghost use Rattle.ssign.specs.declared.options.whole.TheConstants as whole;
 
 use crate::asked::asked_of;
+use crate::log_options::{
+    answers, code, findings, json, kept, lines, lines_out, max_len, max_messages, place, tally,
+    unlisted, whole,
+};
 use crate::signing::Signing;
 use crate::signing_options::with_signing_options;
 use crate::task::{Reporting, Task};
 use crate::{commands, options};
-use clap::builder::ValueParser;
 use clap::error::ErrorKind;
-use clap::{Arg, ArgAction, ArgMatches, Command, Error};
+use clap::{ArgMatches, Command, Error};
 use ss_block::versions;
 use ss_frame::Limits;
 use ss_report::{Detail, ReportForm};
@@ -314,158 +313,6 @@ fn limited<'a>(alloc: Global, command: Command<'a>) -> Result<Command<'a>, Alloc
         .arg(lines(alloc))?
         .arg(max_len(alloc))?
         .arg(max_messages(alloc))
-}
-
-fn code<'a>(alloc: Global) -> Arg<'a>
-    ensures rule { rule_of result ≡ code_rule }
-    ensures local { result.global ≡ false }
-{
-    Arg::new(alloc, options::code::NAME)
-        .value_name("CODE")
-        .num_args(1..)
-        .required(true)
-        .action(ArgAction::Set)
-        .help(options::code::HELP)
-}
-
-/// The option of an answers file.
-fn answers<'a>(alloc: Global, help: &'a str) -> Arg<'a>
-    ensures rule { rule_of result ≡ answers_rule }
-    ensures local { result.global ≡ false }
-{
-    Arg::new(alloc, options::answers::NAME)
-        .long(options::answers::NAME)
-        .value_name("FILE")
-        .action(ArgAction::Set)
-        .help(help)
-}
-
-/// The option that leaves out what is no finding.
-fn findings<'a>(alloc: Global, help: &'a str) -> Arg<'a>
-    ensures rule { rule_of result ≡ findings_rule }
-    ensures local { result.global ≡ false }
-{
-    Arg::new(alloc, options::findings::NAME)
-        .long(options::findings::NAME)
-        .action(ArgAction::SetTrue)
-        .help(help)
-}
-
-fn json<'a>(alloc: Global) -> Arg<'a>
-    ensures rule { rule_of result ≡ json_rule }
-    ensures local { result.global ≡ false }
-{
-    Arg::new(alloc, options::json::NAME)
-        .long(options::json::NAME)
-        .action(ArgAction::SetTrue)
-        .help(options::json::HELP)
-}
-
-fn whole<'a>(alloc: Global) -> Arg<'a>
-    ensures rule { rule_of result ≡ whole_rule }
-    ensures local { result.global ≡ false }
-{
-    Arg::new(alloc, options::whole::NAME)
-        .long(options::whole::NAME)
-        .action(ArgAction::SetTrue)
-        .help(options::whole::HELP)
-}
-
-fn tally<'a>(alloc: Global) -> Arg<'a>
-    ensures rule { rule_of result ≡ tally_rule }
-    ensures local { result.global ≡ false }
-{
-    Arg::new(alloc, options::tally::NAME)
-        .long(options::tally::NAME)
-        .action(ArgAction::SetTrue)
-        .help(options::tally::HELP)
-}
-
-/// The option of a counters file.
-fn kept<'a>(alloc: Global) -> Arg<'a>
-    ensures rule { rule_of result ≡ kept_rule }
-    ensures local { result.global ≡ false }
-{
-    Arg::new(alloc, options::counters::NAME)
-        .long(options::counters::NAME)
-        .value_name("FILE")
-        .action(ArgAction::Set)
-        .help(options::counters::HELP)
-}
-
-fn unlisted<'a>(alloc: Global) -> Arg<'a>
-    ensures rule { rule_of result ≡ unlisted_rule }
-    ensures local { result.global ≡ false }
-{
-    Arg::new(alloc, options::unlisted::NAME)
-        .long(options::unlisted::NAME)
-        .action(ArgAction::SetTrue)
-        .help(options::unlisted::HELP)
-}
-
-fn place<'a>(alloc: Global) -> Arg<'a>
-    ensures rule { rule_of result ≡ place_rule }
-    ensures local { result.global ≡ false }
-{
-    Arg::new(alloc, options::place::NAME)
-        .long(options::place::NAME)
-        .value_name("N")
-        .action(ArgAction::Append)
-        .value_parser(ValueParser::signed(
-            options::place::LEAST as i64,
-            options::place::MOST as i64,
-        ))
-        .help(options::place::HELP)
-}
-
-fn lines_out<'a>(alloc: Global) -> Arg<'a>
-    ensures rule { rule_of result ≡ lines_out_rule }
-    ensures local { result.global ≡ false }
-{
-    Arg::new(alloc, options::lines_out::NAME)
-        .long(options::lines_out::NAME)
-        .action(ArgAction::SetTrue)
-        .help(options::lines_out::HELP)
-}
-
-fn lines<'a>(alloc: Global) -> Arg<'a>
-    ensures rule { rule_of result ≡ lines_rule }
-    ensures local { result.global ≡ false }
-{
-    Arg::new(alloc, options::lines::NAME)
-        .long(options::lines::NAME)
-        .action(ArgAction::SetTrue)
-        .help(options::lines::HELP)
-}
-
-fn max_len<'a>(alloc: Global) -> Arg<'a>
-    ensures rule { rule_of result ≡ max_len_rule }
-    ensures local { result.global ≡ false }
-{
-    Arg::new(alloc, options::max_len::NAME)
-        .long(options::max_len::NAME)
-        .value_name("N")
-        .action(ArgAction::Set)
-        .value_parser(clap::value_parser!(u32).range(
-            options::max_len::LEAST as i64..=options::max_len::MOST as i64,
-        ))
-        .help(options::max_len::HELP)
-        .default_value(options::max_len::USUAL)
-}
-
-fn max_messages<'a>(alloc: Global) -> Arg<'a>
-    ensures rule { rule_of result ≡ max_messages_rule }
-    ensures local { result.global ≡ false }
-{
-    Arg::new(alloc, options::max_messages::NAME)
-        .long(options::max_messages::NAME)
-        .value_name("N")
-        .action(ArgAction::Set)
-        .value_parser(clap::value_parser!(u32).range(
-            options::max_messages::LEAST as i64..=options::max_messages::MOST as i64,
-        ))
-        .help(options::max_messages::HELP)
-        .default_value(options::max_messages::USUAL)
 }
 
 /// The mistake of an extract that is to write the unlisted messages and those at given places.

@@ -11,6 +11,7 @@ mod extraction;
 mod groups_text;
 pub mod laws;
 mod likely_cause;
+mod log_options;
 mod message_count;
 mod negatives;
 mod nobody;

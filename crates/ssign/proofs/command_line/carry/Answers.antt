@@ -1,6 +1,6 @@
 use Rattle.ssign.specs.declared.commands.carry.TheConstants as carry
 use Rattle.clap.specs.Words.{new_app, with_rule}
-use Rattle.ssign.specs.CommandLine.{answers_rule}
+use Rattle.ssign.specs.LogOptions.{answers_rule}
 use Rattle.ssign.proofs.FoundCommands.{with_argument}
 use Rattle.ssign.proofs.command_line.carry.Goals as goal
 

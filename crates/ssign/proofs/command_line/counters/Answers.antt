@@ -1,6 +1,6 @@
 use Rattle.ssign.specs.declared.commands.counters.TheConstants as counters
 use Rattle.clap.specs.Words.{new_app, with_rule}
-use Rattle.ssign.specs.CommandLine.{answers_rule, json_rule}
+use Rattle.ssign.specs.LogOptions.{answers_rule, json_rule}
 use Rattle.ssign.proofs.FoundCommands.{with_argument}
 use Rattle.ssign.proofs.command_line.counters.Goals as goal
 

@@ -1,6 +1,6 @@
 use Rattle.ssign.specs.declared.commands.extract.TheConstants as extract
 use Rattle.clap.specs.Words.{new_app, with_rule}
-use Rattle.ssign.specs.CommandLine.{answers_rule, lines_out_rule, place_rule, unlisted_rule}
+use Rattle.ssign.specs.LogOptions.{answers_rule, lines_out_rule, place_rule, unlisted_rule}
 use Rattle.ssign.proofs.FoundCommands.{with_argument}
 use Rattle.ssign.proofs.command_line.extract.Goals as goal
 

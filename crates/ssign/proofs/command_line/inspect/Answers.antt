@@ -1,6 +1,6 @@
 use Rattle.ssign.specs.declared.commands.inspect.TheConstants as inspect
 use Rattle.clap.specs.Words.{new_app, with_rule}
-use Rattle.ssign.specs.CommandLine.{findings_rule, json_rule}
+use Rattle.ssign.specs.LogOptions.{findings_rule, json_rule}
 use Rattle.ssign.proofs.FoundCommands.{with_argument}
 use Rattle.ssign.proofs.command_line.inspect.Goals as goal
 

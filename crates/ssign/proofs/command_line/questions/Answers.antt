@@ -1,6 +1,6 @@
 use Rattle.ssign.specs.declared.commands.questions.TheConstants as questions
 use Rattle.clap.specs.Words.{new_app, with_rule}
-use Rattle.ssign.specs.CommandLine.{json_rule}
+use Rattle.ssign.specs.LogOptions.{json_rule}
 use Rattle.ssign.proofs.FoundCommands.{with_argument}
 use Rattle.ssign.proofs.command_line.questions.Goals as goal
 

@@ -1,6 +1,6 @@
 use Rattle.ssign.specs.declared.commands.review.TheConstants as review
 use Rattle.clap.specs.Words.{new_app, with_rule}
-use Rattle.ssign.specs.CommandLine.{answers_rule, findings_rule, json_rule, kept_rule, tally_rule, whole_rule}
+use Rattle.ssign.specs.LogOptions.{answers_rule, findings_rule, json_rule, kept_rule, tally_rule, whole_rule}
 use Rattle.ssign.proofs.FoundCommands.{with_argument}
 use Rattle.ssign.proofs.command_line.review.Goals as goal
 

@@ -1,6 +1,6 @@
 use Rattle.ssign.specs.declared.commands.sign.TheConstants as sign
 use Rattle.clap.specs.Words.{new_app, with_rule}
-use Rattle.ssign.specs.CommandLine.{answers_rule}
+use Rattle.ssign.specs.LogOptions.{answers_rule}
 use Rattle.ssign.specs.SigningOptions.{with_signing_options}
 use Rattle.ssign.proofs.FoundCommands.{with_argument}
 use Rattle.ssign.proofs.command_line.sign.Goals as goal
