@@ -1,5 +1,7 @@
 pub mod WholeLines
-pub mod MissingWritten
+pub mod MissingTaken
 pub mod CountersWritten
 pub mod LogCounters
 pub mod Tallies
+pub mod TakenLines
+pub mod SettledReports

@@ -1,6 +1,6 @@
 pub mod TextSoFar
 pub mod Writings
-pub mod LinesWritten
+pub mod LinesTaken
 pub mod EncodedSoFar
 pub mod QuestionLines
 pub mod EscapedText

@@ -5,3 +5,4 @@ pub mod forms
 pub mod runs
 pub mod Verdict
 pub mod FaultText
+pub mod VerdictLaws

@@ -1,3 +1,6 @@
 pub mod Tally
 pub mod Lines
+pub mod Taken
+pub mod Settled
+pub mod Listed
 pub mod Whole

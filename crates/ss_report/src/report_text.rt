@@ -6,7 +6,7 @@ ghost use Rattle.ss_report.specs.forms.ReportText.{report_lines};
 
 use crate::forms::text::Text;
 use crate::lines::detail::Detail;
-use crate::lines::walk::write_lines;
+use crate::lines::writing::write_lines;
 use ss_frame::{Bytes, Tail, Watched};
 use ss_message::NoMemory;
 use ss_review::Report;

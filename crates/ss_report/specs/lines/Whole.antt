@@ -1,7 +1,7 @@
 -- The report of a log with what is missing beside it: of each session's signature blocks, which state their Global
 -- Block Counter, GBC, how many were sent before them in their session over all groups (RFC 5848, section 4.2.4); and,
 -- up to counters that somebody kept, of the messages of each group and of sessions that the log has no block of.
-use Rattle.std.specs.Prelude.{ℕ, ◌&&◌, Bool, List, ◌∷◌, ◌++◌, map, flat_map, if◌then◌else◌}
+use Rattle.std.specs.Prelude.{ℕ, List, ◌∷◌, ◌++◌, map, flat_map}
 use Rattle.std.specs.List.{list_all, zip}
 use Rattle.ss_frame.specs.declared.step.Tail.{Tail}
 use Rattle.ss_block.specs.declared.session.Session.{Session}
@@ -19,12 +19,12 @@ use Rattle.ss_review.specs.counted.CountedLaws.{AreMissing, IsCounted}
 use Rattle.ss_review.specs.counted.Kept.{counters_of, end_of_blocks}
 use Rattle.ss_review.specs.counted.KeptLaws.{shortfalls_of}
 use Rattle.ss_review.specs.report.Report.{report}
-use Rattle.ss_review.specs.report.Verdict.{is_none}
 use Rattle.ss_report.specs.declared.lines.detail.Detail.{Detail}
+use Rattle.ss_report.specs.declared.lines.detail.Detail.TheVariants as details
 use Rattle.ss_report.specs.lines.Lines.{ReportLine, TailLine, BlocksLine, AbsentLine, session_lines, other_lines}
-use Rattle.ss_report.specs.Verdict.{report_verdict}
+use Rattle.ss_report.specs.lines.Settled.{is_settled}
+use Rattle.ss_report.specs.Verdict.{verdict_of}
 use Rattle.ss_report.specs.declared.verdict.verdict.Verdict.{Verdict}
-use Rattle.ss_report.specs.declared.verdict.verdict.Verdict.TheVariants as verdicts
 
 -- ---- the lines
 
@@ -54,16 +54,9 @@ lines_with detail report short tail =
 
 -- ---- the verdict
 
-abbrev pub is_complete : Shortfall → Bool
-is_complete f = is_none f.tails && is_none f.blocks
-
--- nothing is missing of any session, and none is absent
-abbrev pub is_nothing_short : LogShortfalls → Bool
-is_nothing_short short = list_all is_complete short.known && is_none short.absent
-
--- clean where the report is, at a clean end, and nothing is missing beside it
+-- clean where no line of the report, or of what is missing beside it, leaves anything to look into
 abbrev pub verdict_with : Report → LogShortfalls → Tail → Verdict
-verdict_with report short tail = if is_nothing_short short then report_verdict report tail else verdicts.Findings
+verdict_with report short tail = verdict_of (list_all is_settled (lines_with details.Each report short tail))
 
 -- ---- of a log
 

@@ -1,4 +1,4 @@
-//! What takes the lines of a report.
+//! The forms in which the lines of a report are written.
 ghost use Rattle.std.specs.Prelude.{ℕ, List};
 ghost use Rattle.ss_frame.specs.Watched.{sink_of};
 ghost use Rattle.ss_report.specs.log.Writing.{Writes};

@@ -1,168 +1,146 @@
 //! The walk through a report, line by line.
 ghost use Rattle.std.specs.Prelude.{◌≡◌, ◌++◌, ◌∷◌, [], map, flat_map};
-ghost use Rattle.ss_frame.specs.Watched.{sink_of};
-ghost use Rattle.ss_report.specs.log.Writing.{Writes};
+ghost use Rattle.ss_report.specs.lines.Taken.{TakesAll};
 ghost use Rattle.ss_report.specs.lines.Lines.{UnlistedLine, RefusedLine, EndLine};
 ghost use Rattle.ss_report.specs.lines.Lines.{entry_line, group_lines, session_lines, spoilt_place_line, single_lines};
 ghost use Rattle.ss_report.specs.lines.Lines.{tail_lines, other_lines, lines, seen};
 
 use crate::lines::detail::Detail;
-use crate::lines::form::Form;
 use crate::lines::line::Line;
+use crate::lines::taker::Taker;
 use crate::lines::tally::Tally;
 use ss_block::{Group, Session};
-use ss_frame::{Tail, Watched};
+use ss_frame::Tail;
 use ss_review::{Entry, GroupReport, Report, SessionReport, SpoiltPlace};
-use std::io::Write;
 
-/// Writes the lines of a report on a log with this end, in their order, each in this form. Nothing is allocated.
+/// Hands on the lines of a report on a log with this end, in their order. Nothing is allocated but by the taker.
 #[tactic(auto, unfolding(crate::specs::lines::Lines::lines))]
-pub(crate) fn write_lines<F: Form, W: Write>(
-    form: &F,
-    writer: &mut Watched<W>,
+pub(crate) fn walk_lines<S, T: Taker<S>>(
+    taker: &T,
+    into: &mut S,
     report: &Report,
     tail: Tail,
     detail: Detail,
 )
-    ensures { Writes (sink_of W.contents writer.old) (sink_of W.contents writer.new)
-        (flat_map (F.text form.now) (lines detail report.now tail)) }
+    ensures { TakesAll (T.takes taker.now) into.old into.new (lines detail report.now tail) }
 {
-    write_sessions(form, writer, report.sessions.as_slice(), detail);
-    write_others(form, writer, report, tail, detail);
+    walk_sessions(taker, into, report.sessions.as_slice(), detail);
+    walk_others(taker, into, report, tail, detail);
 }
 
 /// The lines behind those of the sessions.
 #[tactic(auto, unfolding(crate::specs::lines::Lines::other_lines))]
-pub(crate) fn write_others<F: Form, W: Write>(
-    form: &F,
-    writer: &mut Watched<W>,
+pub(crate) fn walk_others<S, T: Taker<S>>(
+    taker: &T,
+    into: &mut S,
     report: &Report,
     tail: Tail,
     detail: Detail,
 )
-    ensures { Writes (sink_of W.contents writer.old) (sink_of W.contents writer.new)
-        (flat_map (F.text form.now) (other_lines detail report.now tail)) }
+    ensures { TakesAll (T.takes taker.now) into.old into.new (other_lines detail report.now tail) }
 {
-    write_singles(form, writer, report, detail);
-    write_end(form, writer, tail, report.count);
+    walk_singles(taker, into, report, detail);
+    walk_end(taker, into, tail, report.count);
 }
 
 /// What is said of single messages.
-fn write_singles<F: Form, W: Write>(
-    form: &F,
-    writer: &mut Watched<W>,
-    report: &Report,
-    detail: Detail,
-)
-    ensures { Writes (sink_of W.contents writer.old) (sink_of W.contents writer.new)
-        (flat_map (F.text form.now) (single_lines detail report.now)) }
+fn walk_singles<S, T: Taker<S>>(taker: &T, into: &mut S, report: &Report, detail: Detail)
+    ensures { TakesAll (T.takes taker.now) into.old into.new (single_lines detail report.now) }
 {
     match detail {
-        Detail::Each => write_each(form, writer, report),
-        Detail::Tally => write_counts(form, writer, report),
+        Detail::Each => walk_each(taker, into, report),
+        Detail::Tally => walk_counts(taker, into, report),
     }
 }
 
 /// The lines of single messages.
 #[tactic(auto, unfolding(crate::specs::lines::Lines::single_lines))]
-fn write_each<F: Form, W: Write>(form: &F, writer: &mut Watched<W>, report: &Report)
-    ensures { Writes (sink_of W.contents writer.old) (sink_of W.contents writer.new)
-        (flat_map (F.text form.now) (single_lines Detail.Each report.now)) }
+fn walk_each<S, T: Taker<S>>(taker: &T, into: &mut S, report: &Report)
+    ensures { TakesAll (T.takes taker.now) into.old into.new (single_lines Detail.Each report.now) }
 {
-    write_unlisted(form, writer, report.unlisted.as_slice());
-    write_refused(form, writer, report.refused.as_slice());
-    write_spoilts(form, writer, report.spoilt.as_slice());
+    walk_unlisted(taker, into, report.unlisted.as_slice());
+    walk_refused(taker, into, report.refused.as_slice());
+    walk_spoilts(taker, into, report.spoilt.as_slice());
 }
 
 /// How many single messages there are.
 #[tactic(auto, unfolding(crate::specs::lines::Lines::single_lines))]
-fn write_counts<F: Form, W: Write>(form: &F, writer: &mut Watched<W>, report: &Report)
-    ensures { Writes (sink_of W.contents writer.old) (sink_of W.contents writer.new)
-        (flat_map (F.text form.now) (single_lines Detail.Tally report.now)) }
+fn walk_counts<S, T: Taker<S>>(taker: &T, into: &mut S, report: &Report)
+    ensures { TakesAll (T.takes taker.now) into.old into.new (single_lines Detail.Tally report.now) }
 {
     let unlisted = report.unlisted.as_slice().len() as u64;
     let refused = report.refused.as_slice().len() as u64;
     let spoilt = report.spoilt.as_slice().len() as u64;
-    form.write(writer, Line::UnlistedCount { count: unlisted });
-    form.write(writer, Line::RefusedCount { count: refused });
-    form.write(writer, Line::SpoiltCount { count: spoilt });
+    taker.take(into, Line::UnlistedCount { count: unlisted });
+    taker.take(into, Line::RefusedCount { count: refused });
+    taker.take(into, Line::SpoiltCount { count: spoilt });
 }
 
-fn write_sessions<F: Form, W: Write>(
-    form: &F,
-    writer: &mut Watched<W>,
+fn walk_sessions<S, T: Taker<S>>(
+    taker: &T,
+    into: &mut S,
     sessions: &[SessionReport],
     detail: Detail,
 )
-    ensures { Writes (sink_of W.contents writer.old) (sink_of W.contents writer.new)
-        (flat_map (F.text form.now) (flat_map (session_lines detail) sessions.now)) }
+    ensures { TakesAll (T.takes taker.now) into.old into.new (flat_map (session_lines detail) sessions.now) }
 {
     for session in sessions {
-        write_session(form, writer, session, detail);
+        walk_session(taker, into, session, detail);
     }
 }
 
 /// The session's line, and those of its groups.
-pub(crate) fn write_session<F: Form, W: Write>(
-    form: &F,
-    writer: &mut Watched<W>,
+pub(crate) fn walk_session<S, T: Taker<S>>(
+    taker: &T,
+    into: &mut S,
     report: &SessionReport,
     detail: Detail,
 )
-    ensures { Writes (sink_of W.contents writer.old) (sink_of W.contents writer.new)
-        (flat_map (F.text form.now) (session_lines detail report.now)) }
+    ensures { TakesAll (T.takes taker.now) into.old into.new (session_lines detail report.now) }
 {
     let session = &report.session;
     let state = report.state;
-    form.write(writer, Line::Session { session, state });
-    write_groups(form, writer, session, report.groups.as_slice(), detail);
+    taker.take(into, Line::Session { session, state });
+    walk_groups(taker, into, session, report.groups.as_slice(), detail);
 }
 
-fn write_groups<F: Form, W: Write>(
-    form: &F,
-    writer: &mut Watched<W>,
+fn walk_groups<S, T: Taker<S>>(
+    taker: &T,
+    into: &mut S,
     session: &Session,
     groups: &[GroupReport],
     detail: Detail,
 )
-    ensures { Writes (sink_of W.contents writer.old) (sink_of W.contents writer.new)
-        (flat_map (F.text form.now) (flat_map (group_lines detail session.now) groups.now)) }
+    ensures { TakesAll (T.takes taker.now) into.old into.new (flat_map (group_lines detail session.now) groups.now) }
 {
     for group in groups {
-        write_group(form, writer, session, group, detail);
+        walk_group(taker, into, session, group, detail);
     }
 }
 
 /// What is said of a group.
-fn write_group<F: Form, W: Write>(
-    form: &F,
-    writer: &mut Watched<W>,
+fn walk_group<S, T: Taker<S>>(
+    taker: &T,
+    into: &mut S,
     session: &Session,
     report: &GroupReport,
     detail: Detail,
 )
-    ensures { Writes (sink_of W.contents writer.old) (sink_of W.contents writer.new)
-        (flat_map (F.text form.now) (group_lines detail session.now report.now)) }
+    ensures { TakesAll (T.takes taker.now) into.old into.new (group_lines detail session.now report.now) }
 {
     match detail {
-        Detail::Each => write_entries(form, writer, session, report),
-        Detail::Tally => write_tally(form, writer, session, report),
+        Detail::Each => walk_entries(taker, into, session, report),
+        Detail::Tally => walk_tally(taker, into, session, report),
     }
 }
 
-fn write_tally<F: Form, W: Write>(
-    form: &F,
-    writer: &mut Watched<W>,
-    session: &Session,
-    report: &GroupReport,
-)
-    ensures { Writes (sink_of W.contents writer.old) (sink_of W.contents writer.new)
-        (flat_map (F.text form.now) (group_lines Detail.Tally session.now report.now)) }
+fn walk_tally<S, T: Taker<S>>(taker: &T, into: &mut S, session: &Session, report: &GroupReport)
+    ensures { TakesAll (T.takes taker.now) into.old into.new (group_lines Detail.Tally session.now report.now) }
 {
     let group = report.group;
     let tally = Tally::of(report.entries.as_slice());
-    form.write(
-        writer,
+    taker.take(
+        into,
         Line::Tally {
             session,
             group,
@@ -171,17 +149,11 @@ fn write_tally<F: Form, W: Write>(
     );
 }
 
-fn write_entries<F: Form, W: Write>(
-    form: &F,
-    writer: &mut Watched<W>,
-    session: &Session,
-    report: &GroupReport,
-)
-    ensures { Writes (sink_of W.contents writer.old) (sink_of W.contents writer.new)
-        (flat_map (F.text form.now) (group_lines Detail.Each session.now report.now)) }
+fn walk_entries<S, T: Taker<S>>(taker: &T, into: &mut S, session: &Session, report: &GroupReport)
+    ensures { TakesAll (T.takes taker.now) into.old into.new (group_lines Detail.Each session.now report.now) }
 {
     for entry in report.entries.as_slice() {
-        form.write(writer, line_of_entry(session, report.group, *entry));
+        taker.take(into, line_of_entry(session, report.group, *entry));
     }
 }
 
@@ -211,50 +183,45 @@ fn line_of_entry(session: &Session, group: Group, entry: Entry) -> Line<'_>
     }
 }
 
-fn write_unlisted<F: Form, W: Write>(form: &F, writer: &mut Watched<W>, places: &[u32])
-    ensures { Writes (sink_of W.contents writer.old) (sink_of W.contents writer.new)
-        (flat_map (F.text form.now) (map UnlistedLine places.now)) }
+fn walk_unlisted<S, T: Taker<S>>(taker: &T, into: &mut S, places: &[u32])
+    ensures { TakesAll (T.takes taker.now) into.old into.new (map UnlistedLine places.now) }
 {
     for place in places {
-        form.write(writer, Line::Unlisted { place: *place });
+        taker.take(into, Line::Unlisted { place: *place });
     }
 }
 
-fn write_refused<F: Form, W: Write>(form: &F, writer: &mut Watched<W>, places: &[u32])
-    ensures { Writes (sink_of W.contents writer.old) (sink_of W.contents writer.new)
-        (flat_map (F.text form.now) (map RefusedLine places.now)) }
+fn walk_refused<S, T: Taker<S>>(taker: &T, into: &mut S, places: &[u32])
+    ensures { TakesAll (T.takes taker.now) into.old into.new (map RefusedLine places.now) }
 {
     for place in places {
-        form.write(writer, Line::Refused { place: *place });
+        taker.take(into, Line::Refused { place: *place });
     }
 }
 
-fn write_spoilts<F: Form, W: Write>(form: &F, writer: &mut Watched<W>, spoilts: &[SpoiltPlace])
-    ensures { Writes (sink_of W.contents writer.old) (sink_of W.contents writer.new)
-        (flat_map (F.text form.now) (map spoilt_place_line spoilts.now)) }
+fn walk_spoilts<S, T: Taker<S>>(taker: &T, into: &mut S, spoilts: &[SpoiltPlace])
+    ensures { TakesAll (T.takes taker.now) into.old into.new (map spoilt_place_line spoilts.now) }
 {
     for spoilt in spoilts {
         let place = spoilt.place;
         let cause = spoilt.cause;
-        form.write(writer, Line::Spoilt { place, cause });
+        taker.take(into, Line::Spoilt { place, cause });
     }
 }
 
 /// The torn end, and the count of the messages.
-fn write_end<F: Form, W: Write>(form: &F, writer: &mut Watched<W>, tail: Tail, count: u32)
-    ensures { Writes (sink_of W.contents writer.old) (sink_of W.contents writer.new)
-        (flat_map (F.text form.now) (tail_lines tail ++ EndLine count ∷ [])) }
+fn walk_end<S, T: Taker<S>>(taker: &T, into: &mut S, tail: Tail, count: u32)
+    ensures { TakesAll (T.takes taker.now) into.old into.new (tail_lines tail ++ EndLine count ∷ []) }
 {
-    write_tail(form, writer, tail);
-    form.write(writer, Line::End { count });
+    walk_tail(taker, into, tail);
+    taker.take(into, Line::End { count });
 }
 
-fn write_tail<F: Form, W: Write>(form: &F, writer: &mut Watched<W>, tail: Tail)
-    ensures { Writes (sink_of W.contents writer.old) (sink_of W.contents writer.new)
-        (flat_map (F.text form.now) (tail_lines tail)) }
+fn walk_tail<S, T: Taker<S>>(taker: &T, into: &mut S, tail: Tail)
+    ensures { TakesAll (T.takes taker.now) into.old into.new (tail_lines tail) }
 {
     match tail {
         Tail::Clean => {}
-        Tail::Torn { pos } => form.write(writer, Line::Torn { offset: pos }),
+        Tail::Torn { pos } => taker.take(into, Line::Torn { offset: pos }),
     }
 }

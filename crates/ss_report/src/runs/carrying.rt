@@ -13,8 +13,7 @@ ghost use Rattle.ss_report.specs.runs.Carrying.{carried_by, is_verified_in};
 ghost use Rattle.ss_report.specs.runs.CarriedSoFar.{KnowsExtents, carried_at, carried_numbers, carried_verified};
 ghost use Rattle.ss_report.specs.runs.CarriedSoFar.{carried_with, extent_cmp};
 
-use crate::runs::places::put_in_order;
-use crate::runs::selecting::add_of_entries;
+use crate::runs::places::{add_of_entries, put_in_order};
 use crate::runs::told::{entries_under, has_gap, is_refused, told_joined};
 use ss_block::{CertBlock, FullReading, Reading, Session, SigBlock, may_hold_block, read_fully};
 use ss_frame::Bytes;

@@ -1,56 +1,9 @@
-//! The places of messages that are to be written, and what keeps them from it.
-ghost use Rattle.std.specs.Prelude.{◌≡◌, ◌==◌, ◌++◌, ◌∷◌, [], ℕ, None, Some, nat_le, find, flat_map, filter_map, IfOk};
-ghost use Rattle.std.specs.Prelude.{OnOk, MatchResult};
-ghost use Rattle.ss_review.specs.report.Extract.{place_listed, listed_places};
+//! What keeps messages from being written.
+ghost use Rattle.std.specs.Prelude.{◌≡◌, ◌==◌, None, Some, nat_le, find, MatchResult};
 ghost use Rattle.ss_report.specs.runs.Extraction.{absent, holds_lf, no_line};
 
 use crate::runs::extraction::{ExtractFault, Selection};
 use ss_frame::{Bytes, Form};
-use ss_review::{Entry, GroupReport, Places, Report};
-use std::alloc::{AllocError, Global};
-
-/// The places of the messages that a report lists, in its order.
-pub(crate) fn listed_places(alloc: Global, report: &Report) -> Result<Places, AllocError>
-    ensures { IfOk result (λ places. places ≡ listed_places report.now) }
-{
-    let mut places = Vec::new(alloc);
-    for session in report.sessions.as_slice() {
-        add_of_groups(&mut places, session.groups.as_slice())?;
-    }
-    Ok(Places::from_vec(places))
-}
-
-/// Adds the places that groups list.
-fn add_of_groups(places: &mut Vec<u32>, groups: &[GroupReport]) -> Result<(), AllocError>
-    ensures { OnOk result (places.new.items
-        ≡ places.old.items ++ flat_map (λ g. filter_map place_listed g.entries) groups.now) }
-{
-    for group in groups {
-        add_of_entries(places, group.entries.as_slice())?;
-    }
-    Ok(())
-}
-
-/// Adds the places that entries list.
-pub(crate) fn add_of_entries(places: &mut Vec<u32>, entries: &[Entry]) -> Result<(), AllocError>
-    ensures { OnOk result (places.new.items ≡ places.old.items ++ filter_map place_listed entries.now) }
-{
-    for entry in entries {
-        add_of_entry(places, *entry)?;
-    }
-    Ok(())
-}
-
-/// Adds the place that an entry lists, if it lists one.
-fn add_of_entry(places: &mut Vec<u32>, entry: Entry) -> Result<(), AllocError>
-    ensures { OnOk result (places.new.items ≡ places.old.items ++ filter_map place_listed (entry ∷ [])) }
-{
-    let Entry::Listed { place, .. } = entry else {
-        return Ok(());
-    };
-    places.push(place)?;
-    Ok(())
-}
 
 /// Refuses the first of the given places that a log of so many messages hasn't (E1).
 pub(crate) fn refuse_absent(selection: &Selection, count: usize) -> Result<(), ExtractFault>

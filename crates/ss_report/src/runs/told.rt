@@ -9,7 +9,7 @@ ghost use Rattle.ss_review.specs.report.Meaning.{IsInOrder, first_number};
 ghost use Rattle.ss_report.specs.runs.Carrying.{is_joined_in, is_gap, is_numbered};
 ghost use Rattle.ss_report.specs.runs.CarriedSoFar.{IsToldInOrder, IsToldJoined};
 
-use crate::verdict::cleanness::is_joined;
+use crate::verdict::joined::is_joined;
 use ss_block::{Group, Session, SigBlock};
 use ss_review::{Entry, Report, SessionReport};
 

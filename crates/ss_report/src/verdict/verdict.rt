@@ -1,10 +1,12 @@
 //! Whether a run over a log found anything.
 ghost use Rattle.std.specs.Prelude.{◌≡◌};
-ghost use Rattle.ss_report.specs.Verdict.{end_verdict, report_verdict};
+ghost use Rattle.ss_report.specs.Verdict.{end_verdict, report_verdict, verdict_of};
 ghost use Rattle.ss_report.specs.lines.Whole.{verdict_with};
 
-use crate::verdict::cleanness::is_clean;
-use crate::verdict::shortage::is_nothing_short;
+use crate::lines::detail::Detail;
+use crate::lines::settled::Settling;
+use crate::lines::walk::walk_lines;
+use crate::lines::walk_whole::walk_lines_with;
 use ss_frame::Tail;
 use ss_review::{LogShortfalls, Report};
 
@@ -29,23 +31,30 @@ pub(crate) fn end_verdict(tail: Tail) -> Verdict
     }
 }
 
-/// Whether the report leaves nothing to look into, and the log has a clean end.
+/// Whether no line of a report on a log with this end leaves anything to look into.
 pub(crate) fn report_verdict(report: &Report, tail: Tail) -> Verdict
     ensures { result ≡ report_verdict report.now tail }
 {
-    if is_clean(report) {
-        end_verdict(tail)
-    } else {
-        Verdict::Findings
-    }
+    let mut settled = true;
+    walk_lines(&Settling, &mut settled, report, tail, Detail::Each);
+    verdict_of(settled)
 }
 
-/// Whether the report leaves nothing to look into, nothing is missing beside it, and the log has a clean end.
+/// Whether no line of a report on a log with this end, and of what is missing beside it, leaves anything to look into.
 pub(crate) fn verdict_with(report: &Report, short: &LogShortfalls, tail: Tail) -> Verdict
     ensures { result ≡ verdict_with report.now short.now tail }
 {
-    if is_nothing_short(short) {
-        report_verdict(report, tail)
+    let mut settled = true;
+    walk_lines_with(&Settling, &mut settled, report, short, tail, Detail::Each);
+    verdict_of(settled)
+}
+
+/// The verdict of lines that are all settled, or aren't.
+fn verdict_of(settled: bool) -> Verdict
+    ensures { result ≡ verdict_of settled }
+{
+    if settled {
+        Verdict::Clean
     } else {
         Verdict::Findings
     }

@@ -1,0 +1,7 @@
+use Rattle.std.proofs.Common.{take, flat_map}
+use Rattle.ss_report.specs.lines.Taken.{TakesAll}
+use Rattle.ss_report.specs.lines.Lines.{group_lines}
+use Rattle.ss_report.proofs.lines.walk.walk_groups.Given as goal
+
+abbrev pub invariant-loop-group : goal.invariant-loop-group
+invariant-loop-group g l = TakesAll (g.T.Taker.takes l.taker) l.initial.into l.into (flat_map (group_lines l.detail l.session) (take l.group-index l.groups))

@@ -1,9 +1,0 @@
-use Rattle.std.proofs.Common.{take}
-use Rattle.ss_frame.specs.Watched.{sink_of}
-use Rattle.ss_report.specs.log.Writing.{Writes}
-use Rattle.ss_report.specs.lines.Lines.{UnlistedLine}
-use Rattle.ss_report.proofs.of_writing.LinesWritten.{octets_by_one}
-use Rattle.ss_report.proofs.lines.walk.write_unlisted.Given as goal
-
-abbrev pub invariant-loop-place : goal.invariant-loop-place
-invariant-loop-place g l = Writes (sink_of g.W.Write.contents l.initial.writer) (sink_of g.W.Write.contents l.writer) (octets_by_one (g.F.Form.text l.form) UnlistedLine (take l.place-index l.places))

@@ -1,0 +1,7 @@
+use Rattle.std.proofs.Common.{take, map}
+use Rattle.ss_report.specs.lines.Taken.{TakesAll}
+use Rattle.ss_report.specs.lines.Whole.{tail_line}
+use Rattle.ss_report.proofs.lines.walk_whole.walk_tails.Given as goal
+
+abbrev pub invariant-loop-tail : goal.invariant-loop-tail
+invariant-loop-tail g l = TakesAll (g.T.Taker.takes l.taker) l.initial.into l.into (map (tail_line l.session) (take l.tail-index l.tails))

@@ -1,0 +1,206 @@
+-- A verdict is that of the report, of its end, and of what is missing beside it.
+use Rattle.std.proofs.Common.{◌≡◌, ℕ, Bool, true, false, List, [], ◌∷◌, ◌++◌, ◌&&◌, length, map, flat_map, refl, ap, ◌∙◌, arith}
+use Rattle.std.specs.Prelude.{zip}
+use Rattle.std.specs.List.{list_all}
+use Rattle.std.proofs.lemmas.List.{length-map}
+use Rattle.std.proofs.lemmas.List.Folds.{list_all-append}
+use Rattle.std.proofs.lemmas.Slice.Zip.{length-zip}
+use Rattle.ss_frame.specs.declared.step.Tail.{Tail}
+use Rattle.ss_frame.specs.declared.step.Tail.TheVariants as tails
+use Rattle.ss_block.specs.declared.block.Group.{Group}
+use Rattle.ss_block.specs.declared.session.Session.{Session}
+use Rattle.ss_review.specs.declared.counted.counter.Counter.{Counter}
+use Rattle.ss_review.specs.declared.counted.missing.MissingRun.{MissingRun}
+use Rattle.ss_review.specs.declared.counted.shortfall.GroupTail.{GroupTail}
+use Rattle.ss_review.specs.declared.counted.shortfall.LogShortfalls.{LogShortfalls}
+use Rattle.ss_review.specs.declared.counted.shortfall.Shortfall.{Shortfall}
+use Rattle.ss_review.specs.declared.keep.spoilt.SpoiltPlace.{SpoiltPlace}
+use Rattle.ss_review.specs.declared.report.entry.Entry.{Entry}
+use Rattle.ss_review.specs.declared.report.entry.Entry.TheVariants as entry
+use Rattle.ss_review.specs.declared.report.group_report.GroupReport.{GroupReport}
+use Rattle.ss_review.specs.declared.report.report.Report.{Report}
+use Rattle.ss_review.specs.declared.report.session_report.SessionReport.{SessionReport}
+use Rattle.ss_review.specs.keep.Contents.{blocks}
+use Rattle.ss_review.specs.keep.Notes.{notes}
+use Rattle.ss_review.specs.counted.Counted.{counted_session, counted_sessions}
+use Rattle.ss_review.specs.counted.Kept.{log_shortfalls, shortfall_beside}
+use Rattle.ss_review.specs.counted.KeptLaws.{shortfalls_of}
+use Rattle.ss_review.specs.report.Report.{report, report_of}
+use Rattle.ss_review.specs.report.Verdict.{is_clean, is_joined, is_listed, is_none}
+use Rattle.ss_review.specs.sessions.Sessions.{sessions}
+use Rattle.ss_review.specs.sessions.Verified.{Answers}
+use Rattle.ss_report.specs.declared.lines.detail.Detail.TheVariants as details
+use Rattle.ss_report.specs.lines.Lines.{UnlistedLine, RefusedLine, EndLine, entry_line, group_lines, session_lines, spoilt_place_line, tail_lines, single_lines, other_lines, lines}
+use Rattle.ss_report.specs.lines.Settled.{is_settled}
+use Rattle.ss_report.specs.lines.Whole.{absent_lines, lines_beside, lines_with, missing_line, shortfall_lines, tail_line, whole_verdict}
+use Rattle.ss_report.specs.Verdict.{report_verdict, verdict_of}
+use Rattle.ss_report.specs.VerdictLaws.{is_complete, is_nothing_short, verdict_where, VerdictsAreOfReports}
+
+-- ---- the lines of a report
+
+settled_entries : (s : Session) (g : Group) (es : List Entry) → list_all is_settled (map (entry_line s g) es) ≡ list_all is_listed es
+settled_entries s g [] = refl
+settled_entries s g (entry.Listed number place ∷ es) = settled_entries s g es
+settled_entries s g (entry.Gap number why ∷ es) = refl
+settled_entries s g (entry.Hole first last ∷ es) = refl
+
+abbrev are_listed : GroupReport → Bool
+are_listed g = list_all is_listed g.entries
+
+settled_groups : (s : Session) (gs : List GroupReport) → list_all is_settled (flat_map (group_lines details.Each s) gs) ≡ list_all are_listed gs
+settled_groups s [] = refl
+settled_groups s (g ∷ gs) =
+    list_all-append is_settled (map (entry_line s g.group) g.entries) (flat_map (group_lines details.Each s) gs)
+    ∙ (λ i. settled_entries s g.group g.entries i && settled_groups s gs i)
+
+abbrev is_whole : SessionReport → Bool
+is_whole s = is_joined s.state && list_all are_listed s.groups
+
+settled_session : (s : SessionReport) → list_all is_settled (session_lines details.Each s) ≡ is_whole s
+settled_session s = ap (λ b. is_joined s.state && b) (settled_groups s.session s.groups)
+
+settled_sessions : (ss : List SessionReport) → list_all is_settled (flat_map (session_lines details.Each) ss) ≡ list_all is_whole ss
+settled_sessions [] = refl
+settled_sessions (s ∷ ss) =
+    list_all-append is_settled (session_lines details.Each s) (flat_map (session_lines details.Each) ss)
+    ∙ (λ i. settled_session s i && settled_sessions ss i)
+
+settled_unlisted : (ps : List ℕ) → list_all is_settled (map UnlistedLine ps) ≡ is_none ps
+settled_unlisted [] = refl
+settled_unlisted (p ∷ ps) = refl
+
+settled_refused : (ps : List ℕ) → list_all is_settled (map RefusedLine ps) ≡ is_none ps
+settled_refused [] = refl
+settled_refused (p ∷ ps) = refl
+
+settled_spoilt : (ps : List SpoiltPlace) → list_all is_settled (map spoilt_place_line ps) ≡ is_none ps
+settled_spoilt [] = refl
+settled_spoilt (p ∷ ps) = refl
+
+abbrev is_clean_end : Tail → Bool
+is_clean_end tails.Clean = true
+is_clean_end (tails.Torn pos) = false
+
+settled_end : (tail : Tail) (count : ℕ) → list_all is_settled (tail_lines tail ++ EndLine count ∷ []) ≡ is_clean_end tail
+settled_end tails.Clean count = refl
+settled_end (tails.Torn pos) count = refl
+
+settled_single : (r : Report) → list_all is_settled (single_lines details.Each r) ≡ ((is_none r.unlisted && is_none r.refused) && is_none r.spoilt)
+unfolding single_lines
+settled_single r =
+    list_all-append is_settled (map UnlistedLine r.unlisted ++ map RefusedLine r.refused) (map spoilt_place_line r.spoilt)
+    ∙ (λ i. list_all-append is_settled (map UnlistedLine r.unlisted) (map RefusedLine r.refused) i && settled_spoilt r.spoilt i)
+    ∙ (λ i. (settled_unlisted r.unlisted i && settled_refused r.refused i) && is_none r.spoilt)
+
+settled_others : (r : Report) (tail : Tail) → list_all is_settled (other_lines details.Each r tail) ≡ (((is_none r.unlisted && is_none r.refused) && is_none r.spoilt) && is_clean_end tail)
+unfolding other_lines
+settled_others r tail =
+    list_all-append is_settled (single_lines details.Each r) (tail_lines tail ++ EndLine r.count ∷ [])
+    ∙ (λ i. settled_single r i && settled_end tail r.count i)
+
+settled_lines : (r : Report) (tail : Tail)
+    → list_all is_settled (lines details.Each r tail) ≡ (list_all is_whole r.sessions && (((is_none r.unlisted && is_none r.refused) && is_none r.spoilt) && is_clean_end tail))
+unfolding lines
+settled_lines r tail =
+    list_all-append is_settled (flat_map (session_lines details.Each) r.sessions) (other_lines details.Each r tail)
+    ∙ (λ i. settled_sessions r.sessions i && settled_others r tail i)
+
+verdict_by : (w u r s : Bool) (tail : Tail) → verdict_of (w && (((u && r) && s) && is_clean_end tail)) ≡ verdict_where (w && u && r && s) tail
+verdict_by false u r s tail = refl
+verdict_by true false r s tail = refl
+verdict_by true true false s tail = refl
+verdict_by true true true false tail = refl
+verdict_by true true true true tails.Clean = refl
+verdict_by true true true true (tails.Torn pos) = refl
+
+plain : (r : Report) (tail : Tail) → report_verdict r tail ≡ verdict_where (is_clean r) tail
+unfolding is_clean
+plain r tail =
+    ap verdict_of (settled_lines r tail)
+    ∙ verdict_by (list_all is_whole r.sessions) (is_none r.unlisted) (is_none r.refused) (is_none r.spoilt) tail
+
+-- ---- what is missing beside it
+
+settled_tails : (s : Session) (ts : List GroupTail) → list_all is_settled (map (tail_line s) ts) ≡ is_none ts
+settled_tails s [] = refl
+settled_tails s (t ∷ ts) = refl
+
+settled_missing : (s : Session) (rs : List MissingRun) → list_all is_settled (map (missing_line s) rs) ≡ is_none rs
+settled_missing s [] = refl
+settled_missing s (r ∷ rs) = refl
+
+settled_short : (f : Shortfall) → list_all is_settled (shortfall_lines f) ≡ is_complete f
+settled_short f =
+    list_all-append is_settled (map (tail_line f.session) f.tails) (map (missing_line f.session) f.blocks)
+    ∙ (λ i. settled_tails f.session f.tails i && settled_missing f.session f.blocks i)
+
+both_by : (a b c d : Bool) → ((a && b) && (c && d)) ≡ ((a && c) && (b && d))
+both_by false b c d = refl
+both_by true true c d = refl
+both_by true false true d = refl
+both_by true false false d = refl
+
+settled_beside : (ss : List SessionReport) (fs : List Shortfall) → length ss ≡ length fs
+    → list_all is_settled (flat_map (lines_beside details.Each) (zip ss fs)) ≡ (list_all is_whole ss && list_all is_complete fs)
+settled_beside [] [] e = refl
+settled_beside [] (f ∷ fs) e = absurd (omega (arith, e))
+settled_beside (s ∷ ss) [] e = absurd (omega (arith, e))
+settled_beside (s ∷ ss) (f ∷ fs) e =
+    list_all-append is_settled (lines_beside details.Each (s, f)) (flat_map (lines_beside details.Each) (zip ss fs))
+    ∙ (λ i. list_all-append is_settled (session_lines details.Each s) (shortfall_lines f) i && settled_beside ss fs (omega (arith, e)) i)
+    ∙ (λ i. (settled_session s i && settled_short f i) && (list_all is_whole ss && list_all is_complete fs))
+    ∙ both_by (is_whole s) (is_complete f) (list_all is_whole ss) (list_all is_complete fs)
+
+settled_absent : (fs : List Shortfall) → list_all is_settled (flat_map absent_lines fs) ≡ is_none fs
+settled_absent [] = refl
+settled_absent (f ∷ fs) = refl
+
+settled_whole : (r : Report) (short : LogShortfalls) (tail : Tail) → length r.sessions ≡ length short.known
+    → list_all is_settled (lines_with details.Each r short tail)
+    ≡ (((list_all is_whole r.sessions && list_all is_complete short.known) && is_none short.absent) && (((is_none r.unlisted && is_none r.refused) && is_none r.spoilt) && is_clean_end tail))
+unfolding lines_with
+settled_whole r short tail e =
+    let known = flat_map (lines_beside details.Each) (zip r.sessions short.known) in
+    list_all-append is_settled (known ++ flat_map absent_lines short.absent) (other_lines details.Each r tail)
+    ∙ (λ i. list_all-append is_settled known (flat_map absent_lines short.absent) i && settled_others r tail i)
+    ∙ (λ i. (settled_beside r.sessions short.known e i && settled_absent short.absent i) && (((is_none r.unlisted && is_none r.refused) && is_none r.spoilt) && is_clean_end tail))
+
+whole_by : (w u r s k a : Bool) (tail : Tail)
+    → verdict_of (((w && k) && a) && (((u && r) && s) && is_clean_end tail)) ≡ verdict_where ((w && u && r && s) && (k && a)) tail
+whole_by false u r s k a tail = refl
+whole_by true false r s false a tail = refl
+whole_by true true false s false a tail = refl
+whole_by true true true false false a tail = refl
+whole_by true true true true false a tail = refl
+whole_by true false r s true false tail = refl
+whole_by true false r s true true tail = refl
+whole_by true true false s true false tail = refl
+whole_by true true false s true true tail = refl
+whole_by true true true false true false tail = refl
+whole_by true true true false true true tail = refl
+whole_by true true true true true false tail = refl
+whole_by true true true true true true tails.Clean = refl
+whole_by true true true true true true (tails.Torn pos) = refl
+
+as_many : (says : Answers) (counters : List Counter) (log : List (List ℕ)) → length (report says log).sessions ≡ length (shortfalls_of says log counters).known
+unfolding report_of log_shortfalls
+as_many says counters log =
+    let bs = blocks (notes log) in
+    let ss = (report says log).sessions in
+    let cs = counted_sessions says bs in
+    let of_report : length ss ≡ length (sessions bs) = length-map (sessions bs) _ in
+    let of_counted : length cs ≡ length (sessions bs) = length-map (sessions bs) (counted_session says bs) in
+    let of_known : length (map (shortfall_beside counters) (zip ss cs)) ≡ length (zip ss cs) = length-map (zip ss cs) (shortfall_beside counters) in
+    omega (arith, of_report, of_counted, of_known, length-zip ss cs)
+
+whole : (says : Answers) (counters : List Counter) (log : List (List ℕ)) (tail : Tail)
+    → whole_verdict says counters log tail ≡ verdict_where (is_clean (report says log) && is_nothing_short (shortfalls_of says log counters)) tail
+unfolding is_clean
+whole says counters log tail =
+    let r = report says log in
+    let short = shortfalls_of says log counters in
+    ap verdict_of (settled_whole r short tail (as_many says counters log))
+    ∙ whole_by (list_all is_whole r.sessions) (is_none r.unlisted) (is_none r.refused) (is_none r.spoilt) (list_all is_complete short.known) (is_none short.absent) tail
+
+pub verdicts_are_of_reports : VerdictsAreOfReports
+verdicts_are_of_reports = record { plain = plain; whole = whole }

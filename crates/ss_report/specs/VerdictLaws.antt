@@ -1,0 +1,37 @@
+-- What a verdict says of the report itself.
+use Rattle.std.specs.Prelude.{◌≡◌, ◌&&◌, Bool, List, ℕ, if◌then◌else◌}
+use Rattle.std.specs.List.{list_all}
+use Rattle.ss_frame.specs.declared.step.Tail.{Tail}
+use Rattle.ss_review.specs.declared.counted.counter.Counter.{Counter}
+use Rattle.ss_review.specs.declared.counted.shortfall.LogShortfalls.{LogShortfalls}
+use Rattle.ss_review.specs.declared.counted.shortfall.Shortfall.{Shortfall}
+use Rattle.ss_review.specs.declared.report.report.Report.{Report}
+use Rattle.ss_review.specs.counted.KeptLaws.{shortfalls_of}
+use Rattle.ss_review.specs.report.Report.{report}
+use Rattle.ss_review.specs.report.Verdict.{is_clean, is_none}
+use Rattle.ss_review.specs.sessions.Verified.{Answers}
+use Rattle.ss_report.specs.Verdict.{end_verdict, report_verdict}
+use Rattle.ss_report.specs.lines.Whole.{whole_verdict}
+use Rattle.ss_report.specs.declared.verdict.verdict.Verdict.{Verdict}
+use Rattle.ss_report.specs.declared.verdict.verdict.Verdict.TheVariants as verdicts
+
+-- no signature block and no message is missing of the session
+abbrev pub is_complete : Shortfall → Bool
+is_complete f = is_none f.tails && is_none f.blocks
+
+-- nothing is missing of any session, and none is absent
+abbrev pub is_nothing_short : LogShortfalls → Bool
+is_nothing_short short = list_all is_complete short.known && is_none short.absent
+
+-- clean where this is so, at a clean end
+abbrev pub verdict_where : Bool → Tail → Verdict
+verdict_where clean tail = if clean then end_verdict tail else verdicts.Findings
+
+-- A verdict is clean exactly where the report is and the log has a clean end; and of a review that says what is missing
+-- beside the report, where besides nothing is.
+pub record VerdictsAreOfReports : Type 0 where
+  pub plain : (r : Report) (tail : Tail) → report_verdict r tail ≡ verdict_where (is_clean r) tail
+  pub whole :
+      (says : Answers) (counters : List Counter) (log : List (List ℕ)) (tail : Tail)
+      → whole_verdict says counters log tail
+      ≡ verdict_where (is_clean (report says log) && is_nothing_short (shortfalls_of says log counters)) tail

@@ -1,0 +1,51 @@
+//! Whether the lines of a report leave anything to look into.
+ghost use Rattle.std.specs.Prelude.{◌≡◌, ◌==◌, ◌&&◌};
+ghost use Rattle.std.specs.List.{list_all};
+ghost use Rattle.ss_report.specs.lines.Lines.{seen};
+ghost use Rattle.ss_report.specs.lines.Settled.{is_settled};
+
+use crate::lines::line::Line;
+use crate::lines::taker::Taker;
+use crate::lines::tally::Tally;
+use crate::verdict::joined::is_joined;
+
+/// Notes whether each line leaves nothing to look into.
+pub(crate) struct Settling;
+
+impl Taker<bool> for Settling {
+    ghost takes = { λ _ before after line. after ≡ (before && is_settled line) };
+
+    fn take(&self, into: &mut bool, line: Line<'_>) {
+        *into = *into && is_settled(line);
+    }
+}
+
+/// Whether the line leaves nothing to look into.
+fn is_settled(line: Line<'_>) -> bool
+    ensures { result ≡ is_settled (seen line.entry) }
+{
+    match line {
+        Line::Session { state, .. } => is_joined(state),
+        Line::Ok { .. } | Line::End { .. } => true,
+        Line::Tally { tally, .. } => is_whole(tally),
+        Line::UnlistedCount { count }
+        | Line::RefusedCount { count }
+        | Line::SpoiltCount { count } => count == 0,
+        Line::Gap { .. }
+        | Line::Hole { .. }
+        | Line::Tail { .. }
+        | Line::Blocks { .. }
+        | Line::Absent { .. }
+        | Line::Unlisted { .. }
+        | Line::Refused { .. }
+        | Line::Spoilt { .. }
+        | Line::Torn { .. } => false,
+    }
+}
+
+/// Whether each number of the group is that of a listed message.
+fn is_whole(tally: Tally) -> bool
+    ensures { result ≡ (tally.lost == 0 && tally.disputed == 0 && tally.holes == 0) }
+{
+    tally.lost == 0 && tally.disputed == 0 && tally.holes == 0
+}
