@@ -1,5 +1,5 @@
 //! Runs from standard input to standard output.
-ghost use Rattle.std.specs.Prelude.{◌≡◌, false, IfOk};
+ghost use Rattle.std.specs.Prelude.{◌≡◌, ◌≢◌, false, IfErr, MatchResult};
 ghost use Rattle.ss_frame.specs.Watched.{has_failed};
 ghost use Rattle.ss_review.specs.declared.questions.question.Question.{Question};
 
@@ -62,14 +62,17 @@ pub fn sign_streams<R: Print + AllocGlobal, I: Read + Drop>(
 pub fn explain_on_output<R: Print + AllocGlobal>(
     rt: &R,
     explanation: &Explanation,
-) -> Result<(), RunFault> {
+) -> Result<(), RunFault>
+    // A failed write, or else want of memory.
+    ensures { IfErr result (λ fault. fault ≢ RunFault.Write → fault ≡ RunFault.Memory) }
+{
     let mut writer = standard_output(rt)?;
     write_explanation(rt.alloc(), &mut writer, explanation)
 }
 
 /// The input, through a buffer.
 fn buffered<I: Drop>(alloc: Global, input: I) -> Result<Watched<Buffered<I>>, RunFault>
-    ensures { IfOk result (λ reader. has_failed reader ≡ false) }
+    ensures { MatchResult result (λ reader. has_failed reader ≡ false) (λ fault. fault ≡ RunFault.Memory) }
 {
     let Ok(input) = Buffered::new(alloc, input) else {
         return Err(RunFault::Memory);
@@ -81,7 +84,7 @@ fn buffered<I: Drop>(alloc: Global, input: I) -> Result<Watched<Buffered<I>>, Ru
 fn standard_output<R: Print + AllocGlobal>(
     rt: &R,
 ) -> Result<Watched<BufWriter<Printer<'_, R>>>, RunFault>
-    ensures { IfOk result (λ writer. has_failed writer ≡ false) }
+    ensures { MatchResult result (λ writer. has_failed writer ≡ false) (λ fault. fault ≡ RunFault.Memory) }
 {
     let Ok(output) = BufWriter::with_capacity(rt.alloc(), BUFFER_SIZE, io::writer(rt)) else {
         return Err(RunFault::Memory);
