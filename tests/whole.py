@@ -306,7 +306,7 @@ def refusals(program):
         tell(f"a refusal: --whole {' '.join(words)}", "" if said == (2, b"", b"ssign: F1 0\n") else f"{said}")
     mistakes = [["review", word] for word in ("--whole=x", "--whole=", "--whol", "--wholes", "-w", "--no-whole")]
     mistakes += [["review", "--whole", "--whole"], ["review", "--whole", "x"]]
-    mistakes += [[command, "--whole"] for command in ("questions", "extract", "inspect", "carry", "explain")]
+    mistakes += [[command, "--whole"] for command in ("questions", "extract", "inspect", "counters", "carry", "explain")]
     mistakes += [[command, "--whole", "--payload", "- N", "--rsid", "1"] for command in ("plan", "sign")]
     for words in mistakes:
         status, out, err = program.run(words, log)
