@@ -1,4 +1,5 @@
 //! What is kept of the messages of a log as they are fed.
+pub(crate) mod held;
 pub(crate) mod message;
 pub(crate) mod reading;
 pub(crate) mod reviewer;

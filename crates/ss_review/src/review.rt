@@ -6,8 +6,7 @@ ghost use Rattle.ss_review.specs.questions.Questions.{questions, AreAskable};
 ghost use Rattle.ss_review.specs.report.Report.{report_of};
 
 use crate::assign::index::Index;
-use crate::keep::message::BlockMessage;
-use crate::keep::spoilt::SpoiltPlace;
+use crate::keep::held::Held;
 use crate::report::report::Report;
 use crate::report::reporting::reported;
 use crate::sessions::states::joined_sessions;
@@ -17,36 +16,25 @@ use ss_message::NoMemory;
 use std::alloc::Global;
 use std::mem::drop;
 
-/// What a review says of a log: of its messages without a block, which the index has, of its blocks, of its spoilt
-/// blocks, and of how many messages it has. Each is let go once it isn't needed any more, and the judge once it is
-/// known which blocks are verified.
+/// What a review says of a log. What is held of it is let go part by part, each once it isn't needed any more, and the
+/// judge once it is known which blocks are verified.
 pub(crate) fn review<J: Judge + Drop, I: Index + Drop>(
     alloc: Global,
     judge: J,
-    index: I,
-    blocks: Vec<BlockMessage>,
-    spoilt: &[SpoiltPlace],
-    count: u32,
+    held: Held<'_, I>,
 ) -> Result<Report, NoMemory>
     requires sound { J.sound judge }
-    requires askable { AreAskable J.askable judge (questions blocks.items) }
+    requires askable { AreAskable J.askable judge (questions held.blocks.items) }
     ensures { (log : Contents)
-        → I.has index log.normal
-        → blocks.items ≡ log.blocks
-        → spoilt.now ≡ log.spoilt
-        → count ≡ log.count
+        → I.has held.entry.index log.normal
+        → held.entry.blocks.items ≡ log.blocks
+        → held.entry.spoilt.now ≡ log.spoilt
+        → held.entry.count ≡ log.count
         → IfOk result (λ r. r ≡ report_of (answers J.trusted J.valid judge) log) }
 {
-    let sessions = joined_sessions(alloc, &judge, blocks.as_slice())?;
-    let verified = verified(alloc, &judge, sessions.as_slice(), blocks.as_slice())?;
+    let blocks = held.blocks.as_slice();
+    let sessions = joined_sessions(alloc, &judge, blocks)?;
+    let verified = verified(alloc, &judge, sessions.as_slice(), blocks)?;
     drop(judge);
-    reported(
-        alloc,
-        index,
-        sessions.as_slice(),
-        blocks,
-        verified,
-        spoilt,
-        count,
-    )
+    reported(alloc, held, sessions.as_slice(), verified)
 }

@@ -9,8 +9,7 @@ ghost use Rattle.ss_review.specs.counted.Counted.{counted_sessions};
 use crate::assign::index::Index;
 use crate::counted::counted_report::CountedReport;
 use crate::counted::counting::counted_sessions;
-use crate::keep::message::BlockMessage;
-use crate::keep::spoilt::SpoiltPlace;
+use crate::keep::held::Held;
 use crate::report::reporting::reported;
 use crate::sessions::states::joined_sessions;
 use crate::sessions::verified::verified;
@@ -24,39 +23,24 @@ use std::mem::drop;
 pub(crate) fn review_counted<J: Judge + Drop, I: Index + Drop>(
     alloc: Global,
     judge: J,
-    index: I,
-    blocks: Vec<BlockMessage>,
-    spoilt: &[SpoiltPlace],
-    count: u32,
+    held: Held<'_, I>,
 ) -> Result<CountedReport, NoMemory>
     requires sound { J.sound judge }
-    requires askable { AreAskable J.askable judge (questions blocks.items) }
+    requires askable { AreAskable J.askable judge (questions held.blocks.items) }
     ensures report { (log : Contents)
-        → I.has index log.normal
-        → blocks.items ≡ log.blocks
-        → spoilt.now ≡ log.spoilt
-        → count ≡ log.count
+        → I.has held.entry.index log.normal
+        → held.entry.blocks.items ≡ log.blocks
+        → held.entry.spoilt.now ≡ log.spoilt
+        → held.entry.count ≡ log.count
         → IfOk result (λ r. r.report ≡ report_of (answers J.trusted J.valid judge) log) }
     ensures counted { IfOk result (λ r. r.counted
-        ≡ counted_sessions (answers J.trusted J.valid judge) blocks.items) }
+        ≡ counted_sessions (answers J.trusted J.valid judge) held.entry.blocks.items) }
 {
-    let sessions = joined_sessions(alloc, &judge, blocks.as_slice())?;
-    let verified = verified(alloc, &judge, sessions.as_slice(), blocks.as_slice())?;
+    let blocks = held.blocks.as_slice();
+    let sessions = joined_sessions(alloc, &judge, blocks)?;
+    let verified = verified(alloc, &judge, sessions.as_slice(), blocks)?;
     drop(judge);
-    let counted = counted_sessions(
-        alloc,
-        sessions.as_slice(),
-        blocks.as_slice(),
-        verified.as_slice(),
-    )?;
-    let report = reported(
-        alloc,
-        index,
-        sessions.as_slice(),
-        blocks,
-        verified,
-        spoilt,
-        count,
-    )?;
+    let counted = counted_sessions(alloc, sessions.as_slice(), blocks, verified.as_slice())?;
+    let report = reported(alloc, held, sessions.as_slice(), verified)?;
     Ok(CountedReport { report, counted })
 }

@@ -7,8 +7,8 @@ ghost use Rattle.ss_review.specs.report.Report.{report_of};
 
 use crate::announced::announced::announced;
 use crate::assign::index::Index;
-use crate::keep::message::BlockMessage;
-use crate::keep::spoilt::{SpoiltPlace, SpoiltPlaces};
+use crate::keep::held::Held;
+use crate::keep::spoilt::SpoiltPlaces;
 use crate::report::grouping::session_reports;
 use crate::report::report::Report;
 use crate::report::unlisted::unlisted;
@@ -22,22 +22,25 @@ use std::mem::drop;
 /// verified. The blocks are let go before the index is asked, and the index before the report is made.
 pub(crate) fn reported<I: Index + Drop>(
     alloc: Global,
-    index: I,
+    held: Held<'_, I>,
     sessions: &[JoinedSession],
-    blocks: Vec<BlockMessage>,
     verified: Vec<bool>,
-    spoilt: &[SpoiltPlace],
-    count: u32,
 ) -> Result<Report, NoMemory>
     ensures { (says : Answers) (log : Contents)
-        → I.has index log.normal
-        → blocks.items ≡ log.blocks
-        → spoilt.now ≡ log.spoilt
-        → count ≡ log.count
+        → I.has held.entry.index log.normal
+        → held.entry.blocks.items ≡ log.blocks
+        → held.entry.spoilt.now ≡ log.spoilt
+        → held.entry.count ≡ log.count
         → map session_with_joined sessions.now ≡ sessions_joined says log.blocks
         → verified.items ≡ map (is_verified says log.blocks) log.blocks
         → IfOk result (λ r. r ≡ report_of says log) }
 {
+    let Held {
+        index,
+        blocks,
+        spoilt,
+        count,
+    } = held;
     let refused = refused(alloc, blocks.as_slice(), verified.as_slice())?;
     let announced = announced(alloc, sessions, blocks, verified)?;
     let hashes = announced.hashes.as_slice();

@@ -7,24 +7,24 @@ use Rattle.ss_review.proofs.review.review.Goals as goal
 
 pub joined_sessions-requires-clause-askable : goal.joined_sessions-requires-clause-askable
 joined_sessions-requires-clause-askable g c =
-    subst (λ bs. AreAskable g.J.Judge.askable c.args.judge (questions bs)) (sym c.as_slice.ensures.value) c.requires.askable
+    subst (λ bs. AreAskable g.J.Judge.askable c.args.judge (questions bs)) (sym c.as_slice-blocks.ensures.value) c.requires.askable
 
 pub verified-requires-clause-askable : goal.verified-requires-clause-askable
 verified-requires-clause-askable g c =
     let says = answers g.J.Judge.trusted g.J.Judge.valid c.args.judge in
-    let told = c.in_ok-sessions.ensures ∙ ap (sessions_joined says) c.as_slice.ensures.value in
-    askable_in g.J.Judge.askable c.args.judge says c.as_slice-3.result.now c.as_slice-2.result.now
-    (ap (map session_with_joined) c.as_slice-2.ensures.value ∙ told ∙ ap (sessions_joined says) (sym c.as_slice-3.ensures.value))
-    (subst (λ bs. AreAskable g.J.Judge.askable c.args.judge (questions bs)) (sym c.as_slice-3.ensures.value) c.requires.askable)
+    let told = c.in_ok-sessions.ensures ∙ ap (sessions_joined says) c.as_slice-blocks.ensures.value in
+    askable_in g.J.Judge.askable c.args.judge says c.as_slice-blocks.result.now c.as_slice.result.now
+    (ap (map session_with_joined) c.as_slice.ensures.value ∙ told ∙ ap (sessions_joined says) (sym c.as_slice-blocks.ensures.value))
+    (subst (λ bs. AreAskable g.J.Judge.askable c.args.judge (questions bs)) (sym c.as_slice-blocks.ensures.value) c.requires.askable)
 
 pub returns : goal.returns
 returns g c = λ log has blocks spoilt count.
     let says = answers g.J.Judge.trusted g.J.Judge.valid c.args.judge in
-    let bs = c.args.blocks.items in
-    let told = c.in_ok-sessions.ensures ∙ ap (sessions_joined says) c.as_slice.ensures.value in
+    let bs = c.args.held.blocks.items in
+    let told = c.in_ok-sessions.ensures ∙ ap (sessions_joined says) c.as_slice-blocks.ensures.value in
     let marks : c.in_ok-verified.verified.items ≡ map (is_verified says bs) bs
-    = c.in_ok-verified.ensures (ap (map session_with_joined) c.as_slice-2.ensures.value ∙ told ∙ ap (sessions_joined says) (sym c.as_slice-3.ensures.value))
-    ∙ (λ i. map (is_verified says (c.as_slice-3.ensures.value i)) (c.as_slice-3.ensures.value i)) in
+    = c.in_ok-verified.ensures (ap (map session_with_joined) c.as_slice.ensures.value ∙ told ∙ ap (sessions_joined says) (sym c.as_slice-blocks.ensures.value))
+    ∙ (λ i. map (is_verified says (c.as_slice-blocks.ensures.value i)) (c.as_slice-blocks.ensures.value i)) in
     c.reported.ensures says log has blocks spoilt count
-    (ap (map session_with_joined) c.as_slice-4.ensures.value ∙ told ∙ ap (sessions_joined says) blocks)
+    (ap (map session_with_joined) c.as_slice-2.ensures.value ∙ told ∙ ap (sessions_joined says) blocks)
     (marks ∙ (λ i. map (is_verified says (blocks i)) (blocks i)))

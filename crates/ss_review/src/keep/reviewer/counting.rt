@@ -13,6 +13,7 @@ ghost use Rattle.ss_review.specs.keep.Keeping.{Keeps, kept_blocks};
 use crate::counted::counted_report::CountedReport;
 use crate::counted::reviewing::review_counted;
 use crate::fault::ReviewFault;
+use crate::keep::held::Held;
 use crate::keep::reviewer::Reviewer;
 use crate::keep::reviewer::concluding::blocks_of;
 use crate::laws::reports::reports_list_what_is_announced;
@@ -36,9 +37,13 @@ impl Reviewer {
         ensures fault { IfErr result (λ f. f ≡ Memory) }
     {
         let blocks = blocks_of(self.alloc, self.blocks)?;
-        let normal = self.normal;
         reports_list_what_is_announced();
-        let spoilt = self.spoilt.as_slice();
-        Ok(review_counted(self.alloc, judge, normal, blocks, spoilt, self.count)?)
+        let held = Held {
+            index: self.normal,
+            blocks,
+            spoilt: self.spoilt.as_slice(),
+            count: self.count,
+        };
+        Ok(review_counted(self.alloc, judge, held)?)
     }
 }

@@ -12,8 +12,8 @@ use Rattle.ss_review.proofs.report.reporting.reported.Goals as goal
 pub returns : goal.returns
 unfolding report_of
 returns g c = λ says log has blocks spoilt count told marked.
-    let bs = c.args.blocks.items in
-    let here : Contents = record { normal = log.normal; blocks = bs; spoilt = c.args.spoilt.now; count = c.args.count } in
+    let bs = c.args.held.blocks.items in
+    let here : Contents = record { normal = log.normal; blocks = bs; spoilt = c.args.held.spoilt.now; count = c.args.held.count } in
     let rs = rows says bs in
     let joined : map session_with_joined c.args.sessions.now ≡ sessions_joined says bs = told ∙ ap (sessions_joined says) (sym blocks) in
     let marks : c.args.verified.items ≡ map (is_verified says bs) bs = marked ∙ (λ i. map (is_verified says (sym blocks i)) (sym blocks i)) in
@@ -25,6 +25,6 @@ returns g c = λ says log has blocks spoilt count told marked.
     let unlisted = c.in_ok-unlisted.ensures log.normal rs (c.as_slice-4.ensures.value ∙ c.in_ok-stored.ensures log.normal has) (c.as_slice-5.ensures.value ∙ places) in
     let refused = c.refused-2.view_is ∙ c.in_ok-refused.ensures says (c.as_slice-2.ensures.value ∙ marks ∙ (λ i. map (is_verified says (sym c.as_slice.ensures.value i)) (sym c.as_slice.ensures.value i))) ∙ ap (refused says) c.as_slice.ensures.value in
     let kept = c.from_vec.ensures ∙ c.in_ok-from_slice.ensures.items in
-    let report : Report = record { sessions = c.in_ok-session_reports.field-0; unlisted = c.in_ok-unlisted.field-0; refused = c.refused-2.inside.items.items; spoilt = c.from_vec.result; count = c.args.count } in
-    let told_here : report ≡ report_of says here = λ i. record { sessions = sessions i; unlisted = unlisted i; refused = refused i; spoilt = kept i; count = c.args.count } in
+    let report : Report = record { sessions = c.in_ok-session_reports.field-0; unlisted = c.in_ok-unlisted.field-0; refused = c.refused-2.inside.items.items; spoilt = c.from_vec.result; count = c.args.held.count } in
+    let told_here : report ≡ report_of says here = λ i. record { sessions = sessions i; unlisted = unlisted i; refused = refused i; spoilt = kept i; count = c.args.held.count } in
     told_here ∙ (λ i. report_of says (record { normal = log.normal; blocks = blocks i; spoilt = spoilt i; count = count i }))

@@ -23,7 +23,7 @@ returns g c =
     let kept : (ns : List Note) → Keeps self ns → c.in_ok-blocks.blocks.items ≡ blocks ns
     = λ ns k. c.in_ok-blocks.ensures ∙ blocks_kept self.blocks.items ns k.blocks in
     let report : (ns : List Note) → Keeps self ns → c.in_ok-review_counted.field-0.report ≡ report_of says (contents ns)
-    = λ ns k. told.report (contents ns) (k.normal, normals_rise ns) (kept ns k) (c.as_slice-spoilt.ensures.value ∙ k.spoilt) k.count in
+    = λ ns k. told.report (contents ns) (k.normal, normals_rise ns) (kept ns k) (c.as_slice.ensures.value ∙ k.spoilt) k.count in
     record {
       report = report;
       counted = λ ns k. told.counted ∙ ap (counted_sessions says) (kept ns k);
