@@ -37,7 +37,8 @@ answer says (question.Yes payload octets signature) = says.valid payload octets 
 abbrev pub AreAskable : {J : Type 0} → (J → Question → Type 0) → J → List Question → Type 0
 AreAskable askable judge qs = (q : Question) → Contains qs q → askable judge q
 
--- if the block's session is one of these, and joined, the judge may be asked whether the block is valid under its payload
+-- if the block's session is one of these, and joined, the judge may be asked whether the block is valid under its
+-- payload
 abbrev pub IsAskableIn : {J : Type 0} → (J → Question → Type 0) → J → List JoinedSession → BlockMessage → Type 0
 IsAskableIn askable judge ss b =
     (s : JoinedSession) (payload : List ℕ) → Contains ss s → s.session ≡ b.session → s.joined ≡ Ok payload
