@@ -4,7 +4,17 @@ use Rattle.std.specs.Str.{bytes_eq}
 use Rattle.ss_origin.specs.declared.sealer.SealFault.{SealFault}
 use Rattle.ss_origin.specs.declared.sealer.SealFault.TheVariants.{Refused, Memory}
 use Rattle.ss_origin.specs.Sealing.{Answers}
+use Rattle.ss_payload.specs.Payload.{PayloadValue}
+use Rattle.ss_answers.specs.declared.seals.GivenSeals.{GivenSeals}
 use Rattle.ss_answers.specs.Answers.{Answer, seal_of}
+
+-- the answers file that a sealer has its signatures from, if there is one
+abbrev pub file_of : GivenSeals → Option (List Answer)
+file_of s = s.answers
+
+-- what is said of its key
+abbrev pub key_of : GivenSeals → PayloadValue
+key_of s = s.payload
 
 -- Without a file everything is refused. With one a signature is that of the first `seal` line with these octets, and
 -- octets are refused where there is none. Memory is wanted only for a signature that is there.

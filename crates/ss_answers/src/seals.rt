@@ -1,5 +1,6 @@
 //! A sealer that has its signatures from an answers file.
 ghost use Rattle.std.specs.Prelude.{◌≡◌};
+ghost use Rattle.ss_answers.specs.Seals.{file_of, key_of};
 
 use crate::table::Answers;
 use ss_block::Payload;
@@ -17,25 +18,25 @@ pub struct GivenSeals {
 impl GivenSeals {
     /// Keeps the answers beside what is said of the key. Takes no memory.
     pub fn new(answers: Option<Answers>, payload: Payload) -> GivenSeals
-        ensures answers { result.answers ≡ answers }
-        ensures payload { result.payload ≡ payload }
+        ensures answers { file_of result ≡ answers }
+        ensures payload { key_of result ≡ payload }
     {
         GivenSeals { answers, payload }
     }
 }
 
 impl Seals for GivenSeals {
-    ghost use Rattle.ss_answers.specs.Seals.{is_given, seals_of, asked_of};
+    ghost use Rattle.ss_answers.specs.Seals.{is_given, seals_of, asked_of, file_of, key_of};
 
     ghost sound = { λ _. Unit {0} };
 
-    ghost payload = { λ s. s.payload };
+    ghost payload = { key_of };
 
-    ghost valid = { λ s _ octets signature. is_given s.answers octets signature };
+    ghost valid = { λ s _ octets signature. is_given (file_of s) octets signature };
 
-    ghost answers = { λ s octets answer. seals_of s.answers octets answer };
+    ghost answers = { λ s octets answer. seals_of (file_of s) octets answer };
 
-    ghost asked = { λ old octets answer new. asked_of old.answers octets answer old new };
+    ghost asked = { λ old octets answer new. asked_of (file_of old) octets answer old new };
 
     fn payload_block(&self) -> &Payload {
         &self.payload
