@@ -31,6 +31,13 @@ struct Extent<'a> {
     length: usize,
 }
 
+/// The places of what is carried over, and the extents of the verified certificate blocks that were passed.
+#[derive(Drop)]
+struct Carried<'a> {
+    places: Vec<u32>,
+    known: BTreeSet<Extent<'a>>,
+}
+
 /// The places of the messages that are carried over, each once, rising. The report is that on these messages.
 pub(crate) fn carried_places(
     alloc: Global,
@@ -41,68 +48,61 @@ pub(crate) fn carried_places(
     requires few { length messages.now ≤ most_messages }
     ensures { IfOk result (λ places. places ≡ carried_by report.now (blocks (notes messages.now))) }
 {
-    let mut places = Vec::from_slice(alloc, report.unlisted.as_slice())?;
-    let mut known = BTreeSet::new(alloc);
+    let places = Vec::from_slice(alloc, report.unlisted.as_slice())?;
+    let known = BTreeSet::new(alloc);
+    let mut carried = Carried { places, known };
     let mut place = 0;
     for message in messages {
-        carry_message(
-            alloc,
-            &mut places,
-            &mut known,
-            report,
-            place,
-            message.as_slice(),
-        )?;
+        carry_message(alloc, &mut carried, report, place, message.as_slice())?;
         place += 1;
     }
+    let mut places = carried.places;
     put_in_order(&mut places);
     Ok(Places::from_vec(places))
 }
 
-/// Adds what is carried for the message at this place, if it is a block: `known` has the extents of the verified
-/// certificate blocks before it.
+/// Adds what is carried for the message at this place, if it is a block.
 fn carry_message<'a>(
     alloc: Global,
-    places: &mut Vec<u32>,
-    known: &mut BTreeSet<Extent<'a>>,
+    carried: &mut Carried<'a>,
     report: &'a Report,
     place: u32,
     text: &[u8],
 ) -> Result<(), NoMemory>
     requires { IsInOrder report.now }
     ensures carried { (before : List BlockMessage)
-        → KnowsExtents report.now before known.old
-        → OnOk result (places.new.items ≡ places.old.items
+        → KnowsExtents report.now before carried.old.known
+        → OnOk result (carried.new.places.items ≡ carried.old.places.items
         ++ carried_at report.now before (block_at place (note text.now))) }
     ensures known { (before : List BlockMessage)
-        → KnowsExtents report.now before known.old
-        → OnOk result (KnowsExtents report.now (before ++ cons_option (block_at place (note text.now)) []) known.new) }
+        → KnowsExtents report.now before carried.old.known
+        → OnOk result (KnowsExtents report.now (before ++ cons_option (block_at place (note text.now)) [])
+        carried.new.known) }
 {
     if !may_hold_block(text) {
         return Ok(());
     }
     let read = read_fully(alloc, text)?;
-    carry_read(places, known, report, place, &read)
+    carry_read(carried, report, place, &read)
 }
 
 /// Adds what is carried for the message at this place that was read as this, if it is a block.
 fn carry_read<'a>(
-    places: &mut Vec<u32>,
-    known: &mut BTreeSet<Extent<'a>>,
+    carried: &mut Carried<'a>,
     report: &'a Report,
     place: u32,
     read: &FullReading,
 ) -> Result<(), NoMemory>
     requires { IsInOrder report.now }
     ensures carried { (before : List BlockMessage)
-        → KnowsExtents report.now before known.old
-        → OnOk result (places.new.items ≡ places.old.items
+        → KnowsExtents report.now before carried.old.known
+        → OnOk result (carried.new.places.items ≡ carried.old.places.items
         ++ carried_at report.now before (block_with place (said_in read.now.reading) read.now.session read.now.signed)) }
     ensures known { (before : List BlockMessage)
-        → KnowsExtents report.now before known.old
+        → KnowsExtents report.now before carried.old.known
         → OnOk result (KnowsExtents report.now
         (before ++ cons_option (block_with place (said_in read.now.reading) read.now.session read.now.signed) [])
-        known.new) }
+        carried.new.known) }
 {
     let Some(session) = &read.session else {
         return Ok(());
@@ -111,10 +111,10 @@ fn carry_read<'a>(
         return Ok(());
     };
     match &read.reading {
-        Reading::Signature(block) => carry_signature(places, report, place, session, block),
-        Reading::Certificate(block) => {
-            carry_certificate(places, known, report, place, session, block)
+        Reading::Signature(block) => {
+            carry_signature(&mut carried.places, report, place, session, block)
         }
+        Reading::Certificate(block) => carry_certificate(carried, report, place, session, block),
         Reading::Plain | Reading::Unparsed { .. } | Reading::Spoilt(_) => Ok(()),
     }
 }
@@ -162,8 +162,7 @@ fn carry_numbers(places: &mut Vec<u32>, place: u32, entries: &[Entry]) -> Result
 
 /// Adds what is carried for a certificate block.
 fn carry_certificate<'a>(
-    places: &mut Vec<u32>,
-    known: &mut BTreeSet<Extent<'a>>,
+    carried: &mut Carried<'a>,
     report: &'a Report,
     place: u32,
     session: &Session,
@@ -171,70 +170,68 @@ fn carry_certificate<'a>(
 ) -> Result<(), NoMemory>
     requires { IsInOrder report.now }
     ensures carried { (before : List BlockMessage) (octets : List ℕ)
-        → KnowsExtents report.now before known.old
-        → OnOk result (places.new.items ≡ places.old.items ++ carried_with report.now before (record {
+        → KnowsExtents report.now before carried.old.known
+        → OnOk result (carried.new.places.items ≡ carried.old.places.items ++ carried_with report.now before (record {
           place = place;
           session = session.now;
           said = Fragment block.now;
           signed = octets;
         })) }
     ensures known { (before : List BlockMessage) (octets : List ℕ)
-        → KnowsExtents report.now before known.old
+        → KnowsExtents report.now before carried.old.known
         → OnOk result (KnowsExtents report.now (before ++ record {
           place = place;
           session = session.now;
           said = Fragment block.now;
           signed = octets;
-        } ∷ []) known.new) }
+        } ∷ []) carried.new.known) }
 {
     let Some(told) = told_joined(report, session) else {
-        places.push(place)?;
+        carried.places.push(place)?;
         return Ok(());
     };
     if is_refused(report, place) {
         return Ok(());
     }
-    carry_verified(places, known, place, &told.session, block)
+    carry_verified(carried, place, &told.session, block)
 }
 
 /// Adds the place of a verified certificate block of this session, if none of its extent stands before it.
 fn carry_verified<'a>(
-    places: &mut Vec<u32>,
-    known: &mut BTreeSet<Extent<'a>>,
+    carried: &mut Carried<'a>,
     place: u32,
     session: &'a Session,
     block: &CertBlock,
 ) -> Result<(), NoMemory>
     ensures carried { (r : Report) (before : List BlockMessage) (b : BlockMessage)
-        → KnowsExtents r before known.old
+        → KnowsExtents r before carried.old.known
         → b.place ≡ place → b.session ≡ session.now → b.said ≡ Fragment block.now
-        → OnOk result (places.new.items ≡ places.old.items ++ carried_verified r before b b.said) }
+        → OnOk result (carried.new.places.items ≡ carried.old.places.items ++ carried_verified r before b b.said) }
     ensures known { (r : Report) (before : List BlockMessage) (b : BlockMessage)
-        → KnowsExtents r before known.old
+        → KnowsExtents r before carried.old.known
         → b.session ≡ session.now → b.said ≡ Fragment block.now → is_verified_in r b ≡ true
-        → OnOk result (KnowsExtents r (before ++ b ∷ []) known.new) }
+        → OnOk result (KnowsExtents r (before ++ b ∷ []) carried.new.known) }
 {
     let extent = Extent {
         session,
         index: block.index(),
         length: block.fragment().as_slice().len(),
     };
-    carry_first(places, known, place, extent)
+    carry_first(carried, place, extent)
 }
 
 /// Adds the place of a verified certificate block, if it is the first of its extent.
 fn carry_first<'a>(
-    places: &mut Vec<u32>,
-    known: &mut BTreeSet<Extent<'a>>,
+    carried: &mut Carried<'a>,
     place: u32,
     extent: Extent<'a>,
 ) -> Result<(), NoMemory>
-    ensures carried { OnOk result (places.new.items
-        ≡ places.old.items ++ (if contains extent_cmp known.old extent.entry then [] else place ∷ [])) }
-    ensures known { OnOk result (Updates extent_cmp known.old known.new extent.entry true) }
+    ensures carried { OnOk result (carried.new.places.items
+        ≡ carried.old.places.items ++ (if contains extent_cmp carried.old.known extent.entry then [] else place ∷ [])) }
+    ensures known { OnOk result (Updates extent_cmp carried.old.known carried.new.known extent.entry true) }
 {
-    if known.insert(extent)? {
-        places.push(place)?;
+    if carried.known.insert(extent)? {
+        carried.places.push(place)?;
     }
     Ok(())
 }

@@ -40,7 +40,7 @@ loop-message-preserved c =
           ∙ ap (λ ps. r.unlisted ++ ps) (sym (along_more r [] before o))
           ∙ ap (λ bs. r.unlisted ++ carried_along r [] bs) (sym more);
       known =
-          subst (λ bs. KnowsExtents r bs c.carry_message.new.known)
+          subst (λ bs. KnowsExtents r bs c.carry_message.new.carried.known)
           (ap (λ p. before ++ cons_option (block_at p (note text)) []) inv.place ∙ sym more)
           (c.in_ok-carry_message.ensures.known before inv.known);
       place = omega (arith, inv.place);

@@ -10,7 +10,7 @@ pub returns-in_default-clause-known : goal.returns-in_default-clause-known
 returns-in_default-clause-known c = λ before octets knows.
     let r = c.args.report.now in
     let b : BlockMessage = record { place = c.args.place; session = c.args.session.now; said = Fragment c.args.block.now; signed = octets } in
-    knows_unverified r before c.args.known.now knows b (ap (λ j. j && not (is_refused_in r b)) c.in_default.ensures)
+    knows_unverified r before c.args.carried.now.known knows b (ap (λ j. j && not (is_refused_in r b)) c.in_default.ensures)
 
 pub returns-then-is_refused-clause-known : goal.returns-then-is_refused-clause-known
 returns-then-is_refused-clause-known c = λ before octets knows.
@@ -19,7 +19,7 @@ returns-then-is_refused-clause-known c = λ before octets knows.
     let b : BlockMessage = record { place = c.args.place; session = s; said = Fragment c.args.block.now; signed = octets } in
     let joined = is_joined_there r s c.in-Some.told.now (rw c.in-Some.told-is at c.in-Some.ensures) in
     let refused = sym c.is_refused.ensures ∙ c.if-is_refused.true in
-    knows_unverified r before c.args.known.now knows b (λ i. joined i && not (refused i))
+    knows_unverified r before c.args.carried.now.known knows b (λ i. joined i && not (refused i))
 
 pub returns-clause-carried : goal.returns-clause-carried
 returns-clause-carried c = λ before octets knows.
@@ -30,7 +30,7 @@ returns-clause-carried c = λ before octets knows.
     let joined = is_joined_there r s c.in-Some.told.now told in
     let kept = sym c.is_refused.ensures ∙ c.if-is_refused.false in
     IfOk-weaker c.carry_verified.result _ _
-    (λ done is. is ∙ ap (λ ps. c.args.places.now.items ++ ps) (sym (carried_judged r before b joined kept)))
+    (λ done is. is ∙ ap (λ ps. c.args.carried.now.places.items ++ ps) (sym (carried_judged r before b joined kept)))
     (c.carry_verified.ensures.carried r before b knows refl (sym told.session_is) refl)
 
 pub returns-clause-known : goal.returns-clause-known
