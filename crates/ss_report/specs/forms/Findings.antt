@@ -4,8 +4,6 @@ use Rattle.ss_report.specs.lines.Lines.{ReportLine, SessionLine, OkLine, GapLine
 use Rattle.ss_report.specs.lines.Lines.{AbsentLine, TallyLine}
 use Rattle.ss_report.specs.lines.Lines.{UnlistedLine, RefusedLine, SpoiltLine, UnlistedCountLine, RefusedCountLine}
 use Rattle.ss_report.specs.lines.Lines.{SpoiltCountLine, TornLine, EndLine}
-use Rattle.ss_report.specs.forms.ReportText.{line_text}
-use Rattle.ss_report.specs.forms.Json.{line_object}
 
 abbrev pub is_ok : ReportLine → Bool
 is_ok (OkLine s g number place) = true
@@ -25,10 +23,6 @@ is_ok (SpoiltCountLine count) = false
 is_ok (TornLine offset) = false
 is_ok (EndLine count) = false
 
--- each other line as it is
-abbrev pub finding_text : ReportLine → List ℕ
-finding_text line = if is_ok line then [] else line_text line
-
--- the same as JSON
-abbrev pub finding_object : ReportLine → List ℕ
-finding_object line = if is_ok line then [] else line_object line
+-- each other line as this form has it
+abbrev pub finding : (ReportLine → List ℕ) → ReportLine → List ℕ
+finding text line = if is_ok line then [] else text line

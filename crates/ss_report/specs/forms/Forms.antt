@@ -9,7 +9,7 @@ use Rattle.ss_report.specs.declared.notation.Notation.TheVariants.{Plain, Json}
 use Rattle.ss_report.specs.declared.lines.detail.Detail.{Detail}
 use Rattle.ss_report.specs.lines.Lines.{ReportLine, lines}
 use Rattle.ss_report.specs.forms.ReportText.{line_text}
-use Rattle.ss_report.specs.forms.Findings.{finding_text, finding_object}
+use Rattle.ss_report.specs.forms.Findings.{finding}
 use Rattle.ss_report.specs.forms.Json.{line_object}
 
 -- how each line of a form is written
@@ -29,9 +29,9 @@ has_findings_alone forms.JsonFindings = true
 -- a line in a form
 abbrev pub line_as : ReportForm → ReportLine → List ℕ
 line_as forms.Text line = line_text line
-line_as forms.Findings line = finding_text line
+line_as forms.Findings line = finding line_text line
 line_as forms.Json line = line_object line
-line_as forms.JsonFindings line = finding_object line
+line_as forms.JsonFindings line = finding line_object line
 
 -- the whole report
 abbrev pub report_as : ReportForm → Detail → Report → Tail → List ℕ

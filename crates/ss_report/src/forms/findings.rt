@@ -1,39 +1,34 @@
 //! The findings of a report.
 ghost use Rattle.std.specs.Prelude.{◌≡◌};
 ghost use Rattle.ss_report.specs.lines.Lines.{seen};
-ghost use Rattle.ss_report.specs.forms.Findings.{is_ok, finding_text, finding_object};
+ghost use Rattle.ss_report.specs.forms.Findings.{is_ok, finding};
 
-use crate::forms::json::write_object;
-use crate::forms::text::write_line;
 use crate::lines::form::Form;
 use crate::lines::line::Line;
 use ss_frame::Watched;
 use std::io::Write;
 
-/// The plain text without its `ok` lines.
+/// What a form writes, without the `ok` lines.
 #[derive(Clone, Copy)]
-pub(crate) struct Findings;
+pub(crate) struct Findings<F> {
+    form: F,
+}
 
-impl Form for Findings {
-    ghost text = { λ _. finding_text };
-
-    fn write<W: Write>(&self, writer: &mut Watched<W>, line: Line<'_>) {
-        if !is_ok(line) {
-            write_line(writer, line);
-        }
+impl<F> Findings<F> {
+    /// What this form writes, without the `ok` lines.
+    pub(crate) fn of(form: F) -> Findings<F>
+        ensures { result.form ≡ form }
+    {
+        Findings { form }
     }
 }
 
-/// The JSON objects without those of `ok` lines.
-#[derive(Clone, Copy)]
-pub(crate) struct JsonFindings;
-
-impl Form for JsonFindings {
-    ghost text = { λ _. finding_object };
+impl<F: Form> Form for Findings<F> {
+    ghost text = { λ findings. finding (F.text findings.form) };
 
     fn write<W: Write>(&self, writer: &mut Watched<W>, line: Line<'_>) {
         if !is_ok(line) {
-            write_object(writer, line);
+            self.form.write(writer, line);
         }
     }
 }

@@ -5,7 +5,7 @@ ghost use Rattle.ss_report.specs.log.Writing.{Writes};
 ghost use Rattle.ss_report.specs.forms.Forms.{line_as, notation_of, has_findings_alone, report_as};
 ghost use Rattle.ss_report.specs.lines.Whole.{lines_with};
 
-use crate::forms::findings::{Findings, JsonFindings};
+use crate::forms::findings::Findings;
 use crate::forms::json::Json;
 use crate::forms::text::Text;
 use crate::lines::detail::Detail;
@@ -63,9 +63,9 @@ pub(crate) fn write_report_as<W: Write>(
 {
     match form {
         ReportForm::Text => write_lines(&Text, writer, report, tail, detail),
-        ReportForm::Findings => write_lines(&Findings, writer, report, tail, detail),
+        ReportForm::Findings => write_lines(&Findings::of(Text), writer, report, tail, detail),
         ReportForm::Json => write_lines(&Json, writer, report, tail, detail),
-        ReportForm::JsonFindings => write_lines(&JsonFindings, writer, report, tail, detail),
+        ReportForm::JsonFindings => write_lines(&Findings::of(Json), writer, report, tail, detail),
     }
 }
 
@@ -84,10 +84,10 @@ pub(crate) fn write_whole_as<W: Write>(
 {
     match form {
         ReportForm::Text => write_lines_with(&Text, writer, report, short, tail, detail),
-        ReportForm::Findings => write_lines_with(&Findings, writer, report, short, tail, detail),
+        ReportForm::Findings => write_lines_with(&Findings::of(Text), writer, report, short, tail, detail),
         ReportForm::Json => write_lines_with(&Json, writer, report, short, tail, detail),
         ReportForm::JsonFindings => {
-            write_lines_with(&JsonFindings, writer, report, short, tail, detail)
+            write_lines_with(&Findings::of(Json), writer, report, short, tail, detail)
         }
     }
 }
