@@ -27,4 +27,5 @@ pub use runs::questions::run_questions;
 pub use runs::review::run_review;
 pub use runs::review_as::run_review_as;
 pub use runs::review_whole::run_review_whole;
+pub use runs::run::Run;
 pub use verdict::verdict::Verdict;

@@ -8,4 +8,5 @@ pub(crate) mod taker;
 pub(crate) mod tally;
 pub(crate) mod walk;
 pub(crate) mod walk_whole;
+pub(crate) mod whole;
 pub(crate) mod writing;

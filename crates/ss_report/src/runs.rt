@@ -10,5 +10,6 @@ pub(crate) mod questions;
 pub(crate) mod review;
 pub(crate) mod review_as;
 pub(crate) mod review_whole;
+pub(crate) mod run;
 pub(crate) mod selecting;
 pub(crate) mod told;

@@ -8,8 +8,8 @@ ghost use Rattle.ssign.specs.Task.{carrying, review_of, job_of};
 
 use ss_frame::{Form, Limits, Watched};
 use ss_report::{
-    Detail, Extraction, ReportForm, RunFault, Selection, Verdict, run_counters, run_extract_as,
-    run_inspect, run_questions, run_review_as, run_review_whole,
+    Detail, Extraction, ReportForm, Run, RunFault, Selection, Verdict, run_counters,
+    run_extract_as, run_inspect, run_questions, run_review_as, run_review_whole,
 };
 use ss_review::{Counter, Judge};
 use std::alloc::Global;
@@ -97,14 +97,28 @@ pub fn run_task<R: Read, W: Write, J: Judge + Drop>(
         extraction,
         limits,
     } = wanted;
+    let run = Run {
+        reader,
+        writer,
+        limits,
+        alloc,
+    };
     let notation = reporting.form.notation();
     match task {
-        Task::Review => run_reported(alloc, reader, writer, reporting, counters, judge, limits),
-        Task::Questions => run_questions(alloc, reader, writer, limits, notation),
-        Task::Extract => run_extract_as(alloc, reader, writer, judge, limits, extraction),
-        Task::Inspect => run_inspect(alloc, reader, writer, limits, reporting.form),
-        Task::Counters => run_counters(alloc, reader, writer, judge, limits, notation),
-        Task::Carry => run_extract_as(alloc, reader, writer, judge, limits, carrying()),
+        Task::Review => run_reported(run, reporting, counters, judge),
+        Task::Questions => {
+            let Run {
+                reader,
+                writer,
+                limits,
+                alloc,
+            } = run;
+            run_questions(alloc, reader, writer, limits, notation)
+        }
+        Task::Extract => run_extract_as(run, judge, extraction),
+        Task::Inspect => run_inspect(run, reporting.form),
+        Task::Counters => run_counters(run, judge, notation),
+        Task::Carry => run_extract_as(run, judge, carrying()),
     }
 }
 
@@ -120,25 +134,24 @@ fn carrying() -> Extraction
 
 /// Reads a log to its end, reviews its messages, and writes the report as it is wanted.
 fn run_reported<R: Read, W: Write, J: Judge + Drop>(
-    alloc: Global,
-    reader: &mut Watched<R>,
-    writer: &mut Watched<W>,
+    run: Run<'_, R, W>,
     reporting: Reporting,
     counters: &[Counter],
     judge: J,
-    limits: Limits,
 ) -> Result<Verdict, RunFault>
-    requires reader { has_failed reader.old ≡ false }
-    requires writer { has_failed writer.old ≡ false }
+    requires reader { has_failed run.reader.now ≡ false }
+    requires writer { has_failed run.writer.now ≡ false }
     requires sound { J.sound judge }
     requires askable { (q : Question) → J.askable judge q }
-    ensures done { IfOk result (Runs (review_of (answers J.trusted J.valid judge) reporting counters.now) limits
-        (source_of R.remaining reader.old) (source_of R.remaining reader.new)
-        (sink_of W.contents writer.old) (sink_of W.contents writer.new)) }
-    ensures stopped { IfErr result (Stops (review_of (answers J.trusted J.valid judge) reporting counters.now) limits
-        (source_of R.remaining reader.old) (source_of R.remaining reader.new)
-        (sink_of W.contents writer.old) (sink_of W.contents writer.new)) }
-    ensures untouched { IfErr result (λ fault. fault ≢ RunFault.Write → writer.new ≡ writer.old) }
+    ensures done { IfOk result
+        (Runs (review_of (answers J.trusted J.valid judge) reporting counters.now) run.entry.limits
+        (source_of R.remaining run.entry.reader.now) (source_of R.remaining run.exit.0.now)
+        (sink_of W.contents run.entry.writer.now) (sink_of W.contents run.exit.1.0.now)) }
+    ensures stopped { IfErr result
+        (Stops (review_of (answers J.trusted J.valid judge) reporting counters.now) run.entry.limits
+        (source_of R.remaining run.entry.reader.now) (source_of R.remaining run.exit.0.now)
+        (sink_of W.contents run.entry.writer.now) (sink_of W.contents run.exit.1.0.now)) }
+    ensures untouched { IfErr result (λ fault. fault ≢ RunFault.Write → run.exit.1.0.now ≡ run.entry.writer.now) }
 {
     let Reporting {
         form,
@@ -146,8 +159,8 @@ fn run_reported<R: Read, W: Write, J: Judge + Drop>(
         detail,
     } = reporting;
     if whole {
-        run_review_whole(alloc, reader, writer, judge, limits, form, detail, counters)
+        run_review_whole(run, judge, form, detail, counters)
     } else {
-        run_review_as(alloc, reader, writer, judge, limits, form, detail)
+        run_review_as(run, judge, form, detail)
     }
 }

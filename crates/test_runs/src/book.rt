@@ -5,10 +5,10 @@ ghost use Rattle.ss_frame.specs.Watched.{has_failed};
 
 use crate::texts::{Text, signed_of};
 use ss_block::Scheme;
-use ss_frame::{Form, Limits, Watched};
+use ss_frame::Form;
 use ss_report::{
-    Extraction, Notation, RunFault, Selection, Verdict, run_extract, run_extract_as, run_questions,
-    run_review,
+    Extraction, Notation, Run, RunFault, Selection, Verdict, run_extract, run_extract_as,
+    run_questions, run_review,
 };
 use ss_review::{Judge, Verifier};
 use std::alloc::{AllocError, Global};
@@ -89,16 +89,19 @@ fn carrying() -> Extraction {
 
 /// Runs over a log with two closures that answer as `book` says.
 pub(crate) fn run_by<R: Read, W: Write>(
-    alloc: Global,
+    run: Run<'_, R, W>,
     job: Job,
-    reader: &mut Watched<R>,
-    writer: &mut Watched<W>,
     book: &Book<'_>,
-    limits: Limits,
 ) -> Result<Verdict, RunFault>
-    requires reader { has_failed reader.old ≡ false }
-    requires writer { has_failed writer.old ≡ false }
+    requires reader { has_failed run.reader.now ≡ false }
+    requires writer { has_failed run.writer.now ≡ false }
 {
+    let Run {
+        reader,
+        writer,
+        limits,
+        alloc,
+    } = run;
     let trust = |payload: &[u8]| book.trusts(payload);
     let check = |payload: &[u8], octets: &[u8], sign: &[u8]| book.accepts(payload, octets, sign);
     let verifier = Verifier::new(book, trust, check);
@@ -106,7 +109,15 @@ pub(crate) fn run_by<R: Read, W: Write>(
         Job::Review => run_review(alloc, reader, writer, &verifier, limits),
         Job::Questions => run_questions(alloc, reader, writer, limits, Notation::Plain),
         Job::Extract => run_extract(alloc, reader, writer, &verifier, limits),
-        Job::Carry => run_extract_as(alloc, reader, writer, verifier, limits, carrying()),
+        Job::Carry => {
+            let run = Run {
+                reader,
+                writer,
+                limits,
+                alloc,
+            };
+            run_extract_as(run, verifier, carrying())
+        }
     }
 }
 

@@ -1,7 +1,7 @@
 //! Inspections of logs that cannot be read, over devices that fail, and where memory runs out: nothing is written then
 //! but by a write that failed.
 use ss_frame::{FrameFault, Limits, Watched};
-use ss_report::{ReportForm, RunFault, Verdict, run_inspect};
+use ss_report::{ReportForm, Run, RunFault, Verdict, run_inspect};
 use std::alloc::Global;
 use std::io::{ErrorKind, Read};
 use std::process::Abort;
@@ -53,8 +53,13 @@ fn inspect_over<R: Read>(
 ) -> (Result<Verdict, RunFault>, Watched<R>, Watched<Paper>) {
     let mut reader = Watched::new(source);
     let mut writer = Watched::new(paper);
-    let form = ReportForm::Text;
-    let said = run_inspect(alloc, &mut reader, &mut writer, limits, form);
+    let run = Run {
+        reader: &mut reader,
+        writer: &mut writer,
+        limits,
+        alloc,
+    };
+    let said = run_inspect(run, ReportForm::Text);
     (said, reader, writer)
 }
 

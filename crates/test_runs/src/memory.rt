@@ -12,7 +12,8 @@ use ss_frame::{Bytes, Limits, Tail, Watched};
 use ss_message::{Field, NoMemory};
 use ss_report::report_text::report_text;
 use ss_report::{
-    Detail, Notation, ReportForm, RunFault, Verdict, run_counters, run_review_as, run_review_whole,
+    Detail, Notation, ReportForm, Run, RunFault, Verdict, run_counters, run_review_as,
+    run_review_whole,
 };
 use ss_review::{
     AskedSession, AskedSessions, Counter, Counts, Question, Questioner, Questions, Report,
@@ -181,7 +182,7 @@ fn goes_on_after_want_of_memory(rt: HostRuntime) {
 
 /// A run with counters, or in another form.
 #[derive(Clone, Copy, Debug)]
-enum Run {
+enum Kind {
     Counters,
     Tally,
     Whole,
@@ -189,20 +190,20 @@ enum Run {
 
 /// A run over the log of two messages and their blocks, and what it writes: a message was sent behind the two, and one
 /// block.
-const RUNS: [(Run, &[u8], Verdict); 3] = [
+const RUNS: [(Kind, &[u8], Verdict); 3] = [
     (
-        Run::Counters,
+        Kind::Counters,
         b"count h s - 1 1\ncount h s - 1 0 0 3\n",
         Verdict::Clean,
     ),
     (
-        Run::Tally,
+        Kind::Tally,
         b"session h s - 1 joined\ntally h s - 1 0 0 2 0 0 0 1 2\nunlisted-count 0\nrefused-count 0\nspoilt-count 0\n\
             end 4\n",
         Verdict::Clean,
     ),
     (
-        Run::Whole,
+        Kind::Whole,
         b"session h s - 1 joined\nok h s - 1 0 0 1 0\nok h s - 1 0 0 2 1\ntail h s - 1 0 0 3 3\nblocks h s - 1 1 1\n\
             end 4\n",
         Verdict::Findings,
@@ -235,17 +236,21 @@ fn counters(alloc: Global) -> Result<Vec<Counter>, AllocError> {
 }
 
 /// Runs over the log octet by octet.
-fn make(alloc: Global, run: Run) -> Result<Done, AllocError> {
+fn make(alloc: Global, kind: Kind) -> Result<Done, AllocError> {
     let counters = counters(alloc)?;
     let mut reader = Watched::new(Pieces::new(LOG, 1));
     let mut writer = Watched::new(Paper::new(1));
-    let limits = Limits::standard();
-    let (from, to) = (&mut reader, &mut writer);
-    let (form, each) = (ReportForm::Text, Detail::Each);
-    let said = match run {
-        Run::Counters => run_counters(alloc, from, to, Yes, limits, Notation::Plain),
-        Run::Tally => run_review_as(alloc, from, to, Yes, limits, form, Detail::Tally),
-        Run::Whole => run_review_whole(alloc, from, to, Yes, limits, form, each, &counters),
+    let run = Run {
+        reader: &mut reader,
+        writer: &mut writer,
+        limits: Limits::standard(),
+        alloc,
+    };
+    let form = ReportForm::Text;
+    let said = match kind {
+        Kind::Counters => run_counters(run, Yes, Notation::Plain),
+        Kind::Tally => run_review_as(run, Yes, form, Detail::Tally),
+        Kind::Whole => run_review_whole(run, Yes, form, Detail::Each, &counters),
     };
     Ok(Done {
         said,
@@ -256,20 +261,20 @@ fn make(alloc: Global, run: Run) -> Result<Done, AllocError> {
 }
 
 /// Whether the run gave its output. Want of memory is answered before anything is written, and by no device.
-fn is_made(rt: &(impl Abort + AllocGlobal), run: Run, text: &[u8], verdict: Verdict) -> bool {
-    let Ok(done) = make(rt.alloc(), run) else {
+fn is_made(rt: &(impl Abort + AllocGlobal), kind: Kind, text: &[u8], verdict: Verdict) -> bool {
+    let Ok(done) = make(rt.alloc(), kind) else {
         return false;
     };
-    assert!(rt; !done.read_failed && !done.write_failed, "{run:?}");
+    assert!(rt; !done.read_failed && !done.write_failed, "{kind:?}");
     match done.said {
         Ok(said) => {
-            assert_eq!(rt; said, verdict, "{run:?}");
-            assert_eq!(rt; done.paper.text(), text, "{run:?}");
+            assert_eq!(rt; said, verdict, "{kind:?}");
+            assert_eq!(rt; done.paper.text(), text, "{kind:?}");
             true
         }
         Err(fault) => {
-            assert!(rt; MEMORY.contains(&fault), "{run:?}: {fault:?}");
-            assert_eq!(rt; done.paper.writes, 0, "{run:?}");
+            assert!(rt; MEMORY.contains(&fault), "{kind:?}: {fault:?}");
+            assert_eq!(rt; done.paper.writes, 0, "{kind:?}");
             false
         }
     }
@@ -277,9 +282,9 @@ fn is_made(rt: &(impl Abort + AllocGlobal), run: Run, text: &[u8], verdict: Verd
 
 #[test]
 fn wants_memory_or_gives_the_output(rt: HostRuntime) {
-    for (run, text, verdict) in &RUNS {
-        if !is_made(&rt, *run, text, *verdict) {
-            assert!(rt; is_made(&rt, *run, text, *verdict), "{run:?}");
+    for (kind, text, verdict) in &RUNS {
+        if !is_made(&rt, *kind, text, *verdict) {
+            assert!(rt; is_made(&rt, *kind, text, *verdict), "{kind:?}");
         }
     }
 }

@@ -1,7 +1,7 @@
 //! A run over octets, and what it wrote.
 use crate::book::{Job, Who, book_of, run_by, signed_texts};
 use ss_frame::{Form, Limits, Watched};
-use ss_report::{RunFault, Verdict};
+use ss_report::{Run, RunFault, Verdict};
 use std::alloc::{AllocError, Global};
 use std::io::Read;
 use test_devices::Paper;
@@ -37,7 +37,13 @@ pub(crate) fn run<R: Read + Drop>(
     let book = book_of(who, (first.as_slice(), second.as_slice()));
     let mut reader = Watched::new(source);
     let mut writer = Watched::new(paper);
-    let said = run_by(alloc, job, &mut reader, &mut writer, &book, limits);
+    let run = Run {
+        reader: &mut reader,
+        writer: &mut writer,
+        limits,
+        alloc,
+    };
+    let said = run_by(run, job, &book);
     Ok(Done {
         said,
         read_failed: reader.failed(),

@@ -9,10 +9,11 @@ use crate::forms::findings::Findings;
 use crate::forms::json::Json;
 use crate::forms::text::Text;
 use crate::lines::detail::Detail;
+use crate::lines::whole::WholeReport;
 use crate::lines::writing::{write_lines, write_lines_with};
 use crate::notation::Notation;
 use ss_frame::{Tail, Watched};
-use ss_review::{LogShortfalls, Report};
+use ss_review::Report;
 use std::io::Write;
 
 /// In which form a review writes its report, and an inspection its lines.
@@ -69,25 +70,20 @@ pub(crate) fn write_report_as<W: Write>(
     }
 }
 
-/// Writes a report on a log with this end, in a form and a detail, with what is missing beside it. Nothing is
-/// allocated.
+/// Writes a report, in a form and a detail, with what is missing beside it. Nothing is allocated.
 pub(crate) fn write_whole_as<W: Write>(
     writer: &mut Watched<W>,
-    report: &Report,
-    short: &LogShortfalls,
-    tail: Tail,
+    whole: &WholeReport,
     form: ReportForm,
     detail: Detail,
 )
     ensures { Writes (sink_of W.contents writer.old) (sink_of W.contents writer.new)
-        (flat_map (line_as form) (lines_with detail report.now short.now tail)) }
+        (flat_map (line_as form) (lines_with detail whole.now.report whole.now.short whole.now.tail)) }
 {
     match form {
-        ReportForm::Text => write_lines_with(&Text, writer, report, short, tail, detail),
-        ReportForm::Findings => write_lines_with(&Findings::of(Text), writer, report, short, tail, detail),
-        ReportForm::Json => write_lines_with(&Json, writer, report, short, tail, detail),
-        ReportForm::JsonFindings => {
-            write_lines_with(&Findings::of(Json), writer, report, short, tail, detail)
-        }
+        ReportForm::Text => write_lines_with(&Text, writer, whole, detail),
+        ReportForm::Findings => write_lines_with(&Findings::of(Text), writer, whole, detail),
+        ReportForm::Json => write_lines_with(&Json, writer, whole, detail),
+        ReportForm::JsonFindings => write_lines_with(&Findings::of(Json), writer, whole, detail),
     }
 }

@@ -9,23 +9,26 @@ use crate::lines::detail::Detail;
 use crate::lines::line::Line;
 use crate::lines::taker::Taker;
 use crate::lines::walk::{walk_others, walk_session};
+use crate::lines::whole::WholeReport;
 use ss_block::Session;
-use ss_frame::Tail;
-use ss_review::{GroupTail, LogShortfalls, MissingRun, Report, SessionReport, Shortfall};
+use ss_review::{GroupTail, MissingRun, SessionReport, Shortfall};
 
-/// Hands on the lines of a report on a log with this end, with what is missing beside it. Nothing is allocated but by
-/// the taker.
+/// Hands on the lines of a report, with what is missing beside it. Nothing is allocated but by the taker.
 #[tactic(auto, unfolding(crate::specs::lines::Whole::lines_with))]
 pub(crate) fn walk_lines_with<S, T: Taker<S>>(
     taker: &T,
     into: &mut S,
-    report: &Report,
-    short: &LogShortfalls,
-    tail: Tail,
+    whole: &WholeReport,
     detail: Detail,
 )
-    ensures { TakesAll (T.takes taker.now) into.old into.new (lines_with detail report.now short.now tail) }
+    ensures { TakesAll (T.takes taker.now) into.old into.new
+        (lines_with detail whole.now.report whole.now.short whole.now.tail) }
 {
+    let WholeReport {
+        report,
+        short,
+        tail,
+    } = whole;
     walk_sessions(
         taker,
         into,
@@ -34,7 +37,7 @@ pub(crate) fn walk_lines_with<S, T: Taker<S>>(
         detail,
     );
     walk_absent(taker, into, short.absent.as_slice());
-    walk_others(taker, into, report, tail, detail);
+    walk_others(taker, into, report, *tail, detail);
 }
 
 fn walk_sessions<S, T: Taker<S>>(
@@ -44,7 +47,8 @@ fn walk_sessions<S, T: Taker<S>>(
     known: &[Shortfall],
     detail: Detail,
 )
-    ensures { TakesAll (T.takes taker.now) into.old into.new (flat_map (lines_beside detail) (zip sessions.now known.now)) }
+    ensures { TakesAll (T.takes taker.now) into.old into.new
+        (flat_map (lines_beside detail) (zip sessions.now known.now)) }
 {
     for (session, short) in sessions.iter().zip(known) {
         walk_whole_session(taker, into, session, short, detail);

@@ -11,8 +11,9 @@ use crate::lines::line::Line;
 use crate::lines::taker::Taker;
 use crate::lines::walk::walk_lines;
 use crate::lines::walk_whole::walk_lines_with;
+use crate::lines::whole::WholeReport;
 use ss_frame::{Tail, Watched};
-use ss_review::{LogShortfalls, Report};
+use ss_review::Report;
 use std::io::Write;
 
 /// Writes each line in a form.
@@ -44,18 +45,15 @@ pub(crate) fn write_lines<F: Form, W: Write>(
     walk_lines(&Writing { form }, writer, report, tail, detail);
 }
 
-/// Writes the lines of a report on a log with this end, each in this form, with what is missing beside it. Nothing is
-/// allocated.
+/// Writes the lines of a report, each in this form, with what is missing beside it. Nothing is allocated.
 pub(crate) fn write_lines_with<F: Form, W: Write>(
     form: &F,
     writer: &mut Watched<W>,
-    report: &Report,
-    short: &LogShortfalls,
-    tail: Tail,
+    whole: &WholeReport,
     detail: Detail,
 )
     ensures { Writes (sink_of W.contents writer.old) (sink_of W.contents writer.new)
-        (flat_map (F.text form.now) (lines_with detail report.now short.now tail)) }
+        (flat_map (F.text form.now) (lines_with detail whole.now.report whole.now.short whole.now.tail)) }
 {
-    walk_lines_with(&Writing { form }, writer, report, short, tail, detail);
+    walk_lines_with(&Writing { form }, writer, whole, detail);
 }

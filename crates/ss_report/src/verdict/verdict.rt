@@ -7,8 +7,9 @@ use crate::lines::detail::Detail;
 use crate::lines::settled::Settling;
 use crate::lines::walk::walk_lines;
 use crate::lines::walk_whole::walk_lines_with;
+use crate::lines::whole::WholeReport;
 use ss_frame::Tail;
-use ss_review::{LogShortfalls, Report};
+use ss_review::Report;
 
 /// Whether a log leaves anything to look into.
 #[derive(Clone, Copy, Debug, PartialEq, Eq)]
@@ -40,12 +41,12 @@ pub(crate) fn report_verdict(report: &Report, tail: Tail) -> Verdict
     verdict_of(settled)
 }
 
-/// Whether no line of a report on a log with this end, and of what is missing beside it, leaves anything to look into.
-pub(crate) fn verdict_with(report: &Report, short: &LogShortfalls, tail: Tail) -> Verdict
-    ensures { result ≡ verdict_with report.now short.now tail }
+/// Whether no line of a report, and of what is missing beside it, leaves anything to look into.
+pub(crate) fn verdict_with(whole: &WholeReport) -> Verdict
+    ensures { result ≡ verdict_with whole.now.report whole.now.short whole.now.tail }
 {
     let mut settled = true;
-    walk_lines_with(&Settling, &mut settled, report, short, tail, Detail::Each);
+    walk_lines_with(&Settling, &mut settled, whole, Detail::Each);
     verdict_of(settled)
 }
 

@@ -9,11 +9,11 @@ pub returns : goal.returns
 unfolding lines_with
 returns g c =
     let takes = g.T.Taker.takes c.args.taker.now in
-    let report = c.args.report.now in
-    let short = c.args.short.now in
+    let report = c.args.whole.now.report in
+    let short = c.args.whole.now.short in
     let known = flat_map (lines_beside c.args.detail) (zip report.sessions short.known) in
     let absent = flat_map absent_lines short.absent in
     let sessions = rw (c.as_slice.ensures, c.as_slice-2.ensures) at c.walk_sessions.ensures in
     let others = rw c.as_slice-3.ensures at c.walk_absent.ensures in
     let both = lines_then takes _ _ _ known absent sessions others in
-    lines_then takes _ _ _ (known ++ absent) (other_lines c.args.detail report c.args.tail) both c.walk_others.ensures
+    lines_then takes _ _ _ (known ++ absent) (other_lines c.args.detail report c.args.whole.now.tail) both c.walk_others.ensures
