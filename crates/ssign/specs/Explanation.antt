@@ -4,10 +4,15 @@ use Rattle.std.specs.List.{find, slice_split}
 use Rattle.std.specs.Option.{option_or}
 use Rattle.std.specs.Str.{bytes_eq, str_eq_ignore_ascii_case}
 use Rattle.ssign.specs.declared.explanations.Explanation.{Explanation}
+use Rattle.ssign.specs.declared.explanations.Tables.{Tables}
 
 -- the entry is that of the code, in letters of either case
 abbrev pub has_code : List ℕ → Explanation → Bool
 has_code code entry = str_eq_ignore_ascii_case entry.code.now code
+
+-- the entries of tables, in the order in which a code is looked for
+abbrev pub entries_of : Tables → List Explanation
+entries_of t = t.refusals.now ++ t.words.now ++ t.faults.now ++ t.unprinted.now
 
 -- what is printed of an entry: its text and a line feed
 abbrev pub told_text : Explanation → List ℕ

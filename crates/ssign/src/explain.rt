@@ -1,33 +1,27 @@
 //! Telling what a code means.
-ghost use Rattle.std.specs.Prelude.{◌≡◌, ◌≢◌, ◌++◌, false, IfOk, IfErr};
+ghost use Rattle.std.specs.Prelude.{◌≡◌, ◌≢◌, false, IfOk, IfErr};
 ghost use Rattle.std.specs.List.{find};
 ghost use Rattle.std.specs.Option.{option_copied};
 ghost use Rattle.ss_frame.specs.Output.{WritesWhole, WritesPrefix};
 ghost use Rattle.ss_frame.specs.Watched.{has_failed, sink_of};
-ghost use Rattle.ssign.specs.Explanation.{has_code, told_text};
+ghost use Rattle.ssign.specs.Explanation.{has_code, entries_of, told_text};
 
-use crate::explanations::Explanation;
+use crate::explanations::{Explanation, Tables};
 use ss_frame::Watched;
 use ss_report::{RunFault, write_whole};
 use std::alloc::Global;
 use std::io::Write;
 
-/// The first entry of four tables, one behind the other, with this code, in letters of either case. `None` exactly
-/// where no entry has it.
-pub fn explanation_of<'t>(
-    first: &'t [Explanation],
-    second: &'t [Explanation],
-    third: &'t [Explanation],
-    fourth: &'t [Explanation],
-    code: &str,
-) -> Option<&'t Explanation>
-    ensures { option_copied result ≡ find (has_code code.now) (first.now ++ second.now ++ third.now ++ fourth.now) }
+/// The first entry of tables with this code, in letters of either case. `None` exactly where no entry has it.
+pub fn explanation_of<'t>(tables: Tables<'t>, code: &str) -> Option<&'t Explanation>
+    ensures { option_copied result ≡ find (has_code code.now) (entries_of tables.entry) }
 {
-    first
+    tables
+        .refusals
         .iter()
-        .chain(second.iter())
-        .chain(third.iter())
-        .chain(fourth.iter())
+        .chain(tables.words.iter())
+        .chain(tables.faults.iter())
+        .chain(tables.unprinted.iter())
         .find(|entry| entry.code.eq_ignore_ascii_case(code))
 }
 

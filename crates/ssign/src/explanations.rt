@@ -5,10 +5,10 @@ mod refusals;
 mod unprinted;
 mod words;
 
-pub use faults::FAULTS;
-pub use refusals::REFUSALS;
-pub use unprinted::UNPRINTED;
-pub use words::WORDS;
+use faults::FAULTS;
+use refusals::REFUSALS;
+use unprinted::UNPRINTED;
+use words::WORDS;
 
 /// What a code or a word of the output means.
 #[derive(Clone, Copy, Debug)]
@@ -17,4 +17,27 @@ pub struct Explanation {
     pub code: &'static str,
     /// What it means, how it comes about and what to do: a paragraph, without a line feed.
     pub text: &'static str,
+}
+
+/// Tables of explanations, in the order in which a code is looked for in them.
+#[derive(Clone, Copy)]
+pub struct Tables<'t> {
+    /// Of refusals.
+    pub refusals: &'t [Explanation],
+    /// Of words of the output.
+    pub words: &'t [Explanation],
+    /// Of what is wrong with a message.
+    pub faults: &'t [Explanation],
+    /// Of codes that the program never prints.
+    pub unprinted: &'t [Explanation],
+}
+
+/// The tables of the program.
+pub fn all_tables() -> Tables<'static> {
+    Tables {
+        refusals: &REFUSALS,
+        words: &WORDS,
+        faults: &FAULTS,
+        unprinted: &UNPRINTED,
+    }
 }

@@ -29,13 +29,13 @@ mod text_option;
 
 pub use asked::{asked_of, asked_word};
 pub use explain::{explanation_of, write_explanation};
-pub use explanations::{Explanation, FAULTS, REFUSALS, UNPRINTED, WORDS};
+pub use explanations::{Explanation, Tables, all_tables};
 pub use extraction::{ExtractionFault, extraction_of};
 pub use likely_cause::{LikelyCause, run_cause, signing_cause};
 pub use nobody::Nobody;
 pub use opening::Opening;
 pub use settings::{Settings, SettingsFault};
-pub use signing::{Signing, run_signing};
+pub use signing::{Signing, ToSign, run_signing};
 use std::io::IsTerminal;
 use std::process::ExitCode;
 pub use task::{Task, Wanted, run_task};

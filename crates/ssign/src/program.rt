@@ -1,15 +1,15 @@
 //! The program: its command line and its exit statuses.
-ghost use Rattle.std.specs.Prelude.{◌≡◌, ◌≤◌, ◌++◌, map, None};
+ghost use Rattle.std.specs.Prelude.{◌≡◌, ◌≤◌, map, None};
 ghost use Rattle.std.specs.List.{find};
 ghost use Rattle.ssign.specs.CommandLine.{AreMistaken, signing_status, status_of};
-ghost use Rattle.ssign.specs.Explanation.{has_code};
+ghost use Rattle.ssign.specs.Explanation.{entries_of, has_code};
 
 use crate::command_line::{
     Order, answers_file, asked_code, command, counters_file, extract_conflict, limits_of, order_of,
     reporting_of,
 };
 use crate::explain::explanation_of;
-use crate::explanations::{Explanation, FAULTS, REFUSALS, UNPRINTED, WORDS};
+use crate::explanations::{Tables, all_tables};
 use crate::extraction::{ExtractionFault, extraction_of};
 use crate::likely_cause::{run_cause, signing_cause};
 use crate::negatives::tells_negative;
@@ -20,7 +20,7 @@ use crate::refusing::{
     REFUSED, Remark, Screen, cause_remark, refuse, refuse_code, refuse_words, settings_remark,
 };
 use crate::settings::settings_of;
-use crate::signing::Signing;
+use crate::signing::{Signing, ToSign};
 use crate::streams::{explain_on_output, run_streams, sign_streams};
 use crate::task::{Task, Wanted};
 use clap::ArgMatches;
@@ -205,7 +205,13 @@ fn run_sent<R: Input + Print + Eprint + Screen + Files + Clock + AllocGlobal>(
         },
     };
     let mut input = Progress::new(rt, Opening::new(rt.reader()), limits.form());
-    let ended = sign_streams(rt, &mut input, signing, settings, answers, limits);
+    let wanted = ToSign {
+        signing,
+        settings,
+        answers,
+        limits,
+    };
+    let ended = sign_streams(rt, &mut input, wanted);
     input.hide();
     end_signing(rt, ended, limits.form(), input.inner().kept())
 }
@@ -215,24 +221,16 @@ fn run_explain<R: Print + Eprint + Screen + AllocGlobal>(rt: &R, options: &ArgMa
     ensures { result ≤ 2 }
 {
     let code = asked_code(options).unwrap_or("");
-    explain(rt, &REFUSALS, &WORDS, &FAULTS, &UNPRINTED, code)
+    explain(rt, all_tables(), code)
 }
 
 /// Tells on standard output what a code means, by its entry in one of the tables.
-fn explain<R: Print + Eprint + Screen + AllocGlobal>(
-    rt: &R,
-    refusals: &[Explanation],
-    words: &[Explanation],
-    faults: &[Explanation],
-    unprinted: &[Explanation],
-    code: &str,
-) -> u8
+fn explain<R: Print + Eprint + Screen + AllocGlobal>(rt: &R, tables: Tables<'_>, code: &str) -> u8
     ensures most { result ≤ 2 }
-    ensures unknown { find (has_code code.now) (refusals.now ++ words.now ++ faults.now ++ unprinted.now) ≡ None
-        → result ≡ 2 }
+    ensures unknown { find (has_code code.now) (entries_of tables.entry) ≡ None → result ≡ 2 }
 {
-    let Some(explanation) = explanation_of(refusals, words, faults, unprinted, code) else {
-        return refuse_code(rt, refusals, words, faults, code);
+    let Some(explanation) = explanation_of(tables, code) else {
+        return refuse_code(rt, tables, code);
     };
     match explain_on_output(rt, explanation) {
         Ok(()) => CLEAN,

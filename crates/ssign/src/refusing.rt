@@ -4,7 +4,7 @@ ghost use Rattle.ssign.specs.Remark.{cause_remark, SaysOfSettings};
 
 use crate::asked::asked_word;
 use crate::explain::explanation_of;
-use crate::explanations::{Explanation, FAULTS, REFUSALS, UNPRINTED, WORDS};
+use crate::explanations::{Tables, all_tables};
 use crate::likely_cause::LikelyCause;
 use crate::options::{answers, counters};
 use crate::settings::SettingsFault;
@@ -111,7 +111,7 @@ fn explain_refusal<R: Eprint, F: Display>(rt: &R, fault: &F) {
     let Some(code) = asked_word(line.as_str()) else {
         return;
     };
-    if let Some(explanation) = explanation_of(&REFUSALS, &WORDS, &FAULTS, &UNPRINTED, code) {
+    if let Some(explanation) = explanation_of(all_tables(), code) {
         let _ = eprintln!(rt; "{}", explanation.text);
     }
 }
@@ -127,16 +127,16 @@ pub fn refuse_words<R: Eprint>(rt: &R) -> u8
 }
 
 /// Says on standard error that nothing is told of a code, and of which something is.
-pub fn refuse_code<R: Eprint>(
-    rt: &R,
-    refusals: &[Explanation],
-    words: &[Explanation],
-    faults: &[Explanation],
-    code: &str,
-) -> u8
+pub fn refuse_code<R: Eprint>(rt: &R, tables: Tables<'_>, code: &str) -> u8
     ensures { result ≡ 2 }
 {
     let _ = eprint!(rt; "error: no explanation of {code:?}\n\nThe codes:");
+    let Tables {
+        refusals,
+        words,
+        faults,
+        ..
+    } = tables;
     for entry in refusals.iter().chain(words.iter()).chain(faults.iter()) {
         let _ = eprint!(rt; " {}", entry.code);
     }

@@ -21,6 +21,19 @@ pub enum Signing {
     Sign,
 }
 
+/// What is wanted of a log that is to be signed.
+#[derive(Drop)]
+pub struct ToSign {
+    /// What is made of it.
+    pub signing: Signing,
+    /// How it is signed.
+    pub settings: Settings,
+    /// The answers file, if there is one.
+    pub answers: Option<Answers>,
+    /// In which form the log is stored, and how long it and its messages may be.
+    pub limits: Limits,
+}
+
 /// Reads a log of messages to its end, and writes what is made of it, with the signatures of an answers file. A plan
 /// asks for none.
 ///
@@ -32,21 +45,26 @@ pub fn run_signing<R: Read, W: Write>(
     alloc: Global,
     reader: &mut Watched<R>,
     writer: &mut Watched<W>,
-    signing: Signing,
-    settings: Settings,
-    answers: Option<Answers>,
-    limits: Limits,
+    wanted: ToSign,
 ) -> Result<(), SignFault>
     requires reader { has_failed reader.old ≡ false }
     requires writer { has_failed writer.old ≡ false }
-    ensures signed { IfOk result (λ _. Signs (signing_job signing settings answers) limits
+    ensures signed { IfOk result (λ _.
+        Signs (signing_job wanted.signing wanted.settings wanted.answers) wanted.limits
         (source_of R.remaining reader.old) (source_of R.remaining reader.new)
         (sink_of W.contents writer.old) (sink_of W.contents writer.new)) }
-    ensures stopped { IfErr result (Stops (signing_job signing settings answers) limits
+    ensures stopped { IfErr result
+        (Stops (signing_job wanted.signing wanted.settings wanted.answers) wanted.limits
         (source_of R.remaining reader.old) (source_of R.remaining reader.new)
         (sink_of W.contents writer.old) (sink_of W.contents writer.new)) }
     ensures untouched { IfErr result (λ fault. fault ≢ SignFault.Run RunFault.Write → writer.new ≡ writer.old) }
 {
+    let ToSign {
+        signing,
+        settings,
+        answers,
+        limits,
+    } = wanted;
     let Settings {
         config,
         payload,

@@ -5,11 +5,9 @@ ghost use Rattle.ss_review.specs.declared.questions.question.Question.{Question}
 
 use crate::explain::write_explanation;
 use crate::explanations::Explanation;
-use crate::settings::Settings;
-use crate::signing::{Signing, run_signing};
+use crate::signing::{ToSign, run_signing};
 use crate::task::{Wanted, run_task};
-use ss_answers::Answers;
-use ss_frame::{Buffered, Limits, Watched};
+use ss_frame::{Buffered, Watched};
 use ss_report::{RunFault, Verdict};
 use ss_review::Judge;
 use ss_signing::SignFault;
@@ -39,23 +37,11 @@ pub fn run_streams<R: Print + AllocGlobal, I: Read + Drop, J: Judge + Drop>(
 pub fn sign_streams<R: Print + AllocGlobal, I: Read + Drop>(
     rt: &R,
     input: I,
-    signing: Signing,
-    settings: Settings,
-    answers: Option<Answers>,
-    limits: Limits,
+    wanted: ToSign,
 ) -> Result<(), SignFault> {
     let mut reader = buffered(rt.alloc(), input)?;
     let mut writer = standard_output(rt)?;
-    let alloc = rt.alloc();
-    run_signing(
-        alloc,
-        &mut reader,
-        &mut writer,
-        signing,
-        settings,
-        answers,
-        limits,
-    )
+    run_signing(rt.alloc(), &mut reader, &mut writer, wanted)
 }
 
 /// Writes an explanation to standard output.

@@ -25,8 +25,8 @@ pub static UNPRINTED: [Explanation; 9] = [
     },
     Explanation {
         code: "O5",
-        text: "An originator was begun twice, or one was begun that goes on behind another. ssign never prints this; the \
-            library tells it to other programs.",
+        text: "An originator was begun twice, or one was begun that goes on behind another. ssign never prints this; \
+            the library tells it to other programs.",
     },
     Explanation {
         code: "O8",
