@@ -13,13 +13,12 @@ ghost use Rattle.ss_block.specs.Causes.{Tests, Reads, IsCertificateNumbers};
 use crate::block::{CertBlock, Group};
 use crate::block_parameter::{BlockParameter, CERTIFICATE};
 use crate::parameters::{number_at, sign, version};
-use crate::ranges::LAST_NUMBER;
+use crate::ranges;
 use crate::reading::Reading;
 use crate::refusal::Refusal;
 use crate::spoil::Spoil;
 use crate::texts::{has_parameters, text_of};
 use ss_message::{Element, NoMemory};
-use ss_payload::LONGEST_PAYLOAD;
 use std::alloc::Global;
 
 /// The numbers of a certificate block.
@@ -38,26 +37,24 @@ fn numbers(alloc: Global, source: &[u8], element: &Element) -> Result<Certificat
     ensures value { Tests spoils.Number (certificate_numbers (certificate_texts (element_value source.now element.now)))
         (IsCertificateNumbers (certificate_texts (element_value source.now element.now))) result }
 {
-    let rsid = number_at(alloc, source, element, BlockParameter::Rsid, 0, LAST_NUMBER)?;
-    let sg = number_at(alloc, source, element, BlockParameter::Sg, 0, 3)? as u8;
-    let spri = number_at(alloc, source, element, BlockParameter::Spri, 0, 191)? as u8;
+    let rsid = number_at(alloc, source, element, BlockParameter::Rsid, ranges::FROM_0)?;
+    let sg = number_at(alloc, source, element, BlockParameter::Sg, ranges::SG)? as u8;
+    let spri = number_at(alloc, source, element, BlockParameter::Spri, ranges::SPRI)? as u8;
     let total = number_at(
         alloc,
         source,
         element,
         BlockParameter::Tpbl,
-        1,
-        u64::from(LONGEST_PAYLOAD),
+        ranges::PAYLOAD,
     )? as u32;
     let index = number_at(
         alloc,
         source,
         element,
         BlockParameter::Index,
-        1,
-        u64::from(LONGEST_PAYLOAD),
+        ranges::PAYLOAD,
     )? as u32;
-    let octets = number_at(alloc, source, element, BlockParameter::Flen, 1, 9999)? as u32;
+    let octets = number_at(alloc, source, element, BlockParameter::Flen, ranges::FLEN)? as u32;
     let group = Group { sg, spri };
     Ok(CertificateNumbers {
         rsid,

@@ -13,6 +13,7 @@ ghost use Rattle.ss_block.specs.Versions.{is_version, alg_of};
 use crate::block_parameter::BlockParameter;
 use crate::hash::Alg;
 use crate::number::number_of;
+use crate::ranges::NumberRange;
 use crate::refusal::Refusal;
 use crate::spoil::Spoil;
 use crate::texts::text_of;
@@ -31,23 +32,22 @@ pub fn version(alloc: Global, source: &[u8], element: &Element) -> Result<Alg, R
     Ok(Alg::of_version(text.as_slice()).ok_or(Spoil::Version)?)
 }
 
-/// The number, from `least` to `most`, that this parameter spells.
+/// The number in this range that this parameter spells.
 pub fn number_at(
     alloc: Global,
     source: &[u8],
     element: &Element,
     parameter: BlockParameter,
-    least: u64,
-    most: u64,
+    range: NumberRange,
 ) -> Result<u64, Refusal>
     requires { HasAll source.now element.now }
     ensures value { Tests spoils.Number
-        (is_number least most (text_of (element_value source.now element.now) parameter))
+        (is_number range.least range.most (text_of (element_value source.now element.now) parameter))
         (λ n. n ≡ number (text_of (element_value source.now element.now) parameter)) result }
-    ensures bound { IfOk result (λ n. (least ≤ n) × (n ≤ most)) }
+    ensures bound { IfOk result (λ n. (range.least ≤ n) × (n ≤ range.most)) }
 {
     let text = text_of(alloc, source, element, parameter)?;
-    Ok(number_of(least, most, text.as_slice()).ok_or(Spoil::Number)?)
+    Ok(number_of(range.least, range.most, text.as_slice()).ok_or(Spoil::Number)?)
 }
 
 /// The octets of SIGN (RFC 5848, section 4.2.8).

@@ -18,7 +18,7 @@ use crate::hash::Alg;
 use crate::hash_text::{count_pieces, hashes_of};
 use crate::hashes::Hashes;
 use crate::parameters::{number_at, sign, version};
-use crate::ranges::LAST_NUMBER;
+use crate::ranges;
 use crate::reading::Reading;
 use crate::refusal::Refusal;
 use crate::spoil::Spoil;
@@ -42,12 +42,12 @@ fn numbers(alloc: Global, source: &[u8], element: &Element) -> Result<SignatureN
     ensures value { Tests spoils.Number (signature_numbers (signature_texts (element_value source.now element.now)))
         (IsSignatureNumbers (signature_texts (element_value source.now element.now))) result }
 {
-    let rsid = number_at(alloc, source, element, BlockParameter::Rsid, 0, LAST_NUMBER)?;
-    let sg = number_at(alloc, source, element, BlockParameter::Sg, 0, 3)? as u8;
-    let spri = number_at(alloc, source, element, BlockParameter::Spri, 0, 191)? as u8;
-    let gbc = number_at(alloc, source, element, BlockParameter::Gbc, 0, LAST_NUMBER)?;
-    let first = number_at(alloc, source, element, BlockParameter::Fmn, 1, LAST_NUMBER)?;
-    let count = number_at(alloc, source, element, BlockParameter::Cnt, 1, 99)?;
+    let rsid = number_at(alloc, source, element, BlockParameter::Rsid, ranges::FROM_0)?;
+    let sg = number_at(alloc, source, element, BlockParameter::Sg, ranges::SG)? as u8;
+    let spri = number_at(alloc, source, element, BlockParameter::Spri, ranges::SPRI)? as u8;
+    let gbc = number_at(alloc, source, element, BlockParameter::Gbc, ranges::FROM_0)?;
+    let first = number_at(alloc, source, element, BlockParameter::Fmn, ranges::FROM_1)?;
+    let count = number_at(alloc, source, element, BlockParameter::Cnt, ranges::CNT)?;
     let group = Group { sg, spri };
     Ok(SignatureNumbers {
         rsid,
