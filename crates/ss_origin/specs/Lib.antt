@@ -7,6 +7,7 @@ pub mod Step
 pub mod Blocks
 pub mod Setting
 pub mod Sealing
+pub mod Sealers
 pub mod Asking
 pub mod Emission
 pub mod Refusals

@@ -27,6 +27,15 @@ use ss_frame::Bytes;
 use ss_message::NoMemory;
 use std::alloc::Global;
 
+/// Where a signature block stands: its group, and its number among all blocks.
+#[derive(Clone, Copy)]
+pub struct BlockAt {
+    /// SPRI of its group, 0 to 191 (RFC 5848, section 4.2.3).
+    pub spri: u8,
+    /// Its Global Block Counter (RFC 5848, section 4.2.4).
+    pub gbc: u64,
+}
+
 // The certificate block of a piece of the payload's text, in this group.
 fn certificate(
     alloc: Global,
@@ -104,21 +113,28 @@ pub fn certificates(
 pub fn signature(
     alloc: Global,
     config: &Config,
-    spri: u8,
-    gbc: u64,
+    place: BlockAt,
     first: u64,
     hashes: Vec<Hash>,
 ) -> Result<Unsigned, NoMemory>
-    requires { IsSignature (signature_in config.now spri gbc first hashes.items) }
-    ensures { IfOk result (λ u. u ≡ Signature (signature_in config.now spri gbc first hashes.items)) }
+    requires { IsSignature (signature_in config.now place.spri place.gbc first hashes.items) }
+    ensures { IfOk result (λ u. u ≡ Signature (signature_in config.now place.spri place.gbc first hashes.items)) }
 {
     let unsigned = Bytes::from_vec(Vec::new(alloc));
     let group = Group {
         sg: config.grouping.sg(),
-        spri,
+        spri: place.spri,
     };
     let hashes = Hashes::from_vec(hashes);
-    match SigBlock::new(config.alg, config.rsid, group, gbc, first, hashes, unsigned) {
+    match SigBlock::new(
+        config.alg,
+        config.rsid,
+        group,
+        place.gbc,
+        first,
+        hashes,
+        unsigned,
+    ) {
         Some(block) => Ok(Unsigned::Signature(block)),
         None => unreachable!(),
     }
@@ -128,16 +144,15 @@ pub fn signature(
 fn push_pending(
     alloc: Global,
     config: &Config,
-    spri: u8,
-    gbc: u64,
+    place: BlockAt,
     slot: &Slot,
     due: &mut Vec<Unsigned>,
 ) -> Result<(), NoMemory>
     requires config { is_config config.now ≡ true }
-    requires spri { spri < 192 }
+    requires spri { place.spri < 192 }
     requires group { IsGroupState config.now slot.now }
-    requires gbc { gbc + length (run_if_any spri slot.now.pending) ≤ past_last_number }
-    ensures { OnOk result (due.new.items ≡ due.old.items ++ pending_block config.now spri gbc slot.now) }
+    requires gbc { place.gbc + length (run_if_any place.spri slot.now.pending) ≤ past_last_number }
+    ensures { OnOk result (due.new.items ≡ due.old.items ++ pending_block config.now place.spri place.gbc slot.now) }
 {
     let pending = slot.pending();
     if pending.is_empty() {
@@ -145,7 +160,7 @@ fn push_pending(
     }
     let first = slot.number() - pending.len() as u64;
     let hashes = Vec::from_slice(alloc, pending)?;
-    due.push(signature(alloc, config, spri, gbc, first, hashes)?)?;
+    due.push(signature(alloc, config, place, first, hashes)?)?;
     Ok(())
 }
 
@@ -164,7 +179,13 @@ pub fn pending_blocks(
     let mut due = Vec::new(alloc);
     for spri in 0..192u8 {
         let gbc = gbc + due.len() as u64;
-        push_pending(alloc, config, spri, gbc, slots.slot(spri), &mut due)?;
+        push_pending(
+            alloc,
+            config,
+            BlockAt { spri, gbc },
+            slots.slot(spri),
+            &mut due,
+        )?;
     }
     Ok(due)
 }
@@ -173,20 +194,20 @@ pub fn pending_blocks(
 pub fn full_block(
     alloc: Global,
     config: &Config,
-    spri: u8,
-    gbc: u64,
+    place: BlockAt,
     slot: &Slot,
     hash: Hash,
 ) -> Result<Vec<Unsigned>, NoMemory>
     requires config { is_config config.now ≡ true }
-    requires spri { spri < 192 }
+    requires spri { place.spri < 192 }
     requires group { IsGroupState config.now slot.now }
-    requires gbc { gbc < past_last_number }
+    requires gbc { place.gbc < past_last_number }
     requires number { slot.now.number < past_last_number }
     requires hash { is_of config.now.alg hash ≡ true }
     ensures { IfOk result (λ v.
         v.items ≡ Signature
-        (signature_in config.now spri gbc (slot.now.number - length slot.now.pending) (slot.now.pending ++ hash ∷ []))
+        (signature_in config.now place.spri place.gbc (slot.now.number - length slot.now.pending)
+        (slot.now.pending ++ hash ∷ []))
         ∷ []) }
 {
     let pending = slot.pending();
@@ -195,6 +216,6 @@ pub fn full_block(
     hashes.extend_from_slice(pending)?;
     hashes.push(hash)?;
     let mut due = Vec::with_capacity(alloc, 1)?;
-    due.push(signature(alloc, config, spri, gbc, first, hashes)?)?;
+    due.push(signature(alloc, config, place, first, hashes)?)?;
     Ok(due)
 }

@@ -3,6 +3,7 @@ ghost use Rattle.std.specs.Prelude.{◌≡◌, List, ℕ, Bool, true, Result, If
 ghost use Rattle.ss_payload.specs.Payload.{PayloadValue, payload_text};
 ghost use Rattle.ss_origin.specs.declared.sealer.SealFault.{SealFault};
 ghost use Rattle.ss_origin.specs.Sealing.{answer_of};
+ghost use Rattle.ss_origin.specs.Sealers.{scheme_of, key_of, closure_of};
 ghost use Rattle.ss_origin.specs.Asking.{IsSameKey};
 
 use ss_block::{Payload, Scheme};
@@ -78,9 +79,9 @@ pub struct Sealer<'s, S, F> {
 impl<'s, S: Scheme, F: Fn(Global, &[u8]) -> Result<Vec<u8>, SealFault>> Sealer<'s, S, F> {
     /// Keeps the closure beside the scheme and the payload that it signs for. Takes no memory.
     pub fn new(scheme: &'s S, payload: Payload, seal: F) -> Sealer<'s, S, F>
-        ensures scheme { result.scheme ≡ scheme.entry }
-        ensures payload { result.payload ≡ payload }
-        ensures seal { result.seal ≡ seal }
+        ensures scheme { scheme_of result ≡ scheme.entry }
+        ensures payload { key_of result ≡ payload }
+        ensures seal { closure_of result ≡ seal }
     {
         Sealer {
             scheme,
@@ -103,7 +104,8 @@ impl<'s, S: Scheme, F: Fn(Global, &[u8]) -> Result<Vec<u8>, SealFault> + Drop> S
 
     ghost valid = { λ s p octets signature. S.valid s.scheme.now p octets signature };
 
-    ghost answers = { λ s octets answer. (a p x : _) × F.post s.seal a p x × (p.now ≡ octets) × (answer_of x ≡ answer) };
+    ghost answers = { λ s octets answer.
+        (a p x : _) × F.post s.seal a p x × (p.now ≡ octets) × (answer_of x ≡ answer) };
 
     // A closure is the same behind each call.
     ghost asked = { λ old octets answer new.

@@ -98,33 +98,40 @@ fn push_copies(
     Ok(())
 }
 
+/// The blocks that are due in a call, and the time stamp of their messages.
+#[derive(Drop)]
+pub struct Due {
+    pub stamp: Option<Stamp>,
+    pub blocks: Vec<Unsigned>,
+}
+
 /// Puts the messages of all blocks that are due behind the others, each signed and as often as the configuration says.
 /// The blocks are signed in their order, each once, up to the first that isn't, and the sealer is asked nothing else.
 pub fn seal_all<J: Seals>(
     alloc: Global,
     sealer: &mut J,
     config: &Config,
-    stamp: &Option<Stamp>,
-    due: Vec<Unsigned>,
+    due: Due,
     messages: &mut Vec<Bytes>,
 ) -> Result<(), OriginFault>
     requires sound { J.sound sealer.old }
     requires copies { 1 ≤ config.now.copies }
-    requires session { All (HasSession config.now) due.items }
+    requires session { All (HasSession config.now) due.blocks.items }
     ensures sound { J.sound sealer.new }
     ensures same { IsSameKey J.payload J.valid J.answers sealer.old sealer.new }
-    ensures asked { AskedForAll J.asked config.now stamp.now due.items messages.old.items messages.new.items result
-        sealer.old sealer.new }
-    ensures asks { AsksForAll (J.answers sealer.old) (unsigned_text config.now.head stamp.now) due.items result }
+    ensures asked { AskedForAll J.asked config.now due.stamp due.blocks.items messages.old.items messages.new.items
+        result sealer.old sealer.new }
+    ensures asks { AsksForAll (J.answers sealer.old) (unsigned_text config.now.head due.stamp) due.blocks.items result }
     ensures sent { OnOk result (AreSent (record {
       config = config.now;
       payload = J.payload sealer.old;
       valid =
           J.valid sealer.old;
-    }) stamp.now due.items messages.old.items messages.new.items) }
+    }) due.stamp due.blocks.items messages.old.items messages.new.items) }
 {
-    for block in due {
-        let message = sealed(alloc, sealer, config, stamp, block)?;
+    let Due { stamp, blocks } = due;
+    for block in blocks {
+        let message = sealed(alloc, sealer, config, &stamp, block)?;
         push_copies(alloc, messages, message, config.copies)?;
     }
     Ok(())

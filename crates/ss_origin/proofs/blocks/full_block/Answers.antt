@@ -10,4 +10,4 @@ signature-requires c =
     = c.in_ok-push.ensures.items
     ∙ ap (λ xs. xs ++ hash ∷ []) (c.in_ok-extend_from_slice.ensures.items ∙ ap (λ xs. xs ++ c.pending-pending.result.now) c.in_ok-hashes.ensures.items ∙ pending) in
     rw (hashes, c.number.ensures, c.pending-pending.ensures)
-    (full_fits c.args.config.now c.args.spri c.args.gbc c.args.slot.now hash c.requires.config c.requires.spri c.requires.group c.requires.gbc c.requires.number c.requires.hash)
+    (full_fits c.args.config.now c.args.place.spri c.args.place.gbc c.args.slot.now hash c.requires.config c.requires.spri c.requires.group c.requires.gbc c.requires.number c.requires.hash)

@@ -22,7 +22,7 @@ loop-block-preserved g c =
     let new = c.sealed.new.sealer in
     let config = c.args.config.now in
     let s : Setting = record { config = config; payload = payload first; valid = valid first } in
-    let stamp = c.args.stamp.now in
+    let stamp = c.args.due.stamp in
     let front = c.args.messages.now.items in
     let sent = c.loop-block.messages.items in
     let block = c.in-Some.block in
@@ -50,15 +50,15 @@ returns-in_err-message-clause-same g c =
 
 pub returns-in_err-message-clause-asked : goal.returns-in_err-message-clause-asked
 returns-in_err-message-clause-asked g c =
-    let due = c.args.due.items in
+    let due = c.args.due.blocks.items in
     let block = c.in-Some.block in
     let yielded = c.loop-block.yielded in
-    let all = YieldsList-from_vec due c.into_iter-block-iterator.ensures.into_iter_gives.0 (c.into_iter-block-iterator.ensures.into_iter_gives.1 ∙ c.args.due.ok.0) in
+    let all = YieldsList-from_vec due c.into_iter-block-iterator.ensures.into_iter_gives.0 (c.into_iter-block-iterator.ensures.into_iter_gives.1 ∙ c.args.due.blocks.ok.0) in
     let so_far : yielded ≡ take (length yielded) due = sym (map-id yielded) ∙ YieldsList-so_far all yielded c.loop-block.block-iterator c.loop-block.yielded_by in
     let turn = YieldsList-turn all yielded c.loop-block.block-iterator c.loop-block.yielded_by c.next.result c.next.new.self block c.in-Some.is c.next.ensures.steps in
     let p = err_from_is_err_and c.from_residual.result c.from_residual.ensures.1 in
     rw (p.1, p.2)
-    (stops_at g.J.Seals.asked c.args.config.now c.args.stamp.now due yielded c.args.messages.now.items c.loop-block.messages.items (length yielded) block c.in_err-message.field-0.0
+    (stops_at g.J.Seals.asked c.args.config.now c.args.due.stamp due yielded c.args.messages.now.items c.loop-block.messages.items (length yielded) block c.in_err-message.field-0.0
     c.args.sealer.now c.loop-block.sealer c.sealed.new.sealer turn.0 so_far turn.1 c.loop-block.invariant.asked c.in_err-message.ensures.asked)
 
 pub returns-in_err-push_copies-clause-same : goal.returns-in_err-push_copies-clause-same
@@ -69,11 +69,11 @@ pub returns-in_err-push_copies-clause-asked : goal.returns-in_err-push_copies-cl
 returns-in_err-push_copies-clause-asked g c =
     let asked = g.J.Seals.asked in
     let config = c.args.config.now in
-    let stamp = c.args.stamp.now in
-    let due = c.args.due.items in
+    let stamp = c.args.due.stamp in
+    let due = c.args.due.blocks.items in
     let block = c.in-Some.block in
     let yielded = c.loop-block.yielded in
-    let all = YieldsList-from_vec due c.into_iter-block-iterator.ensures.into_iter_gives.0 (c.into_iter-block-iterator.ensures.into_iter_gives.1 ∙ c.args.due.ok.0) in
+    let all = YieldsList-from_vec due c.into_iter-block-iterator.ensures.into_iter_gives.0 (c.into_iter-block-iterator.ensures.into_iter_gives.1 ∙ c.args.due.blocks.ok.0) in
     let so_far : yielded ≡ take (length yielded) due = sym (map-id yielded) ∙ YieldsList-so_far all yielded c.loop-block.block-iterator c.loop-block.yielded_by in
     let turn = YieldsList-turn all yielded c.loop-block.block-iterator c.loop-block.yielded_by c.next.result c.next.new.self block c.in-Some.is c.next.ensures.steps in
     let fault = c.in_err-push_copies.field-0.0 in
@@ -85,15 +85,15 @@ returns-in_err-push_copies-clause-asked g c =
 
 pub returns-in_err-message-clause-asks : goal.returns-in_err-message-clause-asks
 returns-in_err-message-clause-asks g c =
-    let due = c.args.due.items in
+    let due = c.args.due.blocks.items in
     let block = c.in-Some.block in
     let yielded = c.loop-block.yielded in
-    let all = YieldsList-from_vec due c.into_iter-block-iterator.ensures.into_iter_gives.0 (c.into_iter-block-iterator.ensures.into_iter_gives.1 ∙ c.args.due.ok.0) in
+    let all = YieldsList-from_vec due c.into_iter-block-iterator.ensures.into_iter_gives.0 (c.into_iter-block-iterator.ensures.into_iter_gives.1 ∙ c.args.due.blocks.ok.0) in
     let so_far : yielded ≡ take (length yielded) due = sym (map-id yielded) ∙ YieldsList-so_far all yielded c.loop-block.block-iterator c.loop-block.yielded_by in
     let turn = YieldsList-turn all yielded c.loop-block.block-iterator c.loop-block.yielded_by c.next.result c.next.new.self block c.in-Some.is c.next.ensures.steps in
     let p = err_from_is_err_and c.from_residual.result c.from_residual.ensures.1 in
     let fault = c.in_err-message.field-0.0 in
-    let octets_of = unsigned_text c.args.config.now.head c.args.stamp.now in
+    let octets_of = unsigned_text c.args.config.now.head c.args.due.stamp in
     let first = c.args.sealer.now in
     let asks = not_taken_as g.J.Seals.payload g.J.Seals.valid g.J.Seals.answers first c.loop-block.sealer c.loop-block.invariant.same (octets_of block) fault c.in_err-message.ensures.asks in
     rw (p.1, p.2)
