@@ -1,6 +1,6 @@
 //! A log of which one octet is another one.
 use crate::book::{Job, Who, Yes};
-use crate::run::{limits_of, run};
+use crate::run::{Task, limits_of, run};
 use crate::texts::{Text, log_of};
 use ss_frame::{Bytes, Form, FrameFault, Watched};
 use ss_report::report_text::report_text;
@@ -34,16 +34,13 @@ fn wanted_of(alloc: Global, octets: &[u8]) -> Result<Bytes, RunFault> {
 /// A review of the octets says the same as the plain one, or why they can't be read: F1 or F2.
 fn sees(rt: &(impl Abort + AllocGlobal), octets: &[u8], at: usize) -> Result<(), Fail> {
     let wanted = wanted_of(rt.alloc(), octets);
-    let limits = limits_of(Form::Frames);
     let source = Pieces::new(octets, 4_096);
-    let done = run(
-        rt.alloc(),
-        Job::Review,
-        source,
-        Paper::new(1024),
-        Who::All,
-        limits,
-    )?;
+    let task = Task {
+        job: Job::Review,
+        who: Who::All,
+        limits: limits_of(Form::Frames),
+    };
+    let done = run(rt.alloc(), task, source, Paper::new(1024))?;
     match wanted {
         Ok(text) => {
             assert!(rt; done.said.is_ok(), "at {at}");

@@ -1,7 +1,7 @@
 //! What an originator sends, through frames and a review, whatever was lost, repeated or reordered on the way.
 use crate::book::{Job, PAYLOAD, Who};
 use crate::originating::{A, B, C, D, E, Step, sent};
-use crate::run::{limits_of, run};
+use crate::run::{Task, limits_of, run};
 use ss_frame::{Bytes, Form, Watched, write_frame};
 use ss_report::Verdict;
 use std::alloc::{AllocError, Global};
@@ -102,15 +102,12 @@ fn sees(
     verdict: Verdict,
 ) -> Result<(), AllocError> {
     let source = Pieces::new(log, 4_096);
-    let limits = limits_of(Form::Frames);
-    let done = run(
-        rt.alloc(),
-        Job::Review,
-        source,
-        Paper::new(1024),
-        Who::All,
-        limits,
-    )?;
+    let task = Task {
+        job: Job::Review,
+        who: Who::All,
+        limits: limits_of(Form::Frames),
+    };
+    let done = run(rt.alloc(), task, source, Paper::new(1024))?;
     assert_eq!(rt; done.said, Ok(verdict), "{name}");
     assert_eq!(rt; done.paper.text(), text, "{name}");
     Ok(())

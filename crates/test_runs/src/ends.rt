@@ -1,7 +1,7 @@
 //! Logs that break off.
 use crate::book::{Job, Who};
 use crate::rows::{EXTRACT, QUESTIONS, REPORT};
-use crate::run::{limits_of, run};
+use crate::run::{Task, limits_of, run};
 use crate::texts::{Text, log_of};
 use ss_frame::Form;
 use ss_report::Verdict;
@@ -49,85 +49,72 @@ fn cut_at(length: usize) -> (&'static [u8], Verdict) {
     cut
 }
 
-/// A run over octets in that form writes this, with that verdict.
+/// A log, and the form that it is read in.
+#[derive(Clone, Copy)]
+struct Log<'l> {
+    octets: &'l [u8],
+    form: Form,
+}
+
+/// A run over that log writes this, with that verdict.
 fn writes(
     rt: &(impl Abort + AllocGlobal),
     job: Job,
-    octets: &[u8],
-    form: Form,
+    log: Log<'_>,
     text: &[u8],
     verdict: Verdict,
 ) -> Result<(), AllocError> {
+    let Log { octets, form } = log;
     let source = Pieces::new(octets, 4_096);
-    let done = run(
-        rt.alloc(),
+    let task = Task {
         job,
-        source,
-        Paper::new(1024),
-        Who::All,
-        limits_of(form),
-    )?;
+        who: Who::All,
+        limits: limits_of(form),
+    };
+    let done = run(rt.alloc(), task, source, Paper::new(1024))?;
     assert_eq!(rt; done.said, Ok(verdict), "{job:?}, {}", octets.len());
     assert_eq!(rt; done.paper.text(), text, "{job:?}, {}", octets.len());
     Ok(())
 }
 
 fn sees_cuts(rt: &(impl Abort + AllocGlobal)) -> Result<(), AllocError> {
-    let log = log_of(rt.alloc(), &TEXTS, Form::Frames, b"")?;
-    assert_eq!(rt; log.len(), 373);
-    for length in 0..=log.len() {
+    let octets = log_of(rt.alloc(), &TEXTS, Form::Frames, b"")?;
+    assert_eq!(rt; octets.len(), 373);
+    for length in 0..=octets.len() {
         let (text, verdict) = cut_at(length);
-        let front = log.get(..length).unwrap_or_default();
-        writes(rt, Job::Review, front, Form::Frames, text, verdict)?;
+        let front = Log {
+            octets: octets.get(..length).unwrap_or_default(),
+            form: Form::Frames,
+        };
+        writes(rt, Job::Review, front, text, verdict)?;
     }
     Ok(())
 }
 
 /// Two octets behind the last frame are a frame that breaks off, and change nothing else.
 fn sees_torn_frames(rt: &(impl Abort + AllocGlobal)) -> Result<(), AllocError> {
-    let log = log_of(rt.alloc(), &TEXTS, Form::Frames, b"12")?;
+    let octets = log_of(rt.alloc(), &TEXTS, Form::Frames, b"12")?;
+    let log = Log {
+        octets: &octets,
+        form: Form::Frames,
+    };
     let report =
         b"session h s - 1 joined\nok h s - 1 0 0 1 0\nok h s - 1 0 0 2 1\ntorn 373\nend 4\n";
-    writes(
-        rt,
-        Job::Review,
-        &log,
-        Form::Frames,
-        report,
-        Verdict::Findings,
-    )?;
-    writes(
-        rt,
-        Job::Questions,
-        &log,
-        Form::Frames,
-        QUESTIONS,
-        Verdict::Findings,
-    )?;
-    writes(
-        rt,
-        Job::Extract,
-        &log,
-        Form::Frames,
-        EXTRACT,
-        Verdict::Findings,
-    )
+    writes(rt, Job::Review, log, report, Verdict::Findings)?;
+    writes(rt, Job::Questions, log, QUESTIONS, Verdict::Findings)?;
+    writes(rt, Job::Extract, log, EXTRACT, Verdict::Findings)
 }
 
 /// Without its LF the last line is none, so that its block announces nothing.
 fn sees_torn_lines(rt: &(impl Abort + AllocGlobal)) -> Result<(), AllocError> {
-    let log = log_of(rt.alloc(), &TEXTS, Form::Lines, b"")?;
-    let front = log.get(..363).unwrap_or_default();
+    let octets = log_of(rt.alloc(), &TEXTS, Form::Lines, b"")?;
+    let front = Log {
+        octets: octets.get(..363).unwrap_or_default(),
+        form: Form::Lines,
+    };
     let report = b"session h s - 1 joined\nunlisted 0\nunlisted 1\ntorn 204\nend 3\n";
-    writes(
-        rt,
-        Job::Review,
-        front,
-        Form::Lines,
-        report,
-        Verdict::Findings,
-    )?;
-    writes(rt, Job::Extract, front, Form::Lines, b"", Verdict::Findings)
+    writes(rt, Job::Review, front, report, Verdict::Findings)?;
+    writes(rt, Job::Extract, front, b"", Verdict::Findings)
 }
 
 #[test]

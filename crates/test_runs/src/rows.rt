@@ -1,6 +1,6 @@
 //! Small logs, whole, and what each run writes of them.
 use crate::book::{Job, Who};
-use crate::run::{limits_of, run};
+use crate::run::{Task, limits_of, run};
 use crate::texts::{Text, log_of};
 use ss_frame::{Buffered, Form};
 use ss_report::Verdict;
@@ -403,8 +403,12 @@ fn sees_run<R: Read + Drop>(
     source: R,
     paper: Paper,
 ) -> Result<(), AllocError> {
-    let limits = limits_of(form);
-    let done = run(rt.alloc(), row.job, source, paper, row.who, limits)?;
+    let task = Task {
+        job: row.job,
+        who: row.who,
+        limits: limits_of(form),
+    };
+    let done = run(rt.alloc(), task, source, paper)?;
     assert_eq!(rt; done.said, Ok(row.verdict), "{}", row.name);
     assert_eq!(rt; done.paper.text(), row.text, "{}", row.name);
     Ok(())

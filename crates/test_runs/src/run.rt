@@ -6,6 +6,14 @@ use std::alloc::{AllocError, Global};
 use std::io::Read;
 use test_devices::Paper;
 
+/// Which run, the answers about signatures, and the limits.
+#[derive(Clone, Copy)]
+pub struct Task {
+    pub job: Job,
+    pub who: Who,
+    pub limits: Limits,
+}
+
 /// How a run ended.
 #[derive(Clone, Copy)]
 pub struct Done {
@@ -24,15 +32,14 @@ pub(crate) fn limits_of(form: Form) -> Limits {
     }
 }
 
-/// Runs over what `source` gives, where these are the answers about signatures.
+/// Runs over what `source` gives.
 pub(crate) fn run<R: Read + Drop>(
     alloc: Global,
-    job: Job,
+    task: Task,
     source: R,
     paper: Paper,
-    who: Who,
-    limits: Limits,
 ) -> Result<Done, AllocError> {
+    let Task { job, who, limits } = task;
     let (first, second) = signed_texts(alloc, who)?;
     let book = book_of(who, (first.as_slice(), second.as_slice()));
     let mut reader = Watched::new(source);

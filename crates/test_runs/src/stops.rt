@@ -2,7 +2,7 @@
 use crate::book::{Job, Who};
 use crate::inspections::STOPS;
 use crate::rows::{CARRIED, EXTRACT, QUESTIONS, REPORT};
-use crate::run::{Done, limits_of, run};
+use crate::run::{Done, Task, limits_of, run};
 use crate::texts::{Text, log_of};
 use ss_frame::{Buffered, Form, FrameFault, Limits};
 use ss_report::{ExtractFault, RunFault, Verdict};
@@ -53,21 +53,29 @@ const PRINTED: [(RunFault, &str); 13] = [
     (RunFault::Memory, "W2"),
 ];
 
-/// A run that says yes to everything.
+/// A run over frames that says yes to everything.
+fn yes(job: Job) -> Task {
+    Task {
+        job,
+        who: Who::All,
+        limits: limits_of(Form::Frames),
+    }
+}
+
+/// Runs so.
 fn run_frames(
     alloc: Global,
     job: Job,
     source: Pieces<'_>,
     paper: Paper,
 ) -> Result<Done, AllocError> {
-    run(alloc, job, source, paper, Who::All, limits_of(Form::Frames))
+    run(alloc, yes(job), source, paper)
 }
 
 /// The same through a buffer.
 fn run_buffered(alloc: Global, job: Job, source: Pieces<'_>) -> Result<Done, AllocError> {
     let source = Buffered::new(alloc, source)?;
-    let limits = limits_of(Form::Frames);
-    run(alloc, job, source, Paper::new(1), Who::All, limits)
+    run(alloc, yes(job), source, Paper::new(1))
 }
 
 /// A read failed, and nothing was written.
@@ -148,7 +156,12 @@ fn stops_at_frame(
     limits: Limits,
     fault: FrameFault,
 ) -> Result<(), AllocError> {
-    let done = run(rt.alloc(), job, source, Paper::new(1), Who::All, limits)?;
+    let task = Task {
+        job,
+        who: Who::All,
+        limits,
+    };
+    let done = run(rt.alloc(), task, source, Paper::new(1))?;
     assert_eq!(rt; done.said, Err(RunFault::Frame(fault)), "{job:?}");
     assert!(rt; !done.read_failed && !done.write_failed, "{job:?}");
     assert_eq!(rt; done.paper.writes, 0, "{job:?}");

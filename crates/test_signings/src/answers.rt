@@ -132,15 +132,30 @@ fn refuses(rt: HostRuntime) {
     }
 }
 
-/// What both judges say of these octets.
+/// Octets, and what is asked about as their signature.
+#[derive(Clone, Copy)]
+struct Signed<'s> {
+    bytes: &'s [u8],
+    signature: &'s [u8],
+}
+
+/// These octets with the signature of three zeros.
+fn by_zeros<'s>(bytes: &'s [u8]) -> Signed<'s> {
+    Signed {
+        bytes,
+        signature: b"\0\0\0",
+    }
+}
+
+/// What both judges say under this payload.
 fn sees(
     rt: &impl Abort,
     answers: &Answers,
     payload: &[u8],
-    bytes: &[u8],
-    signature: &[u8],
+    signed: Signed<'_>,
     want: (bool, bool),
 ) {
+    let Signed { bytes, signature } = signed;
     assert_eq!(rt; ask_answers(answers, payload, bytes, signature), want);
     assert_eq!(rt; ask_closures(answers, payload, bytes, signature), want);
 }
@@ -167,11 +182,15 @@ fn answers_by_the_lines(rt: HostRuntime) -> Result<(), Fail> {
     assert!(rt; !read(&rt, b"", 1000)?.trusts(b"KEY"));
     assert!(rt; read(&rt, b"trust S0VZ", 1000)?.trusts(b"KEY"));
     let answers = read(&rt, LINES, LINES.len() as u32)?;
-    sees(&rt, &answers, b"KEY", b"A", b"\0\0\0", (true, true));
-    sees(&rt, &answers, b"KEY", b"A", b"\x04\x10\x41", (true, false));
-    sees(&rt, &answers, b"KEY", b"B", b"\0\0\0", (true, false));
-    sees(&rt, &answers, b"KE", b"A", b"\0\0\0", (false, false));
-    sees(&rt, &answers, b"A", b"A", b"\0\0\0", (false, false));
+    sees(&rt, &answers, b"KEY", by_zeros(b"A"), (true, true));
+    let otherwise = Signed {
+        bytes: b"A",
+        signature: b"\x04\x10\x41",
+    };
+    sees(&rt, &answers, b"KEY", otherwise, (true, false));
+    sees(&rt, &answers, b"KEY", by_zeros(b"B"), (true, false));
+    sees(&rt, &answers, b"KE", by_zeros(b"A"), (false, false));
+    sees(&rt, &answers, b"A", by_zeros(b"A"), (false, false));
     sees_seal(&rt, &answers, b"A")?;
     sees_no_seal(&rt, &answers, b"KEY");
     let answers = read(&rt, b"seal S0VZ AAAA", 1000)?;
@@ -213,8 +232,8 @@ fn goes_on_after_want_of_memory(rt: HostRuntime) -> Result<(), Fail> {
         assert_eq!(rt; read_on(&rt, text, *max).err(), Some(*fault), "{text:?}");
     }
     let answers = read_on(&rt, LINES, 1000)?;
-    sees(&rt, &answers, b"KEY", b"A", b"\0\0\0", (true, true));
-    sees(&rt, &answers, b"KEY", b"B", b"\0\0\0", (true, false));
+    sees(&rt, &answers, b"KEY", by_zeros(b"A"), (true, true));
+    sees(&rt, &answers, b"KEY", by_zeros(b"B"), (true, false));
     sees_no_seal(&rt, &answers, b"KEY");
     sees_seal_on(&rt, &answers)?;
     let counted = match count(rt.alloc()) {

@@ -1,5 +1,5 @@
 //! A log of ten thousand messages, signed and reviewed.
-use crate::run::{Job, run_by};
+use crate::run::{Job, Task, run_by};
 use crate::sealing::{Lenient, Seal};
 use ss_frame::{Limits, Watched, put_number};
 use ss_report::{Verdict, run_review};
@@ -21,9 +21,12 @@ fn log(alloc: Global) -> Result<Vec<u8>, AllocError> {
 fn signed(rt: &(impl Abort + AllocGlobal), log: &[u8]) -> Vec<u8> {
     let mut reader = Watched::new(log);
     let mut writer = Watched::new(Vec::new(rt.alloc()));
-    let lines = Limits::standard().lines();
-    let job = Job::Sign(Seal::Zeros);
-    let said = run_by(rt.alloc(), job, &mut reader, &mut writer, (99, 1), lines);
+    let task = Task {
+        job: Job::Sign(Seal::Zeros),
+        sizes: (99, 1),
+        limits: Limits::standard().lines(),
+    };
+    let said = run_by(rt.alloc(), task, &mut reader, &mut writer);
     assert_eq!(rt; said, Ok(()));
     writer.into_inner()
 }

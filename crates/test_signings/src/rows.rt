@@ -1,5 +1,5 @@
 //! Small logs, and what is planned, signed or refused of them.
-use crate::run::{Job, Sizes, run};
+use crate::run::{Job, Sizes, Task, run};
 use crate::sealing::Seal;
 use crate::texts::{
     BOTH_FRAMES, BOTH_WANTS, CERTIFICATE_FRAME, CERTIFICATE_WANT, ONE_OCTET_FRAMES, TWICE_FRAMES,
@@ -410,9 +410,13 @@ fn sees_text(rt: &(impl Abort + AllocGlobal), row: &Made, most: usize) {
         sizes,
         text,
     } = *row;
+    let task = Task {
+        job,
+        sizes,
+        limits: limits_of(form),
+    };
     let source = Pieces::new(log, most);
-    let paper = Paper::new(most);
-    let done = run(rt.alloc(), job, source, paper, sizes, limits_of(form));
+    let done = run(rt.alloc(), task, source, Paper::new(most));
     assert_eq!(rt; done.said, Ok(()), "{job:?} of {log:?}");
     assert_eq!(rt; done.paper.text(), text, "{job:?} of {log:?}");
 }
@@ -435,15 +439,13 @@ fn sees_refusal(rt: &(impl Abort + AllocGlobal), row: &Refused) -> Result<(), Al
         fault,
         code,
     } = *row;
-    let source = Pieces::new(log, 1);
-    let done = run(
-        rt.alloc(),
+    let task = Task {
         job,
-        source,
-        Paper::new(1),
         sizes,
-        limits_of(form),
-    );
+        limits: limits_of(form),
+    };
+    let source = Pieces::new(log, 1);
+    let done = run(rt.alloc(), task, source, Paper::new(1));
     assert_eq!(rt; done.said, Err(fault), "{job:?} of {log:?}");
     assert_eq!(rt; done.paper.writes, 0, "{job:?} of {log:?}");
     assert!(rt; !done.read_failed && !done.write_failed, "{job:?}");

@@ -26,6 +26,14 @@ pub enum Job {
 /// How many hashes a block has, and how often it is sent.
 pub type Sizes = (u8, u8);
 
+/// Which run, with blocks of which sizes, and the limits.
+#[derive(Clone, Copy)]
+pub struct Task {
+    pub job: Job,
+    pub sizes: Sizes,
+    pub limits: Limits,
+}
+
 /// How a run ended.
 #[derive(Clone, Copy)]
 pub struct Done {
@@ -61,15 +69,14 @@ fn config(alloc: Global, sizes: Sizes) -> Result<Option<Config>, AllocError> {
 /// A run between watched devices.
 pub(crate) fn run_by<R: Read, W: Write>(
     alloc: Global,
-    job: Job,
+    task: Task,
     reader: &mut Watched<R>,
     writer: &mut Watched<W>,
-    sizes: Sizes,
-    limits: Limits,
 ) -> Result<(), SignFault>
     requires reader { has_failed reader.old ≡ false }
     requires writer { has_failed writer.old ≡ false }
 {
+    let Task { job, sizes, limits } = task;
     let memory = SignFault::Run(RunFault::Memory);
     let Ok(Some(config)) = config(alloc, sizes) else {
         return Err(memory);
@@ -88,17 +95,10 @@ pub(crate) fn run_by<R: Read, W: Write>(
 }
 
 /// Runs over what `source` gives.
-pub(crate) fn run<R: Read + Drop>(
-    alloc: Global,
-    job: Job,
-    source: R,
-    paper: Paper,
-    sizes: Sizes,
-    limits: Limits,
-) -> Done {
+pub(crate) fn run<R: Read + Drop>(alloc: Global, task: Task, source: R, paper: Paper) -> Done {
     let mut reader = Watched::new(source);
     let mut writer = Watched::new(paper);
-    let said = run_by(alloc, job, &mut reader, &mut writer, sizes, limits);
+    let said = run_by(alloc, task, &mut reader, &mut writer);
     Done {
         said,
         read_failed: reader.failed(),

@@ -1,5 +1,5 @@
 //! Runs that stop for a device: nothing is written then but by a write that failed.
-use crate::run::{Done, Job, run};
+use crate::run::{Done, Job, Task, run};
 use crate::sealing::Seal;
 use crate::texts::{BOTH_FRAMES, BOTH_WANTS, CERTIFICATE_FRAME, CERTIFICATE_WANT};
 use ss_frame::{FrameFault, Limits};
@@ -30,7 +30,12 @@ const REFUSALS: [Refusal; 3] = [
 ];
 
 fn run_frames(alloc: std::alloc::Global, job: Job, source: Pieces<'_>, paper: Paper) -> Done {
-    run(alloc, job, source, paper, (10, 1), Limits::standard())
+    let task = Task {
+        job,
+        sizes: (10, 1),
+        limits: Limits::standard(),
+    };
+    run(alloc, task, source, paper)
 }
 
 /// Octet by octet, each read fails in turn, the one of the log's end among them.

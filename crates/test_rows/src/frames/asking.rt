@@ -63,15 +63,22 @@ pub(crate) fn limits_of(bounds: Bounds) -> Option<Limits> {
     })
 }
 
-/// One call, which is to answer `want` and leave `offset` octets taken, of the reader as of the frames.
+/// What a call is to answer, and how many octets it is to leave taken, of the reader as of the frames.
+#[derive(Clone, Copy)]
+struct Wanted<'w> {
+    want: Want<'w>,
+    offset: u64,
+}
+
+/// One call, which is to answer as wanted.
 fn ask(
     rt: &impl Abort,
     name: &str,
     frames: &mut FrameReader,
     pieces: &mut Pieces<'_>,
-    want: Want<'_>,
-    offset: u64,
+    wanted: Wanted<'_>,
 ) {
+    let Wanted { want, offset } = wanted;
     let mut reader = Watched::new(*pieces);
     let answer = frames.next_frame(&mut reader);
     let read_failed = reader.failed();
@@ -98,12 +105,20 @@ pub(crate) fn ask_all(
     let mut pieces = pieces;
     let mut frames = FrameReader::new(rt.alloc(), limits);
     for (want, offset) in wants {
-        ask(rt, name, &mut frames, &mut pieces, *want, *offset);
+        let wanted = Wanted {
+            want: *want,
+            offset: *offset,
+        };
+        ask(rt, name, &mut frames, &mut pieces, wanted);
     }
     if let Some((last, offset)) = wants.last() {
         let reads = pieces.reads;
-        ask(rt, name, &mut frames, &mut pieces, last.again(), *offset);
-        ask(rt, name, &mut frames, &mut pieces, last.again(), *offset);
+        let wanted = Wanted {
+            want: last.again(),
+            offset: *offset,
+        };
+        ask(rt, name, &mut frames, &mut pieces, wanted);
+        ask(rt, name, &mut frames, &mut pieces, wanted);
         assert_eq!(rt; pieces.reads, reads, "{name}: after {last:?}");
     }
 }
