@@ -69,7 +69,8 @@ pub const RANGE_TO_191: &[u8] =
 /// a and b in one group, by SHA-256.
 pub const BY_SHA256: &[u8] =
     b"<110>1 - h s - - [ssign VER=\"0121\" RSID=\"1\" SG=\"0\" SPRI=\"7\" GBC=\"0\" FMN=\"1\" CNT=\"2\" \
-        HB=\"QaTpO86AILCzv19aNyBNh6HhWABAxWwNY6F6LtPofyA= BqxkDeASmfGNKO2/wPGsiWdLj0399i1IiXORt2Qw4RY=\" SIGN=\"AAAA\"]";
+        HB=\"QaTpO86AILCzv19aNyBNh6HhWABAxWwNY6F6LtPofyA= BqxkDeASmfGNKO2/wPGsiWdLj0399i1IiXORt2Qw4RY=\" \
+        SIGN=\"AAAA\"]";
 
 /// The payload in one piece.
 pub const WHOLE_BY_SHA256: &[u8] =

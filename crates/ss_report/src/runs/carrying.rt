@@ -97,7 +97,8 @@ fn carry_read<'a>(
     ensures carried { (before : List BlockMessage)
         → KnowsExtents report.now before carried.old.known
         → OnOk result (carried.new.places.items ≡ carried.old.places.items
-        ++ carried_at report.now before (block_with place (said_in read.now.reading) read.now.session read.now.signed)) }
+        ++ carried_at report.now before
+        (block_with place (said_in read.now.reading) read.now.session read.now.signed)) }
     ensures known { (before : List BlockMessage)
         → KnowsExtents report.now before carried.old.known
         → OnOk result (KnowsExtents report.now

@@ -100,7 +100,8 @@ whole_log =
     record {
       normal = (message 0 first) ∷ (message 1 second) ∷ [];
       blocks = (certificate 2 (sent_by (104 ∷ []) 1) 3 1 (45 ∷ 32 ∷ 78 ∷ []))
-          ∷ (hashes_of 3 (sent_by (104 ∷ []) 1) algs.Sha1 1 ((hashes.Sha1 (1 ∷ [])) ∷ (hashes.Sha1 (2 ∷ [])) ∷ [])) ∷ [];
+          ∷ (hashes_of 3 (sent_by (104 ∷ []) 1) algs.Sha1 1 ((hashes.Sha1 (1 ∷ [])) ∷ (hashes.Sha1 (2 ∷ [])) ∷ []))
+          ∷ [];
       spoilt = [];
       count = 4;
     }
@@ -153,7 +154,8 @@ one_lost_log =
       normal = (message 0 first) ∷ [];
       blocks =
           (certificate 1 (sent_by (104 ∷ []) 1) 3 1 (45 ∷ 32 ∷ 78 ∷ []))
-          ∷ (hashes_of 2 (sent_by (104 ∷ []) 1) algs.Sha1 1 ((hashes.Sha1 (1 ∷ [])) ∷ (hashes.Sha1 (2 ∷ [])) ∷ [])) ∷ [];
+          ∷ (hashes_of 2 (sent_by (104 ∷ []) 1) algs.Sha1 1 ((hashes.Sha1 (1 ∷ [])) ∷ (hashes.Sha1 (2 ∷ [])) ∷ []))
+          ∷ [];
       spoilt = [];
       count = 3;
     }
@@ -180,7 +182,8 @@ repeated_block_log =
       normal = (message 0 first) ∷ (message 1 second) ∷ [];
       blocks = (certificate 2 (sent_by (104 ∷ []) 1) 3 1 (45 ∷ 32 ∷ 78 ∷ []))
           ∷ (hashes_of 3 (sent_by (104 ∷ []) 1) algs.Sha1 1 ((hashes.Sha1 (1 ∷ [])) ∷ (hashes.Sha1 (2 ∷ [])) ∷ []))
-          ∷ (hashes_of 4 (sent_by (104 ∷ []) 1) algs.Sha1 1 ((hashes.Sha1 (1 ∷ [])) ∷ (hashes.Sha1 (2 ∷ [])) ∷ [])) ∷ [];
+          ∷ (hashes_of 4 (sent_by (104 ∷ []) 1) algs.Sha1 1 ((hashes.Sha1 (1 ∷ [])) ∷ (hashes.Sha1 (2 ∷ [])) ∷ []))
+          ∷ [];
       spoilt = [];
       count = 5;
     }
@@ -207,7 +210,8 @@ one_for_two_log =
       normal = (message 0 first) ∷ [];
       blocks =
           (certificate 1 (sent_by (104 ∷ []) 1) 3 1 (45 ∷ 32 ∷ 78 ∷ []))
-          ∷ (hashes_of 2 (sent_by (104 ∷ []) 1) algs.Sha1 1 ((hashes.Sha1 (1 ∷ [])) ∷ (hashes.Sha1 (1 ∷ [])) ∷ [])) ∷ [];
+          ∷ (hashes_of 2 (sent_by (104 ∷ []) 1) algs.Sha1 1 ((hashes.Sha1 (1 ∷ [])) ∷ (hashes.Sha1 (1 ∷ [])) ∷ []))
+          ∷ [];
       spoilt = [];
       count = 3;
     }
@@ -259,7 +263,8 @@ two_for_two_log =
     record {
       normal = (message 0 first) ∷ (message 3 first) ∷ [];
       blocks = (certificate 1 (sent_by (104 ∷ []) 1) 3 1 (45 ∷ 32 ∷ 78 ∷ []))
-          ∷ (hashes_of 2 (sent_by (104 ∷ []) 1) algs.Sha1 1 ((hashes.Sha1 (1 ∷ [])) ∷ (hashes.Sha1 (1 ∷ [])) ∷ [])) ∷ [];
+          ∷ (hashes_of 2 (sent_by (104 ∷ []) 1) algs.Sha1 1 ((hashes.Sha1 (1 ∷ [])) ∷ (hashes.Sha1 (1 ∷ [])) ∷ []))
+          ∷ [];
       spoilt = [];
       count = 4;
     }
@@ -395,7 +400,8 @@ fragments_in_reverse_log =
     record {
       normal = (message 0 first) ∷ [];
       blocks =
-          (certificate 1 (sent_by (104 ∷ []) 1) 3 3 (78 ∷ [])) ∷ (certificate 2 (sent_by (104 ∷ []) 1) 3 1 (45 ∷ 32 ∷ []))
+          (certificate 1 (sent_by (104 ∷ []) 1) 3 3 (78 ∷ []))
+          ∷ (certificate 2 (sent_by (104 ∷ []) 1) 3 1 (45 ∷ 32 ∷ []))
           ∷ (hashes_of 3 (sent_by (104 ∷ []) 1) algs.Sha1 1 ((hashes.Sha1 (1 ∷ [])) ∷ [])) ∷ [];
       spoilt = [];
       count = 4;
