@@ -18,6 +18,7 @@ MOST_WORDS = 25
 MOST_LINES = 5
 # the test crate whose src/examples.rt has the example of a library
 TEST_CRATES = {
+    "ss_octets": "test_rows",
     "ss_frame": "test_rows",
     "ss_message": "test_rows",
     "ss_payload": "test_rows",

@@ -139,7 +139,7 @@ said 'the file is named' "$copy/crates/ssign/out/ssign.log"
 said 'the crate is told' 'ssign: ss_frame'
 holds 'what the prover says is in the file' grep -q '^fn ss_frame::write::write_frame: proved$' "$copy/crates/ssign/out/ssign.log"
 holds 'and not on standard error' test -z "$(grep '^fn ' "$scratch/err")"
-each='ss_frame ss_message ss_payload ss_block ss_origin ss_review ss_report ss_answers ss_signing'
+each='ss_octets ss_frame ss_message ss_payload ss_block ss_origin ss_review ss_report ss_answers ss_signing'
 holds 'each library was asked for by itself before, lowest first' test "$(tr '\n' ' ' <"$libraries")" = "$each "
 ssign "$tools" review --answers "$answers" <"$log"
 expect 'the run after it' 0 "$report" ''
@@ -175,7 +175,7 @@ rm -- "$libraries"
 ssign "$with_rt" review <"$log"
 expect 'a library that is not proved' 2 '' 'SOME TEXT'
 said 'its last line is shown' 'error: no proof of a library'
-holds 'no library above it was asked for' test "$(tr '\n' ' ' <"$libraries")" = 'ss_frame ss_message ss_payload '
+holds 'no library above it was asked for' test "$(tr '\n' ' ' <"$libraries")" = 'ss_octets ss_frame ss_message ss_payload '
 rm -- "$refused"
 rt 'echo "rt: chose --jobs 2 for ss_frame"
 echo "error: no proof" >&2

@@ -1,9 +1,9 @@
 -- A text of answers is read in one way.
 use Rattle.std.proofs.Common.{◌≡◌, ℕ, List, [], ◌∷◌, ◌++◌, codes, refl, ap, arith}
-use Rattle.ss_frame.specs.Ascii.{lf, sp}
-use Rattle.ss_payload.specs.StrictBase64.{base64}
+use Rattle.ss_octets.specs.Ascii.{lf, sp}
+use Rattle.ss_octets.specs.StrictBase64.{base64}
 use Rattle.ss_answers.specs.Answers.{Answer, Trust, Yes, Seal, HasFields, LinesAreDetermined, NoTextIsGoodAndBad, BadLineIsDetermined, line_text}
-use Rattle.ss_payload.proofs.Base64Text.{Clear, Clear-append}
+use Rattle.ss_octets.proofs.Base64Text.{Clear, Clear-append}
 use Rattle.ss_answers.proofs.Base64Text.{Lacks-space, base64-injective, no_line_feed}
 use Rattle.ss_answers.proofs.Cuts.{cut_once}
 use Rattle.ss_answers.proofs.LineLaws as laws

@@ -1,7 +1,7 @@
 -- What a text that is cut at its first space can't be.
 use Rattle.std.proofs.Common.{◌≡◌, ℕ, List, ◌∷◌, ◌++◌, sym, ◌∙◌}
-use Rattle.ss_frame.specs.Ascii.{sp}
-use Rattle.ss_payload.specs.StrictBase64.{base64}
+use Rattle.ss_octets.specs.Ascii.{sp}
+use Rattle.ss_octets.specs.StrictBase64.{base64}
 use Rattle.ss_answers.specs.Answers.{IsNoField, IsNoPair, IsNoTriple}
 use Rattle.ss_answers.specs.Lines.{Lacks}
 use Rattle.ss_answers.proofs.Base64Text.{Lacks-space}

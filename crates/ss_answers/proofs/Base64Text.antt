@@ -3,10 +3,10 @@ use Rattle.std.proofs.Common.{◌≡◌, ℕ, ◌≤◌, length, length-append, 
 use Rattle.base64.specs.Rfc4648.{encode_symbols, padding_len}
 use Rattle.base64.specs.Engines.{standard}
 use Rattle.base64.specs.GeneralPurpose.{IsBytes, decode_of, encode_of, engine_symbols}
-use Rattle.ss_frame.specs.Ascii.{lf, sp}
+use Rattle.ss_octets.specs.Ascii.{lf, sp}
 use Rattle.base64.proofs.EngineFacts.{decode_of-encode_of}
-use Rattle.ss_payload.specs.StrictBase64.{base64}
-use Rattle.ss_payload.proofs.Base64Text.{Clear, Clear-base64, no_space}
+use Rattle.ss_octets.specs.StrictBase64.{base64}
+use Rattle.ss_octets.proofs.Base64Text.{Clear, Clear-base64, no_space}
 use Rattle.ss_answers.specs.Lines.{Lacks}
 
 pub Lacks-space : (octets : List ℕ) → Lacks sp (base64 octets)

@@ -6,18 +6,18 @@ use Rattle.std.proofs.lemmas.Bool.{and_parts, eqb-true, le-leb}
 use Rattle.std.proofs.lemmas.Bool.Decides.{nat_tests}
 use Rattle.std.proofs.lemmas.Fmt.{decimal_by_steps}
 use Rattle.std.proofs.lemmas.List.Elements.{All-from_recursion, recursion_from_All}
-use Rattle.ss_frame.specs.Ascii.{dash, sp}
+use Rattle.ss_octets.specs.Ascii.{dash, sp}
 use Rattle.ss_message.specs.declared.draft.Field.{Field}
 use Rattle.ss_message.specs.declared.draft.Field.TheVariants.{Nil, Text}
 use Rattle.ss_message.specs.Octets.{is_absent, is_printable, is_text}
 use Rattle.ss_block.specs.declared.block.Group.{Group}
 use Rattle.ss_block.specs.declared.session.Session.{Session}
-use Rattle.ss_block.specs.Number.{is_number, number, number_in}
+use Rattle.ss_octets.specs.Number.{is_number, number, number_in}
 use Rattle.ss_block.specs.Ranges.{last_number, past_last_number}
 use Rattle.ss_block.specs.Session.{field_from}
-use Rattle.ss_block.proofs.Numbers.{is_spelled, number-decimal, number_in-decimal}
+use Rattle.ss_octets.proofs.Numbers.{is_spelled, number-decimal, number_in-decimal}
 use Rattle.ss_block.proofs.Values.{in_range}
-use Rattle.ss_payload.proofs.Base64Text.{Clear, Clear-append}
+use Rattle.ss_octets.proofs.Base64Text.{Clear, Clear-append}
 use Rattle.ss_review.specs.declared.counted.counter.Counts.{Counts}
 use Rattle.ss_review.specs.declared.counted.counter.Counts.TheVariants.{Blocks, Messages}
 use Rattle.ss_review.specs.counted.CounterRange.{IsName}

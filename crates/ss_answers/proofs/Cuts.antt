@@ -2,7 +2,7 @@
 use Rattle.std.proofs.Common.{◌≡◌, ℕ, eqb, false, List, [], ◌∷◌, ◌++◌, refl}
 use Rattle.std.proofs.lemmas.List.Elements.{recursion_from_All}
 use Rattle.std.proofs.lemmas.Bool.{eqb-false}
-use Rattle.ss_payload.proofs.Base64Text.{Clear}
+use Rattle.ss_octets.proofs.Base64Text.{Clear}
 use Rattle.ss_answers.specs.Lines.{Lacks}
 
 pub cut_clear : (c : ℕ) (a x b y : List ℕ) → Clear c a → Clear c b → a ++ c ∷ x ≡ b ++ c ∷ y → (a ≡ b) × (x ≡ y)

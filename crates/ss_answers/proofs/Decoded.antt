@@ -5,7 +5,7 @@ use Rattle.base64.specs.Engines.{standard}
 use Rattle.base64.specs.GeneralPurpose.{IsBytes, IsStrict, decode_of}
 use Rattle.base64.specs.declared.decode.DecodeError.{DecodeError}
 use Rattle.base64.proofs.EngineFacts.{decode_of-encode_of, decode_of_strict}
-use Rattle.ss_payload.specs.StrictBase64.{base64}
+use Rattle.ss_octets.specs.StrictBase64.{base64}
 use Rattle.ss_answers.specs.Answers.{IsField, IsNoField}
 use Rattle.ss_answers.specs.AnswerLine.{KeepsField}
 use Rattle.ss_answers.proofs.Base64Text.{length-base64}

@@ -8,8 +8,8 @@ use Rattle.std.proofs.lemmas.Bool.{cases_lt}
 use Rattle.ss_answers.specs.declared.place.Place.{Place}
 use Rattle.ss_answers.specs.declared.field.Span.{Span}
 use Rattle.ss_answers.specs.declared.line.Known.{Known}
-use Rattle.ss_frame.specs.Ascii.{sp}
-use Rattle.ss_payload.specs.StrictBase64.{base64}
+use Rattle.ss_octets.specs.Ascii.{sp}
+use Rattle.ss_octets.specs.StrictBase64.{base64}
 use Rattle.ss_answers.specs.Answers.{Trust, Yes, Seal, given_signature}
 use Rattle.ss_answers.specs.Lines.{Lacks}
 use Rattle.ss_answers.specs.AnswerKey.{key_of, seal_key, trust_key, yes_key}

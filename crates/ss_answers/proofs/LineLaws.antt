@@ -2,8 +2,8 @@
 use Rattle.std.proofs.Common.{◌≡◌, ℕ, ◌<◌, cond, eqb, List, [], ◌∷◌, ◌++◌, length, ◌⊎◌, sym, refl, ap, ◌∙◌, inl, inr, arith, length-append}
 use Rattle.std.specs.List.{AllByRecursion}
 use Rattle.std.proofs.lemmas.List.{append_assoc}
-use Rattle.ss_frame.specs.Ascii.{lf}
-use Rattle.ss_payload.proofs.Base64Text.{Clear}
+use Rattle.ss_octets.specs.Ascii.{lf}
+use Rattle.ss_octets.proofs.Base64Text.{Clear}
 use Rattle.ss_answers.specs.Lines.{AreLines, IsFirstBad, SpellsNone, ended, first_line}
 use Rattle.ss_answers.proofs.Cuts.{cut_clear}
 use Rattle.ss_answers.proofs.ReadLines.{first_clear}

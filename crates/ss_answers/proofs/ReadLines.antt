@@ -3,9 +3,9 @@ use Rattle.std.proofs.Common.{◌≡◌, ℕ, ◌+◌, ◌<◌, ◌≤◌, lengt
 use Rattle.std.specs.List.{AllByRecursion}
 use Rattle.std.proofs.lemmas.List.{append-nil, append_assoc}
 use Rattle.std.proofs.lemmas.List.Elements.{recursion_from_All}
-use Rattle.ss_frame.specs.Ascii.{lf}
+use Rattle.ss_octets.specs.Ascii.{lf}
 use Rattle.ss_answers.specs.Lines.{IsCutAfterLine, IsUpTo, Lacks, ended, first_line}
-use Rattle.ss_payload.proofs.Base64Text.{Clear}
+use Rattle.ss_octets.proofs.Base64Text.{Clear}
 
 pub first_clear : (a b : List ℕ) → Clear lf a → first_line (a ++ lf ∷ b) ≡ a
 first_clear [] b h = refl

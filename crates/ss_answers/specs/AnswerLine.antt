@@ -8,8 +8,8 @@ use Rattle.ss_answers.specs.declared.field.LineFault.{LineFault}
 use Rattle.ss_answers.specs.declared.field.LineFault.TheVariants as faults
 use Rattle.ss_answers.specs.declared.field.Span.{Span}
 use Rattle.ss_answers.specs.declared.line.Known.{Known}
-use Rattle.ss_frame.specs.Ascii.{sp}
-use Rattle.ss_payload.specs.StrictBase64.{base64}
+use Rattle.ss_octets.specs.Ascii.{sp}
+use Rattle.ss_octets.specs.StrictBase64.{base64}
 use Rattle.ss_origin.specs.declared.sealer.SealFault.{SealFault}
 use Rattle.ss_origin.specs.declared.sealer.SealFault.TheVariants as refusals
 use Rattle.ss_answers.specs.declared.place.Place.{Place}

@@ -1,6 +1,6 @@
 -- Files of counters: how a text spells them, and what a line is cut into as it is read.
 use Rattle.std.specs.Prelude.{◌≡◌, ℕ, ◌≤◌, true, List, ◌∷◌, ◌++◌, decimal, All}
-use Rattle.ss_frame.specs.Ascii.{sp}
+use Rattle.ss_octets.specs.Ascii.{sp}
 use Rattle.ss_message.specs.declared.draft.Field.{Field}
 use Rattle.ss_message.specs.Layout.{field_of}
 use Rattle.ss_message.specs.Octets.{is_text}

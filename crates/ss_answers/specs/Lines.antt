@@ -1,8 +1,8 @@
 -- Texts of lines, each ended by LF: told for lines of any kind, by which of them are good and how each is spelt.
 use Rattle.std.specs.Prelude.{◌≡◌, ℕ, ◌+◌, ◌<◌, ◌==◌, if◌then◌else◌, ◌⊎◌, List, [], ◌∷◌, ◌++◌, length, flat_map}
 use Rattle.std.specs.List.{AllByRecursion}
-use Rattle.ss_frame.specs.Ascii.{lf}
-pub use Rattle.ss_frame.specs.Cut.{Lacks}
+use Rattle.ss_octets.specs.Ascii.{lf}
+pub use Rattle.ss_octets.specs.Cut.{Lacks}
 
 -- lines, each ended by a line feed
 abbrev pub ended : {A : Type 0} → (A → List ℕ) → List A → List ℕ

@@ -1,9 +1,9 @@
 //! Cutting a text at its first line feed, and a line at its first space.
 ghost use Rattle.std.specs.Prelude.{◌≡◌, ◌++◌, ◌∷◌, ◌<◌, length, MatchOption};
-ghost use Rattle.ss_frame.specs.Ascii.{lf, sp};
+ghost use Rattle.ss_octets.specs.Ascii.{lf, sp};
 ghost use Rattle.ss_answers.specs.Lines.{IsCutAfterLine, Lacks};
 
-use ss_frame::cut_first;
+use ss_octets::cut_first;
 
 const LINE_FEED: u8 = b'\n';
 

@@ -2,7 +2,7 @@
 ghost use Rattle.std.specs.Prelude.{◌≡◌, ◌++◌, ◌∷◌, ◌+◌, ◌<◌, ◌^◌, List, ℕ, length, codes, IfOk, IfErr, OnOk};
 ghost use Rattle.std.specs.Prelude.{MatchOption};
 ghost use Rattle.std.specs.BTreeMap.{values};
-ghost use Rattle.ss_frame.specs.Ascii.{sp};
+ghost use Rattle.ss_octets.specs.Ascii.{sp};
 ghost use Rattle.ss_answers.specs.Answers.{IsNoField, IsNoPair, IsNoTriple, IsNoLine};
 ghost use Rattle.ss_answers.specs.AnswerLine.{AreKnown, IfBad, IsKnown, KeepsLine, KeepsPair, KeepsPayload};
 ghost use Rattle.ss_answers.specs.AnswerLine.{KeepsTriple};

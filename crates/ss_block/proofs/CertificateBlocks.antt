@@ -11,13 +11,13 @@ use Rattle.ss_block.specs.declared.reading.Reading.TheVariants.{Certificate, Spo
 use Rattle.ss_block.specs.declared.certificate_reading.CertificateNumbers.{CertificateNumbers}
 use Rattle.ss_block.specs.Block as block
 use Rattle.ss_block.specs.Block.{IsCertificate}
-use Rattle.ss_payload.specs.StrictBase64.{octets_in}
-use Rattle.ss_block.specs.Number.{number, is_number}
+use Rattle.ss_octets.specs.StrictBase64.{octets_in}
+use Rattle.ss_octets.specs.Number.{number, is_number}
 use Rattle.ss_block.specs.Reading.{has_parameters, or_none, certificate_names, CertificateTexts, certificate_texts, certificate_numbers, certificate_block, certificate_reading}
 use Rattle.ss_block.specs.Causes.{Reads, IsCertificateNumbers, misfits}
 use Rattle.ss_block.specs.Versions.{is_version, alg_of}
 use Rattle.ss_block.proofs.Values.{text_is_utf8}
-use Rattle.ss_block.proofs.Numbers.{is_spelled}
+use Rattle.ss_octets.proofs.Numbers.{is_spelled}
 use Rattle.ss_block.proofs.CertificateCauses.{of_block, spoilt_fragment, is_block}
 
 -- what the calls before told of the element

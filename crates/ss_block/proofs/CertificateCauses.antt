@@ -6,7 +6,7 @@ use Rattle.ss_block.specs.declared.spoil.Spoil.TheVariants as spoils
 use Rattle.ss_block.specs.declared.reading.Reading.{Reading}
 use Rattle.ss_block.specs.declared.reading.Reading.TheVariants.{Certificate, Spoilt}
 use Rattle.ss_block.specs.Block as block
-use Rattle.ss_payload.specs.StrictBase64.{octets_in}
+use Rattle.ss_octets.specs.StrictBase64.{octets_in}
 use Rattle.ss_block.specs.Reading.{has_parameters, first_cause, certificate_names, certificate_texts, certificate_numbers, certificate_block, unless_spoilt, certificate_reading}
 use Rattle.ss_block.specs.Causes.{misfits}
 use Rattle.ss_block.specs.Versions.{is_version}

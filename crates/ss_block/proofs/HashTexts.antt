@@ -10,7 +10,7 @@ use Rattle.ss_block.specs.declared.hash.Alg.TheVariants as algs
 use Rattle.ss_block.specs.declared.hash.Hash.{Hash}
 use Rattle.ss_block.specs.declared.hash.Hash.TheVariants as hashes
 use Rattle.ss_block.specs.Block.{is_of}
-use Rattle.ss_payload.specs.StrictBase64.{octets_in}
+use Rattle.ss_octets.specs.StrictBase64.{octets_in}
 use Rattle.ss_block.specs.Reading.{hash_list, hash_in, hash_from, hash_decoded, hashes_in}
 
 -- the hashes of the texts that have one, and whether all have

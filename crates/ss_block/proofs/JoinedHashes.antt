@@ -2,7 +2,7 @@
 use Rattle.std.proofs.Common.{◌≡◌, ℕ, zero, suc, ◌+◌, ◌<◌, List, [], ◌∷◌, ◌++◌, length, get_or, take, refl, sym, ap, ◌∙◌, append_assoc, arith}
 use Rattle.std.proofs.lemmas.List.{take_more}
 use Rattle.ss_block.specs.declared.hash.Hash.{Hash}
-use Rattle.ss_payload.specs.StrictBase64.{base64}
+use Rattle.ss_octets.specs.StrictBase64.{base64}
 use Rattle.ss_block.specs.Writing.{hash_octets, hashes_text}
 
 text-push : (h : Hash) (hs : List Hash) (x : Hash) → hashes_text ((h ∷ hs) ++ x ∷ []) ≡ hashes_text (h ∷ hs) ++ 32 ∷ base64 (hash_octets x)

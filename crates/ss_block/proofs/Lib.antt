@@ -1,4 +1,3 @@
-pub mod Numbers
 pub mod Filled
 pub mod HashTexts
 pub mod Meanings

@@ -11,14 +11,14 @@ use Rattle.ss_block.specs.declared.reading.Reading.TheVariants.{Signature, Spoil
 use Rattle.ss_block.specs.declared.signature_reading.SignatureNumbers.{SignatureNumbers}
 use Rattle.ss_block.specs.Block as block
 use Rattle.ss_block.specs.Block.{is_of, IsSignature}
-use Rattle.ss_payload.specs.StrictBase64.{octets_in}
-use Rattle.ss_block.specs.Number.{number, is_number}
+use Rattle.ss_octets.specs.StrictBase64.{octets_in}
+use Rattle.ss_octets.specs.Number.{number, is_number}
 use Rattle.ss_block.specs.Reading.{has_parameters, first_cause, pieces, hashes_in, or_none, signature_names, SignatureTexts, signature_texts, signature_numbers, signature_block, signature_reading}
 use Rattle.ss_block.specs.declared.refusal.Refusal.TheVariants as refusals
 use Rattle.ss_block.specs.Causes.{Reads, hash_causes, IsSignatureNumbers}
 use Rattle.ss_block.specs.Versions.{is_version, alg_of}
 use Rattle.ss_block.proofs.HashTexts.{length-hashes_in, all_of}
-use Rattle.ss_block.proofs.Numbers.{is_spelled}
+use Rattle.ss_octets.proofs.Numbers.{is_spelled}
 use Rattle.ss_block.proofs.SignatureCauses.{of_block, spoilt_last, is_block, counted, hashed, both}
 
 -- what the calls before told of the element

@@ -8,8 +8,8 @@ use Rattle.ss_block.specs.declared.spoil.Spoil.TheVariants as spoils
 use Rattle.ss_block.specs.declared.reading.Reading.{Reading}
 use Rattle.ss_block.specs.declared.reading.Reading.TheVariants.{Signature, Spoilt}
 use Rattle.ss_block.specs.Block as block
-use Rattle.ss_payload.specs.StrictBase64.{octets_in}
-use Rattle.ss_block.specs.Number.{number}
+use Rattle.ss_octets.specs.StrictBase64.{octets_in}
+use Rattle.ss_octets.specs.Number.{number}
 use Rattle.ss_block.specs.Reading.{has_parameters, first_cause, hash_in, pieces, signature_names, SignatureTexts, signature_texts, signature_numbers, signature_block, unless_spoilt, signature_reading}
 use Rattle.ss_block.specs.Causes.{hash_causes}
 use Rattle.ss_block.specs.Versions.{is_version, alg_of}

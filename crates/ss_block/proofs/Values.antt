@@ -9,9 +9,9 @@ use Rattle.ss_message.specs.Octets.{part_of}
 use Rattle.ss_message.specs.Raw.{meant, closes_after, is_raw}
 use Rattle.ss_message.specs.Message.{ParameterValue, ElementValue, has_raws}
 use Rattle.ss_message.specs.Layout.{parameter_values}
-use Rattle.ss_block.specs.Number.{number, is_number, number_in}
+use Rattle.ss_octets.specs.Number.{number, is_number, number_in}
 use Rattle.ss_block.specs.Reading.{first_text, text_at, element_with}
-use Rattle.ss_block.proofs.Numbers.{is_spelled}
+use Rattle.ss_octets.proofs.Numbers.{is_spelled}
 use Rattle.ss_block.proofs.Meanings.{is_utf8-meant}
 
 pub text_is : (source : List ℕ) (ps : List Parameter) (i : ℕ) (d : Parameter) → i < length ps → meant (part_of source (get_or ps i d).value) ≡ first_text (drop i (parameter_values source ps))

@@ -12,14 +12,14 @@ use Rattle.ss_block.specs.declared.spoil.Spoil.TheVariants as spoils
 use Rattle.ss_block.specs.declared.reading.Reading.{Reading}
 use Rattle.ss_block.specs.declared.reading.Reading.TheVariants as readings
 use Rattle.ss_block.specs.Block.{Certificate, IsCertificate}
-use Rattle.ss_payload.specs.StrictBase64.{octets_in, base64}
-use Rattle.ss_block.specs.Number.{number}
+use Rattle.ss_octets.specs.StrictBase64.{octets_in, base64}
+use Rattle.ss_octets.specs.Number.{number}
 use Rattle.ss_block.specs.Reading as spec
 use Rattle.ss_block.specs.Reading.{first_cause, or_none, certificate_names, CertificateTexts, certificate_texts, certificate_numbers, certificate_block, unless_spoilt, certificate_reading}
 use Rattle.ss_block.specs.Writing.{certificate_parameters, sign_parameter, ssign_cert_element}
 use Rattle.ss_block.specs.Versions.{is_version, version_text}
-use Rattle.ss_payload.proofs.Base64Text.{octets_in-base64}
-use Rattle.ss_block.proofs.Numbers.{number-decimal, is_number-decimal}
+use Rattle.ss_octets.proofs.Base64Text.{octets_in-base64}
+use Rattle.ss_octets.proofs.Numbers.{number-decimal, is_number-decimal}
 use Rattle.ss_block.proofs.WrittenValues.{raw_version, raw_number, raw_base64, version_is, alg_is}
 
 abbrev pub unsigned_element : Certificate → ElementValue

@@ -14,15 +14,15 @@ use Rattle.ss_block.specs.declared.spoil.Spoil.TheVariants as spoils
 use Rattle.ss_block.specs.declared.reading.Reading.{Reading}
 use Rattle.ss_block.specs.declared.reading.Reading.TheVariants as readings
 use Rattle.ss_block.specs.Block.{Signature, IsSignature}
-use Rattle.ss_payload.specs.StrictBase64.{octets_in, base64}
-use Rattle.ss_block.specs.Number.{number}
+use Rattle.ss_octets.specs.StrictBase64.{octets_in, base64}
+use Rattle.ss_octets.specs.Number.{number}
 use Rattle.ss_block.specs.Reading as spec
 use Rattle.ss_block.specs.Reading.{first_cause, hash_in, hashes_in, pieces, or_none, signature_names, SignatureTexts, signature_texts, signature_numbers, signature_causes, signature_block, unless_spoilt, signature_reading}
 use Rattle.ss_block.specs.Writing.{hashes_text, signature_parameters, sign_parameter, ssign_element}
 use Rattle.ss_block.specs.WritingLaws.{IsHash}
 use Rattle.ss_block.specs.Versions.{is_version, alg_of, version_text}
-use Rattle.ss_payload.proofs.Base64Text.{octets_in-base64}
-use Rattle.ss_block.proofs.Numbers.{number-decimal, is_number-decimal}
+use Rattle.ss_octets.proofs.Base64Text.{octets_in-base64}
+use Rattle.ss_octets.proofs.Numbers.{number-decimal, is_number-decimal}
 use Rattle.ss_block.proofs.WrittenValues.{raw_version, raw_number, raw_hashes, raw_base64, version_is, alg_is, pieces_some, all_hashes, hashes_again}
 
 abbrev pub unsigned_element : Signature → ElementValue

@@ -16,12 +16,12 @@ use Rattle.ss_block.specs.declared.hash.Alg.TheVariants as algs
 use Rattle.ss_block.specs.declared.hash.Hash.{Hash}
 use Rattle.ss_block.specs.declared.hash.Hash.TheVariants as hashes
 use Rattle.ss_block.specs.Block.{is_of}
-use Rattle.ss_payload.specs.StrictBase64.{base64}
+use Rattle.ss_octets.specs.StrictBase64.{base64}
 use Rattle.ss_block.specs.Reading.{hash_decoded, hash_in, hash_list, hashes_in, pieces}
 use Rattle.ss_block.specs.Writing.{hash_octets, hashes_text}
 use Rattle.ss_block.specs.WritingLaws.{IsHash}
 use Rattle.ss_block.specs.Versions.{is_version, alg_of, version_text}
-use Rattle.ss_payload.proofs.Base64Text.{octets_in-base64, no_space}
+use Rattle.ss_octets.proofs.Base64Text.{octets_in-base64, no_space}
 
 -- ---- values that may stand
 

@@ -10,7 +10,7 @@ use Rattle.ss_block.specs.declared.reading.Reading.{Reading}
 use Rattle.ss_block.specs.declared.reading.Reading.TheVariants.{Spoilt}
 use Rattle.ss_block.specs.declared.signature_reading.SignatureNumbers.{SignatureNumbers}
 use Rattle.ss_block.specs.declared.certificate_reading.CertificateNumbers.{CertificateNumbers}
-use Rattle.ss_block.specs.Number.{number}
+use Rattle.ss_octets.specs.Number.{number}
 use Rattle.ss_block.specs.Reading.{first_cause, hash_in, pieces, SignatureTexts, CertificateTexts}
 use Rattle.ss_block.specs.Ranges.{last_number}
 use Rattle.ss_block.specs.Versions.{alg_of}

@@ -1,5 +1,4 @@
 pub mod Ranges
-pub mod Number
 pub mod Block
 pub mod Versions
 pub mod Parameters
@@ -20,7 +19,7 @@ pub mod Head
 pub mod Writing
 pub mod WritingLaws
 pub mod FragmentLaws
-pub use Rattle.ss_payload.specs.StrictBase64
+pub use Rattle.ss_octets.specs.StrictBase64
 pub use Rattle.ss_payload.specs.Payload
 pub use Rattle.ss_payload.specs.PayloadReading
 pub use Rattle.ss_payload.specs.Cuts

@@ -5,7 +5,7 @@ use Rattle.std.specs.Prelude.{Some, None, Result, Ok, Err, nat_lt, ◌==◌, if�
 use Rattle.std.specs.List.{list_all, slice_split}
 use Rattle.std.specs.Str.{bytes_eq}
 use Rattle.std.specs.Cmp.Lexicographic.{pointwise}
-use Rattle.ss_frame.specs.Ascii.{sp}
+use Rattle.ss_octets.specs.Ascii.{sp}
 use Rattle.ss_message.specs.declared.fault.BadPart.{BadPart}
 use Rattle.ss_message.specs.Raw.{meant}
 use Rattle.ss_message.specs.Message.{ParameterValue, ElementValue, MessageValue}
@@ -24,8 +24,8 @@ use Rattle.ss_block.specs.declared.reading.Reading.TheVariants.{Plain, Unparsed,
 use Rattle.ss_block.specs.Block as block
 use Rattle.ss_block.specs.Parameters.{names_in, place_of, signature_row, certificate_row}
 use Rattle.ss_block.specs.Versions.{is_version, alg_of, hash_length}
-use Rattle.ss_payload.specs.StrictBase64.{octets_in}
-use Rattle.ss_block.specs.Number.{number, is_number}
+use Rattle.ss_octets.specs.StrictBase64.{octets_in}
+use Rattle.ss_octets.specs.Number.{number, is_number}
 use Rattle.ss_block.specs.Ranges.{last_number, past_last_number}
 use Rattle.ss_payload.specs.Ranges.{longest_payload}
 

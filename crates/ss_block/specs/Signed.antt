@@ -3,7 +3,7 @@
 use Rattle.std.specs.Prelude.{◌≡◌, ℕ, [], Bool, true, length, ◌∷◌, ◌++◌, List, take, map, flat_map, codes, Option, Some}
 use Rattle.std.specs.Prelude.{None, Result, Ok, Err, if◌then◌else◌, ◌||◌}
 use Rattle.std.specs.Str.{bytes_eq}
-use Rattle.ss_frame.specs.Ascii.{opening_bracket, closing_bracket}
+use Rattle.ss_octets.specs.Ascii.{opening_bracket, closing_bracket}
 use Rattle.ss_message.specs.declared.fault.BadPart.{BadPart}
 use Rattle.ss_message.specs.Message.{ParameterValue, ElementValue, MessageValue, IsMessage, text, header_text}
 use Rattle.ss_message.specs.Message.{element_text, parameter_text, msg_text}

@@ -2,7 +2,7 @@
 -- block's element alone, and no MSG.
 use Rattle.std.specs.Prelude.{ℕ, List, [], ◌∷◌, ◌++◌, length, map, codes, decimal, Option, None}
 use Rattle.std.specs.List.{join_with_byte}
-use Rattle.ss_frame.specs.Ascii.{sp}
+use Rattle.ss_octets.specs.Ascii.{sp}
 use Rattle.ss_message.specs.Raw.{escaped}
 use Rattle.ss_message.specs.Stamp.{Moment}
 use Rattle.ss_message.specs.Message.{ParameterValue, ElementValue, MessageValue, text}
@@ -11,7 +11,7 @@ use Rattle.ss_block.specs.declared.hash.Hash.{Hash}
 use Rattle.ss_block.specs.declared.hash.Hash.TheVariants as hashes
 use Rattle.ss_block.specs.declared.session.Session.{Session}
 use Rattle.ss_block.specs.Block as block
-use Rattle.ss_payload.specs.StrictBase64.{base64}
+use Rattle.ss_octets.specs.StrictBase64.{base64}
 use Rattle.ss_block.specs.Head.{HeadValue}
 use Rattle.ss_block.specs.Parameters.{name_of}
 use Rattle.ss_block.specs.Versions.{version_text}

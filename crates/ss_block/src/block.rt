@@ -6,8 +6,8 @@ ghost use Rattle.ss_block.specs.Block.{IsGroup, IsSignature, IsCertificate, is_o
 use crate::hash::{Alg, Hash};
 use crate::hashes::Hashes;
 use crate::ranges::{LAST_NUMBER, PAST_LAST_NUMBER};
-use ss_frame::Bytes;
 use ss_message::is_utf8;
+use ss_octets::Bytes;
 use ss_payload::LONGEST_PAYLOAD;
 use std::marker::Model;
 

@@ -18,7 +18,8 @@ use crate::reading::Reading;
 use crate::refusal::Refusal;
 use crate::spoil::Spoil;
 use crate::texts::{has_parameters, text_of};
-use ss_message::{Element, NoMemory};
+use ss_message::Element;
+use ss_octets::NoMemory;
 use std::alloc::Global;
 
 /// The numbers of a certificate block.

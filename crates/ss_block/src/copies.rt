@@ -1,8 +1,8 @@
 //! Copies of octets and of fields of the header, in memory of their own.
 ghost use Rattle.std.specs.Prelude.{◌≡◌, IfOk};
 
-use ss_frame::Bytes;
-use ss_message::{Field, NoMemory};
+use ss_message::Field;
+use ss_octets::{Bytes, NoMemory};
 use std::alloc::Global;
 
 /// The same octets.

@@ -7,8 +7,7 @@ ghost use Rattle.ss_block.specs.Signed.{signed, IsWithoutSign};
 use crate::reading::{Reading, read};
 use crate::session::{Session, session_with};
 use crate::signed::signed_with;
-use ss_frame::Bytes;
-use ss_message::NoMemory;
+use ss_octets::{Bytes, NoMemory};
 use std::alloc::Global;
 
 /// What a message is, who sent it, and what is signed of it.

@@ -1,15 +1,14 @@
 //! The hashes of a signature block, as HB spells them (RFC 5848, section 4.2.7).
 ghost use Rattle.std.specs.Prelude.{◌≡◌, ◌≤◌, List, ℕ, length, Some, None, IfOk, IsTrue, is_some, if◌then◌else◌};
 ghost use Rattle.std.specs.List.{list_all};
-ghost use Rattle.ss_payload.specs.StrictBase64.{octets_in};
+ghost use Rattle.ss_octets.specs.StrictBase64.{octets_in};
 ghost use Rattle.ss_block.specs.Reading.{hash_in, hashes_in, pieces};
 
 use crate::hash::{Alg, Hash};
 use crate::hashes::Hashes;
 use crate::version::{SHA1_OCTETS, SHA256_OCTETS};
 use base64::engine::general_purpose::STANDARD;
-use ss_frame::cut_first;
-use ss_message::NoMemory;
+use ss_octets::{NoMemory, cut_first};
 use std::alloc::Global;
 
 /// Whether `text` spells as many octets as `octets` has room for, which then holds them.

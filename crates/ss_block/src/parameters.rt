@@ -3,8 +3,8 @@ ghost use Rattle.std.specs.Prelude.{◌≡◌, ◌≤◌, Some, None, if◌then�
 ghost use Rattle.ss_message.specs.Layout.{element_value};
 ghost use Rattle.ss_block.specs.declared.block_parameter.BlockParameter.TheVariants as kinds;
 ghost use Rattle.ss_block.specs.declared.spoil.Spoil.TheVariants as spoils;
-ghost use Rattle.ss_block.specs.Number.{number, is_number};
-ghost use Rattle.ss_payload.specs.StrictBase64.{octets_in};
+ghost use Rattle.ss_octets.specs.Number.{number, is_number};
+ghost use Rattle.ss_octets.specs.StrictBase64.{octets_in};
 ghost use Rattle.ss_block.specs.Reading.{text_of, or_none};
 ghost use Rattle.ss_block.specs.Meanings.{HasAll};
 ghost use Rattle.ss_block.specs.Causes.{Tests};
@@ -12,14 +12,13 @@ ghost use Rattle.ss_block.specs.Versions.{is_version, alg_of};
 
 use crate::block_parameter::BlockParameter;
 use crate::hash::Alg;
-use crate::number::number_of;
 use crate::ranges::NumberRange;
 use crate::refusal::Refusal;
 use crate::spoil::Spoil;
 use crate::texts::text_of;
-use ss_frame::Bytes;
 use ss_message::Element;
-use ss_payload::strict_base64::decoded;
+use ss_octets::strict_base64::decoded;
+use ss_octets::{Bytes, number_of};
 use std::alloc::Global;
 
 /// VER's hash algorithm (RFC 5848, section 4.2.1).

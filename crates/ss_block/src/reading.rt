@@ -12,7 +12,8 @@ use crate::certificate_reading::read_certificate;
 use crate::elements::element_with;
 use crate::signature_reading::read_signature;
 use crate::spoil::Spoil;
-use ss_message::{Fault, Message, NoMemory, Part, parse};
+use ss_message::{Fault, Message, Part, parse};
+use ss_octets::NoMemory;
 use std::alloc::Global;
 
 /// What a message holds (RFC 5848, sections 4 and 5).

@@ -1,6 +1,6 @@
 //! Why no block was read from an element.
 use crate::spoil::Spoil;
-use ss_message::NoMemory;
+use ss_octets::NoMemory;
 
 /// Why no block was read.
 #[derive(Clone, Copy)]

@@ -9,7 +9,8 @@ ghost use Rattle.ss_block.specs.Writing.{head_session};
 use crate::copies::{copy_of, copy_of_field};
 use crate::head::Head;
 use crate::reading::{Reading, read};
-use ss_message::{Field, Message, NoMemory};
+use ss_message::{Field, Message};
+use ss_octets::NoMemory;
 use std::alloc::Global;
 
 /// Who sent a block, and since which reboot: the header fields of its message and RSID (RFC 5848, section 4.2).

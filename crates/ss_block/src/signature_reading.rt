@@ -5,7 +5,7 @@ ghost use Rattle.ss_message.specs.Places.{ElementIsWithin};
 ghost use Rattle.ss_block.specs.declared.block_parameter.BlockParameter.TheVariants as kinds;
 ghost use Rattle.ss_block.specs.declared.spoil.Spoil.TheVariants as spoils;
 ghost use Rattle.ss_block.specs.declared.reading.Reading.TheVariants.{Signature};
-ghost use Rattle.ss_block.specs.Number.{number};
+ghost use Rattle.ss_octets.specs.Number.{number};
 ghost use Rattle.ss_block.specs.Reading.{has_parameters, text_of, pieces, hashes_in, signature_names, signature_texts};
 ghost use Rattle.ss_block.specs.Reading.{signature_numbers, signature_reading};
 ghost use Rattle.ss_block.specs.Meanings.{HasAll};
@@ -23,7 +23,8 @@ use crate::reading::Reading;
 use crate::refusal::Refusal;
 use crate::spoil::Spoil;
 use crate::texts::{has_parameters, text_of};
-use ss_message::{Element, NoMemory};
+use ss_message::Element;
+use ss_octets::NoMemory;
 use std::alloc::Global;
 
 /// The numbers of a signature block.

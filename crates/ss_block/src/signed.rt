@@ -9,8 +9,8 @@ ghost use Rattle.ss_block.specs.Signed.{signed, signed_if_block, unsigned_value,
 
 use crate::block_parameter::BlockParameter;
 use crate::reading::{Reading, read};
-use ss_frame::Bytes;
-use ss_message::{Message, NoMemory, Parameter};
+use ss_message::{Message, Parameter};
+use ss_octets::{Bytes, NoMemory};
 use std::alloc::Global;
 
 // The octets without those from `start` up to `end`.

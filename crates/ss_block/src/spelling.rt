@@ -1,12 +1,11 @@
 //! The values of a block's parameters, spelled (RFC 5848, sections 4.2 and 5.3.2).
 ghost use Rattle.std.specs.Prelude.{◌≡◌, decimal, IfOk};
-ghost use Rattle.ss_payload.specs.StrictBase64.{base64};
+ghost use Rattle.ss_octets.specs.StrictBase64.{base64};
 ghost use Rattle.ss_block.specs.Writing.{hash_octets, hashes_text};
 
 use crate::hash::Hash;
 use base64::engine::general_purpose::STANDARD;
-use ss_frame::{Bytes, put_number};
-use ss_message::NoMemory;
+use ss_octets::{Bytes, NoMemory, put_number};
 use std::alloc::Global;
 
 /// The number in decimal.
@@ -19,7 +18,7 @@ pub fn number_text(alloc: Global, number: u64) -> Result<Bytes, NoMemory>
 }
 
 /// The octets in base64.
-#[tactic(auto, unfolding(ss_payload::specs::StrictBase64::base64))]
+#[tactic(auto, unfolding(ss_octets::specs::StrictBase64::base64))]
 pub fn base64_text(alloc: Global, octets: &[u8]) -> Result<Bytes, NoMemory>
     ensures { IfOk result (λ b. b ≡ base64 octets.now) }
 {

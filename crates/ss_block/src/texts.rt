@@ -13,8 +13,8 @@ ghost use Rattle.ss_block.specs.Reading.{has_parameters, text_at, text_of};
 
 use crate::block_parameter::BlockParameter;
 use crate::copies::copy_of;
-use ss_frame::Bytes;
-use ss_message::{Element, NoMemory, Parameter, value};
+use ss_message::{Element, Parameter, value};
+use ss_octets::{Bytes, NoMemory};
 use std::alloc::Global;
 
 /// What a value stands for.

@@ -6,7 +6,7 @@ use Rattle.std.specs.Prelude.{Result, Ok, Err, IfOk}
 use Rattle.std.specs.declared.vec.Vec.{Vec}
 use Rattle.std.specs.declared.alloc.Global.{Global}
 use Rattle.std.specs.Str.{IsAscii}
-use Rattle.ss_message.specs.declared.fault.NoMemory.{NoMemory}
+use Rattle.ss_octets.specs.declared.no_memory.NoMemory.{NoMemory}
 use Rattle.ss_payload.specs.declared.cuts.Cut.{Cut}
 use Rattle.ss_payload.specs.Cuts.{AreCuts}
 use Rattle.ss_payload.specs.CuttingLaws.{LiesWithin, PiecesLieWithin}

@@ -23,8 +23,7 @@ use ss_block::laws::cutting::pieces_lie_within;
 use ss_block::laws::fragments::pieces_are_fragments;
 use ss_block::laws::payloads::{texts_are_ascii, texts_have_octets};
 use ss_block::{CertBlock, Cut, Group, Hash, Hashes, Payload, SigBlock, cut};
-use ss_frame::Bytes;
-use ss_message::NoMemory;
+use ss_octets::{Bytes, NoMemory};
 use std::alloc::Global;
 
 /// Where a signature block stands: its group, and its number among all blocks.

@@ -1,5 +1,5 @@
 //! Where an originator goes on behind another one.
-use ss_frame::List;
+use ss_octets::List;
 
 /// The next number of a group.
 #[derive(Clone, Copy, Debug, PartialEq, Eq)]

@@ -2,7 +2,7 @@
 ghost use Rattle.std.specs.Prelude.{◌≡◌};
 ghost use Rattle.ss_origin.specs.declared.fault.OriginFault.TheVariants.{Memory};
 
-use ss_message::NoMemory;
+use ss_octets::NoMemory;
 use std::alloc::{AllocError, AllocFailed};
 use std::fmt;
 use thiserror::Error;

@@ -2,7 +2,7 @@
 ghost use Rattle.std.specs.Prelude.{◌≡◌};
 ghost use Rattle.ss_origin.specs.Groups.{sg_of, least_bound, spri_of};
 
-use ss_frame::List;
+use ss_octets::List;
 
 /// The highest PRI of each range, in order: rising, each 0 to 191, and the last 191.
 pub type Bounds = List<u8>;

@@ -10,7 +10,7 @@ use crate::config::Config;
 use crate::counters::{Counters, NextNumber};
 use crate::grouping::Grouping;
 use ss_block::{LAST_NUMBER, LONGEST_PAYLOAD, PAST_LAST_NUMBER, Payload};
-use ss_message::NoMemory;
+use ss_octets::NoMemory;
 use std::alloc::Global;
 
 /// Whether the bounds of ranges of PRI rise strictly, and the last is 191.

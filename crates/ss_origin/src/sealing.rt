@@ -14,8 +14,8 @@ use crate::fault::OriginFault;
 use crate::sealer::{SealFault, Seals};
 use crate::unsigned::Unsigned;
 use ss_block::{unsigned_cert, unsigned_sig, write_cert, write_sig};
-use ss_frame::Bytes;
 use ss_message::Stamp;
+use ss_octets::Bytes;
 use std::alloc::Global;
 
 // A signature of the octets that may stand in a block message.

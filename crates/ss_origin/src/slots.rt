@@ -10,7 +10,7 @@ ghost use Rattle.ss_block.specs.Ranges.{past_last_number};
 
 use crate::counters::{NextNumber, NextNumbers};
 use ss_block::Hash;
-use ss_message::NoMemory;
+use ss_octets::NoMemory;
 use std::alloc::Global;
 use std::marker::Model;
 

@@ -3,7 +3,6 @@ pub mod JoiningLaws
 pub mod Placed
 pub mod Runs
 pub mod Standing
-pub mod Base64Text
 pub mod CutLists
 pub mod StampEnds
 pub mod Payloads

@@ -10,7 +10,7 @@ use Rattle.ss_message.specs.Stamp.{Moment, padded, fraction_text, offset_text, s
 use Rattle.ss_message.specs.Message.{timestamp_text}
 use Rattle.ss_payload.specs.declared.kind.Kind.{Kind}
 use Rattle.ss_payload.specs.declared.kind.Kind.TheVariants.{C, P, K, N, U}
-use Rattle.ss_payload.specs.StrictBase64.{base64}
+use Rattle.ss_octets.specs.StrictBase64.{base64}
 use Rattle.ss_payload.specs.Payload.{PayloadValue, IsPayload, letter, blob_text, payload_text}
 use Rattle.ss_payload.specs.Payload.Spells.{exactly}
 use Rattle.ss_payload.specs.PayloadReading.{payload_in}

@@ -10,17 +10,17 @@ use Rattle.base64.specs.GeneralPurpose.{IsBytes}
 use Rattle.ss_message.specs.Octets.{is_absent, is_no_space}
 use Rattle.ss_message.specs.Stamp.{Moment, is_stamp, stamp_text}
 use Rattle.ss_message.specs.Message.{timestamp_text, is_timestamp}
-use Rattle.ss_frame.specs.Cut.{parts_at}
+use Rattle.ss_octets.specs.Cut.{parts_at}
 use Rattle.ss_message.specs.StampReading.{◌>>=◌, past, stamp_of}
 use Rattle.ss_message.proofs.Numbers.{bind_some, chosen_some, some_is, past_takes}
 use Rattle.ss_message.proofs.Stamps.{stamp_takes, stamp_again}
 use Rattle.ss_payload.specs.declared.kind.Kind.{Kind}
 use Rattle.ss_payload.specs.declared.kind.Kind.TheVariants.{C, P, K, N, U}
-use Rattle.ss_payload.specs.StrictBase64.{base64, octets_in}
+use Rattle.ss_octets.specs.StrictBase64.{base64, octets_in}
 use Rattle.ss_payload.specs.Payload.{PayloadValue, IsPayload, Spells, letter, blob_text, is_blob, if_suited, payload_text}
 use Rattle.ss_payload.specs.Payload.Spells.{exactly, with_space}
 use Rattle.ss_payload.specs.PayloadReading.{stamp_in, stamp_and_rest_in, kind_in, no_blob_in, some_blob_in, blob_in, first_in, payload_in}
-use Rattle.ss_payload.proofs.Base64Text.{octets_in-base64, is_base64}
+use Rattle.ss_octets.proofs.Base64Text.{octets_in-base64, is_base64}
 use Rattle.ss_payload.proofs.StampEnds.{stamp_ends}
 
 -- What spells stamps, and reads each that is spelled, is what is read as a stamp.

@@ -1,5 +1,4 @@
 pub mod Ranges
-pub mod StrictBase64
 pub mod Joiner
 pub mod Joining
 pub mod Fragments

@@ -1,13 +1,13 @@
 -- The payload block of a session (RFC 5848, section 5.2): a timestamp, the type of the key blob, and the blob.
 use Rattle.std.specs.Prelude.{◌≡◌, ℕ, Bool, true, not, List, [], ◌∷◌, ◌++◌, length, Option, Some, None, ◌==◌}
 use Rattle.std.specs.Prelude.{if◌then◌else◌}
-use Rattle.ss_frame.specs.Ascii.{sp}
+use Rattle.ss_octets.specs.Ascii.{sp}
 use Rattle.base64.specs.GeneralPurpose.{IsBytes}
 use Rattle.ss_message.specs.Stamp.{Moment}
 use Rattle.ss_message.specs.Message.{timestamp_text, is_timestamp}
 use Rattle.ss_payload.specs.declared.kind.Kind.{Kind}
 use Rattle.ss_payload.specs.declared.kind.Kind.TheVariants.{C, P, K, N, U}
-use Rattle.ss_payload.specs.StrictBase64.{base64}
+use Rattle.ss_octets.specs.StrictBase64.{base64}
 
 pub record PayloadValue : Type 0 where
   pub stamp : Option Moment

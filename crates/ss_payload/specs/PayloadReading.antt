@@ -1,13 +1,13 @@
 -- A payload block read from the left: what it says, or none.
 use Rattle.std.specs.Prelude.{ℕ, List, [], ◌∷◌, Option, Some, None, option_map, ◌==◌, if◌then◌else◌}
-use Rattle.ss_frame.specs.Ascii.{sp}
-use Rattle.ss_frame.specs.Cut.{parts_at}
+use Rattle.ss_octets.specs.Ascii.{sp}
+use Rattle.ss_octets.specs.Cut.{parts_at}
 use Rattle.ss_message.specs.Octets.{is_absent}
 use Rattle.ss_message.specs.Stamp.{Moment}
 use Rattle.ss_message.specs.StampReading.{◌>>=◌, past, stamp_of}
 use Rattle.ss_payload.specs.declared.kind.Kind.{Kind}
 use Rattle.ss_payload.specs.declared.kind.Kind.TheVariants.{C, P, K, N, U}
-use Rattle.ss_payload.specs.StrictBase64.{octets_in}
+use Rattle.ss_octets.specs.StrictBase64.{octets_in}
 use Rattle.ss_payload.specs.Payload.{PayloadValue, if_suited}
 
 -- a stamp, or `-` for none

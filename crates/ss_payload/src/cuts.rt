@@ -1,5 +1,5 @@
 //! The pieces in which a payload block is sent (RFC 5848, section 5.3.2).
-use ss_frame::List;
+use ss_octets::List;
 
 /// A piece of a payload block: the octets of one certificate block's fragment.
 #[derive(Clone, Copy, Debug, PartialEq, Eq)]

@@ -6,7 +6,7 @@ ghost use Rattle.ss_payload.specs.Cuts.{AreCuts, piece_of};
 ghost use Rattle.ss_payload.specs.Ranges.{longest_payload};
 
 use crate::cuts::{Cut, Cuts};
-use ss_message::NoMemory;
+use ss_octets::NoMemory;
 use std::alloc::Global;
 
 /// The pieces that cover `text` once, in order, each of `size` octets but a shorter last one. It wants a text of 1 to

@@ -13,8 +13,7 @@ mod slot;
 mod totals;
 
 use runs::Runs;
-use ss_frame::Bytes;
-use ss_message::NoMemory;
+use ss_octets::{Bytes, NoMemory};
 use std::alloc::Global;
 use totals::Totals;
 

@@ -11,7 +11,6 @@ mod payload;
 mod payload_reading;
 mod payload_writing;
 mod ranges;
-pub mod strict_base64;
 
 pub use cuts::{Cut, Cuts};
 pub use cutting::cut;

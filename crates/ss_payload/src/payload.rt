@@ -1,6 +1,6 @@
 //! The payload block of a session (RFC 5848, section 5.2).
 ghost use Rattle.std.specs.Prelude.{◌≡◌, ◌≢◌, ◌∷◌, ℕ, List, Option, Some, None, option_and_then, IfOk, IfSome};
-ghost use Rattle.ss_frame.specs.Ascii.{sp};
+ghost use Rattle.ss_octets.specs.Ascii.{sp};
 ghost use Rattle.ss_message.specs.Stamp.{Moment};
 ghost use Rattle.ss_message.specs.StampReading.{past};
 ghost use Rattle.ss_payload.specs.Payload.{PayloadValue, IsPayload, Spells, if_suited, letter, payload_text};
@@ -10,8 +10,8 @@ ghost use Rattle.ss_payload.specs.PayloadReading.{stamp_and_rest_in, first_in, k
 use crate::kind::Kind;
 use crate::payload_reading::payload_of;
 use crate::payload_writing::payload_text;
-use ss_frame::Bytes;
-use ss_message::{NoMemory, Stamp, assure_timestamp};
+use ss_message::{Stamp, assure_timestamp};
+use ss_octets::{Bytes, NoMemory};
 use std::alloc::Global;
 use std::marker::Model;
 

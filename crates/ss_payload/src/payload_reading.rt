@@ -1,7 +1,7 @@
 //! Payload blocks read from the left (RFC 5848, section 5.2).
 ghost use Rattle.std.specs.Prelude.{◌≡◌, ◌≢◌, ◌∷◌, ℕ, List, Option, Some, None, option_and_then, IfOk, IfSome};
 ghost use Rattle.std.specs.Prelude.{option_map};
-ghost use Rattle.ss_frame.specs.Ascii.{sp};
+ghost use Rattle.ss_octets.specs.Ascii.{sp};
 ghost use Rattle.ss_message.specs.Stamp.{Moment};
 ghost use Rattle.ss_message.specs.StampReading.{past, stamp_of};
 ghost use Rattle.ss_payload.specs.Payload.{IsPayload, letter};
@@ -11,9 +11,9 @@ ghost use Rattle.ss_payload.specs.PayloadReading.{first_in, kind_in, payload_in}
 
 use crate::kind::{Kind, kind_of};
 use crate::payload::Payload;
-use crate::strict_base64::decoded;
-use ss_frame::{Bytes, cut_first};
-use ss_message::{NoMemory, Stamp, assure_timestamp};
+use ss_message::{Stamp, assure_timestamp};
+use ss_octets::strict_base64::decoded;
+use ss_octets::{Bytes, NoMemory, cut_first};
 use std::alloc::Global;
 
 /// The stamp that the octets spell, all of them.

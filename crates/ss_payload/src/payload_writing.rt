@@ -1,13 +1,13 @@
 //! Payload blocks, written (RFC 5848, section 5.2).
 ghost use Rattle.std.specs.Prelude.{◌≡◌, ◌++◌, ◌∷◌, IfOk, OnOk};
-ghost use Rattle.ss_frame.specs.Ascii.{sp};
+ghost use Rattle.ss_octets.specs.Ascii.{sp};
 ghost use Rattle.ss_message.specs.Message.{timestamp_text};
 ghost use Rattle.ss_payload.specs.Payload.{letter, blob_text, payload_text};
 
 use crate::kind::{Kind, letter};
-use crate::strict_base64::put_base64;
-use ss_frame::Bytes;
-use ss_message::{NoMemory, Stamp, write_stamp};
+use ss_message::{Stamp, write_stamp};
+use ss_octets::strict_base64::put_base64;
+use ss_octets::{Bytes, NoMemory};
 use std::alloc::{AllocError, Global};
 
 // TIMESTAMP, or `-` for none.

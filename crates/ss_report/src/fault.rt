@@ -4,7 +4,7 @@ ghost use Rattle.ss_report.specs.declared.fault.RunFault.TheVariants.{Extract, F
 
 use crate::runs::extraction::ExtractFault;
 use ss_frame::FrameFault;
-use ss_message::NoMemory;
+use ss_octets::NoMemory;
 use ss_review::ReviewFault;
 use std::alloc::{AllocError, AllocFailed};
 use std::fmt;

@@ -1,6 +1,6 @@
 -- The text of a plan: a line for each block message, ended by LF, which says what is to be signed for it.
 use Rattle.std.specs.Prelude.{ℕ, List, [], ◌++◌, codes, flat_map, Option, Some, None}
-use Rattle.ss_payload.specs.StrictBase64.{base64}
+use Rattle.ss_octets.specs.StrictBase64.{base64}
 use Rattle.ss_block.specs.Signed.{signed}
 
 -- want OCTETS, with the octets in strict base64

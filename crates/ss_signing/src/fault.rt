@@ -3,7 +3,7 @@ ghost use Rattle.std.specs.Prelude.{◌≡◌};
 ghost use Rattle.ss_signing.specs.declared.fault.SignFault.TheVariants.{Run};
 ghost use Rattle.ss_report.specs.declared.fault.RunFault.TheVariants.{Memory};
 
-use ss_message::NoMemory;
+use ss_octets::NoMemory;
 use ss_origin::OriginFault;
 use ss_report::RunFault;
 use std::fmt;

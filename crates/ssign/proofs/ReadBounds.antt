@@ -4,7 +4,7 @@ use Rattle.std.specs.Prelude.{map}
 use Rattle.std.specs.List.{list_all}
 use Rattle.std.proofs.lemmas.List.{append-nil}
 use Rattle.std.proofs.lemmas.Option.{cond_some}
-use Rattle.ss_block.specs.Number.{number, is_number, number_in}
+use Rattle.ss_octets.specs.Number.{number, is_number, number_in}
 use Rattle.ss_origin.specs.Groups.{are_bounds}
 
 -- the numbers of the texts, and whether each is a PRI

@@ -2,7 +2,7 @@
 use Rattle.std.specs.Prelude.{ℕ, Bool, ◌==◌, ◌&&◌, List, map, codes, Option, Some, None, option_map, if◌then◌else◌}
 use Rattle.std.specs.List.{list_all, slice_split}
 use Rattle.std.specs.Str.{bytes_eq}
-use Rattle.ss_block.specs.Number.{number, is_number}
+use Rattle.ss_octets.specs.Number.{number, is_number}
 use Rattle.ss_origin.specs.declared.grouping.Grouping.{Grouping}
 use Rattle.ss_origin.specs.declared.grouping.Grouping.TheVariants.{One, ByPri, Ranges}
 use Rattle.ss_origin.specs.Groups.{are_bounds}

@@ -1,11 +1,9 @@
 //! The groups of messages, as an option spells them.
 ghost use Rattle.std.specs.Prelude.{◌≡◌, IfOk};
-ghost use Rattle.ss_block.specs.Number.{number_in};
+ghost use Rattle.ss_octets.specs.Number.{number_in};
 ghost use Rattle.ssign.specs.GroupsText.{bounds_in, grouping_in};
 
-use ss_block::number_of;
-use ss_frame::cut_first;
-use ss_message::NoMemory;
+use ss_octets::{NoMemory, cut_first, number_of};
 use ss_origin::{Bounds, Grouping, are_bounds};
 use std::alloc::Global;
 

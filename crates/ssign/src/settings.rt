@@ -16,8 +16,8 @@ use crate::options::{
 use crate::text_option::TextOption;
 use clap::ArgMatches;
 use ss_block::{Alg, Head, Payload};
-use ss_frame::Bytes;
-use ss_message::{Field, NoMemory, Stamp};
+use ss_message::{Field, Stamp};
+use ss_octets::{Bytes, NoMemory};
 use ss_origin::Config;
 use ss_payload::stamp_of;
 use std::alloc::Global;

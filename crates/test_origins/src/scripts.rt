@@ -13,7 +13,8 @@ use OriginFault::{
 };
 use Step::{Counters, Lengths, Refused, Sent};
 use ss_block::{Alg, Session};
-use ss_message::{Field, NoMemory, Stamp};
+use ss_message::{Field, Stamp};
+use ss_octets::NoMemory;
 use ss_origin::{Emitted, OriginFault, Originator, Sealer, Seals};
 use std::alloc::Global;
 use std::cell::Cell;

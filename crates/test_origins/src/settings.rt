@@ -1,7 +1,7 @@
 //! Configurations and counters as values that tables hold, all with one payload, and with one head but for its MSGID.
 use ss_block::{Alg, Head, Payload};
-use ss_frame::Bytes;
-use ss_message::{Field, NoMemory};
+use ss_message::Field;
+use ss_octets::{Bytes, NoMemory};
 use ss_origin::{Bounds, Config, Counters, Grouping, NextNumber, NextNumbers};
 use std::alloc::{AllocError, Global};
 

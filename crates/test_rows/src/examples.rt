@@ -1,12 +1,31 @@
-//! The examples of the READMEs of `ss_frame`, `ss_message`, `ss_payload` and `ss_block`, line by line.
+//! The examples of the READMEs of `ss_octets`, `ss_frame`, `ss_message`, `ss_payload` and `ss_block`, line by line.
 use ss_block::{
     Alg, Hash, Joiner, Payload, Reading, Session, classify, hash_of, may_hold_block, session_of,
     signed_bytes,
 };
-use ss_frame::{Bytes, FrameFault, FrameReader, Limits, Step, Watched, WriteFault, write_frame};
-use ss_message::{NoMemory, Stamp, escape, parse, value};
+use ss_frame::{FrameFault, FrameReader, Limits, Step, Watched, WriteFault, write_frame};
+use ss_message::{Stamp, escape, parse, value};
+use ss_octets::strict_base64::decoded;
+use ss_octets::{Bytes, NoMemory, cut_first, number_of, put_number};
 use std::alloc::Global;
 use std::test::Fail;
+
+/// A number that was written and read, the parts of a text, and octets of base64.
+type Octets = (
+    Vec<u8>,
+    Option<u64>,
+    Option<(&'static [u8], &'static [u8])>,
+    Option<Bytes>,
+);
+
+fn octets(alloc: Global) -> Result<Octets, NoMemory> {
+    let mut text = Vec::new(alloc);
+    put_number(&mut text, 1847)?;
+    let number = number_of(0, 9_999, text.as_slice());
+    let cut = cut_first(b"FRAG=S0VZ", b'=');
+    let octets = decoded(alloc, b"S0VZ")?;
+    Ok((text, number, cut, octets))
+}
 
 /// A frame that was written, and a message that was read.
 type Frames = (Vec<u8>, Result<Step, FrameFault>);
@@ -51,6 +70,19 @@ fn blocks(alloc: Global, message: &[u8]) -> Result<Block, NoMemory> {
     let signed = signed_bytes(alloc, message)?;
     let hash = hash_of(Alg::Sha1, message);
     Ok((marked, reading, session, signed, hash))
+}
+
+#[test]
+fn octets_are_told(rt: HostRuntime) -> Result<(), Fail> {
+    let (text, number, cut, octets) = octets(rt.alloc())?;
+    assert_eq!(rt; text.as_slice(), b"1847".as_slice());
+    assert_eq!(rt; number, Some(1847));
+    let (name, value) = cut.ok_or("a cut")?;
+    assert_eq!(rt; name, b"FRAG".as_slice());
+    assert_eq!(rt; value, b"S0VZ".as_slice());
+    let octets = octets.ok_or("octets")?;
+    assert_eq!(rt; octets.as_slice(), b"KEY".as_slice());
+    Ok(())
 }
 
 #[test]

@@ -1,7 +1,7 @@
 //! What one parse tells of a message: what it is, its session, and what is signed of it.
 use ss_block::{FullReading, Reading, Session, read_fully};
-use ss_frame::Bytes;
-use ss_message::{Field, NoMemory, Part};
+use ss_message::{Field, Part};
+use ss_octets::{Bytes, NoMemory};
 use std::process::Abort;
 
 const CERTIFICATE: &[u8] =

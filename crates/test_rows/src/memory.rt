@@ -7,11 +7,10 @@ use crate::messages::examples::FOURTH;
 use ss_block::{
     Cut, FullReading, Kind, Payload, Reading, Session, cut, read_fully, session_of, signed_bytes,
 };
-use ss_frame::Bytes;
 use ss_message::{
-    DraftFault, Fault, Field, Message, NoMemory, Stamp, escape, parse, value, write_message,
-    write_stamp,
+    DraftFault, Fault, Field, Message, Stamp, escape, parse, value, write_message, write_stamp,
 };
+use ss_octets::{Bytes, NoMemory};
 use std::alloc::Global;
 
 /// A call that takes memory.

@@ -1,6 +1,7 @@
 //! Faults printed, each variant once.
 use ss_frame::{FrameFault, WriteFault};
-use ss_message::{DraftFault, Fault, NoMemory, Part};
+use ss_message::{DraftFault, Fault, Part};
+use ss_octets::NoMemory;
 use std::alloc::AllocError;
 use std::fmt::Display;
 use std::process::Abort;

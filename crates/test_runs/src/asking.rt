@@ -3,7 +3,7 @@ ghost use Rattle.std.specs.Prelude.{length, nat_le, true};
 
 use crate::book::{PAYLOAD, SIGN};
 use crate::texts::{Text, octets_of, signed_of};
-use ss_frame::Bytes;
+use ss_octets::Bytes;
 use ss_review::{Judge, Question, Questions, ReviewFault, Reviewer};
 use std::alloc::{AllocError, Global};
 use std::cell::Cell;

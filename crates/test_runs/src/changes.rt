@@ -2,7 +2,8 @@
 use crate::book::{Job, Who, Yes};
 use crate::run::{Task, limits_of, run};
 use crate::texts::{Text, log_of};
-use ss_frame::{Bytes, Form, FrameFault, Watched};
+use ss_frame::{Form, FrameFault, Watched};
+use ss_octets::Bytes;
 use ss_report::report_text::report_text;
 use ss_report::{Log, RunFault, read_log};
 use ss_review::{ReviewFault, plain};

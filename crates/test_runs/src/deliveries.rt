@@ -2,7 +2,8 @@
 use crate::book::{Job, PAYLOAD, Who};
 use crate::originating::{A, B, C, D, E, Step, sent};
 use crate::run::{Task, limits_of, run};
-use ss_frame::{Bytes, Form, Watched, write_frame};
+use ss_frame::{Form, Watched, write_frame};
+use ss_octets::Bytes;
 use ss_report::Verdict;
 use std::alloc::{AllocError, Global};
 use std::process::Abort;

@@ -8,8 +8,9 @@ use crate::run::Done;
 use crate::stops::MEMORY;
 use crate::texts::{Text, octets_of};
 use ss_block::{Group, Session};
-use ss_frame::{Bytes, Limits, Tail, Watched};
-use ss_message::{Field, NoMemory};
+use ss_frame::{Limits, Tail, Watched};
+use ss_message::Field;
+use ss_octets::{Bytes, NoMemory};
 use ss_report::report_text::report_text;
 use ss_report::{
     Detail, Notation, ReportForm, Run, RunFault, Verdict, run_counters, run_review_as,

@@ -2,8 +2,8 @@
 ghost use Rattle.std.specs.Prelude.{true};
 
 use ss_block::{Alg, Head, Payload};
-use ss_frame::Bytes;
 use ss_message::Field;
+use ss_octets::Bytes;
 use ss_origin::{Config, Emitted, Grouping, OriginFault, Originator, SealFault, Seals};
 use std::alloc::{AllocError, Global};
 

@@ -1,6 +1,7 @@
 //! What is missing of sessions up to counters that somebody kept.
 use ss_block::{Group, Session};
-use ss_message::{Field, NoMemory};
+use ss_message::Field;
+use ss_octets::NoMemory;
 use ss_review::{
     CountedSession, Counter, Counts, Entries, Entry, Gbcs, GroupReport, GroupReports, GroupTail,
     LogShortfalls, MissingRun, SessionReport, SessionState, Shortfall, Why, log_shortfalls,

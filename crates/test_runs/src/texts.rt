@@ -1,6 +1,7 @@
 //! Messages that logs are made of, by their names. The two samples are of FIPS 180, whose hashes are in the signature
 //! blocks.
-use ss_frame::{Form, put_number};
+use ss_frame::Form;
+use ss_octets::put_number;
 use std::alloc::{AllocError, Global};
 
 /// A message, by its name in a table. A block is of session 1 of host `h`, and a certificate block holds the whole

@@ -2,8 +2,9 @@
 use crate::sealing::{Lenient, Seal, answer};
 use ss_answers::{AnswerFault, read_answers};
 use ss_block::{Alg, Head, Payload};
-use ss_frame::{Bytes, Limits, Watched};
+use ss_frame::{Limits, Watched};
 use ss_message::{Field, Stamp};
+use ss_octets::Bytes;
 use ss_origin::{Config, Grouping, SealFault, Sealer, Seals};
 use ss_signing::{SignFault, run_sign};
 use std::alloc::Global;

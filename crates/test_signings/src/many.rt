@@ -1,7 +1,8 @@
 //! A log of ten thousand messages, signed and reviewed.
 use crate::run::{Job, Task, run_by};
 use crate::sealing::{Lenient, Seal};
-use ss_frame::{Limits, Watched, put_number};
+use ss_frame::{Limits, Watched};
+use ss_octets::put_number;
 use ss_report::{Verdict, run_review};
 use std::alloc::{AllocError, Global};
 use std::process::Abort;

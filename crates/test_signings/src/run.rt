@@ -4,8 +4,9 @@ ghost use Rattle.ss_frame.specs.Watched.{has_failed};
 
 use crate::sealing::{Lenient, Seal, answer};
 use ss_block::{Alg, Head, Payload};
-use ss_frame::{Bytes, Limits, Watched};
+use ss_frame::{Limits, Watched};
 use ss_message::Field;
+use ss_octets::Bytes;
 use ss_origin::{Config, Grouping, Sealer};
 use ss_report::RunFault;
 use ss_signing::{SignFault, run_plan, run_sign};

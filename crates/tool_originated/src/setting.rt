@@ -1,7 +1,7 @@
 //! The configuration, the payload and the counters that a script names.
 use ss_block::{Alg, Head, Payload};
-use ss_frame::Bytes;
 use ss_message::Field;
+use ss_octets::Bytes;
 use ss_origin::{Bounds, Config, Counters, Grouping, NextNumber, NextNumbers};
 use std::alloc::{AllocError, Global};
 

@@ -7,7 +7,8 @@ ghost use Rattle.ss_answers.specs.CounterInput.{IsCountersFileFault, read_failed
 use crate::counters::fault::CounterFault;
 use crate::counters::lines::read_counter_lines;
 use crate::input::read_all;
-use ss_frame::{List, Watched};
+use ss_frame::Watched;
+use ss_octets::List;
 use ss_review::Counters;
 use std::alloc::Global;
 use std::fs;

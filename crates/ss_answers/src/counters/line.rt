@@ -6,8 +6,8 @@ ghost use Rattle.ss_answers.specs.CounterLine.{IsNoCounter, SpellsCounter, count
 use crate::counters::words::{CounterWords, counter_words};
 use crate::field::LineFault;
 use ss_block::Session;
-use ss_frame::List;
 use ss_message::Field;
+use ss_octets::List;
 use ss_review::Counter;
 use std::alloc::{AllocError, Global};
 

@@ -9,7 +9,8 @@ ghost use Rattle.ss_answers.specs.CounterLine.{SpellsCounter, SpellsNext, Spells
 ghost use Rattle.ss_answers.specs.CounterLine.{session_by};
 
 use crate::cut::cut_word;
-use ss_block::{Group, LAST_NUMBER, PAST_LAST_NUMBER, number_of};
+use ss_block::{Group, LAST_NUMBER, PAST_LAST_NUMBER};
+use ss_octets::number_of;
 use ss_review::Counts;
 
 /// The words of a session.

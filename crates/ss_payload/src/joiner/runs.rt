@@ -7,8 +7,7 @@ ghost use Rattle.ss_payload.specs.Slots.{joined_slot, slot_differs};
 ghost use Rattle.ss_payload.specs.RunSlots.{IsWritten, SomeDiffersIn, NoneDiffersIn, IsPushed, BelongsTo};
 
 use super::slot::Slot;
-use ss_frame::Bytes;
-use ss_message::NoMemory;
+use ss_octets::{Bytes, NoMemory};
 use std::alloc::{AllocError, Global};
 use std::collections::BTreeMap;
 

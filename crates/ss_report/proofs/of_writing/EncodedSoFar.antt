@@ -4,7 +4,7 @@ use Rattle.std.proofs.lemmas.List.{take-append-drop, length-take-le}
 use Rattle.base64.specs.Engines.{standard}
 use Rattle.base64.proofs.EngineFacts.{encode_of-append, encode_of-nil}
 use Rattle.ss_frame.specs.Watched.{Sink}
-use Rattle.ss_payload.specs.StrictBase64.{base64}
+use Rattle.ss_octets.specs.StrictBase64.{base64}
 use Rattle.ss_report.specs.log.Writing.{Writes}
 use Rattle.ss_report.proofs.of_writing.Writings.{writes_then, writes_same, writes_nothing}
 

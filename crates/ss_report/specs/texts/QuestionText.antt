@@ -2,7 +2,7 @@
 -- between two, each but the first octets in strict base64. A line that the scheme says yes to is a line of an answer
 -- file. As JSON (RFC 8259) it is an object whose members are these words.
 use Rattle.std.specs.Prelude.{ℕ, List, ◌++◌, codes, flat_map}
-use Rattle.ss_payload.specs.StrictBase64.{base64}
+use Rattle.ss_octets.specs.StrictBase64.{base64}
 use Rattle.ss_review.specs.declared.questions.question.Question.{Question}
 use Rattle.ss_review.specs.declared.questions.question.Question.TheVariants as question
 use Rattle.ss_report.specs.forms.Json.{word_member}

@@ -8,7 +8,7 @@ use crate::lines::line::Line;
 use crate::lines::taker::Taker;
 use crate::lines::walk::walk_lines;
 use ss_frame::Tail;
-use ss_message::NoMemory;
+use ss_octets::NoMemory;
 use ss_review::{Places, Report};
 use std::alloc::Global;
 

@@ -3,7 +3,8 @@ ghost use Rattle.std.specs.Prelude.{◌≡◌, ◌==◌, None, Some, nat_le, fin
 ghost use Rattle.ss_report.specs.runs.Extraction.{absent, holds_lf, no_line};
 
 use crate::runs::extraction::{ExtractFault, Selection};
-use ss_frame::{Bytes, Form};
+use ss_frame::Form;
+use ss_octets::Bytes;
 
 /// Refuses the first of the given places that a log of so many messages hasn't (E1).
 pub(crate) fn refuse_absent(selection: &Selection, count: usize) -> Result<(), ExtractFault>

@@ -1,7 +1,7 @@
 //! Octets in strict base64 (RFC 4648, section 4), written piece by piece.
 ghost use Rattle.std.specs.Prelude.{◌≤◌, length};
 ghost use Rattle.ss_frame.specs.Watched.{sink_of};
-ghost use Rattle.ss_payload.specs.StrictBase64.{base64};
+ghost use Rattle.ss_octets.specs.StrictBase64.{base64};
 ghost use Rattle.ss_report.specs.log.Writing.{Writes};
 
 use crate::log::output::write_text;
@@ -28,7 +28,7 @@ pub(crate) fn write_base64<W: Write>(writer: &mut Watched<W>, octets: &[u8])
 }
 
 /// Writes at most `PIECE` octets in base64.
-#[tactic(auto, unfolding(ss_payload::specs::StrictBase64::base64))]
+#[tactic(auto, unfolding(ss_octets::specs::StrictBase64::base64))]
 fn write_piece<W: Write>(writer: &mut Watched<W>, octets: &[u8])
     requires { length octets.now ≤ PIECE }
     ensures { Writes (sink_of W.contents writer.old) (sink_of W.contents writer.new) (base64 octets.now) }

@@ -8,7 +8,7 @@ use crate::forms::json::write_one;
 use crate::notation::Notation;
 use crate::texts::words::write_number_line;
 use ss_frame::{Tail, Watched};
-use ss_message::NoMemory;
+use ss_octets::NoMemory;
 use std::io::Write;
 
 /// The text with `torn POS` behind it, where the log has a torn end, and `end COUNT`.

@@ -15,7 +15,8 @@ use crate::texts::words::{
 };
 use ss_block::{CertBlock, Group, Reading, Session, SigBlock, classify_with_session};
 use ss_frame::Watched;
-use ss_message::{NoMemory, Part};
+use ss_message::Part;
+use ss_octets::NoMemory;
 use std::alloc::Global;
 use std::io::Write;
 

@@ -1,7 +1,7 @@
 //! The text of the questions to a signature scheme.
 ghost use Rattle.std.specs.Prelude.{◌≡◌, flat_map};
 ghost use Rattle.ss_frame.specs.Watched.{sink_of};
-ghost use Rattle.ss_payload.specs.StrictBase64.{base64};
+ghost use Rattle.ss_octets.specs.StrictBase64.{base64};
 ghost use Rattle.ss_report.specs.log.Writing.{Writes};
 ghost use Rattle.ss_review.specs.declared.questions.question.Question.TheVariants.{Trust, Yes};
 ghost use Rattle.ss_review.specs.questions.Questions.{question_under, session_questions, questions_shared};

@@ -1,6 +1,6 @@
 -- How a counter is spelt: one line, told without its line feed; and the lines of several.
 use Rattle.std.specs.Prelude.{ℕ, List, [], ◌∷◌, ◌++◌, flat_map, codes, decimal}
-use Rattle.ss_frame.specs.Ascii.{lf}
+use Rattle.ss_octets.specs.Ascii.{lf}
 use Rattle.ss_message.specs.declared.draft.Field.{Field}
 use Rattle.ss_message.specs.declared.draft.Field.TheVariants as fields
 use Rattle.ss_block.specs.declared.block.Group.{Group}

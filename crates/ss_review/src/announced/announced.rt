@@ -16,7 +16,7 @@ use crate::keep::message::BlockMessage;
 use crate::lists::ordered::put_in_order;
 use crate::sessions::joined_session::JoinedSession;
 use ss_block::{Session, SigBlock};
-use ss_message::NoMemory;
+use ss_octets::NoMemory;
 use std::alloc::Global;
 use std::mem::drop;
 

@@ -7,7 +7,7 @@ ghost use Rattle.ss_review.specs.announced.Numbered.{key_of, row_of, only_hashes
 use crate::announced::announced_hash::AnnouncedHash;
 use crate::announced::message_number::MessageNumber;
 use ss_block::Hash;
-use ss_message::NoMemory;
+use ss_octets::NoMemory;
 use std::alloc::Global;
 
 /// The message numbers that are announced, each once and in order, and with each the one hash that is announced for it,

@@ -9,7 +9,7 @@ use crate::announced::announced_block::AnnouncedBlock;
 use crate::keep::message::{BlockMessage, Said};
 use crate::sessions::joined_session::JoinedSession;
 use ss_block::Session;
-use ss_message::NoMemory;
+use ss_octets::NoMemory;
 use std::alloc::Global;
 
 /// The session of a block, among those of its log, which stand in their order.

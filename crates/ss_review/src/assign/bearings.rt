@@ -8,7 +8,7 @@ use crate::assign::hash_list::HashList;
 use crate::assign::search::Search;
 use crate::assign::wanted_hash::wanted_hashes;
 use ss_block::Hash;
-use ss_message::NoMemory;
+use ss_octets::NoMemory;
 use std::alloc::Global;
 
 /// As many times nothing.

@@ -6,7 +6,7 @@ ghost use Rattle.ss_review.specs.declared.keep.stored_message.StoredMessage.{Sto
 ghost use Rattle.ss_review.specs.assign.StoredHashes.{counted_at, Tallies};
 
 use crate::keep::stored_message::StoredMessage;
-use ss_message::NoMemory;
+use ss_octets::NoMemory;
 use std::alloc::Global;
 
 /// For each place of a log, how often the message there was wanted.

@@ -4,7 +4,7 @@ ghost use Rattle.ss_review.specs.declared.keep.message.NormalMessage.{NormalMess
 ghost use Rattle.ss_review.specs.assign.Assigning.{assigned_all};
 
 use ss_block::Hash;
-use ss_message::NoMemory;
+use ss_octets::NoMemory;
 use std::alloc::Global;
 
 /// The messages of a log without a block, by their hashes.

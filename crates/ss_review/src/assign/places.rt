@@ -19,7 +19,7 @@ use crate::assign::stored_hashes::stored_hashes;
 use crate::keep::stored_message::StoredMessage;
 use ss_block::laws::orders::hashes_rise_by_algorithm;
 use ss_block::{Hash, HashPair};
-use ss_message::NoMemory;
+use ss_octets::NoMemory;
 use std::alloc::Global;
 
 /// Whether both have the same two hashes.

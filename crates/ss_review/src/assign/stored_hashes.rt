@@ -12,7 +12,7 @@ ghost use Rattle.ss_review.specs.assign.StoredHashes.{listed, Lists};
 use crate::assign::hash_entry::{HashEntry, entry_cmp, entry_of};
 use crate::keep::stored_message::StoredMessage;
 use ss_block::{Alg, Hash, HashPair};
-use ss_message::NoMemory;
+use ss_octets::NoMemory;
 use std::alloc::Global;
 
 /// Whether the hash is there and by this algorithm.

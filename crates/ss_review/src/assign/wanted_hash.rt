@@ -5,7 +5,7 @@ ghost use Rattle.ss_review.specs.assign.StoredHashes.{Wanted};
 use crate::lists::ordered::put_in_order;
 use ss_block::Hash;
 use ss_block::laws::orders::hashes_rise_by_algorithm;
-use ss_message::NoMemory;
+use ss_octets::NoMemory;
 use std::alloc::Global;
 
 /// A hash that a key is announced with, and the number of the key, from 0. They are in the order of their hashes. There

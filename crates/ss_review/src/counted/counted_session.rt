@@ -1,6 +1,6 @@
 //! Which signature blocks of a session a log has.
 use ss_block::Session;
-use ss_frame::List;
+use ss_octets::List;
 
 /// Values of the Global Block Counter, GBC, from 0 to 9,999,999,999. Contracts see the list alone.
 pub type Gbcs = List<u64>;

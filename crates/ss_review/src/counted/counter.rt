@@ -1,6 +1,6 @@
 //! Counters that somebody kept, apart from the log.
 use ss_block::{Group, Session};
-use ss_frame::List;
+use ss_octets::List;
 
 /// What a counter counts in its session.
 #[derive(Clone, Copy, Debug, PartialEq, Eq)]

@@ -14,7 +14,7 @@ use crate::keep::message::{BlockMessage, Said};
 use crate::lists::ordered::put_in_order;
 use crate::sessions::joined_session::JoinedSession;
 use ss_block::Session;
-use ss_message::NoMemory;
+use ss_octets::NoMemory;
 use std::alloc::Global;
 
 /// A session with the GBC of the verified signature blocks that were found of it so far.

@@ -10,7 +10,7 @@ ghost use Rattle.ss_review.specs.counted.KeptSoFar.{led_to, StandBySession};
 use crate::counted::counter::Counter;
 use crate::lists::ordered::put_in_order;
 use ss_block::Session;
-use ss_message::NoMemory;
+use ss_octets::NoMemory;
 use std::alloc::Global;
 
 /// References to the counters, in their order.

@@ -5,8 +5,7 @@ ghost use Rattle.std.specs.List.Sorted.{IsStrictlySortedBy};
 ghost use Rattle.ss_block.specs.Ranges.{last_number};
 ghost use Rattle.ss_review.specs.counted.Counted.{next_after, run_between, missing, missing_blocks};
 
-use ss_frame::List;
-use ss_message::NoMemory;
+use ss_octets::{List, NoMemory};
 use std::alloc::Global;
 
 /// Signature blocks of a session that are missing: those with the GBC from `first` to `last`, each 0 to 9,999,999,999.

@@ -20,7 +20,7 @@ use crate::counted::tailing::{kept_gbc, tails};
 use crate::report::group_report::GroupReport;
 use crate::report::session_report::SessionReport;
 use ss_block::Session;
-use ss_message::NoMemory;
+use ss_octets::NoMemory;
 use std::alloc::Global;
 
 /// What is missing of a session up to its own counters.

@@ -14,7 +14,7 @@ use crate::report::reporting::reported;
 use crate::sessions::states::joined_sessions;
 use crate::sessions::verified::verified;
 use crate::sessions::verifier::Judge;
-use ss_message::NoMemory;
+use ss_octets::NoMemory;
 use std::alloc::Global;
 use std::mem::drop;
 

@@ -1,7 +1,7 @@
 //! What is missing of sessions up to the counters that were kept of them.
 use crate::counted::missing::MissingRuns;
 use ss_block::{Group, Session};
-use ss_frame::List;
+use ss_octets::List;
 
 /// Messages of a group that were sent before its counter was noted, and come behind the last one that is announced:
 /// those with the numbers from `first` to `last`, each 1 to 9,999,999,999.

@@ -12,7 +12,7 @@ use crate::counted::shortfall::{GroupTail, GroupTails};
 use crate::lists::ordered::put_in_order;
 use crate::report::group_report::GroupReport;
 use ss_block::Group;
-use ss_message::NoMemory;
+use ss_octets::NoMemory;
 use std::alloc::Global;
 use std::collections::BTreeMap;
 

@@ -3,7 +3,7 @@ ghost use Rattle.std.specs.Prelude.{◌≡◌};
 ghost use Rattle.ss_review.specs.sessions.Verified.{signature_of};
 
 use ss_block::{CertBlock, HashPair, Session, SigBlock};
-use ss_frame::Bytes;
+use ss_octets::Bytes;
 
 /// A message without a block.
 #[derive(Clone, Copy, Debug, PartialEq, Eq)]

@@ -5,7 +5,7 @@ ghost use Rattle.ss_review.specs.keep.Contents.{block_in};
 
 use crate::keep::message::{BlockMessage, Said};
 use ss_block::{FullReading, Reading, classify, may_hold_block, read_fully};
-use ss_message::NoMemory;
+use ss_octets::NoMemory;
 use std::alloc::Global;
 
 /// What a text is, as far as its note needs it. A text without `[ssign` holds no block, so it isn't parsed: it is

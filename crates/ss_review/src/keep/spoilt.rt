@@ -1,6 +1,6 @@
 //! Messages whose block element holds no block.
 use ss_block::Spoil;
-use ss_frame::List;
+use ss_octets::List;
 
 /// A message whose block element holds no block.
 #[derive(Clone, Copy, Debug, PartialEq, Eq)]

@@ -13,7 +13,7 @@ ghost use Rattle.ss_review.specs.assign.Assigning.{place_after, assigned_all, co
 use crate::keep::message::NormalMessage;
 use crate::plain::by_hash::ByHash;
 use ss_block::Hash;
-use ss_message::NoMemory;
+use ss_octets::NoMemory;
 use std::alloc::Global;
 use std::collections::BTreeMap;
 

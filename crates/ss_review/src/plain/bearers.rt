@@ -16,7 +16,7 @@ use crate::lists::ordered::put_in_order;
 use crate::plain::equal_places::EqualPlaces;
 use ss_block::laws::orders::hashes_rise_by_algorithm;
 use ss_block::{Hash, HashPair};
-use ss_message::NoMemory;
+use ss_octets::NoMemory;
 use std::alloc::Global;
 use std::collections::BTreeMap;
 

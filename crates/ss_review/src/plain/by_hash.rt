@@ -14,7 +14,7 @@ use crate::plain::bearers::bearers;
 use crate::plain::equal_places::EqualPlaces;
 use crate::plain::places_by_hashes::add_place;
 use ss_block::{Hash, HashPair};
-use ss_message::NoMemory;
+use ss_octets::NoMemory;
 use std::alloc::Global;
 use std::collections::BTreeMap;
 

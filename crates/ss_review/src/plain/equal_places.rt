@@ -1,7 +1,7 @@
 //! The places of messages with equal hashes.
 ghost use Rattle.std.specs.Prelude.{◌≡◌, ◌++◌, ◌∷◌, [], Some, slice_get, is_ok, if◌then◌else◌};
 
-use ss_message::NoMemory;
+use ss_octets::NoMemory;
 use std::alloc::Global;
 use std::marker::Model;
 

@@ -7,7 +7,7 @@ ghost use Rattle.ss_review.specs.keep.Keeping.{places_in};
 
 use crate::plain::equal_places::EqualPlaces;
 use ss_block::HashPair;
-use ss_message::NoMemory;
+use ss_octets::NoMemory;
 use std::alloc::Global;
 use std::collections::BTreeMap;
 use std::collections::btree_map::Entry;

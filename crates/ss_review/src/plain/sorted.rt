@@ -9,8 +9,7 @@ use crate::keep::spoilt::SpoiltPlace;
 use crate::lists::optional::push_some;
 use crate::plain::by_hash::ByHash;
 use ss_block::{HashPair, Reading, Spoil, pair_of};
-use ss_frame::Bytes;
-use ss_message::NoMemory;
+use ss_octets::{Bytes, NoMemory};
 use std::alloc::Global;
 
 /// Messages by what they are, each list by rising place.

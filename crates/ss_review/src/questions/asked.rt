@@ -1,5 +1,5 @@
 //! What a review asks of a signature scheme, session by session.
-use ss_frame::{Bytes, List};
+use ss_octets::{Bytes, List};
 
 /// A block whose signature is asked about.
 #[derive(Debug, Drop)]

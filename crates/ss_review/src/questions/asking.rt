@@ -10,8 +10,7 @@ use crate::questions::asked::{AskedBlock, AskedSession, AskedSessions};
 use crate::questions::question::{Question, Questions};
 use crate::sessions::joining::stated_payload;
 use crate::sessions::sectioning::{by_session, section_end};
-use ss_frame::{Bytes, List};
-use ss_message::NoMemory;
+use ss_octets::{Bytes, List, NoMemory};
 use std::alloc::Global;
 
 /// The same octets, in memory of their own.

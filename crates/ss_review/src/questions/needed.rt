@@ -8,7 +8,7 @@ ghost use Rattle.ss_review.specs.sessions.Verified.{signature_of};
 use crate::keep::message::{BlockMessage, Said};
 use crate::questions::asking::copy_of;
 use ss_block::{Hashes, SigBlock};
-use ss_message::NoMemory;
+use ss_octets::NoMemory;
 use std::alloc::Global;
 
 /// The block without its hashes but the first. A signature block has one at least, and no signature scheme is asked

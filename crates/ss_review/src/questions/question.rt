@@ -1,5 +1,5 @@
 //! What a review asks of a signature scheme.
-use ss_frame::{Bytes, List};
+use ss_octets::{Bytes, List};
 
 /// A question to a signature scheme.
 #[derive(Debug, Drop)]

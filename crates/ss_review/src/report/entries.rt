@@ -5,7 +5,7 @@ ghost use Rattle.ss_review.specs.report.Grouped.{with_entry, entries_after};
 
 use crate::report::entry::{Entries, Entry};
 use crate::report::number_entry::NumberEntry;
-use ss_message::NoMemory;
+use ss_octets::NoMemory;
 use std::alloc::Global;
 
 /// Adds the entry of a number, behind the hole between `last`, the number before it, and its own.

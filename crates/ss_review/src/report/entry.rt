@@ -1,5 +1,5 @@
 //! What a review says of the numbers of a group.
-use ss_frame::List;
+use ss_octets::List;
 
 /// Why no message is listed for an announced number.
 #[derive(Clone, Copy, Debug, PartialEq, Eq)]

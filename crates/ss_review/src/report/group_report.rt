@@ -1,7 +1,7 @@
 //! What a review says of a group of messages.
 use crate::report::entry::Entries;
 use ss_block::Group;
-use ss_frame::List;
+use ss_octets::List;
 
 /// What a review says of a group of messages of a session.
 #[derive(Debug, Drop)]

@@ -22,8 +22,7 @@ use crate::report::number_entry::{NumberEntry, with_entries};
 use crate::report::session_report::{SessionReport, SessionReports, SessionState};
 use crate::sessions::joined_session::JoinedSession;
 use ss_block::{Group, Hash, Session};
-use ss_frame::Bytes;
-use ss_message::NoMemory;
+use ss_octets::{Bytes, NoMemory};
 use std::alloc::Global;
 
 /// Whether the number is of this group.

@@ -9,7 +9,7 @@ ghost use Rattle.ss_review.specs.report.Grouped.{entry_from, numbered, with_entr
 use crate::announced::message_number::MessageNumber;
 use crate::report::entry::{Entry, Why};
 use ss_block::Hash;
-use ss_message::NoMemory;
+use ss_octets::NoMemory;
 use std::alloc::Global;
 
 /// An announced message number with its entry.

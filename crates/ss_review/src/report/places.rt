@@ -1,5 +1,5 @@
 //! Places of messages in a log.
-use ss_frame::List;
+use ss_octets::List;
 
 /// Places of messages, each counted from 0. Contracts see the list alone.
 pub type Places = List<u32>;

@@ -14,7 +14,7 @@ use crate::report::report::Report;
 use crate::report::unlisted::unlisted;
 use crate::sessions::joined_session::JoinedSession;
 use crate::sessions::verified::refused;
-use ss_message::NoMemory;
+use ss_octets::NoMemory;
 use std::alloc::Global;
 use std::mem::drop;
 

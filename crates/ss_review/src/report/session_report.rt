@@ -1,7 +1,7 @@
 //! What a review says of a session.
 use crate::report::group_report::GroupReports;
 use ss_block::Session;
-use ss_frame::List;
+use ss_octets::List;
 
 /// How far the payload of a session is joined, trusted and accepted. The first that applies.
 #[derive(Clone, Copy, Debug, PartialEq, Eq)]

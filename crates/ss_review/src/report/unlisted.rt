@@ -8,7 +8,7 @@ ghost use Rattle.ss_review.specs.assign.Assigned.{is_place, assigned};
 ghost use Rattle.ss_review.specs.report.Report.{unlisted};
 
 use crate::report::places::Places;
-use ss_message::NoMemory;
+use ss_octets::NoMemory;
 use std::alloc::Global;
 
 /// The places that are given, in the order of who is given them.

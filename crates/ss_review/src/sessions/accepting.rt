@@ -15,8 +15,7 @@ use crate::sessions::found_blocks::FoundBlocks;
 use crate::sessions::joining::stated_payload;
 use crate::sessions::span::{Span, cover, span_of};
 use crate::sessions::verifier::Judge;
-use ss_frame::Bytes;
-use ss_message::NoMemory;
+use ss_octets::{Bytes, NoMemory};
 use std::alloc::Global;
 
 /// Whether the block's signature is valid under the payload.

@@ -7,7 +7,7 @@ ghost use Rattle.ss_review.specs.sessions.FoundBlocks.{claim_cmp, IsClaimOf, Tel
 
 use crate::keep::message::{BlockMessage, signature_of};
 use ss_block::Session;
-use ss_message::NoMemory;
+use ss_octets::NoMemory;
 use std::alloc::Global;
 use std::collections::BTreeMap;
 

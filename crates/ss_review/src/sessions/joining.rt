@@ -8,8 +8,7 @@ ghost use Rattle.ss_review.specs.sessions.Stated.{stated_in_turn, unjoined};
 use crate::keep::message::{BlockMessage, Said};
 use crate::report::session_report::SessionState;
 use ss_block::{CertBlock, JoinState, Joiner, Payload};
-use ss_frame::Bytes;
-use ss_message::NoMemory;
+use ss_octets::{Bytes, NoMemory};
 use std::alloc::Global;
 
 /// Gives the joiner the fragment of a certificate block.

@@ -4,7 +4,7 @@ ghost use Rattle.ss_review.specs.sessions.Sectioned.{sections, referred, front, 
 
 use crate::keep::message::BlockMessage;
 use ss_block::Session;
-use ss_message::NoMemory;
+use ss_octets::NoMemory;
 use std::alloc::Global;
 
 /// References to the blocks, in their order.

@@ -10,7 +10,7 @@ use crate::sessions::accepting::joined;
 use crate::sessions::joined_session::JoinedSession;
 use crate::sessions::sectioning::{by_session, section_end};
 use crate::sessions::verifier::Judge;
-use ss_message::NoMemory;
+use ss_octets::NoMemory;
 use std::alloc::Global;
 
 /// The sessions of blocks in the order of their sessions, each with its joined payload, or else its state.

@@ -14,8 +14,7 @@ use crate::sessions::accepting::valid_once;
 use crate::sessions::found_blocks::FoundBlocks;
 use crate::sessions::joined_session::JoinedSession;
 use crate::sessions::verifier::Judge;
-use ss_frame::Bytes;
-use ss_message::NoMemory;
+use ss_octets::{Bytes, NoMemory};
 use std::alloc::Global;
 
 /// Whether the block is valid under the payload, if its session has one. `found` is what was found of the blocks of

@@ -1,6 +1,6 @@
 //! The fields of blocks, as values that tables hold.
 use ss_block::{Alg, CertBlock, Group, Hash, Hashes, SigBlock};
-use ss_frame::Bytes;
+use ss_octets::Bytes;
 use std::alloc::{AllocError, Global};
 
 /// SHA-1 of `abc`.

@@ -2,7 +2,7 @@
 use Then::{Disputed, Incomplete, Whole};
 use ss_block::Joined::{Agreed, Disagrees};
 use ss_block::{JoinState, Joined, Joiner};
-use ss_message::NoMemory;
+use ss_octets::NoMemory;
 use std::alloc::Global;
 use std::process::Abort;
 use std::test::Fail;

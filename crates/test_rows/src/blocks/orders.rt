@@ -1,7 +1,7 @@
 //! The order of sessions.
 use ss_block::{Head, Session};
-use ss_frame::Bytes;
-use ss_message::{Field, NoMemory};
+use ss_message::Field;
+use ss_octets::{Bytes, NoMemory};
 use std::alloc::Global;
 use std::process::Abort;
 use std::test::Fail;

@@ -1,7 +1,8 @@
 //! Payload blocks, read, written and cut into pieces.
 use crate::blocks::fields::bytes;
 use ss_block::{Cut, Kind, Payload, cut};
-use ss_message::{NoMemory, Offset, Stamp};
+use ss_message::{Offset, Stamp};
+use ss_octets::NoMemory;
 use std::alloc::{AllocError, Global};
 use std::test::Fail;
 

@@ -2,7 +2,8 @@
 //! states reserve nothing.
 use super::joining::add;
 use ss_block::{Joiner, Payload, classify, session_of, signed_bytes};
-use ss_message::{Fault, NoMemory, parse, value};
+use ss_message::{Fault, parse, value};
+use ss_octets::NoMemory;
 use std::alloc::{AllocError, Global};
 use std::fs;
 use std::process::Abort;

@@ -1,7 +1,8 @@
 //! What is signed of a message, the session of a block, and the hashes of a text.
 use base64::engine::general_purpose::STANDARD;
 use ss_block::{Session, pair_of, session_of, signed_bytes};
-use ss_message::{Field, NoMemory};
+use ss_message::Field;
+use ss_octets::NoMemory;
 use std::alloc::Global;
 use std::process::Abort;
 use std::test::Fail;

@@ -3,8 +3,8 @@ use crate::blocks::fields::{A, A2, B, CertificateFields, Fields, SignatureFields
 use ss_block::{
     Alg, CertBlock, Group, Hash, Head, SigBlock, unsigned_cert, unsigned_sig, write_cert, write_sig,
 };
-use ss_frame::Bytes;
-use ss_message::{Field, NoMemory, Stamp};
+use ss_message::{Field, Stamp};
+use ss_octets::{Bytes, NoMemory};
 use std::alloc::{AllocError, Global};
 use std::test::Fail;
 

@@ -1,9 +1,9 @@
 //! Drafts: what is written, and which part is refused.
-use ss_frame::Bytes;
 use ss_message::{
     Draft, DraftElement, DraftElements, DraftFault, DraftParameter, DraftParameters, Field, Offset,
     Part, Stamp, write_message,
 };
+use ss_octets::Bytes;
 use std::alloc::{AllocError, Global};
 use std::process::Abort;
 use std::test::Fail;

@@ -1,8 +1,6 @@
 //! The examples of RFC 5424, section 6.5, and the values of parameters.
-use ss_frame::Bytes;
-use ss_message::{
-    Element, Message, NoMemory, Parameter, Span, Stamp, escape, parse, value, write_stamp,
-};
+use ss_message::{Element, Message, Parameter, Span, Stamp, escape, parse, value, write_stamp};
+use ss_octets::{Bytes, NoMemory};
 use std::alloc::Global;
 use std::process::Abort;
 use std::test::Fail;

@@ -1,5 +1,6 @@
 //! Stamps at the edges of their ranges.
-use ss_message::{NoMemory, Offset, Stamp, write_stamp};
+use ss_message::{Offset, Stamp, write_stamp};
+use ss_octets::NoMemory;
 use std::alloc::Global;
 use std::test::Fail;
 

@@ -2,7 +2,7 @@ use Rattle.std.proofs.Common.{◌≡◌, ℕ, List, [], ◌∷◌, ◌++◌, Bor
 use Rattle.std.specs.Option.{MatchOption}
 use Rattle.std.proofs.lemmas.Bool.Decides.{Decides-eqb}
 use Rattle.std.proofs.lemmas.Slice.Eq.{strip_prefix_is}
-use Rattle.ss_frame.specs.Ascii.{sp}
+use Rattle.ss_octets.specs.Ascii.{sp}
 use Rattle.ss_answers.proofs.line.behind.Goals as goal
 
 behind_space : (text beginning middle : List ℕ) (r : Option (Bor (List ℕ))) (P : Type 0) → text ≡ beginning ++ middle

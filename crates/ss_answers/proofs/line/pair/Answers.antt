@@ -1,6 +1,6 @@
 use Rattle.std.proofs.lemmas.Result.{err_from_is_err_and}
-use Rattle.ss_frame.specs.Ascii.{sp}
-use Rattle.ss_payload.specs.StrictBase64.{base64}
+use Rattle.ss_octets.specs.Ascii.{sp}
+use Rattle.ss_octets.specs.StrictBase64.{base64}
 use Rattle.ss_answers.proofs.AnswerLines.{IfBad-weaker, IsNoPair-from_first, IsNoPair-from_second}
 use Rattle.ss_answers.proofs.Cuts.{nowhere}
 use Rattle.ss_answers.proofs.KeptLines.{KeepsPair-fields}

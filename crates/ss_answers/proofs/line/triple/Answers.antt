@@ -1,7 +1,7 @@
 use Rattle.std.proofs.Common.{◌++◌, ◌∷◌}
 use Rattle.std.proofs.lemmas.Result.{err_from_is_err_and}
-use Rattle.ss_frame.specs.Ascii.{sp}
-use Rattle.ss_payload.specs.StrictBase64.{base64}
+use Rattle.ss_octets.specs.Ascii.{sp}
+use Rattle.ss_octets.specs.StrictBase64.{base64}
 use Rattle.ss_answers.specs.AnswerLine.{HasField}
 use Rattle.ss_answers.proofs.AnswerLines.{IfBad-weaker, IsNoTriple-from_first, IsNoTriple-from_rest}
 use Rattle.ss_answers.proofs.Cuts.{nowhere}

@@ -6,7 +6,7 @@ use Rattle.ss_block.specs.declared.refusal.Refusal.{Refusal}
 use Rattle.ss_block.specs.declared.spoil.Spoil.TheVariants as spoils
 use Rattle.ss_block.specs.declared.reading.Reading.TheVariants.{Certificate}
 use Rattle.ss_block.specs.Block as block
-use Rattle.ss_payload.specs.StrictBase64.{octets_in}
+use Rattle.ss_octets.specs.StrictBase64.{octets_in}
 use Rattle.ss_block.specs.Reading.{or_none, certificate_texts, certificate_numbers, certificate_reading}
 use Rattle.ss_block.specs.Causes.{Reads, IsCertificateNumbers}
 use Rattle.ss_block.specs.Versions.{is_version, alg_of}

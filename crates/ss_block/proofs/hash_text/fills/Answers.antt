@@ -3,8 +3,8 @@ use Rattle.std.proofs.lemmas.Bool.{eqb-true, eq-eqb}
 use Rattle.base64.specs.declared.decode.DecodeSliceError.{DecodeSliceError}
 use Rattle.base64.specs.Engines.{standard}
 use Rattle.base64.specs.GeneralPurpose.{decode_of, decode_slice_of, decoded_bytes_of}
-use Rattle.ss_payload.specs.StrictBase64.{octets_decoded, octets_in}
-use Rattle.ss_payload.proofs.Base64Text.{some_octets_of, decoded_some}
+use Rattle.ss_octets.specs.StrictBase64.{octets_decoded, octets_in}
+use Rattle.ss_octets.proofs.Base64Text.{some_octets_of, decoded_some}
 use Rattle.ss_block.proofs.Filled.{slice_ok, slice_again, all_written}
 use Rattle.ss_block.proofs.hash_text.fills.Goals as goal
 

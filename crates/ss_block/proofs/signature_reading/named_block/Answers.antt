@@ -7,7 +7,7 @@ use Rattle.ss_block.specs.declared.refusal.Refusal.{Refusal}
 use Rattle.ss_block.specs.declared.spoil.Spoil.TheVariants as spoils
 use Rattle.ss_block.specs.declared.reading.Reading.TheVariants.{Signature}
 use Rattle.ss_block.specs.Block as block
-use Rattle.ss_payload.specs.StrictBase64.{octets_in}
+use Rattle.ss_octets.specs.StrictBase64.{octets_in}
 use Rattle.ss_block.specs.Reading.{pieces, hashes_in, or_none, signature_texts, signature_numbers, signature_reading}
 use Rattle.ss_block.specs.Causes.{Reads, IsSignatureNumbers, hash_causes}
 use Rattle.ss_block.specs.Versions.{is_version, alg_of}

@@ -1,6 +1,6 @@
 use Rattle.std.proofs.Common.{ap, ◌∙◌, arith}
 use Rattle.std.specs.String.{string_bytes}
-use Rattle.ss_payload.specs.StrictBase64.{base64}
+use Rattle.ss_octets.specs.StrictBase64.{base64}
 use Rattle.ss_block.proofs.JoinedHashes.{put_more, put_first}
 use Rattle.ss_block.proofs.spelling.hashes_text.Goals as goal
 use Rattle.ss_block.proofs.spelling.hashes_text.Goals.{then-i-gt0+in_ok-push_str, else-i-gt0}

@@ -8,7 +8,7 @@ use Rattle.ss_review.specs.sessions.Payloads.{is_disputed, cover, joined_text, s
 use Rattle.ss_review.specs.report.Report.{report_of}
 use Rattle.ss_review.specs.sessions.Verified.{joined, is_verified}
 use Rattle.ss_block.specs.PayloadReading.{stamp_in, stamp_and_rest_in, blob_in, payload_in}
-use Rattle.ss_frame.specs.Cut.{parts_at}
+use Rattle.ss_octets.specs.Cut.{parts_at}
 use Rattle.ss_nights.proofs.EachItsOwn.{its_own_leave, its_own_follow, its_own_agree, its_own_settled}
 use Rattle.ss_nights.proofs.SettledRows.{disputed_unkept, hash_unkept, again_unkept, lost_unkept, twins_unkept, wanted_unkept}
 use Rattle.ss_nights.proofs.laws.nights_are_these.Goals as goal

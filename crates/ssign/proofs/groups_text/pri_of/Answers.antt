@@ -1,7 +1,7 @@
 use Rattle.std.proofs.Common.{sym, ◌∙◌, arith}
 use Rattle.std.proofs.lemmas.Option.{cond_some}
-use Rattle.ss_block.specs.Number.{number, is_number}
-use Rattle.ss_block.proofs.Numbers.{is_spelled}
+use Rattle.ss_octets.specs.Number.{number, is_number}
+use Rattle.ss_octets.proofs.Numbers.{is_spelled}
 use Rattle.ssign.proofs.groups_text.pri_of.Goals as goal
 
 pub overflow_cast-result : goal.overflow_cast-result

@@ -9,7 +9,7 @@ use Rattle.ss_review.specs.report.Report.{report_of}
 use Rattle.ss_review.specs.report.Verdict.{is_clean}
 use Rattle.ss_review.specs.sessions.Verified.{joined, is_verified}
 use Rattle.ss_block.specs.PayloadReading.{stamp_in, stamp_and_rest_in, blob_in, payload_in}
-use Rattle.ss_frame.specs.Cut.{parts_at}
+use Rattle.ss_octets.specs.Cut.{parts_at}
 use Rattle.ss_review.proofs.laws.reports.reports_are_these.Goals as goal
 
 pub returns : goal.returns

@@ -4,7 +4,7 @@ use Rattle.std.specs.Fmt.{decimal}
 use Rattle.std.proofs.lemmas.Bool.{and_parts, and_from, leb-true, le-leb, cond-true, cond-false, false_from_ne_true}
 use Rattle.std.proofs.lemmas.Fmt.{decimal_is_IsNumeral}
 use Rattle.std.proofs.lemmas.Slice.Eq.{bytes_eq-Decides}
-use Rattle.ss_block.specs.Number.{number, is_number, number_in}
+use Rattle.ss_octets.specs.Number.{number, is_number, number_in}
 
 -- the digits of a number write it
 pub number-decimal : (n : ℕ) → n < 2 ^ 64 → number (decimal n) ≡ n

@@ -1,11 +1,11 @@
 //! Octets in strict base64 (RFC 4648, section 4): padded, and with zero unused bits.
 ghost use Rattle.std.specs.Prelude.{◌≡◌, ◌++◌, IfOk, OnOk};
-ghost use Rattle.ss_payload.specs.StrictBase64.{base64, octets_in};
+ghost use Rattle.ss_octets.specs.StrictBase64.{base64, octets_in};
 
+use crate::list::Bytes;
+use crate::no_memory::NoMemory;
 use base64::DecodeAllocError;
 use base64::engine::general_purpose::STANDARD;
-use ss_frame::Bytes;
-use ss_message::NoMemory;
 use std::alloc::{AllocError, Global};
 
 /// The octets that `text` spells, at least one, padded and with zero unused bits; `None` where it spells none.

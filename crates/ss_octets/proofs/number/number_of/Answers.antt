@@ -6,10 +6,10 @@ use Rattle.std.proofs.lemmas.Bool.{not-false}
 use Rattle.std.proofs.lemmas.Fmt.{IsAscii-decimal, parse-decimal}
 use Rattle.std.proofs.lemmas.Slice.Eq.{bytes_eq-Decides}
 use Rattle.std.proofs.lemmas.Str.{IsUtf8-from_ascii}
-use Rattle.ss_block.specs.Number.{number}
-use Rattle.ss_block.proofs.Numbers.{number_in-none, number_in-decimal}
-use Rattle.ss_block.proofs.number.number_of.Goals as goal
-use Rattle.ss_block.proofs.number.number_of.Goals.{then-number-least-via-then-number-least, then-number-least-via-else-number-least+then-number-most, then-number-least-via-else-number-least+else-number-most+then-ne}
+use Rattle.ss_octets.specs.Number.{number}
+use Rattle.ss_octets.proofs.Numbers.{number_in-none, number_in-decimal}
+use Rattle.ss_octets.proofs.number.number_of.Goals as goal
+use Rattle.ss_octets.proofs.number.number_of.Goals.{then-number-least-via-then-number-least, then-number-least-via-else-number-least+then-number-most, then-number-least-via-else-number-least+else-number-most+then-ne}
 
 -- what `parse` makes of a spelled number is that number
 is_read : (n m : ℕ) (text : List ℕ) → n < 2 ^ 64 → text ≡ decimal n → ParsesUnsigned {E = ℕ} 64 10 text (Ok m) → m ≡ n

@@ -7,7 +7,7 @@ use Rattle.base64.specs.declared.decode.DecodeError.{DecodeError}
 use Rattle.base64.specs.Engines.{standard}
 use Rattle.base64.specs.GeneralPurpose.{IsBytes, decode_of, engine_symbols}
 use Rattle.base64.proofs.EngineFacts.{decode_of-encode_of, decode_of_strict}
-use Rattle.ss_payload.specs.StrictBase64.{some_octets, octets_decoded, octets_in, base64}
+use Rattle.ss_octets.specs.StrictBase64.{some_octets, octets_decoded, octets_in, base64}
 
 pub some_octets_of : (b : List ℕ) → 1 ≤ length b → some_octets b ≡ Some b
 some_octets_of [] some = absurd (omega arith)

@@ -1,4 +1,4 @@
--- Numbers in the values of parameters: decimal, without leading zeros.
+-- Numbers in decimal, without leading zeros.
 use Rattle.std.specs.Prelude.{ℕ, Bool, ◌&&◌, List, nat_le, decimal, Option, Some, None, if◌then◌else◌}
 use Rattle.std.specs.Str.{bytes_eq}
 use Rattle.std.specs.Str.Parse.{digits_value}

@@ -1,0 +1,6 @@
+-- The text of want of memory.
+use Rattle.std.specs.Prelude.{ℕ, List, codes}
+
+-- memory ran out
+abbrev pub no_memory_text : List ℕ
+no_memory_text = codes "out of memory"
