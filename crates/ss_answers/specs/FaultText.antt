@@ -1,5 +1,5 @@
--- The text of a fault: its code, and where it has a line a space and the number of that line in decimal.
-use Rattle.std.specs.Prelude.{ℕ, List, ◌++◌, codes, decimal}
+-- What a fault says: in words, and by its code.
+use Rattle.std.specs.Prelude.{ℕ, List, Option, None, Some, ◌++◌, codes, decimal}
 use Rattle.ss_answers.specs.declared.fault.AnswerFault.{AnswerFault}
 use Rattle.ss_answers.specs.declared.fault.AnswerFault.TheVariants as answers
 use Rattle.ss_answers.specs.declared.counters.fault.CounterFault.{CounterFault}
@@ -7,14 +7,28 @@ use Rattle.ss_answers.specs.declared.counters.fault.CounterFault.TheVariants as 
 
 -- why a file of answers wasn't taken
 abbrev pub answer_fault_text : AnswerFault → List ℕ
-answer_fault_text (answers.BadLine line) = codes "A1 " ++ decimal line
-answer_fault_text answers.Read = codes "A2"
-answer_fault_text answers.TooBig = codes "A3"
-answer_fault_text answers.Memory = codes "A4"
+answer_fault_text (answers.BadLine line) = codes "a line isn't an answer, at line " ++ decimal line
+answer_fault_text answers.Read = codes "the file of answers couldn't be opened or read"
+answer_fault_text answers.TooBig = codes "the file of answers has more octets than allowed"
+answer_fault_text answers.Memory = codes "out of memory"
+
+-- its code
+abbrev pub answer_fault_code : AnswerFault → List ℕ × Option ℕ
+answer_fault_code (answers.BadLine line) = (codes "A1", Some line)
+answer_fault_code answers.Read = (codes "A2", None)
+answer_fault_code answers.TooBig = (codes "A3", None)
+answer_fault_code answers.Memory = (codes "A4", None)
 
 -- why a file of counters wasn't taken
 abbrev pub counter_fault_text : CounterFault → List ℕ
-counter_fault_text (counters.BadLine line) = codes "C1 " ++ decimal line
-counter_fault_text counters.Read = codes "C2"
-counter_fault_text counters.TooBig = codes "C3"
-counter_fault_text counters.Memory = codes "C4"
+counter_fault_text (counters.BadLine line) = codes "a line isn't a counter, at line " ++ decimal line
+counter_fault_text counters.Read = codes "the file of counters couldn't be opened or read"
+counter_fault_text counters.TooBig = codes "the file of counters has more octets than allowed"
+counter_fault_text counters.Memory = codes "out of memory"
+
+-- its code
+abbrev pub counter_fault_code : CounterFault → List ℕ × Option ℕ
+counter_fault_code (counters.BadLine line) = (codes "C1", Some line)
+counter_fault_code counters.Read = (codes "C2", None)
+counter_fault_code counters.TooBig = (codes "C3", None)
+counter_fault_code counters.Memory = (codes "C4", None)

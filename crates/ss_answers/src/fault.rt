@@ -1,5 +1,10 @@
 //! Why answers weren't read.
+ghost use Rattle.std.specs.Prelude.{Some};
+ghost use Rattle.ss_octets.specs.Code.{IsCode};
+ghost use Rattle.ss_answers.specs.FaultText.{answer_fault_code, answer_fault_text};
+
 use crate::input::InputFault;
+use ss_octets::Code;
 use std::fmt;
 use thiserror::Error;
 
@@ -19,18 +24,30 @@ pub enum AnswerFault {
     Memory,
 }
 
-impl fmt::Display for AnswerFault {
-    ghost use Rattle.std.specs.Prelude.{Some};
-    ghost use Rattle.ss_answers.specs.FaultText.{answer_fault_text};
+impl AnswerFault {
+    /// Its code, for programs. The place is the number of the line.
+    pub fn code(self) -> Code
+        ensures { IsCode result (answer_fault_code self) }
+    {
+        let (name, place) = match self {
+            AnswerFault::BadLine { line } => ("A1", Some(line as u64)),
+            AnswerFault::Read => ("A2", None),
+            AnswerFault::TooBig => ("A3", None),
+            AnswerFault::Memory => ("A4", None),
+        };
+        Code { name, place }
+    }
+}
 
+impl fmt::Display for AnswerFault {
     ghost output = { λ fault. Some (answer_fault_text fault) };
 
     fn fmt<W: fmt::Write>(&self, f: &mut fmt::Formatter<W>) -> fmt::Result {
         match self {
-            AnswerFault::BadLine { line } => write!(f, "A1 {line}"),
-            AnswerFault::Read => f.write_str("A2"),
-            AnswerFault::TooBig => f.write_str("A3"),
-            AnswerFault::Memory => f.write_str("A4"),
+            AnswerFault::BadLine { line } => write!(f, "a line isn't an answer, at line {line}"),
+            AnswerFault::Read => f.write_str("the file of answers couldn't be opened or read"),
+            AnswerFault::TooBig => f.write_str("the file of answers has more octets than allowed"),
+            AnswerFault::Memory => f.write_str("out of memory"),
         }
     }
 }

@@ -1,4 +1,5 @@
 pub mod Ascii
+pub mod Code
 pub mod Cut
 pub mod NoMemory
 pub mod Number

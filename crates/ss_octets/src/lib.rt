@@ -1,13 +1,15 @@
-//! What every crate shares: octets and lists that their holder owns, want of memory, numbers in decimal, strict base64
-//! (RFC 4648, section 4), and a text cut at an octet.
+//! What every crate shares: octets and lists that their holder owns, want of memory, the codes of faults, numbers in
+//! decimal, strict base64 (RFC 4648, section 4), and a text cut at an octet.
 #![tactic(auto)]
 
+mod code;
 mod cut;
 mod list;
 mod no_memory;
 mod number;
 pub mod strict_base64;
 
+pub use code::Code;
 pub use cut::cut_first;
 pub use list::{Bytes, List};
 pub use no_memory::NoMemory;

@@ -1,5 +1,5 @@
--- The text of a fault: its code.
-use Rattle.std.specs.Prelude.{ℕ, List, codes}
+-- What a fault says: in words, and by its code.
+use Rattle.std.specs.Prelude.{ℕ, List, Option, None, codes}
 use Rattle.ss_origin.specs.declared.fault.OriginFault.{OriginFault}
 use Rattle.ss_origin.specs.declared.fault.OriginFault.TheVariants as faults
 use Rattle.ss_origin.specs.declared.sealer.SealFault.{SealFault}
@@ -7,16 +7,29 @@ use Rattle.ss_origin.specs.declared.sealer.SealFault.TheVariants as seals
 
 -- why an originator isn't made, or refuses a call
 abbrev pub origin_fault_text : OriginFault → List ℕ
-origin_fault_text faults.BadConfig = codes "O1"
-origin_fault_text faults.NotSyslog = codes "O2"
-origin_fault_text faults.HasBlock = codes "O3"
-origin_fault_text faults.NotBegun = codes "O4"
-origin_fault_text faults.AlreadyBegun = codes "O5"
-origin_fault_text faults.SealRefused = codes "O6"
-origin_fault_text faults.SignatureLength = codes "O7"
-origin_fault_text faults.NumbersSpent = codes "O8"
-origin_fault_text faults.CounterSpent = codes "O9"
-origin_fault_text faults.Memory = codes "O10"
+origin_fault_text faults.BadConfig = codes "the configuration, the counters or the payload's length is out of range"
+origin_fault_text faults.NotSyslog = codes "what was submitted is no message of RFC 5424"
+origin_fault_text faults.HasBlock = codes "the message has an element ssign or ssign-cert"
+origin_fault_text faults.NotBegun = codes "the originator hasn't begun"
+origin_fault_text faults.AlreadyBegun = codes "the originator has begun already"
+origin_fault_text faults.SealRefused = codes "the sealer refused to sign a block message that is due"
+origin_fault_text faults.SignatureLength = codes "the sealer's signature has no octet, or more than 1,024"
+origin_fault_text faults.NumbersSpent = codes "the message's number in its group would be 10,000,000,000"
+origin_fault_text faults.CounterSpent = codes "the GBC of a signature block would be 10,000,000,000"
+origin_fault_text faults.Memory = codes "out of memory"
+
+-- its code
+abbrev pub origin_fault_code : OriginFault → List ℕ × Option ℕ
+origin_fault_code faults.BadConfig = (codes "O1", None)
+origin_fault_code faults.NotSyslog = (codes "O2", None)
+origin_fault_code faults.HasBlock = (codes "O3", None)
+origin_fault_code faults.NotBegun = (codes "O4", None)
+origin_fault_code faults.AlreadyBegun = (codes "O5", None)
+origin_fault_code faults.SealRefused = (codes "O6", None)
+origin_fault_code faults.SignatureLength = (codes "O7", None)
+origin_fault_code faults.NumbersSpent = (codes "O8", None)
+origin_fault_code faults.CounterSpent = (codes "O9", None)
+origin_fault_code faults.Memory = (codes "O10", None)
 
 -- why octets aren't signed, in words: what the originator makes of it has a code
 abbrev pub seal_fault_text : SealFault → List ℕ

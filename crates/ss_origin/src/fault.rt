@@ -1,8 +1,10 @@
 //! Why an originator isn't made, or refuses a call.
-ghost use Rattle.std.specs.Prelude.{◌≡◌};
+ghost use Rattle.std.specs.Prelude.{◌≡◌, Some};
+ghost use Rattle.ss_octets.specs.Code.{IsCode};
+ghost use Rattle.ss_origin.specs.FaultText.{origin_fault_code, origin_fault_text};
 ghost use Rattle.ss_origin.specs.declared.fault.OriginFault.TheVariants.{Memory};
 
-use ss_octets::NoMemory;
+use ss_octets::{Code, NoMemory};
 use std::alloc::{AllocError, AllocFailed};
 use std::fmt;
 use thiserror::Error;
@@ -33,24 +35,52 @@ pub enum OriginFault {
     Memory,
 }
 
-impl fmt::Display for OriginFault {
-    ghost use Rattle.std.specs.Prelude.{Some};
-    ghost use Rattle.ss_origin.specs.FaultText.{origin_fault_text};
+impl OriginFault {
+    /// Its code, for programs.
+    pub fn code(self) -> Code
+        ensures { IsCode result (origin_fault_code self) }
+    {
+        let name = match self {
+            OriginFault::BadConfig => "O1",
+            OriginFault::NotSyslog => "O2",
+            OriginFault::HasBlock => "O3",
+            OriginFault::NotBegun => "O4",
+            OriginFault::AlreadyBegun => "O5",
+            OriginFault::SealRefused => "O6",
+            OriginFault::SignatureLength => "O7",
+            OriginFault::NumbersSpent => "O8",
+            OriginFault::CounterSpent => "O9",
+            OriginFault::Memory => "O10",
+        };
+        Code { name, place: None }
+    }
+}
 
+impl fmt::Display for OriginFault {
     ghost output = { λ fault. Some (origin_fault_text fault) };
 
     fn fmt<W: fmt::Write>(&self, f: &mut fmt::Formatter<W>) -> fmt::Result {
         match self {
-            OriginFault::BadConfig => f.write_str("O1"),
-            OriginFault::NotSyslog => f.write_str("O2"),
-            OriginFault::HasBlock => f.write_str("O3"),
-            OriginFault::NotBegun => f.write_str("O4"),
-            OriginFault::AlreadyBegun => f.write_str("O5"),
-            OriginFault::SealRefused => f.write_str("O6"),
-            OriginFault::SignatureLength => f.write_str("O7"),
-            OriginFault::NumbersSpent => f.write_str("O8"),
-            OriginFault::CounterSpent => f.write_str("O9"),
-            OriginFault::Memory => f.write_str("O10"),
+            OriginFault::BadConfig => f.write_str(
+                "the configuration, the counters or the payload's length is out of range",
+            ),
+            OriginFault::NotSyslog => f.write_str("what was submitted is no message of RFC 5424"),
+            OriginFault::HasBlock => f.write_str("the message has an element ssign or ssign-cert"),
+            OriginFault::NotBegun => f.write_str("the originator hasn't begun"),
+            OriginFault::AlreadyBegun => f.write_str("the originator has begun already"),
+            OriginFault::SealRefused => f.write_str(
+                "the sealer refused to sign a block message that is due",
+            ),
+            OriginFault::SignatureLength => f.write_str(
+                "the sealer's signature has no octet, or more than 1,024",
+            ),
+            OriginFault::NumbersSpent => f.write_str(
+                "the message's number in its group would be 10,000,000,000",
+            ),
+            OriginFault::CounterSpent => f.write_str(
+                "the GBC of a signature block would be 10,000,000,000",
+            ),
+            OriginFault::Memory => f.write_str("out of memory"),
         }
     }
 }

@@ -1,10 +1,12 @@
 //! Why a run over a log gave no output.
-ghost use Rattle.std.specs.Prelude.{◌≡◌};
+ghost use Rattle.std.specs.Prelude.{◌≡◌, Some};
+ghost use Rattle.ss_octets.specs.Code.{IsCode};
+ghost use Rattle.ss_report.specs.FaultText.{run_fault_code, run_fault_text};
 ghost use Rattle.ss_report.specs.declared.fault.RunFault.TheVariants.{Extract, Frame, Memory, Review};
 
 use crate::runs::extraction::ExtractFault;
 use ss_frame::FrameFault;
-use ss_octets::NoMemory;
+use ss_octets::{Code, NoMemory};
 use ss_review::ReviewFault;
 use std::alloc::{AllocError, AllocFailed};
 use std::fmt;
@@ -26,10 +28,23 @@ pub enum RunFault {
     Memory,
 }
 
-impl fmt::Display for RunFault {
-    ghost use Rattle.std.specs.Prelude.{Some};
-    ghost use Rattle.ss_report.specs.FaultText.{run_fault_text};
+impl RunFault {
+    /// Its code, for programs, which of a fault of a lower layer is the code of that one.
+    pub fn code(self) -> Code
+        ensures { IsCode result (run_fault_code self) }
+    {
+        let name = match self {
+            RunFault::Frame(fault) => return fault.code(),
+            RunFault::Review(fault) => return fault.code(),
+            RunFault::Extract(fault) => return fault.code(),
+            RunFault::Write => "W1",
+            RunFault::Memory => "W2",
+        };
+        Code { name, place: None }
+    }
+}
 
+impl fmt::Display for RunFault {
     ghost output = { λ fault. Some (run_fault_text fault) };
 
     fn fmt<W: fmt::Write>(&self, f: &mut fmt::Formatter<W>) -> fmt::Result {
@@ -37,8 +52,8 @@ impl fmt::Display for RunFault {
             RunFault::Frame(fault) => write!(f, "{fault}"),
             RunFault::Review(fault) => write!(f, "{fault}"),
             RunFault::Extract(fault) => write!(f, "{fault}"),
-            RunFault::Write => f.write_str("W1"),
-            RunFault::Memory => f.write_str("W2"),
+            RunFault::Write => f.write_str("a write failed"),
+            RunFault::Memory => f.write_str("out of memory"),
         }
     }
 }

@@ -1,8 +1,10 @@
 //! Why a reviewer gives no answer.
-ghost use Rattle.std.specs.Prelude.{◌≡◌};
+ghost use Rattle.std.specs.Prelude.{◌≡◌, Some};
+ghost use Rattle.ss_octets.specs.Code.{IsCode};
+ghost use Rattle.ss_review.specs.FaultText.{review_fault_code, review_fault_text};
 ghost use Rattle.ss_review.specs.declared.fault.ReviewFault.TheVariants.{Memory};
 
-use ss_octets::NoMemory;
+use ss_octets::{Code, NoMemory};
 use std::alloc::{AllocError, AllocFailed};
 use std::fmt;
 use thiserror::Error;
@@ -16,16 +18,28 @@ pub enum ReviewFault {
     TooManyMessages,
 }
 
-impl fmt::Display for ReviewFault {
-    ghost use Rattle.std.specs.Prelude.{Some};
-    ghost use Rattle.ss_review.specs.FaultText.{review_fault_text};
+impl ReviewFault {
+    /// Its code, for programs.
+    pub fn code(self) -> Code
+        ensures { IsCode result (review_fault_code self) }
+    {
+        let name = match self {
+            ReviewFault::Memory => "V1",
+            ReviewFault::TooManyMessages => "V2",
+        };
+        Code { name, place: None }
+    }
+}
 
+impl fmt::Display for ReviewFault {
     ghost output = { λ fault. Some (review_fault_text fault) };
 
     fn fmt<W: fmt::Write>(&self, f: &mut fmt::Formatter<W>) -> fmt::Result {
         match self {
-            ReviewFault::Memory => f.write_str("V1"),
-            ReviewFault::TooManyMessages => f.write_str("V2"),
+            ReviewFault::Memory => f.write_str("out of memory"),
+            ReviewFault::TooManyMessages => f.write_str(
+                "there are more messages than the reviewer takes",
+            ),
         }
     }
 }

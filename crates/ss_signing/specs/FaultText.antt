@@ -1,13 +1,19 @@
--- The text of a fault: its code, and where it has a place a space and that place in decimal.
-use Rattle.std.specs.Prelude.{ℕ, List, ◌++◌, codes, decimal, Some, None}
-use Rattle.ss_origin.specs.FaultText.{origin_fault_text}
-use Rattle.ss_report.specs.FaultText.{run_fault_text}
+-- What a fault says: in words, and by its code.
+use Rattle.std.specs.Prelude.{ℕ, List, Option, ◌++◌, codes, decimal, Some, None}
+use Rattle.ss_origin.specs.FaultText.{origin_fault_code, origin_fault_text}
+use Rattle.ss_report.specs.FaultText.{run_fault_code, run_fault_text}
 use Rattle.ss_signing.specs.declared.fault.SignFault.{SignFault}
 use Rattle.ss_signing.specs.declared.fault.SignFault.TheVariants.{Run, TornInput, Origin}
 
 -- why nothing was planned or signed
 abbrev pub sign_fault_text : SignFault → List ℕ
 sign_fault_text (Run fault) = run_fault_text fault
-sign_fault_text (TornInput pos) = codes "P1 " ++ decimal pos
+sign_fault_text (TornInput pos) = codes "the log ends inside a frame or line that begins at octet " ++ decimal pos
 sign_fault_text (Origin fault None) = origin_fault_text fault
-sign_fault_text (Origin fault (Some place)) = origin_fault_text fault ++ codes " " ++ decimal place
+sign_fault_text (Origin fault (Some place)) = origin_fault_text fault ++ codes ", at message " ++ decimal place
+
+-- its code
+abbrev pub sign_fault_code : SignFault → List ℕ × Option ℕ
+sign_fault_code (Run fault) = run_fault_code fault
+sign_fault_code (TornInput pos) = (codes "P1", Some pos)
+sign_fault_code (Origin fault place) = ((origin_fault_code fault).0, place)

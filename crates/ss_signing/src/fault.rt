@@ -1,9 +1,11 @@
 //! Why a log was neither planned nor signed.
-ghost use Rattle.std.specs.Prelude.{◌≡◌};
+ghost use Rattle.std.specs.Prelude.{◌≡◌, Some};
+ghost use Rattle.ss_octets.specs.Code.{IsCode};
 ghost use Rattle.ss_signing.specs.declared.fault.SignFault.TheVariants.{Run};
+ghost use Rattle.ss_signing.specs.FaultText.{sign_fault_code, sign_fault_text};
 ghost use Rattle.ss_report.specs.declared.fault.RunFault.TheVariants.{Memory};
 
-use ss_octets::NoMemory;
+use ss_octets::{Code, NoMemory};
 use ss_origin::OriginFault;
 use ss_report::RunFault;
 use std::fmt;
@@ -28,21 +30,41 @@ pub enum SignFault {
     },
 }
 
-impl fmt::Display for SignFault {
-    ghost use Rattle.std.specs.Prelude.{Some};
-    ghost use Rattle.ss_signing.specs.FaultText.{sign_fault_text};
+impl SignFault {
+    /// Its code, for programs, which of a fault of a lower layer is the code of that one. The place is the octet's
+    /// behind P1, and the message's behind O1 to O10.
+    pub fn code(self) -> Code
+        ensures { IsCode result (sign_fault_code self) }
+    {
+        match self {
+            SignFault::Run(fault) => fault.code(),
+            SignFault::TornInput { pos } => Code {
+                name: "P1",
+                place: Some(pos),
+            },
+            SignFault::Origin { fault, place } => Code {
+                name: fault.code().name,
+                place: place.map(|place| place as u64),
+            },
+        }
+    }
+}
 
+impl fmt::Display for SignFault {
     ghost output = { λ fault. Some (sign_fault_text fault) };
 
     fn fmt<W: fmt::Write>(&self, f: &mut fmt::Formatter<W>) -> fmt::Result {
         match self {
             SignFault::Run(fault) => write!(f, "{fault}"),
-            SignFault::TornInput { pos } => write!(f, "P1 {pos}"),
+            SignFault::TornInput { pos } => write!(
+                f,
+                "the log ends inside a frame or line that begins at octet {pos}"
+            ),
             SignFault::Origin { fault, place: None } => write!(f, "{fault}"),
             SignFault::Origin {
                 fault,
                 place: Some(place),
-            } => write!(f, "{fault} {place}"),
+            } => write!(f, "{fault}, at message {place}"),
         }
     }
 }

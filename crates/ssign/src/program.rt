@@ -46,7 +46,7 @@ pub fn run<R: Input + Print + Eprint + Screen + Env + Files + Clock + AllocGloba
     match words(rt) {
         Ok(words) => run_words(rt, words.as_slice()),
         Err(fault) if fault.kind() == io::ErrorKind::InvalidData => refuse_words(rt),
-        Err(_) => refuse(rt, &RunFault::Memory, Remark::Nothing),
+        Err(_) => refuse(rt, &RunFault::Memory.code(), Remark::Nothing),
     }
 }
 
@@ -67,19 +67,19 @@ fn run_words<R: Input + Print + Eprint + Screen + Files + Clock + AllocGlobal>(
     ensures usage { AreMistaken (map (λ word. word.bytes.items) words.now) → result ≡ 2 }
 {
     let Ok(command) = command(rt.alloc()) else {
-        return refuse(rt, &RunFault::Memory, Remark::Nothing);
+        return refuse(rt, &RunFault::Memory.code(), Remark::Nothing);
     };
     match command.try_get_matches_from(words) {
         Ok(matches) => run_command(rt, &matches),
         Err(fault) => {
             if fault.kind() == ErrorKind::OutOfMemory {
-                return refuse(rt, &RunFault::Memory, Remark::Nothing);
+                return refuse(rt, &RunFault::Memory.code(), Remark::Nothing);
             }
             if fault.kind() == ErrorKind::UnknownArgument && tells_negative(rt, words) {
                 return REFUSED;
             }
             if fault.print(rt).is_err() {
-                return refuse(rt, &RunFault::Write, Remark::Nothing);
+                return refuse(rt, &RunFault::Write.code(), Remark::Nothing);
             }
             if fault.use_stderr() { REFUSED } else { CLEAN }
         }
@@ -122,7 +122,7 @@ fn run_log<R: Input + Print + Eprint + Screen + Files + Clock + AllocGlobal>(
         None => Counters::from_vec(Vec::new(rt.alloc())),
         Some(file) => match open_counters(rt, file) {
             Ok(counters) => counters,
-            Err(fault) => return refuse(rt, &fault, Remark::CountersFile(file)),
+            Err(fault) => return refuse(rt, &fault.code(), Remark::CountersFile(file)),
         },
     };
     let wanted = Wanted {
@@ -149,7 +149,7 @@ fn run_wanted<R: Input + Print + Eprint + Screen + Files + Clock + AllocGlobal>(
         None => run_streams(rt, &mut input, wanted, Nobody),
         Some(file) => match open_answers(rt, file) {
             Ok(answers) => run_streams(rt, &mut input, wanted, answers),
-            Err(fault) => return refuse(rt, &fault, Remark::AnswersFile(file)),
+            Err(fault) => return refuse(rt, &fault.code(), Remark::AnswersFile(file)),
         },
     };
     input.hide();
@@ -163,7 +163,7 @@ fn refuse_extraction<R: Print + Eprint + Screen + AllocGlobal>(rt: &R, fault: Ex
     match fault {
         ExtractionFault::Both => tell_conflict(rt),
         ExtractionFault::NoNumber => REFUSED,
-        ExtractionFault::Memory => refuse(rt, &RunFault::Memory, Remark::Nothing),
+        ExtractionFault::Memory => refuse(rt, &RunFault::Memory.code(), Remark::Nothing),
     }
 }
 
@@ -172,10 +172,10 @@ fn tell_conflict<R: Print + Eprint + Screen + AllocGlobal>(rt: &R) -> u8
     ensures { result ≤ 2 }
 {
     let Ok(fault) = extract_conflict(rt.alloc()) else {
-        return refuse(rt, &RunFault::Memory, Remark::Nothing);
+        return refuse(rt, &RunFault::Memory.code(), Remark::Nothing);
     };
     if fault.print(rt).is_err() {
-        return refuse(rt, &RunFault::Write, Remark::Nothing);
+        return refuse(rt, &RunFault::Write.code(), Remark::Nothing);
     }
     REFUSED
 }
@@ -201,7 +201,7 @@ fn run_sent<R: Input + Print + Eprint + Screen + Files + Clock + AllocGlobal>(
         None => None,
         Some(file) => match open_answers(rt, file) {
             Ok(answers) => Some(answers),
-            Err(fault) => return refuse(rt, &fault, Remark::AnswersFile(file)),
+            Err(fault) => return refuse(rt, &fault.code(), Remark::AnswersFile(file)),
         },
     };
     let mut input = Progress::new(rt, Opening::new(rt.reader()), limits.form());
@@ -234,7 +234,7 @@ fn explain<R: Print + Eprint + Screen + AllocGlobal>(rt: &R, tables: Tables<'_>,
     };
     match explain_on_output(rt, explanation) {
         Ok(()) => CLEAN,
-        Err(fault) => refuse(rt, &fault, Remark::Nothing),
+        Err(fault) => refuse(rt, &fault.code(), Remark::Nothing),
     }
 }
 
@@ -251,7 +251,11 @@ fn end<R: Eprint + Screen>(
     match ended {
         Ok(Verdict::Clean) => CLEAN,
         Ok(Verdict::Findings) => FINDINGS,
-        Err(fault) => refuse(rt, &fault, cause_remark(run_cause(&fault, form, octets))),
+        Err(fault) => refuse(
+            rt,
+            &fault.code(),
+            cause_remark(run_cause(&fault, form, octets)),
+        ),
     }
 }
 
@@ -269,7 +273,7 @@ fn end_signing<R: Eprint + Screen>(
         Ok(()) => CLEAN,
         Err(fault) => refuse(
             rt,
-            &fault,
+            &fault.code(),
             cause_remark(signing_cause(&fault, form, octets)),
         ),
     }

@@ -11,6 +11,7 @@ use crate::settings::SettingsFault;
 use crate::text_option::TextOption;
 use arrayvec::ArrayString;
 use clap::ArgMatches;
+use ss_octets::Code;
 use std::fmt;
 use std::fmt::{Display, Write};
 
@@ -19,6 +20,13 @@ pub const REFUSED: u8 = 2;
 
 /// The most octets of a refusal as it is printed: a code, a space and a number of up to 20 digits take fewer.
 const LONGEST_REFUSAL: usize = 32;
+
+/// What may stand behind `ssign: `: a code, and not the words of a fault.
+pub trait Refusal: Display {}
+
+impl Refusal for Code {}
+
+impl Refusal for SettingsFault {}
 
 /// Where refusals are shown.
 pub trait Screen {
@@ -91,7 +99,7 @@ pub fn cause_remark<'a>(cause: Option<LikelyCause>) -> Remark<'a>
 }
 
 /// Says on standard error why there is no output. Where a person looks, the code is explained, and the remark follows.
-pub fn refuse<R: Eprint + Screen, F: Display>(rt: &R, fault: &F, remark: Remark<'_>) -> u8
+pub fn refuse<R: Eprint + Screen, F: Refusal>(rt: &R, fault: &F, remark: Remark<'_>) -> u8
     ensures { result ≡ 2 }
 {
     let _ = eprintln!(rt; "ssign: {fault}");
@@ -103,7 +111,7 @@ pub fn refuse<R: Eprint + Screen, F: Display>(rt: &R, fault: &F, remark: Remark<
 }
 
 /// Says what `explain` says of the refusal as it is printed.
-fn explain_refusal<R: Eprint, F: Display>(rt: &R, fault: &F) {
+fn explain_refusal<R: Eprint, F: Refusal>(rt: &R, fault: &F) {
     let mut line = ArrayString::<LONGEST_REFUSAL>::new();
     if write!(line, "{fault}").is_err() {
         return;

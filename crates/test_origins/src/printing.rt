@@ -1,4 +1,4 @@
-//! Refusals of an originator and of its sealer, printed, each once.
+//! Refusals of an originator, by code and in words, and of its sealer, printed, each once.
 use ss_origin::{OriginFault, SealFault};
 use std::alloc::AllocError;
 use std::fmt::Display;
@@ -16,17 +16,49 @@ fn prints<F: Display>(
     Ok(())
 }
 
-const REFUSALS: [(OriginFault, &str); 10] = [
-    (OriginFault::BadConfig, "O1"),
-    (OriginFault::NotSyslog, "O2"),
-    (OriginFault::HasBlock, "O3"),
-    (OriginFault::NotBegun, "O4"),
-    (OriginFault::AlreadyBegun, "O5"),
-    (OriginFault::SealRefused, "O6"),
-    (OriginFault::SignatureLength, "O7"),
-    (OriginFault::NumbersSpent, "O8"),
-    (OriginFault::CounterSpent, "O9"),
-    (OriginFault::Memory, "O10"),
+const REFUSALS: [(OriginFault, &str, &str); 10] = [
+    (
+        OriginFault::BadConfig,
+        "O1",
+        "the configuration, the counters or the payload's length is out of range",
+    ),
+    (
+        OriginFault::NotSyslog,
+        "O2",
+        "what was submitted is no message of RFC 5424",
+    ),
+    (
+        OriginFault::HasBlock,
+        "O3",
+        "the message has an element ssign or ssign-cert",
+    ),
+    (OriginFault::NotBegun, "O4", "the originator hasn't begun"),
+    (
+        OriginFault::AlreadyBegun,
+        "O5",
+        "the originator has begun already",
+    ),
+    (
+        OriginFault::SealRefused,
+        "O6",
+        "the sealer refused to sign a block message that is due",
+    ),
+    (
+        OriginFault::SignatureLength,
+        "O7",
+        "the sealer's signature has no octet, or more than 1,024",
+    ),
+    (
+        OriginFault::NumbersSpent,
+        "O8",
+        "the message's number in its group would be 10,000,000,000",
+    ),
+    (
+        OriginFault::CounterSpent,
+        "O9",
+        "the GBC of a signature block would be 10,000,000,000",
+    ),
+    (OriginFault::Memory, "O10", "out of memory"),
 ];
 
 const SEALS: [(SealFault, &str); 2] = [
@@ -36,7 +68,8 @@ const SEALS: [(SealFault, &str); 2] = [
 
 #[test]
 fn refusals(rt: HostRuntime) -> Result<(), Fail> {
-    for (fault, text) in &REFUSALS {
+    for (fault, code, text) in &REFUSALS {
+        prints(&rt, &fault.code(), code)?;
         prints(&rt, fault, text)?;
     }
     for (fault, text) in &SEALS {

@@ -1,4 +1,4 @@
-//! Faults printed, each variant once.
+//! Faults printed, each variant once: its code, where it has one, and its words.
 use ss_frame::{FrameFault, WriteFault};
 use ss_message::{DraftFault, Fault, Part};
 use ss_octets::NoMemory;
@@ -18,20 +18,36 @@ fn prints<F: Display>(
     Ok(())
 }
 
-const FRAMES: [(FrameFault, &str); 7] = [
-    (FrameFault::BadLength { pos: 0 }, "F1 0"),
-    (FrameFault::TooLong { pos: 17 }, "F2 17"),
-    (FrameFault::Read, "F3"),
-    (FrameFault::Memory, "F4"),
+const FRAMES: [(FrameFault, &str, &str); 7] = [
+    (
+        FrameFault::BadLength { pos: 0 },
+        "F1 0",
+        "a frame's length is malformed, at octet 0",
+    ),
+    (
+        FrameFault::TooLong { pos: 17 },
+        "F2 17",
+        "a message is longer than allowed, at octet 17",
+    ),
+    (FrameFault::Read, "F3", "a read failed"),
+    (FrameFault::Memory, "F4", "out of memory"),
     (
         FrameFault::TooManyMessages { pos: u64::MAX },
         "F5 18446744073709551615",
+        "there are more messages than allowed, at octet 18446744073709551615",
     ),
-    (FrameFault::Failed, "F6"),
-    (FrameFault::EmptyLine { pos: 9 }, "F9 9"),
+    (FrameFault::Failed, "F6", "an earlier call failed"),
+    (
+        FrameFault::EmptyLine { pos: 9 },
+        "F9 9",
+        "a line is empty, at octet 9",
+    ),
 ];
 
-const WRITES: [(WriteFault, &str); 2] = [(WriteFault::Write, "F7"), (WriteFault::Empty, "F8")];
+const WRITES: [(WriteFault, &str, &str); 2] = [
+    (WriteFault::Write, "F7", "a write or a flush failed"),
+    (WriteFault::Empty, "F8", "the message has no octet"),
+];
 
 const PARTS: [(Part, &str); 12] = [
     (Part::Pri, "Pri"),
@@ -66,10 +82,12 @@ const DRAFTS: [(DraftFault, &str); 2] = [
 
 #[test]
 fn faults(rt: HostRuntime) -> Result<(), Fail> {
-    for (fault, text) in &FRAMES {
+    for (fault, code, text) in &FRAMES {
+        prints(&rt, &fault.code(), code)?;
         prints(&rt, fault, text)?;
     }
-    for (fault, text) in &WRITES {
+    for (fault, code, text) in &WRITES {
+        prints(&rt, &fault.code(), code)?;
         prints(&rt, fault, text)?;
     }
     for (part, text) in &PARTS {

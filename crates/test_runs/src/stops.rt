@@ -8,6 +8,7 @@ use ss_frame::{Buffered, Form, FrameFault, Limits};
 use ss_report::{ExtractFault, RunFault, Verdict};
 use ss_review::ReviewFault;
 use std::alloc::{AllocError, Global};
+use std::fmt::Display;
 use std::io::ErrorKind;
 use std::process::Abort;
 use std::test::Fail;
@@ -30,27 +31,53 @@ const REFUSALS: [Refusal; 3] = [
     Refusal::Nothing,
 ];
 
-/// How each fault of a run is printed.
-const PRINTED: [(RunFault, &str); 13] = [
-    (RunFault::Frame(FrameFault::BadLength { pos: 7 }), "F1 7"),
-    (RunFault::Frame(FrameFault::TooLong { pos: 7 }), "F2 7"),
-    (RunFault::Frame(FrameFault::Read), "F3"),
-    (RunFault::Frame(FrameFault::Memory), "F4"),
+/// The code of each fault of a run as it is printed, and its words.
+const PRINTED: [(RunFault, &str, &str); 13] = [
+    (
+        RunFault::Frame(FrameFault::BadLength { pos: 7 }),
+        "F1 7",
+        "a frame's length is malformed, at octet 7",
+    ),
+    (
+        RunFault::Frame(FrameFault::TooLong { pos: 7 }),
+        "F2 7",
+        "a message is longer than allowed, at octet 7",
+    ),
+    (RunFault::Frame(FrameFault::Read), "F3", "a read failed"),
+    (RunFault::Frame(FrameFault::Memory), "F4", "out of memory"),
     (
         RunFault::Frame(FrameFault::TooManyMessages { pos: 7 }),
         "F5 7",
+        "there are more messages than allowed, at octet 7",
     ),
-    (RunFault::Frame(FrameFault::Failed), "F6"),
-    (RunFault::Frame(FrameFault::EmptyLine { pos: 7 }), "F9 7"),
-    (RunFault::Review(ReviewFault::Memory), "V1"),
-    (RunFault::Review(ReviewFault::TooManyMessages), "V2"),
-    (RunFault::Extract(ExtractFault::Absent { place: 7 }), "E1 7"),
+    (
+        RunFault::Frame(FrameFault::Failed),
+        "F6",
+        "an earlier call failed",
+    ),
+    (
+        RunFault::Frame(FrameFault::EmptyLine { pos: 7 }),
+        "F9 7",
+        "a line is empty, at octet 7",
+    ),
+    (RunFault::Review(ReviewFault::Memory), "V1", "out of memory"),
+    (
+        RunFault::Review(ReviewFault::TooManyMessages),
+        "V2",
+        "there are more messages than the reviewer takes",
+    ),
+    (
+        RunFault::Extract(ExtractFault::Absent { place: 7 }),
+        "E1 7",
+        "the log has no message 7",
+    ),
     (
         RunFault::Extract(ExtractFault::HoldsLf { place: 7 }),
         "E2 7",
+        "a message to be written as a line holds LF, at message 7",
     ),
-    (RunFault::Write, "W1"),
-    (RunFault::Memory, "W2"),
+    (RunFault::Write, "W1", "a write failed"),
+    (RunFault::Memory, "W2", "out of memory"),
 ];
 
 /// A run over frames that says yes to everything.
@@ -181,7 +208,11 @@ fn stops_at_frames(rt: &(impl Abort + AllocGlobal), job: Job) -> Result<(), Fail
 }
 
 /// The fault is printed so.
-fn prints(rt: &(impl Abort + AllocGlobal), fault: RunFault, text: &str) -> Result<(), AllocError> {
+fn prints<F: Display>(
+    rt: &(impl Abort + AllocGlobal),
+    fault: &F,
+    text: &str,
+) -> Result<(), AllocError> {
     let printed = format!(in rt.alloc(); "{fault}")?;
     assert_eq!(rt; printed.as_str(), text);
     Ok(())
@@ -203,8 +234,9 @@ fn stops_over(
 
 #[test]
 fn stops(rt: HostRuntime) -> Result<(), Fail> {
-    for (fault, text) in &PRINTED {
-        prints(&rt, *fault, text)?;
+    for (fault, code, text) in &PRINTED {
+        prints(&rt, &fault.code(), code)?;
+        prints(&rt, fault, text)?;
     }
     let log = log_of(rt.alloc(), &TEXTS, Form::Frames, b"")?;
     for (job, text) in &JOBS {

@@ -8,6 +8,7 @@ use ss_frame::Watched;
 use ss_origin::SealFault;
 use ss_review::{Judge, Verifier};
 use std::alloc::Global;
+use std::fmt::Display;
 use std::io::ErrorKind;
 use std::process::Abort;
 use std::test::Fail;
@@ -99,16 +100,48 @@ fn sees_no_end(rt: &(impl Abort + AllocGlobal), text: &[u8]) {
     assert_eq!(rt; reader.into_inner().taken, 1001);
 }
 
-/// Each fault, and how it is printed.
-const PRINTED: [(AnswerFault, &str); 4] = [
-    (AnswerFault::BadLine { line: 7 }, "A1 7"),
-    (AnswerFault::Read, "A2"),
-    (AnswerFault::TooBig, "A3"),
-    (AnswerFault::Memory, "A4"),
+/// Each fault of answers, its code as it is printed, and its words.
+const ANSWER_FAULTS: [(AnswerFault, &str, &str); 4] = [
+    (
+        AnswerFault::BadLine { line: 7 },
+        "A1 7",
+        "a line isn't an answer, at line 7",
+    ),
+    (
+        AnswerFault::Read,
+        "A2",
+        "the file of answers couldn't be opened or read",
+    ),
+    (
+        AnswerFault::TooBig,
+        "A3",
+        "the file of answers has more octets than allowed",
+    ),
+    (AnswerFault::Memory, "A4", "out of memory"),
+];
+
+/// Each fault of counters in the same way.
+const COUNTER_FAULTS: [(CounterFault, &str, &str); 4] = [
+    (
+        CounterFault::BadLine { line: 7 },
+        "C1 7",
+        "a line isn't a counter, at line 7",
+    ),
+    (
+        CounterFault::Read,
+        "C2",
+        "the file of counters couldn't be opened or read",
+    ),
+    (
+        CounterFault::TooBig,
+        "C3",
+        "the file of counters has more octets than allowed",
+    ),
+    (CounterFault::Memory, "C4", "out of memory"),
 ];
 
 /// Whether the fault is printed so.
-fn is_printed(rt: &impl AllocGlobal, fault: AnswerFault, text: &str) -> bool {
+fn is_printed<F: Display>(rt: &impl AllocGlobal, fault: &F, text: &str) -> bool {
     match format!(in rt.alloc(); "{fault}") {
         Ok(printed) => printed.as_str() == text,
         Err(_) => false,
@@ -117,8 +150,13 @@ fn is_printed(rt: &impl AllocGlobal, fault: AnswerFault, text: &str) -> bool {
 
 #[test]
 fn refuses(rt: HostRuntime) {
-    for (fault, text) in &PRINTED {
-        assert!(rt; is_printed(&rt, *fault, text), "{text}");
+    for (fault, code, text) in &ANSWER_FAULTS {
+        assert!(rt; is_printed(&rt, &fault.code(), code), "{code}");
+        assert!(rt; is_printed(&rt, fault, text), "{text}");
+    }
+    for (fault, code, text) in &COUNTER_FAULTS {
+        assert!(rt; is_printed(&rt, &fault.code(), code), "{code}");
+        assert!(rt; is_printed(&rt, fault, text), "{text}");
     }
     for (text, max, fault) in &REFUSED {
         assert_eq!(rt; read(&rt, text, *max).err(), Some(*fault), "{text:?}");

@@ -46,7 +46,7 @@ struct Made {
     text: &'static [u8],
 }
 
-/// A run over a log in this form that writes nothing: why, and how that is printed.
+/// A run over a log in this form that writes nothing: why, and the code and the words of that as they are printed.
 #[derive(Clone, Copy)]
 struct Refused {
     job: Job,
@@ -55,6 +55,7 @@ struct Refused {
     sizes: Sizes,
     fault: SignFault,
     code: &'static str,
+    words: &'static str,
 }
 
 /// A block for ten messages, sent once.
@@ -159,6 +160,7 @@ const REFUSED: [Refused; 24] = [
             place: None,
         },
         code: "O6",
+        words: "the sealer refused to sign a block message that is due",
     },
     Refused {
         job: Job::Sign(Seal::FaultFor(SealFault::Memory, CERTIFICATE)),
@@ -170,6 +172,7 @@ const REFUSED: [Refused; 24] = [
             place: None,
         },
         code: "O10",
+        words: "out of memory",
     },
     Refused {
         job: SIGN,
@@ -178,6 +181,7 @@ const REFUSED: [Refused; 24] = [
         sizes: USUAL,
         fault: TornInput { pos: 0 },
         code: "P1 0",
+        words: "the log ends inside a frame or line that begins at octet 0",
     },
     Refused {
         job: Job::Plan,
@@ -186,6 +190,7 @@ const REFUSED: [Refused; 24] = [
         sizes: USUAL,
         fault: TornInput { pos: 0 },
         code: "P1 0",
+        words: "the log ends inside a frame or line that begins at octet 0",
     },
     Refused {
         job: SIGN,
@@ -197,6 +202,7 @@ const REFUSED: [Refused; 24] = [
             place: Some(0),
         },
         code: "O2 0",
+        words: "what was submitted is no message of RFC 5424, at message 0",
     },
     Refused {
         job: Job::Plan,
@@ -208,6 +214,7 @@ const REFUSED: [Refused; 24] = [
             place: Some(0),
         },
         code: "O2 0",
+        words: "what was submitted is no message of RFC 5424, at message 0",
     },
     Refused {
         job: SIGN,
@@ -219,6 +226,7 @@ const REFUSED: [Refused; 24] = [
             place: Some(1),
         },
         code: "O2 1",
+        words: "what was submitted is no message of RFC 5424, at message 1",
     },
     Refused {
         job: Job::Plan,
@@ -230,6 +238,7 @@ const REFUSED: [Refused; 24] = [
             place: Some(1),
         },
         code: "O3 1",
+        words: "the message has an element ssign or ssign-cert, at message 1",
     },
     Refused {
         job: SIGN,
@@ -238,6 +247,7 @@ const REFUSED: [Refused; 24] = [
         sizes: USUAL,
         fault: TornInput { pos: 20 },
         code: "P1 20",
+        words: "the log ends inside a frame or line that begins at octet 20",
     },
     Refused {
         job: Job::Plan,
@@ -246,6 +256,7 @@ const REFUSED: [Refused; 24] = [
         sizes: USUAL,
         fault: TornInput { pos: 20 },
         code: "P1 20",
+        words: "the log ends inside a frame or line that begins at octet 20",
     },
     Refused {
         job: SIGN,
@@ -257,6 +268,7 @@ const REFUSED: [Refused; 24] = [
             place: None,
         },
         code: "O1",
+        words: "the configuration, the counters or the payload's length is out of range",
     },
     Refused {
         job: SIGN,
@@ -268,6 +280,7 @@ const REFUSED: [Refused; 24] = [
             place: None,
         },
         code: "O1",
+        words: "the configuration, the counters or the payload's length is out of range",
     },
     Refused {
         job: Job::Plan,
@@ -279,6 +292,7 @@ const REFUSED: [Refused; 24] = [
             place: None,
         },
         code: "O1",
+        words: "the configuration, the counters or the payload's length is out of range",
     },
     // The log comes before the originator, and its messages in their order.
     Refused {
@@ -288,6 +302,7 @@ const REFUSED: [Refused; 24] = [
         sizes: (0, 1),
         fault: TornInput { pos: 0 },
         code: "P1 0",
+        words: "the log ends inside a frame or line that begins at octet 0",
     },
     Refused {
         job: SIGN,
@@ -296,6 +311,7 @@ const REFUSED: [Refused; 24] = [
         sizes: (0, 1),
         fault: Run(RunFault::Frame(FrameFault::BadLength { pos: 5 })),
         code: "F1 5",
+        words: "a frame's length is malformed, at octet 5",
     },
     Refused {
         job: Job::Plan,
@@ -304,6 +320,7 @@ const REFUSED: [Refused; 24] = [
         sizes: USUAL,
         fault: TornInput { pos: 5 },
         code: "P1 5",
+        words: "the log ends inside a frame or line that begins at octet 5",
     },
     Refused {
         job: Job::Plan,
@@ -312,6 +329,7 @@ const REFUSED: [Refused; 24] = [
         sizes: USUAL,
         fault: Run(RunFault::Frame(FrameFault::EmptyLine { pos: 4 })),
         code: "F9 4",
+        words: "a line is empty, at octet 4",
     },
     Refused {
         job: NOT_BEGUN,
@@ -323,6 +341,7 @@ const REFUSED: [Refused; 24] = [
             place: None,
         },
         code: "O6",
+        words: "the sealer refused to sign a block message that is due",
     },
     // A block that a message fills, and one that is left to the flush.
     Refused {
@@ -335,6 +354,7 @@ const REFUSED: [Refused; 24] = [
             place: Some(1),
         },
         code: "O6 1",
+        words: "the sealer refused to sign a block message that is due, at message 1",
     },
     Refused {
         job: NOT_FLUSHED,
@@ -346,6 +366,7 @@ const REFUSED: [Refused; 24] = [
             place: None,
         },
         code: "O6",
+        words: "the sealer refused to sign a block message that is due",
     },
     Refused {
         job: EMPTY,
@@ -357,6 +378,7 @@ const REFUSED: [Refused; 24] = [
             place: Some(1),
         },
         code: "O7 1",
+        words: "the sealer's signature has no octet, or more than 1,024, at message 1",
     },
     Refused {
         job: EMPTY,
@@ -368,6 +390,7 @@ const REFUSED: [Refused; 24] = [
             place: None,
         },
         code: "O7",
+        words: "the sealer's signature has no octet, or more than 1,024",
     },
     Refused {
         job: NO_MEMORY,
@@ -379,6 +402,7 @@ const REFUSED: [Refused; 24] = [
             place: Some(1),
         },
         code: "O10 1",
+        words: "out of memory, at message 1",
     },
     Refused {
         job: NO_MEMORY,
@@ -390,6 +414,7 @@ const REFUSED: [Refused; 24] = [
             place: None,
         },
         code: "O10",
+        words: "out of memory",
     },
 ];
 
@@ -438,6 +463,7 @@ fn sees_refusal(rt: &(impl Abort + AllocGlobal), row: &Refused) -> Result<(), Al
         sizes,
         fault,
         code,
+        words,
     } = *row;
     let task = Task {
         job,
@@ -449,8 +475,10 @@ fn sees_refusal(rt: &(impl Abort + AllocGlobal), row: &Refused) -> Result<(), Al
     assert_eq!(rt; done.said, Err(fault), "{job:?} of {log:?}");
     assert_eq!(rt; done.paper.writes, 0, "{job:?} of {log:?}");
     assert!(rt; !done.read_failed && !done.write_failed, "{job:?}");
-    let spelled = format!(in rt.alloc(); "{fault}")?;
+    let spelled = format!(in rt.alloc(); "{}", fault.code())?;
     assert_eq!(rt; spelled.as_str(), code);
+    let said = format!(in rt.alloc(); "{fault}")?;
+    assert_eq!(rt; said.as_str(), words);
     Ok(())
 }
 

@@ -56,7 +56,7 @@ fn start<'d, 't, R: Print + AllocGlobal>(
             print_session(rt, &originator)?;
             script.originator = Some(originator);
         }
-        Err(fault) => println!(rt; "{fault}")?,
+        Err(fault) => println!(rt; "{}", fault.code())?,
     }
     Ok(())
 }
@@ -101,7 +101,7 @@ fn print_call<R: Print + AllocGlobal>(
     };
     match call(rt.alloc(), originator, line) {
         Ok(emitted) => print_emitted(rt, &emitted)?,
-        Err(fault) => println!(rt; "{fault}")?,
+        Err(fault) => println!(rt; "{}", fault.code())?,
     }
     println!(rt; "asked {}", script.desk.asked())?;
     Ok(())

@@ -50,7 +50,7 @@ fn print_said<R: Print + AllocGlobal>(rt: &R, said: &Said) -> io::Result<()> {
             print_questions(rt, questions)
         }
         Err(fault) => {
-            println!(rt; "{fault}")?;
+            println!(rt; "{}", fault.code())?;
             Ok(())
         }
     }

@@ -88,7 +88,7 @@ fn print<R: Print + AllocGlobal>(rt: &R, said: &Result<Report, ReviewFault>) -> 
     match said {
         Ok(report) => print_counts(rt, report),
         Err(fault) => {
-            println!(rt; "{fault}")?;
+            println!(rt; "{}", fault.code())?;
             Ok(())
         }
     }

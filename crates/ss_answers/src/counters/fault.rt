@@ -1,5 +1,10 @@
 //! Why counters weren't read.
+ghost use Rattle.std.specs.Prelude.{Some};
+ghost use Rattle.ss_octets.specs.Code.{IsCode};
+ghost use Rattle.ss_answers.specs.FaultText.{counter_fault_code, counter_fault_text};
+
 use crate::input::InputFault;
+use ss_octets::Code;
 use std::fmt;
 use thiserror::Error;
 
@@ -19,18 +24,32 @@ pub enum CounterFault {
     Memory,
 }
 
-impl fmt::Display for CounterFault {
-    ghost use Rattle.std.specs.Prelude.{Some};
-    ghost use Rattle.ss_answers.specs.FaultText.{counter_fault_text};
+impl CounterFault {
+    /// Its code, for programs. The place is the number of the line.
+    pub fn code(self) -> Code
+        ensures { IsCode result (counter_fault_code self) }
+    {
+        let (name, place) = match self {
+            CounterFault::BadLine { line } => ("C1", Some(line as u64)),
+            CounterFault::Read => ("C2", None),
+            CounterFault::TooBig => ("C3", None),
+            CounterFault::Memory => ("C4", None),
+        };
+        Code { name, place }
+    }
+}
 
+impl fmt::Display for CounterFault {
     ghost output = { λ fault. Some (counter_fault_text fault) };
 
     fn fmt<W: fmt::Write>(&self, f: &mut fmt::Formatter<W>) -> fmt::Result {
         match self {
-            CounterFault::BadLine { line } => write!(f, "C1 {line}"),
-            CounterFault::Read => f.write_str("C2"),
-            CounterFault::TooBig => f.write_str("C3"),
-            CounterFault::Memory => f.write_str("C4"),
+            CounterFault::BadLine { line } => write!(f, "a line isn't a counter, at line {line}"),
+            CounterFault::Read => f.write_str("the file of counters couldn't be opened or read"),
+            CounterFault::TooBig => f.write_str(
+                "the file of counters has more octets than allowed",
+            ),
+            CounterFault::Memory => f.write_str("out of memory"),
         }
     }
 }

@@ -1,5 +1,10 @@
 //! What an extract writes.
+ghost use Rattle.std.specs.Prelude.{Some};
+ghost use Rattle.ss_octets.specs.Code.{IsCode};
+ghost use Rattle.ss_report.specs.FaultText.{extract_fault_code, extract_fault_text};
+
 use ss_frame::Form;
+use ss_octets::Code;
 use ss_review::Places;
 use std::fmt;
 use thiserror::Error;
@@ -43,16 +48,32 @@ pub enum ExtractFault {
     },
 }
 
-impl fmt::Display for ExtractFault {
-    ghost use Rattle.std.specs.Prelude.{Some};
-    ghost use Rattle.ss_report.specs.FaultText.{extract_fault_text};
+impl ExtractFault {
+    /// Its code, for programs. The place is the message's.
+    pub fn code(self) -> Code
+        ensures { IsCode result (extract_fault_code self) }
+    {
+        let (name, place) = match self {
+            ExtractFault::Absent { place } => ("E1", place),
+            ExtractFault::HoldsLf { place } => ("E2", place),
+        };
+        Code {
+            name,
+            place: Some(place as u64),
+        }
+    }
+}
 
+impl fmt::Display for ExtractFault {
     ghost output = { λ fault. Some (extract_fault_text fault) };
 
     fn fmt<W: fmt::Write>(&self, f: &mut fmt::Formatter<W>) -> fmt::Result {
         match self {
-            ExtractFault::Absent { place } => write!(f, "E1 {place}"),
-            ExtractFault::HoldsLf { place } => write!(f, "E2 {place}"),
+            ExtractFault::Absent { place } => write!(f, "the log has no message {place}"),
+            ExtractFault::HoldsLf { place } => write!(
+                f,
+                "a message to be written as a line holds LF, at message {place}"
+            ),
         }
     }
 }
