@@ -1,5 +1,5 @@
 -- The room that a joiner has. It has room for sixteen indexes at a time, the first of them a multiple of 16.
-use Rattle.std.specs.Prelude.{ℕ, ◌⊎◌}
+use Rattle.std.specs.Prelude.{ℕ, ◌+◌, ◌/◌, ◌<◌, ◌⊎◌}
 use Rattle.ss_payload.specs.declared.joiner.Joiner.{Joiner}
 use Rattle.ss_payload.specs.Slots.{HasRun}
 use Rattle.ss_payload.specs.RunSlots.{BelongsTo}
@@ -10,6 +10,10 @@ HasRoom joiner number = HasRun joiner.runs number
 
 abbrev pub HasNoRoom : Joiner → Type 0
 HasNoRoom joiner = (number : ℕ) → ¬ HasRoom joiner number
+
+-- there is room for each index of a fragment
+abbrev pub HasRoomFor : Joiner → ℕ → ℕ → Type 0
+HasRoomFor joiner index count = (j : ℕ) → j < count → HasRoom joiner ((index + j) / 16)
 
 -- there is no room but what there was, and that of sixteen indexes of which one is of the fragment
 abbrev pub GrowsFor : Joiner → Joiner → ℕ → ℕ → Type 0

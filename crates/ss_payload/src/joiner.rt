@@ -1,11 +1,11 @@
 //! A payload joined from the fragments of certificate blocks (RFC 5848, section 5.3.2).
 ghost use Rattle.std.specs.Prelude.{◌≡◌, ◌+◌, ◌-◌, ◌≤◌, ◌↔◌, length, MatchResult, IfOk, MatchOption, IfSome, IfNone};
-ghost use Rattle.std.specs.Prelude.{false};
+ghost use Rattle.std.specs.Prelude.{ℕ, false, IsOk};
 ghost use Rattle.ss_payload.specs.declared.joiner.JoinState.TheVariants.{Whole};
 ghost use Rattle.ss_payload.specs.declared.joiner.Joined.TheVariants.{Disagrees};
 ghost use Rattle.ss_payload.specs.Joining.{Stated, nothing_stated, with_fragment, DisagreesWith, HasState, IsPayload};
 ghost use Rattle.ss_payload.specs.Joiner.{Stands, KeepsAll, LacksSome};
-ghost use Rattle.ss_payload.specs.Room.{HasNoRoom, GrowsFor};
+ghost use Rattle.ss_payload.specs.Room.{HasRoom, HasNoRoom, HasRoomFor, GrowsFor};
 ghost use Rattle.ss_payload.specs.Ranges.{longest_payload};
 
 mod runs;
@@ -82,6 +82,10 @@ impl Joiner {
             → IfOk result (λ joined. (joined ≡ Disagrees) ↔ DisagreesWith stated total index fragment.now) }
         // It makes room for the octets of this fragment alone, also where memory runs out.
         ensures room { GrowsFor self.old self.new index (length fragment.now) }
+        // Room that was made stays.
+        ensures kept { (number : ℕ) → HasRoom self.old number → HasRoom self.new number }
+        // Where the runs of its octets are there, it takes no memory.
+        ensures had { HasRoomFor self.old index (length fragment.now) → IsOk result }
     {
         self.runs.make_room(index, fragment.len())?;
         let other_total = self.totals.differs(total);

@@ -1,6 +1,6 @@
 //! The octets of a payload by their indexes, in sorted runs.
 ghost use Rattle.std.specs.Prelude.{◌≡◌, ◌+◌, ◌-◌, ◌/◌, ◌%◌, ◌<◌, ◌≤◌, ◌≢◌, ◌^◌, ◌⊎◌, ℕ, List, length, slice_index_or};
-ghost use Rattle.std.specs.Prelude.{IsTrue, true, false, OnOk, IfOk};
+ghost use Rattle.std.specs.Prelude.{IsTrue, true, false, OnOk, IfOk, IsOk};
 ghost use Rattle.ss_payload.specs.declared.joiner.slot.Slot.TheVariants.{Empty};
 ghost use Rattle.ss_payload.specs.Slots.{slot_at, HasRun, IsOne, IsPut, IsTextOf, NoneDiffers, SomeDiffers};
 ghost use Rattle.ss_payload.specs.Slots.{joined_slot, slot_differs};
@@ -98,6 +98,7 @@ impl Runs {
         ensures made { OnOk result (HasRun self.new number) }
         ensures kept { (n : ℕ) → HasRun self.old n → HasRun self.new n }
         ensures alone { (n : ℕ) → n ≢ number → HasRun self.new n → HasRun self.old n }
+        ensures had { HasRun self.old number → IsOk result }
     {
         if !self.runs.contains_key(&number) {
             self.runs.insert(number, [Slot::Empty; 16])?;
@@ -112,7 +113,9 @@ impl Runs {
         requires fits { index + length < 2 ^ 31 }
         ensures same { (i : ℕ) → slot_at self.new i ≡ slot_at self.old i }
         ensures room { OnOk result ((j : ℕ) → j < length → HasRun self.new ((index + j) / 16)) }
+        ensures kept { (n : ℕ) → HasRun self.old n → HasRun self.new n }
         ensures alone { (n : ℕ) → HasRun self.new n → HasRun self.old n ⊎ BelongsTo n index length }
+        ensures had { ((j : ℕ) → j < length → HasRun self.old ((index + j) / 16)) → IsOk result }
     {
         let behind = index + length as u32 + (RUN - 1);
         for number in index / RUN..behind / RUN {
@@ -146,6 +149,7 @@ impl Runs {
         ensures put { IsPut self.old self.new index fragment.now (length fragment.now) }
         ensures some { result ≡ true → SomeDiffers self.old index fragment.now }
         ensures none { result ≡ false → NoneDiffers self.old index fragment.now (length fragment.now) }
+        ensures kept { (n : ℕ) → HasRun self.old n → HasRun self.new n }
         ensures alone { (n : ℕ) → HasRun self.new n → HasRun self.old n }
     {
         let mut differs = false;

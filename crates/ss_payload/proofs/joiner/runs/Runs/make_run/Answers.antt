@@ -41,3 +41,7 @@ returns-in_ok-insert-clause-alone c = λ n ne h. rw (get_apart c.args.self.now.r
 pub returns-in_err-insert-clause-alone : goal.returns-in_err-insert-clause-alone
 unfolding HasRun
 returns-in_err-insert-clause-alone c = λ n ne h. grind (arith, common_steps)
+
+pub returns-in_err-insert-clause-had : goal.returns-in_err-insert-clause-had
+unfolding HasRun
+returns-in_err-insert-clause-had c = λ h. absurd (grind (arith, common_steps, h))

@@ -20,6 +20,7 @@ loop-start-preserved-then-put c =
       put = subst (IsPut c.args.self.now c.put.new.self c.args.index octets) long (more_put c.args.self.now c.loop-start.self c.put.new.self c.args.index start octets piece part c.loop-start.invariant.put c.put.ensures.put);
       some = λ _. more_differ c.args.self.now c.loop-start.self c.put.new.self c.args.index start octets piece part c.loop-start.invariant.put c.put.ensures.put (omega (arith, long, within)) (c.put.ensures.some c.if-put.true);
       none = λ f. absurd (true≢false f);
+      kept = λ n h. c.put.ensures.kept n (c.loop-start.invariant.kept n h);
       alone = λ n h. c.loop-start.invariant.alone n (c.put.ensures.alone n h);
     }
 
@@ -38,5 +39,6 @@ loop-start-preserved c =
       put = subst (IsPut c.args.self.now c.put.new.self c.args.index octets) long (more_put c.args.self.now c.loop-start.self c.put.new.self c.args.index start octets piece part c.loop-start.invariant.put c.put.ensures.put);
       some = c.loop-start.invariant.some;
       none = λ f. subst (NoneDiffers c.args.self.now c.args.index octets) long (more_agree c.args.self.now c.loop-start.self c.put.new.self c.args.index start octets piece part c.loop-start.invariant.put c.put.ensures.put (c.loop-start.invariant.none f) (c.put.ensures.none c.if-put.false));
+      kept = λ n h. c.put.ensures.kept n (c.loop-start.invariant.kept n h);
       alone = λ n h. c.loop-start.invariant.alone n (c.put.ensures.alone n h);
     }

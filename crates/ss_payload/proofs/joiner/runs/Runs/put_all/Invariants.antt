@@ -10,6 +10,7 @@ invariant-loop-start l = record {
   put : IsPut l.initial.self l.self l.index l.fragment l.start;
   some : l.differs ≡ true → SomeDiffers l.initial.self l.index l.fragment;
   none : l.differs ≡ false → NoneDiffers l.initial.self l.index l.fragment l.start;
+  kept : (n : ℕ) → HasRun l.initial.self n → HasRun l.self n;
   alone : (n : ℕ) → HasRun l.self n → HasRun l.initial.self n;
 }
 
