@@ -8,8 +8,8 @@ use Rattle.ss_answers.specs.declared.counters.fault.CounterFault.TheVariants as 
 -- why a file of answers wasn't taken
 abbrev pub answer_fault_text : AnswerFault → List ℕ
 answer_fault_text (answers.BadLine line) = codes "a line isn't an answer, at line " ++ decimal line
-answer_fault_text answers.Read = codes "the file of answers couldn't be opened or read"
-answer_fault_text answers.TooBig = codes "the file of answers has more octets than allowed"
+answer_fault_text answers.Read = codes "the answers file couldn't be opened or read"
+answer_fault_text answers.TooBig = codes "the answers file has more octets than allowed"
 answer_fault_text answers.Memory = codes "out of memory"
 
 -- its code
@@ -22,8 +22,8 @@ answer_fault_code answers.Memory = (codes "A4", None)
 -- why a file of counters wasn't taken
 abbrev pub counter_fault_text : CounterFault → List ℕ
 counter_fault_text (counters.BadLine line) = codes "a line isn't a counter, at line " ++ decimal line
-counter_fault_text counters.Read = codes "the file of counters couldn't be opened or read"
-counter_fault_text counters.TooBig = codes "the file of counters has more octets than allowed"
+counter_fault_text counters.Read = codes "the counters file couldn't be opened or read"
+counter_fault_text counters.TooBig = codes "the counters file has more octets than allowed"
 counter_fault_text counters.Memory = codes "out of memory"
 
 -- its code

@@ -45,8 +45,8 @@ impl fmt::Display for AnswerFault {
     fn fmt<W: fmt::Write>(&self, f: &mut fmt::Formatter<W>) -> fmt::Result {
         match self {
             AnswerFault::BadLine { line } => write!(f, "a line isn't an answer, at line {line}"),
-            AnswerFault::Read => f.write_str("the file of answers couldn't be opened or read"),
-            AnswerFault::TooBig => f.write_str("the file of answers has more octets than allowed"),
+            AnswerFault::Read => f.write_str("the answers file couldn't be opened or read"),
+            AnswerFault::TooBig => f.write_str("the answers file has more octets than allowed"),
             AnswerFault::Memory => f.write_str("out of memory"),
         }
     }

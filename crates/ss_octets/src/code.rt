@@ -10,7 +10,7 @@ use std::fmt;
 pub struct Code {
     /// A letter, and a number that stays the same: `F2`.
     pub name: &'static str,
-    /// Where the fault is, for the faults that say so: of an octet, a line or a message, as each fault tells.
+    /// Where the fault is, where it says so: an octet or a message, from 0, or a line, from 1. Each fault says which.
     pub place: Option<u64>,
 }
 

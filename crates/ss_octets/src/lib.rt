@@ -1,4 +1,4 @@
-//! What every crate shares: octets and lists that their holder owns, want of memory, the codes of faults, numbers in
+//! What several crates share: octets and lists that their holder owns, want of memory, the codes of faults, numbers in
 //! decimal, strict base64 (RFC 4648, section 4), and a text cut at an octet.
 #![tactic(auto)]
 

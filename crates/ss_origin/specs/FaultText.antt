@@ -7,15 +7,16 @@ use Rattle.ss_origin.specs.declared.sealer.SealFault.TheVariants as seals
 
 -- why an originator isn't made, or refuses a call
 abbrev pub origin_fault_text : OriginFault → List ℕ
-origin_fault_text faults.BadConfig = codes "the configuration, the counters or the payload's length is out of range"
+origin_fault_text faults.BadConfig =
+    codes "the configuration or the counters aren't allowed, or the payload is too long"
 origin_fault_text faults.NotSyslog = codes "what was submitted is no message of RFC 5424"
 origin_fault_text faults.HasBlock = codes "the message has an element ssign or ssign-cert"
 origin_fault_text faults.NotBegun = codes "the originator hasn't begun"
-origin_fault_text faults.AlreadyBegun = codes "the originator has begun already"
+origin_fault_text faults.AlreadyBegun = codes "the originator has begun already, or goes on behind another one"
 origin_fault_text faults.SealRefused = codes "the sealer refused to sign a block message that is due"
-origin_fault_text faults.SignatureLength = codes "the sealer's signature has no octet, or more than 1,024"
-origin_fault_text faults.NumbersSpent = codes "the message's number in its group would be 10,000,000,000"
-origin_fault_text faults.CounterSpent = codes "the GBC of a signature block would be 10,000,000,000"
+origin_fault_text faults.SignatureLength = codes "the sealer's signature has no octet, or more than 1024"
+origin_fault_text faults.NumbersSpent = codes "the message's number in its group would be over 9999999999"
+origin_fault_text faults.CounterSpent = codes "the GBC of a signature block that is due would be over 9999999999"
 origin_fault_text faults.Memory = codes "out of memory"
 
 -- its code

@@ -13,7 +13,7 @@ use thiserror::Error;
 /// and emitted nothing.
 #[derive(Clone, Copy, Debug, PartialEq, Eq, Error)]
 pub enum OriginFault {
-    /// O1: the configuration, the counters or the length of the payload's text is out of range.
+    /// O1: the configuration or the counters aren't allowed, or the payload's text is too long.
     BadConfig,
     /// O2: what was submitted is no message of RFC 5424.
     NotSyslog,
@@ -62,23 +62,25 @@ impl fmt::Display for OriginFault {
     fn fmt<W: fmt::Write>(&self, f: &mut fmt::Formatter<W>) -> fmt::Result {
         match self {
             OriginFault::BadConfig => f.write_str(
-                "the configuration, the counters or the payload's length is out of range",
+                "the configuration or the counters aren't allowed, or the payload is too long",
             ),
             OriginFault::NotSyslog => f.write_str("what was submitted is no message of RFC 5424"),
             OriginFault::HasBlock => f.write_str("the message has an element ssign or ssign-cert"),
             OriginFault::NotBegun => f.write_str("the originator hasn't begun"),
-            OriginFault::AlreadyBegun => f.write_str("the originator has begun already"),
+            OriginFault::AlreadyBegun => f.write_str(
+                "the originator has begun already, or goes on behind another one",
+            ),
             OriginFault::SealRefused => f.write_str(
                 "the sealer refused to sign a block message that is due",
             ),
             OriginFault::SignatureLength => f.write_str(
-                "the sealer's signature has no octet, or more than 1,024",
+                "the sealer's signature has no octet, or more than 1024",
             ),
             OriginFault::NumbersSpent => f.write_str(
-                "the message's number in its group would be 10,000,000,000",
+                "the message's number in its group would be over 9999999999",
             ),
             OriginFault::CounterSpent => f.write_str(
-                "the GBC of a signature block would be 10,000,000,000",
+                "the GBC of a signature block that is due would be over 9999999999",
             ),
             OriginFault::Memory => f.write_str("out of memory"),
         }

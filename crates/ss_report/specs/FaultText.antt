@@ -9,8 +9,8 @@ use Rattle.ss_report.specs.declared.fault.RunFault.TheVariants.{Frame, Review, E
 
 -- what of a log keeps an extract from being written
 abbrev pub extract_fault_text : ExtractFault → List ℕ
-extract_fault_text (Absent place) = codes "the log has no message " ++ decimal place
-extract_fault_text (HoldsLf place) = codes "a message to be written as a line holds LF, at message " ++ decimal place
+extract_fault_text (Absent place) = codes "the log has no message at place " ++ decimal place
+extract_fault_text (HoldsLf place) = codes "a message that is to be one line holds LF, at place " ++ decimal place
 
 -- its code
 abbrev pub extract_fault_code : ExtractFault → List ℕ × Option ℕ
@@ -22,7 +22,7 @@ abbrev pub run_fault_text : RunFault → List ℕ
 run_fault_text (Frame fault) = frame_fault_text fault
 run_fault_text (Review fault) = review_fault_text fault
 run_fault_text (Extract fault) = extract_fault_text fault
-run_fault_text Write = codes "a write failed"
+run_fault_text Write = codes "a write or a flush failed"
 run_fault_text Memory = codes "out of memory"
 
 -- its code

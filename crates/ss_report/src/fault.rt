@@ -22,7 +22,7 @@ pub enum RunFault {
     Review(ReviewFault),
     /// The messages couldn't be extracted: E1 or E2.
     Extract(ExtractFault),
-    /// W1: a write failed. What was written is a prefix of the output.
+    /// W1: a write or a flush failed. What was written is a prefix of the output.
     Write,
     /// W2: want of memory.
     Memory,
@@ -52,7 +52,7 @@ impl fmt::Display for RunFault {
             RunFault::Frame(fault) => write!(f, "{fault}"),
             RunFault::Review(fault) => write!(f, "{fault}"),
             RunFault::Extract(fault) => write!(f, "{fault}"),
-            RunFault::Write => f.write_str("a write failed"),
+            RunFault::Write => f.write_str("a write or a flush failed"),
             RunFault::Memory => f.write_str("out of memory"),
         }
     }

@@ -6,7 +6,7 @@ use Rattle.ss_review.specs.declared.fault.ReviewFault.TheVariants.{Memory, TooMa
 -- why a reviewer gives no answer
 abbrev pub review_fault_text : ReviewFault → List ℕ
 review_fault_text Memory = codes "out of memory"
-review_fault_text TooManyMessages = codes "there are more messages than the reviewer takes"
+review_fault_text TooManyMessages = codes "more messages were fed than allowed"
 
 -- its code
 abbrev pub review_fault_code : ReviewFault → List ℕ × Option ℕ

@@ -37,9 +37,7 @@ impl fmt::Display for ReviewFault {
     fn fmt<W: fmt::Write>(&self, f: &mut fmt::Formatter<W>) -> fmt::Result {
         match self {
             ReviewFault::Memory => f.write_str("out of memory"),
-            ReviewFault::TooManyMessages => f.write_str(
-                "there are more messages than the reviewer takes",
-            ),
+            ReviewFault::TooManyMessages => f.write_str("more messages were fed than allowed"),
         }
     }
 }

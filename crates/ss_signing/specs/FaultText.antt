@@ -10,7 +10,7 @@ abbrev pub sign_fault_text : SignFault → List ℕ
 sign_fault_text (Run fault) = run_fault_text fault
 sign_fault_text (TornInput pos) = codes "the log ends inside a frame or line that begins at octet " ++ decimal pos
 sign_fault_text (Origin fault None) = origin_fault_text fault
-sign_fault_text (Origin fault (Some place)) = origin_fault_text fault ++ codes ", at message " ++ decimal place
+sign_fault_text (Origin fault (Some place)) = origin_fault_text fault ++ codes ", at place " ++ decimal place
 
 -- its code
 abbrev pub sign_fault_code : SignFault → List ℕ × Option ℕ

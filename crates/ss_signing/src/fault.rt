@@ -14,7 +14,7 @@ use thiserror::Error;
 /// Why nothing was planned or signed. But for a failed write, nothing was written.
 #[derive(Clone, Copy, Debug, PartialEq, Eq, Error)]
 pub enum SignFault {
-    /// The log couldn't be read to its end (F1 to F5, F9), a write failed (W1), or memory ran out (W2).
+    /// The log couldn't be read to its end (F1 to F5, F9), a write or a flush failed (W1), or memory ran out (W2).
     Run(RunFault),
     /// P1: the log ends inside a frame or line, whose first octet is at `pos`, counted from 0.
     TornInput {
@@ -64,7 +64,7 @@ impl fmt::Display for SignFault {
             SignFault::Origin {
                 fault,
                 place: Some(place),
-            } => write!(f, "{fault}, at message {place}"),
+            } => write!(f, "{fault}, at place {place}"),
         }
     }
 }

@@ -20,7 +20,7 @@ const REFUSALS: [(OriginFault, &str, &str); 10] = [
     (
         OriginFault::BadConfig,
         "O1",
-        "the configuration, the counters or the payload's length is out of range",
+        "the configuration or the counters aren't allowed, or the payload is too long",
     ),
     (
         OriginFault::NotSyslog,
@@ -36,7 +36,7 @@ const REFUSALS: [(OriginFault, &str, &str); 10] = [
     (
         OriginFault::AlreadyBegun,
         "O5",
-        "the originator has begun already",
+        "the originator has begun already, or goes on behind another one",
     ),
     (
         OriginFault::SealRefused,
@@ -46,17 +46,17 @@ const REFUSALS: [(OriginFault, &str, &str); 10] = [
     (
         OriginFault::SignatureLength,
         "O7",
-        "the sealer's signature has no octet, or more than 1,024",
+        "the sealer's signature has no octet, or more than 1024",
     ),
     (
         OriginFault::NumbersSpent,
         "O8",
-        "the message's number in its group would be 10,000,000,000",
+        "the message's number in its group would be over 9999999999",
     ),
     (
         OriginFault::CounterSpent,
         "O9",
-        "the GBC of a signature block would be 10,000,000,000",
+        "the GBC of a signature block that is due would be over 9999999999",
     ),
     (OriginFault::Memory, "O10", "out of memory"),
 ];

@@ -27,16 +27,20 @@ const FRAMES: [(FrameFault, &str, &str); 7] = [
     (
         FrameFault::TooLong { pos: 17 },
         "F2 17",
-        "a message is longer than allowed, at octet 17",
+        "a message becomes longer than allowed, at octet 17",
     ),
     (FrameFault::Read, "F3", "a read failed"),
     (FrameFault::Memory, "F4", "out of memory"),
     (
         FrameFault::TooManyMessages { pos: u64::MAX },
         "F5 18446744073709551615",
-        "there are more messages than allowed, at octet 18446744073709551615",
+        "octets follow the last message that is allowed, at octet 18446744073709551615",
     ),
-    (FrameFault::Failed, "F6", "an earlier call failed"),
+    (
+        FrameFault::Failed,
+        "F6",
+        "an earlier call refused the stream",
+    ),
     (
         FrameFault::EmptyLine { pos: 9 },
         "F9 9",

@@ -41,19 +41,19 @@ const PRINTED: [(RunFault, &str, &str); 13] = [
     (
         RunFault::Frame(FrameFault::TooLong { pos: 7 }),
         "F2 7",
-        "a message is longer than allowed, at octet 7",
+        "a message becomes longer than allowed, at octet 7",
     ),
     (RunFault::Frame(FrameFault::Read), "F3", "a read failed"),
     (RunFault::Frame(FrameFault::Memory), "F4", "out of memory"),
     (
         RunFault::Frame(FrameFault::TooManyMessages { pos: 7 }),
         "F5 7",
-        "there are more messages than allowed, at octet 7",
+        "octets follow the last message that is allowed, at octet 7",
     ),
     (
         RunFault::Frame(FrameFault::Failed),
         "F6",
-        "an earlier call failed",
+        "an earlier call refused the stream",
     ),
     (
         RunFault::Frame(FrameFault::EmptyLine { pos: 7 }),
@@ -64,19 +64,19 @@ const PRINTED: [(RunFault, &str, &str); 13] = [
     (
         RunFault::Review(ReviewFault::TooManyMessages),
         "V2",
-        "there are more messages than the reviewer takes",
+        "more messages were fed than allowed",
     ),
     (
         RunFault::Extract(ExtractFault::Absent { place: 7 }),
         "E1 7",
-        "the log has no message 7",
+        "the log has no message at place 7",
     ),
     (
         RunFault::Extract(ExtractFault::HoldsLf { place: 7 }),
         "E2 7",
-        "a message to be written as a line holds LF, at message 7",
+        "a message that is to be one line holds LF, at place 7",
     ),
-    (RunFault::Write, "W1", "a write failed"),
+    (RunFault::Write, "W1", "a write or a flush failed"),
     (RunFault::Memory, "W2", "out of memory"),
 ];
 

@@ -110,12 +110,12 @@ const ANSWER_FAULTS: [(AnswerFault, &str, &str); 4] = [
     (
         AnswerFault::Read,
         "A2",
-        "the file of answers couldn't be opened or read",
+        "the answers file couldn't be opened or read",
     ),
     (
         AnswerFault::TooBig,
         "A3",
-        "the file of answers has more octets than allowed",
+        "the answers file has more octets than allowed",
     ),
     (AnswerFault::Memory, "A4", "out of memory"),
 ];
@@ -130,12 +130,12 @@ const COUNTER_FAULTS: [(CounterFault, &str, &str); 4] = [
     (
         CounterFault::Read,
         "C2",
-        "the file of counters couldn't be opened or read",
+        "the counters file couldn't be opened or read",
     ),
     (
         CounterFault::TooBig,
         "C3",
-        "the file of counters has more octets than allowed",
+        "the counters file has more octets than allowed",
     ),
     (CounterFault::Memory, "C4", "out of memory"),
 ];

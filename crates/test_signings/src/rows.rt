@@ -202,7 +202,7 @@ const REFUSED: [Refused; 24] = [
             place: Some(0),
         },
         code: "O2 0",
-        words: "what was submitted is no message of RFC 5424, at message 0",
+        words: "what was submitted is no message of RFC 5424, at place 0",
     },
     Refused {
         job: Job::Plan,
@@ -214,7 +214,7 @@ const REFUSED: [Refused; 24] = [
             place: Some(0),
         },
         code: "O2 0",
-        words: "what was submitted is no message of RFC 5424, at message 0",
+        words: "what was submitted is no message of RFC 5424, at place 0",
     },
     Refused {
         job: SIGN,
@@ -226,7 +226,7 @@ const REFUSED: [Refused; 24] = [
             place: Some(1),
         },
         code: "O2 1",
-        words: "what was submitted is no message of RFC 5424, at message 1",
+        words: "what was submitted is no message of RFC 5424, at place 1",
     },
     Refused {
         job: Job::Plan,
@@ -238,7 +238,7 @@ const REFUSED: [Refused; 24] = [
             place: Some(1),
         },
         code: "O3 1",
-        words: "the message has an element ssign or ssign-cert, at message 1",
+        words: "the message has an element ssign or ssign-cert, at place 1",
     },
     Refused {
         job: SIGN,
@@ -268,7 +268,7 @@ const REFUSED: [Refused; 24] = [
             place: None,
         },
         code: "O1",
-        words: "the configuration, the counters or the payload's length is out of range",
+        words: "the configuration or the counters aren't allowed, or the payload is too long",
     },
     Refused {
         job: SIGN,
@@ -280,7 +280,7 @@ const REFUSED: [Refused; 24] = [
             place: None,
         },
         code: "O1",
-        words: "the configuration, the counters or the payload's length is out of range",
+        words: "the configuration or the counters aren't allowed, or the payload is too long",
     },
     Refused {
         job: Job::Plan,
@@ -292,7 +292,7 @@ const REFUSED: [Refused; 24] = [
             place: None,
         },
         code: "O1",
-        words: "the configuration, the counters or the payload's length is out of range",
+        words: "the configuration or the counters aren't allowed, or the payload is too long",
     },
     // The log comes before the originator, and its messages in their order.
     Refused {
@@ -354,7 +354,7 @@ const REFUSED: [Refused; 24] = [
             place: Some(1),
         },
         code: "O6 1",
-        words: "the sealer refused to sign a block message that is due, at message 1",
+        words: "the sealer refused to sign a block message that is due, at place 1",
     },
     Refused {
         job: NOT_FLUSHED,
@@ -378,7 +378,7 @@ const REFUSED: [Refused; 24] = [
             place: Some(1),
         },
         code: "O7 1",
-        words: "the sealer's signature has no octet, or more than 1,024, at message 1",
+        words: "the sealer's signature has no octet, or more than 1024, at place 1",
     },
     Refused {
         job: EMPTY,
@@ -390,7 +390,7 @@ const REFUSED: [Refused; 24] = [
             place: None,
         },
         code: "O7",
-        words: "the sealer's signature has no octet, or more than 1,024",
+        words: "the sealer's signature has no octet, or more than 1024",
     },
     Refused {
         job: NO_MEMORY,
@@ -402,7 +402,7 @@ const REFUSED: [Refused; 24] = [
             place: Some(1),
         },
         code: "O10 1",
-        words: "out of memory, at message 1",
+        words: "out of memory, at place 1",
     },
     Refused {
         job: NO_MEMORY,

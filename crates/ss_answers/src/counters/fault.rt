@@ -45,10 +45,8 @@ impl fmt::Display for CounterFault {
     fn fmt<W: fmt::Write>(&self, f: &mut fmt::Formatter<W>) -> fmt::Result {
         match self {
             CounterFault::BadLine { line } => write!(f, "a line isn't a counter, at line {line}"),
-            CounterFault::Read => f.write_str("the file of counters couldn't be opened or read"),
-            CounterFault::TooBig => f.write_str(
-                "the file of counters has more octets than allowed",
-            ),
+            CounterFault::Read => f.write_str("the counters file couldn't be opened or read"),
+            CounterFault::TooBig => f.write_str("the counters file has more octets than allowed"),
             CounterFault::Memory => f.write_str("out of memory"),
         }
     }

@@ -69,10 +69,10 @@ impl fmt::Display for ExtractFault {
 
     fn fmt<W: fmt::Write>(&self, f: &mut fmt::Formatter<W>) -> fmt::Result {
         match self {
-            ExtractFault::Absent { place } => write!(f, "the log has no message {place}"),
+            ExtractFault::Absent { place } => write!(f, "the log has no message at place {place}"),
             ExtractFault::HoldsLf { place } => write!(
                 f,
-                "a message to be written as a line holds LF, at message {place}"
+                "a message that is to be one line holds LF, at place {place}"
             ),
         }
     }
