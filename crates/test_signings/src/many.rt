@@ -27,7 +27,7 @@ fn signed(rt: &(impl Abort + AllocGlobal), log: &[u8]) -> Vec<u8> {
         sizes: (99, 1),
         limits: Limits::standard().lines(),
     };
-    let said = run_by(rt.alloc(), task, &mut reader, &mut writer);
+    let said = run_by(rt.alloc(), &task, &mut reader, &mut writer);
     assert_eq!(rt; said, Ok(()));
     writer.into_inner()
 }

@@ -441,7 +441,7 @@ fn sees_text(rt: &(impl Abort + AllocGlobal), row: &Made, most: usize) {
         limits: limits_of(form),
     };
     let source = Pieces::new(log, most);
-    let done = run(rt.alloc(), task, source, Paper::new(most));
+    let done = run(rt.alloc(), &task, source, Paper::new(most));
     assert_eq!(rt; done.said, Ok(()), "{job:?} of {log:?}");
     assert_eq!(rt; done.paper.text(), text, "{job:?} of {log:?}");
 }
@@ -471,7 +471,7 @@ fn sees_refusal(rt: &(impl Abort + AllocGlobal), row: &Refused) -> Result<(), Al
         limits: limits_of(form),
     };
     let source = Pieces::new(log, 1);
-    let done = run(rt.alloc(), task, source, Paper::new(1));
+    let done = run(rt.alloc(), &task, source, Paper::new(1));
     assert_eq!(rt; done.said, Err(fault), "{job:?} of {log:?}");
     assert_eq!(rt; done.paper.writes, 0, "{job:?} of {log:?}");
     assert!(rt; !done.read_failed && !done.write_failed, "{job:?}");

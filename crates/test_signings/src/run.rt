@@ -70,14 +70,14 @@ fn config(alloc: Global, sizes: Sizes) -> Result<Option<Config>, AllocError> {
 /// A run between watched devices.
 pub(crate) fn run_by<R: Read, W: Write>(
     alloc: Global,
-    task: Task,
+    task: &Task,
     reader: &mut Watched<R>,
     writer: &mut Watched<W>,
 ) -> Result<(), SignFault>
     requires reader { has_failed reader.old ≡ false }
     requires writer { has_failed writer.old ≡ false }
 {
-    let Task { job, sizes, limits } = task;
+    let Task { job, sizes, limits } = *task;
     let memory = SignFault::Run(RunFault::Memory);
     let Ok(Some(config)) = config(alloc, sizes) else {
         return Err(memory);
@@ -96,7 +96,7 @@ pub(crate) fn run_by<R: Read, W: Write>(
 }
 
 /// Runs over what `source` gives.
-pub(crate) fn run<R: Read + Drop>(alloc: Global, task: Task, source: R, paper: Paper) -> Done {
+pub(crate) fn run<R: Read + Drop>(alloc: Global, task: &Task, source: R, paper: Paper) -> Done {
     let mut reader = Watched::new(source);
     let mut writer = Watched::new(paper);
     let said = run_by(alloc, task, &mut reader, &mut writer);

@@ -35,7 +35,7 @@ fn run_frames(alloc: std::alloc::Global, job: Job, source: Pieces<'_>, paper: Pa
         sizes: (10, 1),
         limits: Limits::standard(),
     };
-    run(alloc, task, source, paper)
+    run(alloc, &task, source, paper)
 }
 
 /// Octet by octet, each read fails in turn, the one of the log's end among them.
