@@ -96,20 +96,20 @@ impl<'s, S: Scheme, F: Fn(Global, &[u8]) -> Result<Vec<u8>, SealFault> + Drop> S
     ghost use Rattle.std.specs.Prelude.{◌≡◌, List, ℕ, Result, Ok, true};
     ghost use Rattle.ss_payload.specs.Payload.{payload_text};
 
-    ghost sound = { λ s. F.IsAlwaysCallable s.seal
-        × ((a p x : _) → F.post s.seal a p x → (v : _) → x ≡ Ok v
-        → S.valid s.scheme.now (payload_text s.payload) p.now v.items ≡ true) };
+    ghost sound = { λ s. F.IsAlwaysCallable (closure_of s)
+        × ((a p x : _) → F.post (closure_of s) a p x → (v : _) → x ≡ Ok v
+        → S.valid (scheme_of s).now (payload_text (key_of s)) p.now v.items ≡ true) };
 
-    ghost payload = { λ s. s.payload };
+    ghost payload = { λ s. key_of s };
 
-    ghost valid = { λ s p octets signature. S.valid s.scheme.now p octets signature };
+    ghost valid = { λ s p octets signature. S.valid (scheme_of s).now p octets signature };
 
     ghost answers = { λ s octets answer.
-        (a p x : _) × F.post s.seal a p x × (p.now ≡ octets) × (answer_of x ≡ answer) };
+        (a p x : _) × F.post (closure_of s) a p x × (p.now ≡ octets) × (answer_of x ≡ answer) };
 
     // A closure is the same behind each call.
     ghost asked = { λ old octets answer new.
-        (new ≡ old) × ((a p x : _) × F.post old.seal a p x × (p.now ≡ octets) × (answer_of x ≡ answer)) };
+        (new ≡ old) × ((a p x : _) × F.post (closure_of old) a p x × (p.now ≡ octets) × (answer_of x ≡ answer)) };
 
     fn payload_block(&self) -> &Payload {
         &self.payload

@@ -48,13 +48,13 @@ fn keep(kept: &mut ArrayVec<u8, KEPT>, octets: &[u8])
 }
 
 impl<R: Read> Read for Opening<R> {
-    ghost use Rattle.ssign.specs.Opening.{kept_octets};
+    ghost use Rattle.ssign.specs.Opening.{inside, kept_octets};
 
-    ghost remaining = { λ o. R.remaining o.inner };
+    ghost remaining = { λ o. R.remaining (inside o) };
 
     fn read(&mut self, buf: &mut [u8]) -> io::Result<usize>
         ensures bound { ReadsAtMost result buf.new }
-        ensures bytes { ReadConsumes (R.remaining self.old.inner) (R.remaining self.new.inner) result buf.new }
+        ensures bytes { ReadConsumes (R.remaining (inside self.old)) (R.remaining (inside self.new)) result buf.new }
         ensures kept { MatchResult result (λ count.
             kept_octets self.new ≡ take 6 (kept_octets self.old ++ take count buf.new))
             (λ _. kept_octets self.new ≡ kept_octets self.old) }

@@ -119,7 +119,7 @@ fn in_millis(duration: Duration) -> u64 {
 }
 
 impl<R: Eprint + Clock, I: Read> Read for Progress<'_, R, I> {
-    ghost remaining = { λ p. I.remaining p.inner };
+    ghost remaining = { λ p. I.remaining (read_from p) };
 
     fn read(&mut self, buf: &mut [u8]) -> io::Result<usize>
         ensures bound { ReadsAtMost result buf.new }

@@ -85,15 +85,15 @@ impl<'s, S: Scheme, T: Fn(&[u8]) -> bool, C: Fn(&[u8], &[u8], &[u8]) -> bool> Ve
 
 impl<'s, S: Scheme, T: Fn(&[u8]) -> bool, C: Fn(&[u8], &[u8], &[u8]) -> bool> Judge
     for Verifier<'s, S, T, C> {
-    ghost sound = { λ v. T.IsAlwaysCallable v.trust × C.IsAlwaysCallable v.check
-        × ((p : _) (b : Bool) → T.post v.trust p b → b ≡ S.trusted v.scheme.now p.now)
-        × ((p x s : _) (b : Bool) → C.post v.check p x s b → b ≡ S.valid v.scheme.now p.now x.now s.now) };
+    ghost sound = { λ v. T.IsAlwaysCallable (trust_of v) × C.IsAlwaysCallable (check_of v)
+        × ((p : _) (b : Bool) → T.post (trust_of v) p b → b ≡ S.trusted (scheme_of v).now p.now)
+        × ((p x s : _) (b : Bool) → C.post (check_of v) p x s b → b ≡ S.valid (scheme_of v).now p.now x.now s.now) };
 
     ghost askable = { λ v q. Unit {0} };
 
-    ghost trusted = { λ v p. S.trusted v.scheme.now p };
+    ghost trusted = { λ v p. S.trusted (scheme_of v).now p };
 
-    ghost valid = { λ v p x s. S.valid v.scheme.now p x s };
+    ghost valid = { λ v p x s. S.valid (scheme_of v).now p x s };
 
     fn trusts(&self, payload: &[u8]) -> bool {
         (self.trust)(payload)
