@@ -1,5 +1,6 @@
 -- What a fault says: in words, and by its code.
 use Rattle.std.specs.Prelude.{ℕ, List, Option, None, Some, ◌++◌, codes, decimal}
+use Rattle.ss_octets.specs.NoMemory.{no_memory_text}
 use Rattle.ss_answers.specs.declared.fault.AnswerFault.{AnswerFault}
 use Rattle.ss_answers.specs.declared.fault.AnswerFault.TheVariants as answers
 use Rattle.ss_answers.specs.declared.counters.fault.CounterFault.{CounterFault}
@@ -10,7 +11,7 @@ abbrev pub answer_fault_text : AnswerFault → List ℕ
 answer_fault_text (answers.BadLine line) = codes "a line isn't an answer, at line " ++ decimal line
 answer_fault_text answers.Read = codes "the answers file couldn't be opened or read"
 answer_fault_text answers.TooBig = codes "the answers file has more octets than allowed"
-answer_fault_text answers.Memory = codes "out of memory"
+answer_fault_text answers.Memory = no_memory_text
 
 -- its code
 abbrev pub answer_fault_code : AnswerFault → List ℕ × Option ℕ
@@ -24,7 +25,7 @@ abbrev pub counter_fault_text : CounterFault → List ℕ
 counter_fault_text (counters.BadLine line) = codes "a line isn't a counter, at line " ++ decimal line
 counter_fault_text counters.Read = codes "the counters file couldn't be opened or read"
 counter_fault_text counters.TooBig = codes "the counters file has more octets than allowed"
-counter_fault_text counters.Memory = codes "out of memory"
+counter_fault_text counters.Memory = no_memory_text
 
 -- its code
 abbrev pub counter_fault_code : CounterFault → List ℕ × Option ℕ

@@ -1,5 +1,6 @@
 -- What a fault says: in words, and by its code.
 use Rattle.std.specs.Prelude.{ℕ, List, Option, None, codes}
+use Rattle.ss_octets.specs.NoMemory.{no_memory_text}
 use Rattle.ss_origin.specs.declared.fault.OriginFault.{OriginFault}
 use Rattle.ss_origin.specs.declared.fault.OriginFault.TheVariants as faults
 use Rattle.ss_origin.specs.declared.sealer.SealFault.{SealFault}
@@ -17,7 +18,7 @@ origin_fault_text faults.SealRefused = codes "the sealer refused to sign a block
 origin_fault_text faults.SignatureLength = codes "the sealer's signature has no octet, or more than 1024"
 origin_fault_text faults.NumbersSpent = codes "the message's number in its group would be over 9999999999"
 origin_fault_text faults.CounterSpent = codes "the GBC of a signature block that is due would be over 9999999999"
-origin_fault_text faults.Memory = codes "out of memory"
+origin_fault_text faults.Memory = no_memory_text
 
 -- its code
 abbrev pub origin_fault_code : OriginFault → List ℕ × Option ℕ
@@ -35,4 +36,4 @@ origin_fault_code faults.Memory = (codes "O10", None)
 -- why octets aren't signed, in words: what the originator makes of it has a code
 abbrev pub seal_fault_text : SealFault → List ℕ
 seal_fault_text seals.Refused = codes "the key can't sign these octets"
-seal_fault_text seals.Memory = codes "out of memory"
+seal_fault_text seals.Memory = no_memory_text

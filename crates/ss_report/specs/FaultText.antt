@@ -1,5 +1,6 @@
 -- What a fault says: in words, and by its code.
 use Rattle.std.specs.Prelude.{ℕ, List, Option, None, Some, ◌++◌, codes, decimal}
+use Rattle.ss_octets.specs.NoMemory.{no_memory_text}
 use Rattle.ss_frame.specs.FaultText.{frame_fault_code, frame_fault_text}
 use Rattle.ss_review.specs.FaultText.{review_fault_code, review_fault_text}
 use Rattle.ss_report.specs.declared.runs.extraction.ExtractFault.{ExtractFault}
@@ -23,7 +24,7 @@ run_fault_text (Frame fault) = frame_fault_text fault
 run_fault_text (Review fault) = review_fault_text fault
 run_fault_text (Extract fault) = extract_fault_text fault
 run_fault_text Write = codes "a write or a flush failed"
-run_fault_text Memory = codes "out of memory"
+run_fault_text Memory = no_memory_text
 
 -- its code
 abbrev pub run_fault_code : RunFault → List ℕ × Option ℕ
