@@ -1,7 +1,7 @@
 -- The room that a joiner has. It has room for sixteen indexes at a time, the first of them a multiple of 16.
-use Rattle.std.specs.Prelude.{ℕ, ◌+◌, ◌/◌, ◌<◌, ◌⊎◌}
+use Rattle.std.specs.Prelude.{ℕ, ◌⊎◌}
 use Rattle.ss_payload.specs.declared.joiner.Joiner.{Joiner}
-use Rattle.ss_payload.specs.Slots.{HasRun}
+use Rattle.ss_payload.specs.Slots.{HasRun, HasRuns}
 use Rattle.ss_payload.specs.RunSlots.{BelongsTo}
 
 -- there is room for the sixteen indexes from 16 times the number on
@@ -13,7 +13,7 @@ HasNoRoom joiner = (number : ℕ) → ¬ HasRoom joiner number
 
 -- there is room for each index of a fragment
 abbrev pub HasRoomFor : Joiner → ℕ → ℕ → Type 0
-HasRoomFor joiner index count = (j : ℕ) → j < count → HasRoom joiner ((index + j) / 16)
+HasRoomFor joiner index count = HasRuns joiner.runs index count
 
 -- there is no room but what there was, and that of sixteen indexes of which one is of the fragment
 abbrev pub GrowsFor : Joiner → Joiner → ℕ → ℕ → Type 0

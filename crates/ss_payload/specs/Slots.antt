@@ -31,6 +31,10 @@ slot_at runs i = slot_in (tree.get nat_cmp runs.runs (i / 16)) (i % 16)
 unfoldable pub HasRun : Runs → ℕ → Type 0
 HasRun runs number = IsSome (tree.get nat_cmp runs.runs number)
 
+-- there is the run of each index of a fragment
+abbrev pub HasRuns : Runs → ℕ → ℕ → Type 0
+HasRuns runs index count = (j : ℕ) → j < count → HasRun runs ((index + j) / 16)
+
 -- one octet was said
 abbrev pub IsOne : Slot → Type 0
 IsOne Empty = ⊥

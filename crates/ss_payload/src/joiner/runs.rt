@@ -2,7 +2,7 @@
 ghost use Rattle.std.specs.Prelude.{◌≡◌, ◌+◌, ◌-◌, ◌/◌, ◌%◌, ◌<◌, ◌≤◌, ◌≢◌, ◌^◌, ◌⊎◌, ℕ, List, length, slice_index_or};
 ghost use Rattle.std.specs.Prelude.{IsTrue, true, false, OnOk, IfOk, IsOk};
 ghost use Rattle.ss_payload.specs.declared.joiner.slot.Slot.TheVariants.{Empty};
-ghost use Rattle.ss_payload.specs.Slots.{slot_at, HasRun, IsOne, IsPut, IsTextOf, NoneDiffers, SomeDiffers};
+ghost use Rattle.ss_payload.specs.Slots.{slot_at, HasRun, HasRuns, IsOne, IsPut, IsTextOf, NoneDiffers, SomeDiffers};
 ghost use Rattle.ss_payload.specs.Slots.{joined_slot, slot_differs};
 ghost use Rattle.ss_payload.specs.RunSlots.{IsWritten, SomeDiffersIn, NoneDiffersIn, IsPushed, BelongsTo};
 
@@ -112,10 +112,10 @@ impl Runs {
         requires some { 1 ≤ length }
         requires fits { index + length < 2 ^ 31 }
         ensures same { (i : ℕ) → slot_at self.new i ≡ slot_at self.old i }
-        ensures room { OnOk result ((j : ℕ) → j < length → HasRun self.new ((index + j) / 16)) }
+        ensures room { OnOk result (HasRuns self.new index length) }
         ensures kept { (n : ℕ) → HasRun self.old n → HasRun self.new n }
         ensures alone { (n : ℕ) → HasRun self.new n → HasRun self.old n ⊎ BelongsTo n index length }
-        ensures had { ((j : ℕ) → j < length → HasRun self.old ((index + j) / 16)) → IsOk result }
+        ensures had { HasRuns self.old index length → IsOk result }
     {
         let behind = index + length as u32 + (RUN - 1);
         for number in index / RUN..behind / RUN {
