@@ -1,8 +1,9 @@
 -- Rules of options, and the options that say how a log is signed: names, ranges and defaults.
-use Rattle.std.specs.Prelude.{◌≡◌, ℕ, ℤ, pos, true, List, [], ◌∷◌, Some, map}
+use Rattle.std.specs.Prelude.{◌≡◌, ℕ, ℤ, pos, Bool, true, List, [], ◌∷◌, Some, map}
 use Rattle.std.specs.Borrow.{Bor}
 use Rattle.clap.specs.Words.{App, Rule, new_rule, with_rule}
 use Rattle.clap.specs.declared.builder.ArgAction.TheVariants.{Set}
+use Rattle.clap.specs.declared.builder.arg.Arg.{Arg}
 use Rattle.clap.specs.declared.builder.value_parser.ValueParser.TheVariants.{Names, Signed}
 use Rattle.ss_block.specs.Versions as version
 use Rattle.ssign.specs.declared.options.app.TheConstants as app
@@ -28,6 +29,10 @@ abbrev pub AreVersions : Kept → Type 0
 AreVersions kept = map (λ text. text.now) kept.now ≡ version.versions
 
 -- ---- rules
+
+-- an option that the commands of its command take too
+abbrev pub is_global : Arg → Bool
+is_global option = option.global
 
 -- a text
 abbrev pub text_rule : List ℕ → Rule

@@ -1,5 +1,5 @@
 //! The program: its command line and its exit statuses.
-ghost use Rattle.std.specs.Prelude.{◌≡◌, ◌≤◌, map, None};
+ghost use Rattle.std.specs.Prelude.{◌≡◌, ◌≤◌, map, string_bytes, None};
 ghost use Rattle.std.specs.List.{find};
 ghost use Rattle.ssign.specs.CommandLine.{AreMistaken, signing_status, status_of};
 ghost use Rattle.ssign.specs.Explanation.{entries_of, has_code};
@@ -64,7 +64,7 @@ fn run_words<R: Input + Print + Eprint + Screen + Files + Clock + AllocGlobal>(
     words: &[String],
 ) -> u8
     ensures most { result ≤ 2 }
-    ensures usage { AreMistaken (map (λ word. word.bytes.items) words.now) → result ≡ 2 }
+    ensures usage { AreMistaken (map string_bytes words.now) → result ≡ 2 }
 {
     let Ok(command) = command(rt.alloc()) else {
         return refuse(rt, &RunFault::Memory.code(), Remark::Nothing);

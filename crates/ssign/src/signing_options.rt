@@ -2,7 +2,7 @@
 ghost use Rattle.std.specs.Prelude.{◌≡◌, false, IfOk};
 ghost use Rattle.clap.specs.Words.{App, Rule, rule_of, with_rule};
 ghost use Rattle.ssign.specs.CommandLine.{IsLocalApp};
-ghost use Rattle.ssign.specs.SigningOptions.{number_rule, required_rule, text_rule};
+ghost use Rattle.ssign.specs.SigningOptions.{is_global, number_rule, required_rule, text_rule};
 ghost use Rattle.ssign.specs.SigningOptions.{usual_rule, ver_rule};
 ghost use Rattle.ssign.specs.SigningOptions.{with_block_options, with_header_options, with_key_options};
 ghost use Rattle.ssign.specs.SigningOptions.{with_signing_options};
@@ -101,7 +101,7 @@ fn with_required<'a>(
     help: &'a str,
 ) -> Result<Command<'a>, AllocError>
     ensures { (app : App) (rule : Rule) → IsLocalApp command.entry app → rule_of option.entry ≡ rule
-        → option.entry.global ≡ false → IfOk result (λ c. IsLocalApp c (with_rule app (required_rule rule))) }
+        → is_global option.entry ≡ false → IfOk result (λ c. IsLocalApp c (with_rule app (required_rule rule))) }
 {
     command.arg(option.required(true).help(help))
 }
@@ -114,7 +114,7 @@ fn with_usual<'a>(
     help: &'a str,
 ) -> Result<Command<'a>, AllocError>
     ensures { (app : App) (rule : Rule) → IsLocalApp command.entry app → rule_of option.entry ≡ rule
-        → option.entry.global ≡ false → IfOk result (λ c.
+        → is_global option.entry ≡ false → IfOk result (λ c.
         IsLocalApp c (with_rule app (usual_rule rule usual.entry.now))) }
 {
     command.arg(option.default_value(usual).help(help))
@@ -123,7 +123,7 @@ fn with_usual<'a>(
 /// An option of a text.
 fn text<'a>(alloc: Global, name: &'a str, value: &'a str) -> Arg<'a>
     ensures rule { rule_of result ≡ text_rule name.entry.now }
-    ensures local { result.global ≡ false }
+    ensures local { is_global result ≡ false }
 {
     Arg::new(alloc, name)
         .long(name)
@@ -134,7 +134,7 @@ fn text<'a>(alloc: Global, name: &'a str, value: &'a str) -> Arg<'a>
 /// An option of a number.
 fn number<'a>(alloc: Global, name: &'a str, least: i64, most: i64) -> Arg<'a>
     ensures rule { rule_of result ≡ number_rule name.entry.now least most }
-    ensures local { result.global ≡ false }
+    ensures local { is_global result ≡ false }
 {
     text(alloc, name, "N").value_parser(ValueParser::signed(least, most))
 }
