@@ -1,8 +1,9 @@
 -- What the command line gives: its commands, the limits that its options spell, and the exit status of a run.
 use Rattle.std.specs.Prelude.{◌≡◌, ◌≢◌, ◌⊎◌, ℕ, Bool, true, false, List, [], ◌∷◌, Option, Some, None, Result, Ok}
-use Rattle.std.specs.Prelude.{Err, codes}
+use Rattle.std.specs.Prelude.{Err, codes, find, map}
+use Rattle.std.specs.Str.{bytes_eq}
 use Rattle.std.specs.Str.Parse.{IsNumeral, digits_value, without_leading_plus}
-use Rattle.clap.specs.Words.{App, IsAmong, Kinds, app_of, fault_of, found_of, new_app, one_text}
+use Rattle.clap.specs.Words.{App, IsAmong, Kinds, Rule, app_of, fault_of, found_of, new_app, one_text}
 use Rattle.clap.specs.Words.{with_rule, with_subcommand}
 use Rattle.clap.specs.declared.builder.command.Command.{Command}
 use Rattle.clap.specs.declared.builder.command.Command.TheViews.{out-Command}
@@ -27,10 +28,16 @@ use Rattle.ssign.specs.declared.task.Task.{Task}
 use Rattle.ssign.specs.declared.task.Task.TheVariants.{Review, Questions, Extract, Inspect, Counters, Carry}
 use Rattle.ssign.specs.declared.signing.Signing.{Signing}
 use Rattle.ssign.specs.declared.signing.Signing.TheVariants.{Plan, Sign}
-use Rattle.ssign.specs.SigningOptions.{AreVersions, Kept, with_signing_options}
-use Rattle.ssign.specs.LogOptions.{answers_rule, code_rule, findings_rule, json_rule, kept_rule, lines_out_rule}
-use Rattle.ssign.specs.LogOptions.{lines_rule, max_len_rule, max_messages_rule, place_rule, tally_rule, unlisted_rule}
-use Rattle.ssign.specs.LogOptions.{whole_rule}
+use Rattle.ssign.specs.SigningOptions.{AreVersions, Kept, text_rule, with_signing_options}
+use Rattle.ssign.specs.declared.options.answers.TheConstants as answers
+use Rattle.ssign.specs.declared.options.counters.TheConstants as kept
+use Rattle.ssign.specs.declared.options.findings.TheConstants as findings
+use Rattle.ssign.specs.declared.options.json.TheConstants as json
+use Rattle.ssign.specs.declared.options.lines_out.TheConstants as lines_out
+use Rattle.ssign.specs.declared.options.tally.TheConstants as tally
+use Rattle.ssign.specs.declared.options.unlisted.TheConstants as unlisted
+use Rattle.ssign.specs.declared.options.whole.TheConstants as whole
+use Rattle.ssign.specs.LogOptions.{code_rule, flag_rule, limit_rules, place_rule}
 use Rattle.ss_signing.specs.declared.fault.SignFault.{SignFault}
 use Rattle.ss_report.specs.declared.fault.RunFault.{RunFault}
 use Rattle.ss_report.specs.declared.forms.report_form.ReportForm.{ReportForm}
@@ -86,46 +93,78 @@ limits_with a b lines = record { max_len = a; max_messages = b; form = form_of l
 
 -- ---- the commands
 
+abbrev pub with_rules : App → List Rule → App
+with_rules app [] = app
+with_rules app (rule ∷ rules) = with_rules (with_rule app rule) rules
+
 -- with the options that say how a log is read
 abbrev pub with_limits : App → App
-with_limits a = with_rule (with_rule (with_rule a lines_rule) max_len_rule) max_messages_rule
+with_limits app = with_rules app limit_rules
 
-abbrev pub review_app : App
-review_app =
+abbrev pub task_name : Task → List ℕ
+task_name Review = review.NAME.now
+task_name Questions = questions.NAME.now
+task_name Extract = extract.NAME.now
+task_name Inspect = inspect.NAME.now
+task_name Counters = counters.NAME.now
+task_name Carry = carry.NAME.now
+
+-- the options of its own
+abbrev pub task_rules : Task → List Rule
+task_rules Review =
+    text_rule answers.NAME.now ∷ flag_rule findings.NAME.now ∷ flag_rule json.NAME.now ∷ flag_rule whole.NAME.now
+    ∷ flag_rule tally.NAME.now ∷ text_rule kept.NAME.now ∷ []
+task_rules Questions = flag_rule json.NAME.now ∷ []
+task_rules Extract =
+    text_rule answers.NAME.now ∷ flag_rule unlisted.NAME.now ∷ place_rule ∷ flag_rule lines_out.NAME.now ∷ []
+task_rules Inspect = flag_rule findings.NAME.now ∷ flag_rule json.NAME.now ∷ []
+task_rules Counters = text_rule answers.NAME.now ∷ flag_rule json.NAME.now ∷ []
+task_rules Carry = text_rule answers.NAME.now ∷ []
+
+abbrev pub task_app : Task → App
+task_app task = with_limits (with_rules (new_app (task_name task)) (task_rules task))
+
+abbrev pub signing_name : Signing → List ℕ
+signing_name Plan = plan.NAME.now
+signing_name Sign = sign.NAME.now
+
+-- the options of its own, beside those that say how a log is signed
+abbrev pub signing_rules : Signing → List Rule
+signing_rules Plan = []
+signing_rules Sign = text_rule answers.NAME.now ∷ []
+
+-- of the versions of blocks it takes those that are kept
+abbrev pub signing_app : Kept → Signing → App
+signing_app versions signing =
     with_limits
-    (with_rule
-    (with_rule
-    (with_rule (with_rule (with_rule (with_rule (new_app review.NAME.now) answers_rule) findings_rule) json_rule)
-    whole_rule) tally_rule) kept_rule)
-
-abbrev pub questions_app : App
-questions_app = with_limits (with_rule (new_app questions.NAME.now) json_rule)
-
-abbrev pub extract_app : App
-extract_app =
-    with_limits
-    (with_rule (with_rule (with_rule (with_rule (new_app extract.NAME.now) answers_rule) unlisted_rule) place_rule)
-    lines_out_rule)
-
-abbrev pub inspect_app : App
-inspect_app = with_limits (with_rule (with_rule (new_app inspect.NAME.now) findings_rule) json_rule)
-
-abbrev pub plan_app : Kept → App
-plan_app versions = with_limits (with_signing_options versions (new_app plan.NAME.now))
-
-abbrev pub sign_app : Kept → App
-sign_app versions = with_limits (with_signing_options versions (with_rule (new_app sign.NAME.now) answers_rule))
-
-abbrev pub counters_app : App
-counters_app = with_limits (with_rule (with_rule (new_app counters.NAME.now) answers_rule) json_rule)
-
-abbrev pub carry_app : App
-carry_app = with_limits (with_rule (new_app carry.NAME.now) answers_rule)
+    (with_signing_options versions (with_rules (new_app (signing_name signing)) (signing_rules signing)))
 
 abbrev pub explain_app : App
 explain_app = with_rule (new_app explain.NAME.now) code_rule
 
--- the program, which has a version, wants a command, and shows its help where it is given no word at all
+abbrev pub name_of : Order → List ℕ
+name_of (Log task) = task_name task
+name_of (Sent signing) = signing_name signing
+name_of Explain = explain.NAME.now
+
+abbrev pub order_app : Kept → Order → App
+order_app versions (Log task) = task_app task
+order_app versions (Sent signing) = signing_app versions signing
+order_app versions Explain = explain_app
+
+-- what the commands ask for, in their order
+abbrev pub orders : List Order
+orders =
+    Log Review ∷ Log Questions ∷ Log Extract ∷ Log Inspect ∷ Sent Plan ∷ Sent Sign ∷ Log Counters ∷ Log Carry ∷ Explain
+    ∷ []
+
+-- what the command of this name asks for
+abbrev pub order_in : List ℕ → Option Order
+order_in name = find (λ order. bytes_eq name (name_of order)) orders
+
+-- ---- the program
+
+-- it has a version, wants a command, and shows its help where it is given no word at all
 abbrev pub bare_app : App
 bare_app =
     let a = new_app (codes "ssign") in
@@ -137,39 +176,12 @@ with_commands app (command ∷ commands) = with_commands (with_subcommand app co
 
 -- of the versions of blocks it takes those that are kept
 abbrev pub ssign_app : Kept → App
-ssign_app versions = with_commands bare_app (
-    review_app ∷ questions_app ∷ extract_app ∷ inspect_app ∷ plan_app versions ∷ sign_app versions ∷ counters_app
-    ∷ carry_app ∷ explain_app ∷ [])
+ssign_app versions = with_commands bare_app (map (order_app versions) orders)
 
 -- a command is this one, and has no global argument
 pub record IsLocalApp (command : Command) (app : App) : Type 0 where
   pub shape : app_of command ≡ app
   pub local : (out-Command command).has_globals ≡ false
-
--- ---- the names of the commands
-
-abbrev pub task_name : Task → List ℕ
-task_name Review = review.NAME.now
-task_name Questions = questions.NAME.now
-task_name Extract = extract.NAME.now
-task_name Inspect = inspect.NAME.now
-task_name Counters = counters.NAME.now
-task_name Carry = carry.NAME.now
-
-abbrev pub signing_name : Signing → List ℕ
-signing_name Plan = plan.NAME.now
-signing_name Sign = sign.NAME.now
-
-abbrev pub name_of : Order → List ℕ
-name_of (Log task) = task_name task
-name_of (Sent signing) = signing_name signing
-name_of Explain = explain.NAME.now
-
--- no command has this name
-abbrev pub IsNoCommand : List ℕ → Type 0
-IsNoCommand name = (name ≢ review.NAME.now) × (name ≢ questions.NAME.now) × (name ≢ extract.NAME.now)
-    × (name ≢ inspect.NAME.now) × (name ≢ plan.NAME.now) × (name ≢ sign.NAME.now) × (name ≢ counters.NAME.now)
-    × (name ≢ carry.NAME.now) × (name ≢ explain.NAME.now)
 
 -- ---- the exit status
 

@@ -1,16 +1,14 @@
 //! The command line.
-ghost use Rattle.std.specs.Prelude.{◌≡◌, ◌<◌, ◌^◌, ◌||◌, ◌∷◌, [], ℕ, Bool, Some, decimal, IfOk, IfSome};
-ghost use Rattle.std.specs.Prelude.{MatchOption, option_and_then, option_map};
+ghost use Rattle.std.specs.Prelude.{◌≡◌, ◌<◌, ◌^◌, ◌||◌, ℕ, Bool, Some, decimal, IfOk, IfSome};
+ghost use Rattle.std.specs.Prelude.{map, option_and_then, option_map};
 ghost use Rattle.std.specs.Option.{SomeIff, is_some};
 ghost use Rattle.clap.specs.Words.{App, app_of, first_value, found_of, kind_of, matched_of, new_app, raw_values};
 ghost use Rattle.ss_frame.specs.Limits.{InRange};
-ghost use Rattle.ssign.specs.CommandLine.{bare_app, carry_app, counters_app, explain_app, extract_app, inspect_app};
-ghost use Rattle.ssign.specs.CommandLine.{plan_app, questions_app, review_app, sign_app, ssign_app};
+ghost use Rattle.ssign.specs.CommandLine.{bare_app, explain_app, order_app, signing_app, ssign_app, task_app};
 ghost use Rattle.ssign.specs.Explanation.{asked_of};
 ghost use Rattle.ssign.specs.SigningOptions.{AreVersions, Kept};
-ghost use Rattle.ssign.specs.CommandLine.{FlagIs, HasNumber, IsLocalApp, IsNoCommand, limits_with, detail_of, name_of};
-ghost use Rattle.ssign.specs.CommandLine.{report_form, reporting, text_of};
-ghost use Rattle.ssign.specs.CommandLine.{with_commands, with_limits};
+ghost use Rattle.ssign.specs.CommandLine.{FlagIs, HasNumber, IsLocalApp, detail_of, limits_with, name_of, order_in};
+ghost use Rattle.ssign.specs.CommandLine.{report_form, reporting, text_of, with_commands, with_limits};
 ghost use Rattle.ssign.specs.declared.options.answers.TheConstants as answers;
 ghost use Rattle.ssign.specs.declared.options.code.TheConstants as code;
 ghost use Rattle.ssign.specs.declared.options.counters.TheConstants as counters;
@@ -23,10 +21,7 @@ ghost use Rattle.ssign.specs.declared.options.tally.TheConstants as tally;
 ghost use Rattle.ssign.specs.declared.options.whole.TheConstants as whole;
 
 use crate::asked::asked_of;
-use crate::log_options::{
-    answers, code, findings, json, kept, lines, lines_out, max_len, max_messages, place, tally,
-    unlisted, whole,
-};
+use crate::log_options::{code, file, flag, max_len, max_messages, place};
 use crate::signing::Signing;
 use crate::signing_options::with_signing_options;
 use crate::task::{Reporting, Task};
@@ -77,65 +72,72 @@ const ORDERS: [Order; 9] = [
     Order::Explain,
 ];
 
+impl Order {
+    /// The name of its command.
+    fn name(self) -> &'static str
+        ensures { result.now ≡ name_of self }
+    {
+        match self {
+            Order::Log(Task::Review) => commands::review::NAME,
+            Order::Log(Task::Questions) => commands::questions::NAME,
+            Order::Log(Task::Extract) => commands::extract::NAME,
+            Order::Log(Task::Inspect) => commands::inspect::NAME,
+            Order::Log(Task::Counters) => commands::counters::NAME,
+            Order::Log(Task::Carry) => commands::carry::NAME,
+            Order::Sent(Signing::Plan) => commands::plan::NAME,
+            Order::Sent(Signing::Sign) => commands::sign::NAME,
+            Order::Explain => commands::explain::NAME,
+        }
+    }
+
+    /// Its command. Of the versions of blocks it takes those that are given.
+    fn command<'a>(self, alloc: Global, versions: &'a [&'a str]) -> Result<Command<'a>, AllocError>
+        ensures { IfOk result (λ c. IsLocalApp c (order_app versions.entry self)) }
+    {
+        match self {
+            Order::Log(Task::Review) => review(alloc),
+            Order::Log(Task::Questions) => questions(alloc),
+            Order::Log(Task::Extract) => extract(alloc),
+            Order::Log(Task::Inspect) => inspect(alloc),
+            Order::Log(Task::Counters) => counters(alloc),
+            Order::Log(Task::Carry) => carry(alloc),
+            Order::Sent(Signing::Plan) => plan(alloc, versions),
+            Order::Sent(Signing::Sign) => sign(alloc, versions),
+            Order::Explain => explain(alloc),
+        }
+    }
+}
+
+/// What the command of this name asks for. `None` exactly where no command has it.
+pub fn order_of(name: &str) -> Option<Order>
+    ensures { result ≡ order_in name.now }
+{
+    ORDERS.iter().copied().find(|order| name == order.name())
+}
+
 /// The program's commands and their options.
 pub fn command<'a>(alloc: Global) -> Result<Command<'a>, AllocError>
     ensures { IfOk result (λ c. (versions : Kept) × AreVersions versions × (app_of c ≡ ssign_app versions)) }
 {
-    let versions = versions();
-    let command = with_review_and_questions(alloc, bare(alloc))?;
-    let command = with_extract_and_inspect(alloc, command)?;
-    let command = with_plan_and_sign(alloc, command, versions)?;
-    let command = with_counters_and_carry(alloc, command)?;
-    command.subcommand(explain(alloc)?)
+    with_commands(alloc, bare(alloc), &ORDERS, versions())
 }
 
-/// The program with the commands `review` and `questions`.
-fn with_review_and_questions<'a>(
+/// The command with those that ask for this behind those that it has. Of the versions of blocks they take those that
+/// are given.
+fn with_commands<'a>(
     alloc: Global,
     command: Command<'a>,
-) -> Result<Command<'a>, AllocError>
-    ensures { (app : App) → IsLocalApp command.entry app
-        → IfOk result (λ c. IsLocalApp c (with_commands app (review_app ∷ questions_app ∷ []))) }
-{
-    let command = command.subcommand(review(alloc)?)?;
-    command.subcommand(questions(alloc)?)
-}
-
-/// The program with the commands `extract` and `inspect`.
-fn with_extract_and_inspect<'a>(
-    alloc: Global,
-    command: Command<'a>,
-) -> Result<Command<'a>, AllocError>
-    ensures { (app : App) → IsLocalApp command.entry app
-        → IfOk result (λ c. IsLocalApp c (with_commands app (extract_app ∷ inspect_app ∷ []))) }
-{
-    let command = command.subcommand(extract(alloc)?)?;
-    command.subcommand(inspect(alloc)?)
-}
-
-/// The program with the commands `plan` and `sign`. Of the versions of blocks they take those that are given.
-fn with_plan_and_sign<'a>(
-    alloc: Global,
-    command: Command<'a>,
+    orders: &[Order],
     versions: &'a [&'a str],
 ) -> Result<Command<'a>, AllocError>
     ensures { (app : App) → IsLocalApp command.entry app → IfOk result (λ c.
-        IsLocalApp c (with_commands app (plan_app versions.entry ∷ sign_app versions.entry ∷ []))) }
+        IsLocalApp c (with_commands app (map (order_app versions.entry) orders.now))) }
 {
-    let command = command.subcommand(plan(alloc, versions)?)?;
-    command.subcommand(sign(alloc, versions)?)
-}
-
-/// The program with the commands `counters` and `carry`.
-fn with_counters_and_carry<'a>(
-    alloc: Global,
-    command: Command<'a>,
-) -> Result<Command<'a>, AllocError>
-    ensures { (app : App) → IsLocalApp command.entry app
-        → IfOk result (λ c. IsLocalApp c (with_commands app (counters_app ∷ carry_app ∷ []))) }
-{
-    let command = command.subcommand(counters(alloc)?)?;
-    command.subcommand(carry(alloc)?)
+    let Some((order, others)) = orders.split_first() else {
+        return Ok(command);
+    };
+    let command = command.subcommand(order.command(alloc, versions)?)?;
+    with_commands(alloc, command, others, versions)
 }
 
 /// The same commands, of which each option of a number takes a negative one as its value, and then says its range.
@@ -147,24 +149,9 @@ pub fn negative_command<'a>(alloc: Global) -> Result<Command<'a>, AllocError> {
     Ok(command)
 }
 
-/// The command that asks for this.
-fn command_of<'a>(alloc: Global, order: Order) -> Result<Command<'a>, AllocError> {
-    match order {
-        Order::Log(Task::Review) => review(alloc),
-        Order::Log(Task::Questions) => questions(alloc),
-        Order::Log(Task::Extract) => extract(alloc),
-        Order::Log(Task::Inspect) => inspect(alloc),
-        Order::Log(Task::Counters) => counters(alloc),
-        Order::Log(Task::Carry) => carry(alloc),
-        Order::Sent(Signing::Plan) => plan(alloc, versions()),
-        Order::Sent(Signing::Sign) => sign(alloc, versions()),
-        Order::Explain => explain(alloc),
-    }
-}
-
 /// The command that asks for this, of which each option of a number takes a negative one.
 fn negative<'a>(alloc: Global, order: Order) -> Result<Command<'a>, AllocError> {
-    let mut command = command_of(alloc, order)?;
+    let mut command = order.command(alloc, versions())?;
     for name in NUMBERS {
         command = command.mut_arg(name, |arg| Ok(arg.allow_negative_numbers(true)))?;
     }
@@ -183,7 +170,7 @@ fn bare<'a>(alloc: Global) -> Command<'a>
 }
 
 fn review<'a>(alloc: Global) -> Result<Command<'a>, AllocError>
-    ensures { IfOk result (λ c. IsLocalApp c review_app) }
+    ensures { IfOk result (λ c. IsLocalApp c (task_app Task.Review)) }
 {
     let review = over_log(
         alloc,
@@ -191,16 +178,21 @@ fn review<'a>(alloc: Global) -> Result<Command<'a>, AllocError>
         commands::review::ABOUT,
         commands::review::USAGE,
     )
-    .arg(answers(alloc, options::answers::CHECKED))?;
+    .arg(file(alloc, options::answers::NAME, options::answers::CHECKED))?;
     let review = review
-        .arg(findings(alloc, options::findings::LISTED))?
-        .arg(json(alloc))?;
-    let review = review.arg(whole(alloc))?.arg(tally(alloc))?;
-    limited(alloc, review.arg(kept(alloc))?)
+        .arg(flag(alloc, options::findings::NAME, options::findings::LISTED))?
+        .arg(flag(alloc, options::json::NAME, options::json::HELP))?;
+    let review = review
+        .arg(flag(alloc, options::whole::NAME, options::whole::HELP))?
+        .arg(flag(alloc, options::tally::NAME, options::tally::HELP))?;
+    limited(
+        alloc,
+        review.arg(file(alloc, options::counters::NAME, options::counters::HELP))?,
+    )
 }
 
 fn questions<'a>(alloc: Global) -> Result<Command<'a>, AllocError>
-    ensures { IfOk result (λ c. IsLocalApp c questions_app) }
+    ensures { IfOk result (λ c. IsLocalApp c (task_app Task.Questions)) }
 {
     let questions = over_log(
         alloc,
@@ -208,11 +200,14 @@ fn questions<'a>(alloc: Global) -> Result<Command<'a>, AllocError>
         commands::questions::ABOUT,
         commands::questions::USAGE,
     );
-    limited(alloc, questions.arg(json(alloc))?)
+    limited(
+        alloc,
+        questions.arg(flag(alloc, options::json::NAME, options::json::HELP))?,
+    )
 }
 
 fn extract<'a>(alloc: Global) -> Result<Command<'a>, AllocError>
-    ensures { IfOk result (λ c. IsLocalApp c extract_app) }
+    ensures { IfOk result (λ c. IsLocalApp c (task_app Task.Extract)) }
 {
     let extract = over_log(
         alloc,
@@ -220,13 +215,18 @@ fn extract<'a>(alloc: Global) -> Result<Command<'a>, AllocError>
         commands::extract::ABOUT,
         commands::extract::USAGE,
     )
-    .arg(answers(alloc, options::answers::CHECKED))?;
-    let extract = extract.arg(unlisted(alloc))?.arg(place(alloc))?;
-    limited(alloc, extract.arg(lines_out(alloc))?)
+    .arg(file(alloc, options::answers::NAME, options::answers::CHECKED))?;
+    let extract = extract
+        .arg(flag(alloc, options::unlisted::NAME, options::unlisted::HELP))?
+        .arg(place(alloc))?;
+    limited(
+        alloc,
+        extract.arg(flag(alloc, options::lines_out::NAME, options::lines_out::HELP))?,
+    )
 }
 
 fn inspect<'a>(alloc: Global) -> Result<Command<'a>, AllocError>
-    ensures { IfOk result (λ c. IsLocalApp c inspect_app) }
+    ensures { IfOk result (λ c. IsLocalApp c (task_app Task.Inspect)) }
 {
     let inspect = over_log(
         alloc,
@@ -234,12 +234,15 @@ fn inspect<'a>(alloc: Global) -> Result<Command<'a>, AllocError>
         commands::inspect::ABOUT,
         commands::inspect::USAGE,
     )
-    .arg(findings(alloc, options::findings::PLAIN))?;
-    limited(alloc, inspect.arg(json(alloc))?)
+    .arg(flag(alloc, options::findings::NAME, options::findings::PLAIN))?;
+    limited(
+        alloc,
+        inspect.arg(flag(alloc, options::json::NAME, options::json::HELP))?,
+    )
 }
 
 fn plan<'a>(alloc: Global, versions: &'a [&'a str]) -> Result<Command<'a>, AllocError>
-    ensures { IfOk result (λ c. IsLocalApp c (plan_app versions.entry)) }
+    ensures { IfOk result (λ c. IsLocalApp c (signing_app versions.entry Signing.Plan)) }
 {
     let plan = over_log(
         alloc,
@@ -251,7 +254,7 @@ fn plan<'a>(alloc: Global, versions: &'a [&'a str]) -> Result<Command<'a>, Alloc
 }
 
 fn sign<'a>(alloc: Global, versions: &'a [&'a str]) -> Result<Command<'a>, AllocError>
-    ensures { IfOk result (λ c. IsLocalApp c (sign_app versions.entry)) }
+    ensures { IfOk result (λ c. IsLocalApp c (signing_app versions.entry Signing.Sign)) }
 {
     let sign = over_log(
         alloc,
@@ -259,12 +262,12 @@ fn sign<'a>(alloc: Global, versions: &'a [&'a str]) -> Result<Command<'a>, Alloc
         commands::sign::ABOUT,
         commands::sign::USAGE,
     )
-    .arg(answers(alloc, options::answers::SEALED))?;
+    .arg(file(alloc, options::answers::NAME, options::answers::SEALED))?;
     limited(alloc, with_signing_options(alloc, sign, versions)?)
 }
 
 fn counters<'a>(alloc: Global) -> Result<Command<'a>, AllocError>
-    ensures { IfOk result (λ c. IsLocalApp c counters_app) }
+    ensures { IfOk result (λ c. IsLocalApp c (task_app Task.Counters)) }
 {
     let counters = over_log(
         alloc,
@@ -272,12 +275,15 @@ fn counters<'a>(alloc: Global) -> Result<Command<'a>, AllocError>
         commands::counters::ABOUT,
         commands::counters::USAGE,
     )
-    .arg(answers(alloc, options::answers::CHECKED))?;
-    limited(alloc, counters.arg(json(alloc))?)
+    .arg(file(alloc, options::answers::NAME, options::answers::CHECKED))?;
+    limited(
+        alloc,
+        counters.arg(flag(alloc, options::json::NAME, options::json::HELP))?,
+    )
 }
 
 fn carry<'a>(alloc: Global) -> Result<Command<'a>, AllocError>
-    ensures { IfOk result (λ c. IsLocalApp c carry_app) }
+    ensures { IfOk result (λ c. IsLocalApp c (task_app Task.Carry)) }
 {
     let carry = over_log(
         alloc,
@@ -285,7 +291,10 @@ fn carry<'a>(alloc: Global) -> Result<Command<'a>, AllocError>
         commands::carry::ABOUT,
         commands::carry::USAGE,
     );
-    limited(alloc, carry.arg(answers(alloc, options::answers::CHECKED))?)
+    limited(
+        alloc,
+        carry.arg(file(alloc, options::answers::NAME, options::answers::CHECKED))?,
+    )
 }
 
 fn explain<'a>(alloc: Global) -> Result<Command<'a>, AllocError>
@@ -310,7 +319,7 @@ fn limited<'a>(alloc: Global, command: Command<'a>) -> Result<Command<'a>, Alloc
     ensures { (app : App) → IsLocalApp command.entry app → IfOk result (λ c. IsLocalApp c (with_limits app)) }
 {
     command
-        .arg(lines(alloc))?
+        .arg(flag(alloc, options::lines::NAME, options::lines::HELP))?
         .arg(max_len(alloc))?
         .arg(max_messages(alloc))
 }
@@ -323,24 +332,6 @@ pub fn extract_conflict(alloc: Global) -> Result<Error, AllocError>
         ErrorKind::ArgumentConflict,
         "the argument '--unlisted' cannot be used with '--place <N>'",
     )
-}
-
-/// What the command of this name asks for. `None` exactly where no command has it.
-pub fn order_of(name: &str) -> Option<Order>
-    ensures { MatchOption result (IsNoCommand name.now) (λ order. name.now ≡ name_of order) }
-{
-    match name {
-        commands::review::NAME => Some(Order::Log(Task::Review)),
-        commands::questions::NAME => Some(Order::Log(Task::Questions)),
-        commands::extract::NAME => Some(Order::Log(Task::Extract)),
-        commands::inspect::NAME => Some(Order::Log(Task::Inspect)),
-        commands::counters::NAME => Some(Order::Log(Task::Counters)),
-        commands::carry::NAME => Some(Order::Log(Task::Carry)),
-        commands::plan::NAME => Some(Order::Sent(Signing::Plan)),
-        commands::sign::NAME => Some(Order::Sent(Signing::Sign)),
-        commands::explain::NAME => Some(Order::Explain),
-        _ => None,
-    }
 }
 
 /// The code that is asked about, if a word names one.

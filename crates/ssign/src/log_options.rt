@@ -1,98 +1,41 @@
-//! The options of a command over a log, and the word of `explain`.
+//! How options of a command over a log are built, and the word of `explain`.
 ghost use Rattle.std.specs.Prelude.{◌≡◌, false};
 ghost use Rattle.clap.specs.Words.{rule_of};
-ghost use Rattle.ssign.specs.LogOptions.{answers_rule, code_rule, findings_rule, json_rule, kept_rule, lines_out_rule};
-ghost use Rattle.ssign.specs.LogOptions.{lines_rule, max_len_rule, max_messages_rule, place_rule, tally_rule};
-ghost use Rattle.ssign.specs.LogOptions.{unlisted_rule, whole_rule};
+ghost use Rattle.ssign.specs.LogOptions.{code_rule, flag_rule, max_len_rule, max_messages_rule, place_rule};
+ghost use Rattle.ssign.specs.SigningOptions.{is_global, text_rule};
 
 use crate::options;
 use clap::builder::ValueParser;
 use clap::{Arg, ArgAction};
 use std::alloc::Global;
 
-/// The option of an answers file.
-pub(crate) fn answers<'a>(alloc: Global, help: &'a str) -> Arg<'a>
-    ensures rule { rule_of result ≡ answers_rule }
-    ensures local { result.global ≡ false }
+/// A flag.
+pub(crate) fn flag<'a>(alloc: Global, name: &'a str, help: &'a str) -> Arg<'a>
+    ensures rule { rule_of result ≡ flag_rule name.entry.now }
+    ensures local { is_global result ≡ false }
 {
-    Arg::new(alloc, options::answers::NAME)
-        .long(options::answers::NAME)
-        .value_name("FILE")
-        .action(ArgAction::Set)
-        .help(help)
-}
-
-/// The option that leaves out what is no finding.
-pub(crate) fn findings<'a>(alloc: Global, help: &'a str) -> Arg<'a>
-    ensures rule { rule_of result ≡ findings_rule }
-    ensures local { result.global ≡ false }
-{
-    Arg::new(alloc, options::findings::NAME)
-        .long(options::findings::NAME)
+    Arg::new(alloc, name)
+        .long(name)
         .action(ArgAction::SetTrue)
         .help(help)
 }
 
-/// The option that asks for JSON.
-pub(crate) fn json<'a>(alloc: Global) -> Arg<'a>
-    ensures rule { rule_of result ≡ json_rule }
-    ensures local { result.global ≡ false }
+/// The option of a file.
+pub(crate) fn file<'a>(alloc: Global, name: &'a str, help: &'a str) -> Arg<'a>
+    ensures rule { rule_of result ≡ text_rule name.entry.now }
+    ensures local { is_global result ≡ false }
 {
-    Arg::new(alloc, options::json::NAME)
-        .long(options::json::NAME)
-        .action(ArgAction::SetTrue)
-        .help(options::json::HELP)
-}
-
-/// The option that also reports the signature blocks that are missing.
-pub(crate) fn whole<'a>(alloc: Global) -> Arg<'a>
-    ensures rule { rule_of result ≡ whole_rule }
-    ensures local { result.global ≡ false }
-{
-    Arg::new(alloc, options::whole::NAME)
-        .long(options::whole::NAME)
-        .action(ArgAction::SetTrue)
-        .help(options::whole::HELP)
-}
-
-/// The option that asks for counts.
-pub(crate) fn tally<'a>(alloc: Global) -> Arg<'a>
-    ensures rule { rule_of result ≡ tally_rule }
-    ensures local { result.global ≡ false }
-{
-    Arg::new(alloc, options::tally::NAME)
-        .long(options::tally::NAME)
-        .action(ArgAction::SetTrue)
-        .help(options::tally::HELP)
-}
-
-/// The option of a counters file.
-pub(crate) fn kept<'a>(alloc: Global) -> Arg<'a>
-    ensures rule { rule_of result ≡ kept_rule }
-    ensures local { result.global ≡ false }
-{
-    Arg::new(alloc, options::counters::NAME)
-        .long(options::counters::NAME)
+    Arg::new(alloc, name)
+        .long(name)
         .value_name("FILE")
         .action(ArgAction::Set)
-        .help(options::counters::HELP)
-}
-
-/// The option that extracts what is unlisted.
-pub(crate) fn unlisted<'a>(alloc: Global) -> Arg<'a>
-    ensures rule { rule_of result ≡ unlisted_rule }
-    ensures local { result.global ≡ false }
-{
-    Arg::new(alloc, options::unlisted::NAME)
-        .long(options::unlisted::NAME)
-        .action(ArgAction::SetTrue)
-        .help(options::unlisted::HELP)
+        .help(help)
 }
 
 /// The option of a place whose message is extracted.
 pub(crate) fn place<'a>(alloc: Global) -> Arg<'a>
     ensures rule { rule_of result ≡ place_rule }
-    ensures local { result.global ≡ false }
+    ensures local { is_global result ≡ false }
 {
     Arg::new(alloc, options::place::NAME)
         .long(options::place::NAME)
@@ -105,32 +48,10 @@ pub(crate) fn place<'a>(alloc: Global) -> Arg<'a>
         .help(options::place::HELP)
 }
 
-/// The option that extracts lines.
-pub(crate) fn lines_out<'a>(alloc: Global) -> Arg<'a>
-    ensures rule { rule_of result ≡ lines_out_rule }
-    ensures local { result.global ≡ false }
-{
-    Arg::new(alloc, options::lines_out::NAME)
-        .long(options::lines_out::NAME)
-        .action(ArgAction::SetTrue)
-        .help(options::lines_out::HELP)
-}
-
-/// The option of a log of lines.
-pub(crate) fn lines<'a>(alloc: Global) -> Arg<'a>
-    ensures rule { rule_of result ≡ lines_rule }
-    ensures local { result.global ≡ false }
-{
-    Arg::new(alloc, options::lines::NAME)
-        .long(options::lines::NAME)
-        .action(ArgAction::SetTrue)
-        .help(options::lines::HELP)
-}
-
 /// The option of how long a message may be.
 pub(crate) fn max_len<'a>(alloc: Global) -> Arg<'a>
     ensures rule { rule_of result ≡ max_len_rule }
-    ensures local { result.global ≡ false }
+    ensures local { is_global result ≡ false }
 {
     Arg::new(alloc, options::max_len::NAME)
         .long(options::max_len::NAME)
@@ -146,7 +67,7 @@ pub(crate) fn max_len<'a>(alloc: Global) -> Arg<'a>
 /// The option of how many messages there may be.
 pub(crate) fn max_messages<'a>(alloc: Global) -> Arg<'a>
     ensures rule { rule_of result ≡ max_messages_rule }
-    ensures local { result.global ≡ false }
+    ensures local { is_global result ≡ false }
 {
     Arg::new(alloc, options::max_messages::NAME)
         .long(options::max_messages::NAME)
@@ -162,7 +83,7 @@ pub(crate) fn max_messages<'a>(alloc: Global) -> Arg<'a>
 /// The word of `explain`.
 pub(crate) fn code<'a>(alloc: Global) -> Arg<'a>
     ensures rule { rule_of result ≡ code_rule }
-    ensures local { result.global ≡ false }
+    ensures local { is_global result ≡ false }
 {
     Arg::new(alloc, options::code::NAME)
         .value_name("CODE")

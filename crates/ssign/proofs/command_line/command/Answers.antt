@@ -1,12 +1,8 @@
 use Rattle.std.proofs.lemmas.Result.{IfOk-weaker}
-use Rattle.ssign.proofs.FoundCommands.{with_command}
+use Rattle.ssign.specs.CommandLine.{bare_app}
 use Rattle.ssign.proofs.command_line.command.Goals as goal
 
 pub returns : goal.returns
 returns c =
-    let two = c.in_ok-command.ensures _ c.bare.ensures in
-    let four = c.in_ok-command-2.ensures _ two in
-    let six = c.in_ok-command-3.ensures _ four in
-    let eight = c.in_ok-command-4.ensures _ six in
-    IfOk-weaker c.subcommand.result _ _
-    (λ r adds. let is = with_command adds eight c.in_ok-explain.ensures in (c.versions-versions.result, c.versions-versions.ensures, is.shape)) c.subcommand.ensures
+    IfOk-weaker c.with_commands.result _ _ (λ built is. (c.versions.result, c.versions.ensures, is.shape))
+    (c.with_commands.ensures bare_app c.bare.ensures)
