@@ -30,7 +30,7 @@ use Rattle.ssign.specs.declared.signing.Signing.{Signing}
 use Rattle.ssign.specs.declared.signing.Signing.TheVariants.{Plan, Sign}
 use Rattle.ssign.specs.SigningOptions.{AreVersions, Kept, text_rule, with_signing_options}
 use Rattle.ssign.specs.declared.options.answers.TheConstants as answers
-use Rattle.ssign.specs.declared.options.counters.TheConstants as kept
+use Rattle.ssign.specs.declared.options.counters.TheConstants as counters_option
 use Rattle.ssign.specs.declared.options.findings.TheConstants as findings
 use Rattle.ssign.specs.declared.options.json.TheConstants as json
 use Rattle.ssign.specs.declared.options.lines_out.TheConstants as lines_out
@@ -93,6 +93,7 @@ limits_with a b lines = record { max_len = a; max_messages = b; form = form_of l
 
 -- ---- the commands
 
+-- with options of these rules behind those that it has
 abbrev pub with_rules : App → List Rule → App
 with_rules app [] = app
 with_rules app (rule ∷ rules) = with_rules (with_rule app rule) rules
@@ -109,11 +110,11 @@ task_name Inspect = inspect.NAME.now
 task_name Counters = counters.NAME.now
 task_name Carry = carry.NAME.now
 
--- the options of its own
+-- its own options, in their order
 abbrev pub task_rules : Task → List Rule
 task_rules Review =
     text_rule answers.NAME.now ∷ flag_rule findings.NAME.now ∷ flag_rule json.NAME.now ∷ flag_rule whole.NAME.now
-    ∷ flag_rule tally.NAME.now ∷ text_rule kept.NAME.now ∷ []
+    ∷ flag_rule tally.NAME.now ∷ text_rule counters_option.NAME.now ∷ []
 task_rules Questions = flag_rule json.NAME.now ∷ []
 task_rules Extract =
     text_rule answers.NAME.now ∷ flag_rule unlisted.NAME.now ∷ place_rule ∷ flag_rule lines_out.NAME.now ∷ []
@@ -128,7 +129,7 @@ abbrev pub signing_name : Signing → List ℕ
 signing_name Plan = plan.NAME.now
 signing_name Sign = sign.NAME.now
 
--- the options of its own, beside those that say how a log is signed
+-- its own options, in front of those that say how a log is signed
 abbrev pub signing_rules : Signing → List Rule
 signing_rules Plan = []
 signing_rules Sign = text_rule answers.NAME.now ∷ []
@@ -161,6 +162,11 @@ orders =
 -- what the command of this name asks for
 abbrev pub order_in : List ℕ → Option Order
 order_in name = find (λ order. bytes_eq name (name_of order)) orders
+
+-- each command is found by its name, and what a name finds has it
+pub record AreFoundByName : Type 0 where
+  pub found : (order : Order) → order_in (name_of order) ≡ Some order
+  pub named : (name : List ℕ) (order : Order) → order_in name ≡ Some order → name ≡ name_of order
 
 -- ---- the program
 

@@ -38,8 +38,6 @@ code_rule = record (new_rule code.NAME.now) {
   required = true;
 }
 
--- ---- how a log is read
-
--- the options of every command that reads a log
+-- the options that all commands over a log share: they say how it is read
 abbrev pub limit_rules : List Rule
 limit_rules = flag_rule lines.NAME.now ∷ max_len_rule ∷ max_messages_rule ∷ []

@@ -28,11 +28,11 @@ Kept = Bor (List (Bor (List ℕ)))
 abbrev pub AreVersions : Kept → Type 0
 AreVersions kept = map (λ text. text.now) kept.now ≡ version.versions
 
--- ---- rules
-
--- an option that the commands of its command take too
+-- the commands below its command take the option too
 abbrev pub is_global : Arg → Bool
 is_global option = option.global
+
+-- ---- rules
 
 -- a text
 abbrev pub text_rule : List ℕ → Rule

@@ -90,7 +90,7 @@ impl Order {
         }
     }
 
-    /// Its command. Of the versions of blocks it takes those that are given.
+    /// Its command. `--ver`, where it has it, takes the given versions alone.
     fn command<'a>(self, alloc: Global, versions: &'a [&'a str]) -> Result<Command<'a>, AllocError>
         ensures { IfOk result (λ c. IsLocalApp c (order_app versions.entry self)) }
     {
@@ -122,8 +122,7 @@ pub fn command<'a>(alloc: Global) -> Result<Command<'a>, AllocError>
     with_commands(alloc, bare(alloc), &ORDERS, versions())
 }
 
-/// The command with those that ask for this behind those that it has. Of the versions of blocks they take those that
-/// are given.
+/// Adds the commands that ask for these, in this order. `--ver` takes the given versions alone.
 fn with_commands<'a>(
     alloc: Global,
     command: Command<'a>,

@@ -1,4 +1,5 @@
-//! What holds of two commands together.
+//! What holds of commands together.
+ghost use Rattle.ssign.specs.CommandLine.{AreFoundByName};
 ghost use Rattle.ssign.specs.ReadBack.{CountersAreReadBack};
 
 use ss_answers::laws::lines_have_their_counters;
@@ -6,6 +7,11 @@ use ss_report::laws::counters_are_the_logs;
 use ss_review::laws::kept::{
     counters_given_back, log_counters_add_nothing, log_counters_are_in_range,
 };
+
+/// Each command is found by its name, and by no other text. So no two have one name.
+pub fn commands_are_found_by_name()
+    ensures { AreFoundByName }
+{}
 
 /// The text that `counters` writes of a log, without `--json`, is read by `review --counters` as the log's own
 /// counters. It is read as nothing else, and none of its lines is refused. A review of the same log that is given them
