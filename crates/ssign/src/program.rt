@@ -194,7 +194,7 @@ fn run_sent<R: Input + Print + Eprint + Screen + Files + Clock + AllocGlobal>(
     };
     let settings = match settings_of(rt.alloc(), options) {
         Some(Ok(settings)) => settings,
-        Some(Err(fault)) => return refuse(rt, &fault, settings_remark(fault, options)),
+        Some(Err(fault)) => return refuse(rt, &fault.code(), settings_remark(fault, options)),
         None => return REFUSED,
     };
     let answers = match answers_file(options) {

@@ -21,13 +21,6 @@ pub const REFUSED: u8 = 2;
 /// The most octets of a refusal as it is printed: a code, a space and a number of up to 20 digits take fewer.
 const LONGEST_REFUSAL: usize = 32;
 
-/// What may stand behind `ssign: `: a code, and not the words of a fault.
-pub trait Refusal: Display {}
-
-impl Refusal for Code {}
-
-impl Refusal for SettingsFault {}
-
 /// Where refusals are shown.
 pub trait Screen {
     /// Whether a person looks: standard error is a terminal.
@@ -98,28 +91,29 @@ pub fn cause_remark<'a>(cause: Option<LikelyCause>) -> Remark<'a>
     }
 }
 
-/// Says on standard error why there is no output. Where a person looks, the code is explained, and the remark follows.
-pub fn refuse<R: Eprint + Screen, F: Refusal>(rt: &R, fault: &F, remark: Remark<'_>) -> u8
+/// Says on standard error why there is no output, by a code. Where a person looks, the code is explained, and the
+/// remark follows.
+pub fn refuse<R: Eprint + Screen>(rt: &R, code: &Code, remark: Remark<'_>) -> u8
     ensures { result ≡ 2 }
 {
-    let _ = eprintln!(rt; "ssign: {fault}");
+    let _ = eprintln!(rt; "ssign: {code}");
     if rt.shows_refusals() {
-        explain_refusal(rt, fault);
+        explain_refusal(rt, code);
         let _ = eprint!(rt; "{remark}");
     }
     REFUSED
 }
 
 /// Says what `explain` says of the refusal as it is printed.
-fn explain_refusal<R: Eprint, F: Refusal>(rt: &R, fault: &F) {
+fn explain_refusal<R: Eprint>(rt: &R, code: &Code) {
     let mut line = ArrayString::<LONGEST_REFUSAL>::new();
-    if write!(line, "{fault}").is_err() {
+    if write!(line, "{code}").is_err() {
         return;
     }
-    let Some(code) = asked_word(line.as_str()) else {
+    let Some(word) = asked_word(line.as_str()) else {
         return;
     };
-    if let Some(explanation) = explanation_of(all_tables(), code) {
+    if let Some(explanation) = explanation_of(all_tables(), word) {
         let _ = eprintln!(rt; "{}", explanation.text);
     }
 }

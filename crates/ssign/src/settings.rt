@@ -1,7 +1,9 @@
 //! What the options of a command that signs ask for.
 ghost use Rattle.std.specs.Prelude.{◌≡◌, ◌≤◌, ℕ, Option, Some, IfOk, IfSome, IsSome};
 ghost use Rattle.ss_message.specs.Draft.{drafted_field};
+ghost use Rattle.ss_octets.specs.Code.{IsCode};
 ghost use Rattle.ssign.specs.CommandLine.{HasNumber};
+ghost use Rattle.ssign.specs.FaultText.{settings_fault_code};
 ghost use Rattle.ssign.specs.Settings.{HasChoices, HasNumberIn, HasTexts, IsRead};
 ghost use Rattle.ssign.specs.Settings.{FieldGives, Gives, HeadGives, field_in};
 ghost use Rattle.ssign.specs.declared.choices.Choices.{Choices};
@@ -17,7 +19,7 @@ use crate::text_option::TextOption;
 use clap::ArgMatches;
 use ss_block::{Alg, Head, Payload};
 use ss_message::{Field, Stamp};
-use ss_octets::{Bytes, NoMemory};
+use ss_octets::{Bytes, Code, NoMemory};
 use ss_origin::Config;
 use ss_payload::stamp_of;
 use std::alloc::Global;
@@ -56,6 +58,19 @@ pub enum SettingsFault {
     Memory,
 }
 
+impl SettingsFault {
+    /// Its code, for programs.
+    pub fn code(self) -> Code
+        ensures { IsCode result (settings_fault_code self) }
+    {
+        let name = match self {
+            SettingsFault::OutOfForm(_) => "P2",
+            SettingsFault::Memory => "W2",
+        };
+        Code { name, place: None }
+    }
+}
+
 impl fmt::Display for SettingsFault {
     ghost use Rattle.std.specs.Prelude.{Some};
     ghost use Rattle.ssign.specs.FaultText.{settings_fault_text};
@@ -64,8 +79,10 @@ impl fmt::Display for SettingsFault {
 
     fn fmt<W: fmt::Write>(&self, f: &mut fmt::Formatter<W>) -> fmt::Result {
         match self {
-            SettingsFault::OutOfForm(_) => f.write_str("P2"),
-            SettingsFault::Memory => f.write_str("W2"),
+            SettingsFault::OutOfForm(option) => {
+                write!(f, "the text of --{} is out of its form", option.name())
+            }
+            SettingsFault::Memory => f.write_str("out of memory"),
         }
     }
 }
