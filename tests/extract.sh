@@ -102,9 +102,15 @@ for place in 10000000 4294967296 '' x 1.5; do
 done
 run extract --unlisted --place 0 <"$log"
 expect 'unlisted messages and a place' 2 '' "error: the argument '--unlisted' cannot be used with '--place <N>'"$'\n\n'"Usage: ssign extract [OPTIONS] < FILE"$'\n\n'"For more information, try '--help'."
-for command in review questions inspect counters carry; do
+list_commands extract
+for command in "${commands[@]}"; do
+    needed=()
+    case $command in
+    plan | sign) needed=(--payload '- N' --rsid 1) ;;
+    explain) needed=(F1) ;;
+    esac
     for option in --unlisted --place=0 --lines-out; do
-        run "$command" "$option" <"$log"
+        run "$command" "$option" "${needed[@]}" <"$log"
         expect "$command $option" 2 '' 'SOME TEXT'
     done
 done

@@ -42,7 +42,8 @@ hostile() {
     tell "$what, which isn't read on" "$taken"
 }
 
-for command in review questions extract inspect counters carry; do
+list_commands plan sign explain
+for command in "${commands[@]}"; do
     hostile "$command" 'random octets' 'ssign: F1 0' 'x' 0 ''
     hostile "$command" 'random octets behind a length of twenty digits' 'ssign: F2 4' '99999999999999999999' 0 ''
     hostile "$command" 'random octets behind the longest message' 'ssign: F1 65542' '65536 ' 65536 'x'

@@ -328,8 +328,7 @@ def refusals(keeper):
     tell("a file without counters", "" if said == keeper.review(log, "--whole", *options) else f"{said}")
     mistakes = [["review", word] for word in ("--counters", "--counter=x", "--counters=")]
     mistakes += [["review", "--counters", keeper.counters, "--counters", keeper.counters]]
-    mistakes += [[command, "--counters", keeper.counters] for command in ("questions", "extract", "inspect", "counters", "carry", "explain")]
-    mistakes += [[command, "--counters", keeper.counters, "--payload", "- N", "--rsid", "1"] for command in ("plan", "sign")]
+    mistakes += keeper.program.others("review", "--counters", keeper.counters)
     for words in mistakes:
         status, out, err = keeper.program.run(words, log)
         is_mistake = status == 2 and err and not out

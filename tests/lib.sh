@@ -32,6 +32,17 @@ run() {
     status=$?
 }
 
+# list_commands [COMMAND..]: sets the array `commands` to the commands that the program's help lists, in its order, but for
+# those that are named. So a check that goes over them misses none that was added. A help that lists none is a failed check.
+list_commands() {
+    local each
+    commands=()
+    while read -r each; do
+        [[ " help $* " == *" $each "* ]] || commands+=("$each")
+    done < <(timeout "$patience" "$program" --help </dev/null | sed -nE 's/^  ([a-z][a-z0-9-]*)  +[A-Z].*/\1/p')
+    [[ ${#commands[@]} -gt 0 ]] || tell 'the commands' '    the help lists none'
+}
+
 # lines TEXT: TEXT and an LF, or nothing where TEXT is empty.
 lines() {
     [[ -z $1 ]] || printf '%s\n' "$1"

@@ -98,7 +98,8 @@ run extract --lines --answers "$root/examples/four-messages.answers" <"$log"
 holds 'an extract of lines' cmp -- "$scratch/out" <(head -c 64 -- "$root/examples/four-messages.frames")
 run extract --lines --answers "$root/examples/four-messages.answers" < <(head -c -1 -- "$log")
 expect 'an extract of a torn log' 1 '' ''
-for command in questions extract counters carry; do
+list_commands review plan sign explain
+for command in "${commands[@]}"; do
     run "$command" --lines < <(printf 'a\n\nb\n')
     expect "$command: an empty line behind another" 2 '' 'ssign: F9 2'
     run "$command" --lines --max-len 3 < <(printf 'abc\nabcd\n')

@@ -135,7 +135,9 @@ for option in '--max-len 159' '--max-len 1048576' '--max-messages 4' '--max-mess
 done
 run --help </dev/null
 expect '--help' 0 'SOME TEXT' ''
-for command in review questions extract inspect counters carry explain; do
+list_commands
+holds 'the commands' test "${commands[*]}" = 'review questions extract inspect plan sign counters carry explain'
+for command in "${commands[@]}"; do
     run "$command" --help </dev/null
     expect "$command --help" 0 'SOME TEXT' ''
 done

@@ -147,7 +147,7 @@ def mistakes(program):
         tell(f"a refusal: --tally {' '.join(words)}", "" if said == (2, b"", b"ssign: F1 0\n") else f"{said}")
     wrong = [["review", word] for word in ("--tally=x", "--tally=", "--tall", "--tallys", "-t")]
     wrong += [["review", "--tally", "--tally"]]
-    wrong += [[command, "--tally"] for command in ("questions", "extract", "inspect", "counters", "carry", "explain")]
+    wrong += program.others("review", "--tally")
     for words in wrong:
         status, out, err = program.run(words, log)
         tell(" ".join(words), "" if status == 2 and err and not out else f"status {status} {out!r} {err!r}")

@@ -13,6 +13,7 @@ import collections
 import itertools
 import os
 import random
+import re
 import subprocess
 import sys
 import tempfile
@@ -222,6 +223,15 @@ class Program:
         done = subprocess.run([self.path, *words], input=octets, capture_output=True, check=False, timeout=60)
         return done.returncode, done.stdout, done.stderr
 
+    def others(self, command, *words):
+        """These words behind each other command that the help lists, and behind what it has to be given: so none that was
+        added is missed."""
+        listed = [it.decode() for it in re.findall(rb"^  ([a-z][a-z0-9-]*)  +[A-Z]", self.run(["--help"])[1], re.MULTILINE)]
+        assert command in listed and len(listed) > 2, listed
+        signs = ["--payload", "- N", "--rsid", "1"]
+        needed = {"plan": signs, "sign": signs, "explain": ["F1"]}
+        return [[it, *needed.get(it, []), *words] for it in listed if it not in ("help", command)]
+
     def put_answers(self, text):
         with open(self.answers, "wb") as file:
             file.write(text)
@@ -306,8 +316,7 @@ def refusals(program):
         tell(f"a refusal: --whole {' '.join(words)}", "" if said == (2, b"", b"ssign: F1 0\n") else f"{said}")
     mistakes = [["review", word] for word in ("--whole=x", "--whole=", "--whol", "--wholes", "-w", "--no-whole")]
     mistakes += [["review", "--whole", "--whole"], ["review", "--whole", "x"]]
-    mistakes += [[command, "--whole"] for command in ("questions", "extract", "inspect", "counters", "carry", "explain")]
-    mistakes += [[command, "--whole", "--payload", "- N", "--rsid", "1"] for command in ("plan", "sign")]
+    mistakes += program.others("review", "--whole")
     for words in mistakes:
         status, out, err = program.run(words, log)
         tell(" ".join(words), "" if status == 2 and err and not out else f"status {status} {out!r} {err!r}")
