@@ -1,15 +1,39 @@
-//! What the words of the output mean: lines and states of a report, lines of an inspection, and lines of answers, plans
-//! and questions.
+//! What the words of the output mean: words of a verdict, lines and states of a report, lines of an inspection, and
+//! lines of answers, plans and questions.
 use super::Explanation;
 
-/// Lines of a report, states of a session, lines of an inspection, and lines of answers, plans and questions.
-pub static WORDS: [Explanation; 32] = [
+/// Words of a verdict, lines of a report, states of a session, lines of an inspection, and lines of answers, plans and
+/// questions.
+pub static WORDS: [Explanation; 36] = [
+    Explanation {
+        code: "verified",
+        text: "Of a block: its session is joined, and its own signature is valid under the session's payload. Only \
+            verified blocks announce messages. A report has no line for such a block. The other blocks are unverified.",
+    },
+    Explanation {
+        code: "unverified",
+        text: "Of a block: its session isn't joined, or its own signature isn't valid under the session's payload. The \
+            report's word is refused. Nothing that the block announces is used, so its messages are unlisted. Look at \
+            the state of the session first.",
+    },
+    Explanation {
+        code: "missing",
+        text: "Of a message: a verified block announces its number, and no stored message is listed for it. The \
+            report's word is lost, in a gap line. A changed message is missing too, and what it became is unlisted. Up \
+            to counters, messages and signature blocks can be missing that nothing here announces. The report's words \
+            for these are tail and blocks.",
+    },
+    Explanation {
+        code: "unannounced",
+        text: "Of a number: no verified block announces it, though one announces a later number of its group. The \
+            report's word is hole. The block for it is missing or unverified, and its message, if stored, is unlisted.",
+    },
     Explanation {
         code: "session",
         text: "A session is one run of a sender: its blocks share HOSTNAME, APP-NAME, PROCID and a number, the RSID. \
             The line ends with its state: joined, disputed, incomplete, malformed, untrusted or unaccepted, and with \
-            --counters also absent. Only in a joined session do blocks count. The session's ok, gap and hole lines \
-            follow, and then its tail and blocks lines.",
+            --counters also absent. Only in a joined session can blocks be verified. The session's ok, gap and hole \
+            lines follow, and then its tail and blocks lines.",
     },
     Explanation {
         code: "ok",
@@ -23,33 +47,33 @@ pub static WORDS: [Explanation; 32] = [
     },
     Explanation {
         code: "lost",
-        text: "No stored message is left that has the hash of this number. The message was taken out or changed, or \
-            stored in another form than it was sent in. Or two numbers announce the same message, as two originators \
-            may, and it is stored only once: the first number has it. If every number is lost, suspect the storing \
-            before an intruder: an LF or a byte order mark was dropped from each message, or control characters were \
-            escaped.",
+        text: "This message is missing: no stored message is left that has the hash of this number. The message was \
+            taken out or changed, or stored in another form than it was sent in. Or two numbers announce the same \
+            message, as two originators may, and it is stored only once: the first number has it. If every number is \
+            lost, suspect the storing before an intruder: an LF or a byte order mark was dropped from each message, or \
+            control characters were escaped.",
     },
     Explanation {
         code: "hole",
-        text: "The line ends with the first and the last of some numbers. No signature block that counts announces \
-            these numbers, but one announces a later number. The block for them was lost, or doesn't count. Look for \
-            refused lines, and for the block in the logs before and after this one. The messages of these numbers, if \
-            stored, are unlisted.",
+        text: "The line ends with the first and the last of some numbers. These numbers are unannounced: no verified \
+            signature block announces them, but one announces a later number. The block for them is missing or \
+            unverified. Look for refused lines, and for the block in the logs before and after this one. The messages \
+            of these numbers, if stored, are unlisted.",
     },
     Explanation {
         code: "blocks",
         text: "Only ssign review --whole writes this line, and --counters. It ends with the first and the last of some \
-            values of GBC, which counts the signature blocks of a session from 0. No signature block that counts has \
-            one of these values, but one has a greater value, or the counters file says that more were sent. So \
-            blocks were lost, or don't count, and their messages may be lost with them. Look for refused and spoilt \
+            values of GBC, which counts the signature blocks of a session from 0. No verified signature block has one \
+            of these values, but one has a greater value, or the counters file says that more were sent. So these \
+            blocks are missing or unverified, and their messages may be missing with them. Look for refused and spoilt \
             lines, and for the blocks in the logs before and after this one, or in those of other collectors.",
     },
     Explanation {
         code: "tail",
         text: "Only ssign review --counters writes this line. It ends with the first and the last of some numbers. The \
-            counters file says that messages with these numbers were signed. No signature block that counts \
-            announces one of them, or a later one. So the end of the group was cut off, its blocks were lost, or they \
-            don't count. Look for refused lines, for the state of the session, and for the blocks in the logs after \
+            counters file says that messages with these numbers were signed. No verified signature block announces one \
+            of them, or a later one. So the end of the group was cut off, its blocks are missing, or they are \
+            unverified. Look for refused lines, for the state of the session, and for the blocks in the logs after \
             this one. The messages of these numbers, if stored, are unlisted.",
     },
     Explanation {
@@ -63,15 +87,14 @@ pub static WORDS: [Explanation; 32] = [
     Explanation {
         code: "unlisted",
         text: "No number lists this stored message. There are four cases. It was never signed, or its block comes only \
-            after the end of this log: no other line shows this. Its block was lost, or doesn't count: a hole, a \
-            refused line or a session that isn't joined may show this. Only a blocks line, of --whole, may show that \
-            the last block of a group was lost. Somebody changed it or put it in: a gap and this line together usually \
-            mean that a message was changed. It is a copy too many: an ok line lists an equal message at an earlier \
-            place.",
+            after the end of this log: no other line shows this. Its block is missing or unverified: a hole, a refused \
+            line or a session that isn't joined may show this. Only a blocks line, of --whole, may show that the last \
+            block of a group is missing. Somebody changed it or put it in: a gap and this line together usually mean \
+            that a message was changed. It is a copy too many: an ok line lists an equal message at an earlier place.",
     },
     Explanation {
         code: "refused",
-        text: "This block doesn't count: its session isn't joined, or its own signature isn't valid under the \
+        text: "This block is unverified: its session isn't joined, or its own signature isn't valid under the \
             session's payload. Look at the state of the session first. If that is joined, the block was changed, or \
             the answers file lacks its yes line.",
     },
@@ -88,7 +111,7 @@ pub static WORDS: [Explanation; 32] = [
     },
     Explanation {
         code: "refused-count",
-        text: "Only ssign review --tally writes this line: how many blocks don't count. If it isn't 0, run ssign \
+        text: "Only ssign review --tally writes this line: how many blocks are unverified. If it isn't 0, run ssign \
             review --findings. It has a refused line for each of them.",
     },
     Explanation {
@@ -109,31 +132,31 @@ pub static WORDS: [Explanation; 32] = [
     Explanation {
         code: "joined",
         text: "The payload of the session, which states its key, is whole and trusted, and certificate blocks with \
-            valid signatures cover all of it. So each of its blocks counts if its own signature is valid. There is \
-            nothing to do.",
+            valid signatures cover all of it. So each of its blocks is verified if its own signature is valid. There \
+            is nothing to do.",
     },
     Explanation {
         code: "disputed",
         text: "Of a session: its certificate blocks state two lengths of the payload, or two different octets at one \
-            place of it. So its key isn't known, and nothing of it counts. Of a gap: signature blocks that count have \
-            two different hashes for the number. Either blocks of somebody else stand in the log, or the originator \
-            used the session, or the number, twice. Look at the blocks with ssign inspect.",
+            place of it. So its key isn't known, and its blocks are unverified. Of a gap: verified signature blocks \
+            have two different hashes for the number. Either blocks of somebody else stand in the log, or the \
+            originator used the session, or the number, twice. Look at the blocks with ssign inspect.",
     },
     Explanation {
         code: "incomplete",
         text: "The session has no certificate block, or a part of its payload stands in none of them. So its key isn't \
-            known, and nothing of it counts. Certificate blocks were lost, or stand in an earlier log: put them in \
-            front of this one.",
+            known, and its blocks are unverified. Certificate blocks were lost, or stand in an earlier log: put them \
+            in front of this one.",
     },
     Explanation {
         code: "malformed",
         text: "The fragments of the session's payload were put together, and the result isn't a payload. A payload is \
-            a time stamp, a letter for the type of key, and the key in base64 (RFC 5848, section 5.2.1). Nothing of \
-            the session counts. See what its originator is set up to send.",
+            a time stamp, a letter for the type of key, and the key in base64 (RFC 5848, section 5.2.1). The session's \
+            blocks are unverified. See what its originator is set up to send.",
     },
     Explanation {
         code: "untrusted",
-        text: "The answers file has no trust line for this session's key, so nothing of the session counts. Without \
+        text: "The answers file has no trust line for this session's key, so its blocks are unverified. Without \
             --answers no key is trusted. If you know by another way that this is the originator's key, put its trust \
             line into the answers file. ssign questions prints that line. With ssign-keys verify, give the key with \
             --key.",
@@ -141,13 +164,13 @@ pub static WORDS: [Explanation; 32] = [
     Explanation {
         code: "unaccepted",
         text: "The certificate blocks with valid signatures don't cover the whole payload, so the key isn't confirmed, \
-            and nothing of the session counts. The payload itself is trusted. Certificate blocks were changed, or the \
-            answers file lacks their yes lines.",
+            and the session's blocks are unverified. The payload itself is trusted. Certificate blocks were changed, \
+            or the answers file lacks their yes lines.",
     },
     Explanation {
         code: "absent",
-        text: "Only ssign review --counters writes this state. The counters file names the session, but no block of \
-            it is in the log. Its messages, if stored, are unlisted. Look for the session in the logs before and after \
+        text: "Only ssign review --counters writes this state. The counters file names the session, but no block of it \
+            is in the log. Its messages, if stored, are unlisted. Look for the session in the logs before and after \
             this one. If its log was reviewed by itself, leave its lines out of the counters for this one.",
     },
     Explanation {
@@ -166,13 +189,13 @@ pub static WORDS: [Explanation; 32] = [
         code: "signature",
         text: "A signature block: first its session, then its group (SG and SPRI). GBC is how many signature blocks \
             were sent before it. FMN is the number of the first message that it announces, and CNT how many it \
-            announces. Run ssign review to see whether it counts.",
+            announces. Run ssign review to see whether it is verified.",
     },
     Explanation {
         code: "certificate",
         text: "A certificate block: first its session, then its group (SG and SPRI). TPBL is the length of the \
             session's payload. INDEX is where the block's fragment begins in the payload, from 1, and FLEN is how long \
-            the fragment is. Run ssign review to see whether it counts.",
+            the fragment is. Run ssign review to see whether it is verified.",
     },
     Explanation {
         code: "count",
