@@ -1,6 +1,7 @@
 """DSA keys and their signatures, all of whose numbers `cryptography` handles (RFC 5848, section 4.2.8)."""
 from __future__ import annotations
 
+import hashlib
 from typing import Any, List, NamedTuple, Optional, Tuple
 
 from .encoding import read_numbers, spell_numbers
@@ -15,6 +16,7 @@ try:
 except ImportError as missing:
     raise Fault("the Python module cryptography is missing; on Debian and Ubuntu "
                 "`apt-get install python3-cryptography` installs it") from missing
+from .domain import key_fault
 
 # Which hash VER names, and how many bits it has.
 HASHES = {b"0111": (hashes.SHA1, 160), b"0121": (hashes.SHA256, 256)}
@@ -37,14 +39,19 @@ class PublicKey:
     def __init__(self, numbers: Numbers) -> None:
         """Raises ValueError where a key of DSA can't have these numbers."""
         self.numbers = numbers
-        p, q, g, y = numbers
-        if not 160 <= q.bit_length() <= 256:
-            raise ValueError(f"its number q has {q.bit_length()} bits, and not 160 to 256")
-        self._key = dsa.DSAPublicNumbers(y, dsa.DSAParameterNumbers(p, q, g)).public_key()
+        fault = key_fault(*numbers)
+        if fault:
+            raise ValueError(fault)
+        self._key = library_key(numbers)
 
     def __reduce__(self) -> Tuple[Any, ...]:
-        """The numbers stand for the key, since that of `cryptography` doesn't go from process to process."""
-        return PublicKey, (self.numbers,)
+        """The numbers stand for the key, because that of `cryptography` doesn't go from process to process."""
+        return checked_key, (self.numbers,)
+
+    @property
+    def fingerprint(self) -> str:
+        """The SHA-256 of the key's SubjectPublicKeyInfo in DER (RFC 5280, section 4.1), in hexadecimal digits."""
+        return fingerprint_of(self._key)
 
     def is_signature(self, octets: bytes, version: bytes, signature: bytes) -> bool:
         """Whether the value of SIGN is this key's signature of the octets, by the hash that VER names."""
@@ -62,6 +69,26 @@ class PublicKey:
         except UnsupportedAlgorithm as fault:
             raise Fault(f"cryptography checks no signature with {hashed.name} here: {fault}") from fault
         return True
+
+
+def library_key(numbers: Numbers) -> dsa.DSAPublicKey:
+    """A key of `cryptography`, which looks at the sizes of the numbers. Raises ValueError where they are others."""
+    p, q, g, y = numbers
+    return dsa.DSAPublicNumbers(y, dsa.DSAParameterNumbers(p, q, g)).public_key()
+
+
+def checked_key(numbers: Numbers) -> PublicKey:
+    """A key whose numbers another process has checked."""
+    key = PublicKey.__new__(PublicKey)
+    key.numbers = numbers
+    key._key = library_key(numbers)
+    return key
+
+
+def fingerprint_of(key: dsa.DSAPublicKey) -> str:
+    """The SHA-256 of a key's SubjectPublicKeyInfo in DER."""
+    spelled = key.public_bytes(serialization.Encoding.DER, serialization.PublicFormat.SubjectPublicKeyInfo)
+    return hashlib.sha256(spelled).hexdigest()
 
 
 class PrivateKey:
