@@ -182,8 +182,8 @@ if [[ $has_cryptography ]]; then
     "$bin/ssign" questions <log | "$bin/ssign-keys" answer keys/public-key.pem >answers
     run review --answers answers <log
     expect 'ssign-keys answer' 0 'SOME TEXT' ''
-    "$bin/ssign" plan --payload "$(<keys/payload)" --rsid 8 --lines <"$signed/ten-messages.log" | "$bin/ssign-keys" seal keys/private-key.pem >seals
-    run sign --payload "$(<keys/payload)" --rsid 8 --lines --answers seals <"$signed/ten-messages.log"
+    "$bin/ssign" plan --payload "$(<keys/payload)" --rsid 8 --ver 0121 --lines <"$signed/ten-messages.log" | "$bin/ssign-keys" seal keys/private-key.pem >seals
+    run sign --payload "$(<keys/payload)" --rsid 8 --ver 0121 --lines --answers seals <"$signed/ten-messages.log"
     expect 'ssign-keys seal' 0 'SOME TEXT' ''
     holds 'the ssign in PATH was left alone' test ! -e other-ran
     ln -s "$bin/ssign-keys" linked

@@ -46,20 +46,24 @@ fi
 
 # Keys
 mkdir one long other
-keys make one
-expect 'a key pair' 0 '' ''
+keys make one --ver 0111
+expect 'a key pair for 0111' 0 '' ''
 holds 'its files' cmp <(cd one && ls) <(printf '%s\n' payload private-key.pem public-key.pem)
 holds 'the private key is for its owner alone' test "$(stat -c %a one/private-key.pem)" = 600
 holds 'the payload' grep -Eqx '[0-9]{4}-[0-9]{2}-[0-9]{2}T[0-9]{2}:[0-9]{2}:[0-9]{2}Z K [A-Za-z0-9+/]+={0,2}' one/payload
 holds 'it states the key' cases payload one/payload one/public-key.pem
 holds 'the pair is one' cmp one/public-key.pem <(cases public one/private-key.pem)
 holds 'its sizes' test "$(cases sizes one/public-key.pem)" = '1024 160'
-keys make --ver 0121 long
-expect 'a key pair for 0121 alone' 0 '' ''
+keys make long
+expect 'a key pair' 0 '' ''
 holds 'its payload states the key' cases payload long/payload long/public-key.pem
 holds 'the sizes of that' test "$(cases sizes long/public-key.pem)" = '2048 256'
+mkdir said
+keys make said --ver 0121
+expect 'a key pair for 0121' 0 '' ''
+holds 'that is the one without --ver' test "$(cases sizes said/public-key.pem)" = '2048 256'
 keys make other --ver 0111
-expect 'a key pair for 0111' 0 '' ''
+expect 'another key pair for 0111' 0 '' ''
 holds 'the sizes of a key for 0111' test "$(cases sizes other/public-key.pem)" = '1024 160'
 refuses 'no folder' "the following arguments are required: DIR (see \`ssign-keys make --help\`)" make
 refuses 'another version' \

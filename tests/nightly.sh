@@ -19,7 +19,7 @@ printf '#!/bin/sh\nprintf "journal %%s\\n" "$*"\n' >bin/journalctl
 printf '#!/bin/sh\nprintf "%%s\\n" "$*" >"%s/mail"\ncat >>"%s/mail"\n' "$scratch" "$scratch" >bin/sendmail
 chmod 755 bin/pkill bin/journalctl bin/sendmail
 export SSIGN=$program PATH=$scratch/bin:$PATH
-"$root/tools/ssign-keys" make keys --ver 0121
+"$root/tools/ssign-keys" make keys
 yesterday=$(date -d 'yesterday 12:00' +%Y-%m-%d)
 log=$scratch/logs/messages.log
 signed=$log-$yesterday.frames

@@ -60,11 +60,11 @@ is_gone() {
 
 # ---- real keys
 mkdir keys others
-keys make keys
+keys make keys --ver 0111
 expect 'a key' 0 '' ''
-keys make others
+keys make others --ver 0111
 ten=$root/examples/signed/ten-messages.log
-words=(--key keys/private-key.pem --host gate --app signer)
+words=(--key keys/private-key.pem --ver 0121 --host gate --app signer)
 keys sign "${words[@]}" --rsid 1 --count 4 --lines "$ten"
 cp out signed
 expect 'a log is signed' 0 'SOME TEXT' ''
@@ -206,7 +206,7 @@ says 'a torn end' 1 'Verdict: FINDINGS: of 8 announced messages 8 are there, unc
 nothing='Verdict: NOTHING IS SHOWN: no session here has a key that you trust and certificate blocks that hold, so no signature counts, and nobody can say of the 15 stored messages what was sent.'
 keys verify --key others/public-key.pem signed
 says 'another key' 1 '  state: untrusted; its key is none that you trust, so nothing of it counts' "$nothing"
-keys sign --key others/private-key.pem --host gate --app signer --rsid 2 --lines "$ten"
+keys sign --key others/private-key.pem --ver 0121 --host gate --app signer --rsid 2 --lines "$ten"
 cat signed out >both
 keys verify --key keys/public-key.pem both
 says 'a session of another key behind' 1 'Session: HOSTNAME gate, APP-NAME signer, PROCID -, RSID 2' "$joined" \
@@ -546,7 +546,7 @@ says 'another key, up to counters' 1 '  state: untrusted; its key is none that y
     '  missing or unlisted, by the counters: SG 0, SPRI 0 (all messages), numbers 1 to 10 (10 messages); no block that is believed announces a message of this group' \
     "${nothing%.}; 10 messages up to the counters are missing or unlisted; 3 signature blocks are missing or aren't believed." \
     "  session gate signer - 1, SG 0, SPRI 0: $nothing_of_it; the counters go on to number 10, and to GBC 2"
-keys sign --key others/private-key.pem --host gate --app signer --rsid 2 --lines "$ten"
+keys sign --key others/private-key.pem --ver 0121 --host gate --app signer --rsid 2 --lines "$ten"
 cat signed out >both
 keys verify --key keys/public-key.pem --counters counters both
 says 'a session of another key, which the counters do not name' 1 \

@@ -23,15 +23,17 @@ class Sizes(NamedTuple):
 
 
 SIZES = {"0111": Sizes(1024, 160), "0121": Sizes(2048, 256)}
+USUAL = "0121"
 PRIVATE, PUBLIC, PAYLOAD = "private-key.pem", "public-key.pem", "payload"
 
 
 def add_arguments(parser: argparse.ArgumentParser) -> None:
     """Says which words the command takes."""
     parser.add_argument("folder", metavar="DIR", help=f"the folder that gets {PRIVATE}, {PUBLIC} and {PAYLOAD}")
-    parser.add_argument("--ver", choices=sorted(SIZES), default="0111",
-                        help="0111: a key for SHA-1, which SHA-256 can be used with too, of 1024 bits; "
-                             "0121: a key for SHA-256 alone, of 2048 bits. Without it 0111")
+    parser.add_argument("--ver", choices=sorted(SIZES), default=USUAL,
+                        help="0121: a key of 2048 bits, whose number q has 256, for SHA-256; 0111: a weak key of 1024 "
+                             "bits, whose q has 160, for SHA-1, which SHA-256 can be used with too "
+                             f"(default: {USUAL})")
 
 
 def run(arguments: argparse.Namespace) -> int:

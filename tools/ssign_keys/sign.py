@@ -5,9 +5,9 @@ import argparse
 import subprocess
 from typing import Iterator, List
 
+from .defaults import fill
 from .keys import PrivateKey, read_private_key
 from .logs import Log, open_log
-from .payloads import present_stamp, state_key
 from .programs import Refused, Run, add_log_arguments, add_program_argument, explain, find_program, handed_on, log_words
 from .progress import Progress
 from .seal import seals
@@ -23,9 +23,9 @@ OPTIONS = {
     "app": ("TEXT", "APP-NAME of all blocks (default: -)"),
     "procid": ("TEXT", "PROCID of all blocks (default: -)"),
     "msgid": ("TEXT", "MSGID of all blocks (default: -)"),
-    "ver": ("VER", "0111 (SHA-1) or 0121 (SHA-256) (default: 0111)"),
+    "ver": ("VER", "0111 (SHA-1) or 0121 (SHA-256) (default: 0111 where the number q of the key has 160 bits, else 0121)"),
     "groups": ("TEXT", "the groups: one, pri, or the highest PRI of each range (default: one)"),
-    "count": ("N", "the most hashes in a signature block: 1 to 99 (default: 10)"),
+    "count": ("N", "the most hashes in a signature block: 1 to 99 (default: 99, or as many as --max-len has room for)"),
     "frag": ("N", "the most octets of the payload in a certificate block: 1 to 9999 (default: 500)"),
     "copies": ("N", "how often each block is written: 1 to 9 (default: 1)"),
 }
@@ -48,8 +48,7 @@ def run(arguments: argparse.Namespace) -> int:
     try:
         with Workplace() as workplace:
             key = read_private_key(arguments.key)
-            if not arguments.payload:
-                arguments.payload = [state_key(key.public, present_stamp()).decode("ascii")]
+            fill(arguments, key.public)
             words = log_words(arguments) + handed_on(arguments, list(OPTIONS))
             log = open_log([arguments.log], arguments.lines, workplace, progress)
             answers = seal(program, words, key, log, workplace, progress)
