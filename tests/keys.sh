@@ -307,16 +307,16 @@ expect 'several keys in a file' 0 "$(<questions)" ''
 # ---- Keys that can't be used
 missing() {
     refuses "$1: a key that is not there" "nowhere can't be read: No such file or directory" "$1" nowhere
-    refuses "$1: a folder for a key" "one can't be read: Is a directory" "$1" one
+    refuses "$1: a folder for a key" "one is a folder: a file with $2 is wanted" "$1" one
 }
-missing seal
-missing answer
-refuses 'no key in the file' 'wants holds no private key in PEM' seal wants
-refuses 'no key in the file to check with' 'wants holds no public key' answer wants
+missing seal 'a DSA private key in PEM'
+missing answer 'a DSA public key in PEM'
+refuses 'no key in the file' 'wants holds no PEM: a DSA private key in PEM is wanted' seal wants
+refuses 'no key in the file to check with' 'wants holds no PEM: a DSA public key in PEM is wanted' answer wants
 refuses 'no key' "the following arguments are required: PRIVATE.pem (see \`ssign-keys seal --help\`)" seal
 refuses 'no key to check with' \
     'nothing says which key is to be trusted: give a public key, --session-key, --ca or --cert' answer
-refuses 'the public key to sign with' 'one/public-key.pem holds no private key in PEM' seal one/public-key.pem
+refuses 'the public key to sign with' 'one/public-key.pem holds a public key: a DSA private key in PEM is wanted' seal one/public-key.pem
 refuses 'the private key to check with' \
     'one/private-key.pem holds a private key: signatures are checked with the public key alone' answer one/private-key.pem
 refuses 'the private key of a session' \
@@ -361,7 +361,7 @@ from ssign_keys import answer, seal
 from ssign_keys.faults import Fault
 from ssign_keys.keys import read_private_key
 from ssign_keys.trust import Trust
-trust = Trust.from_arguments(argparse.Namespace(keys=["one/public-key.pem"], session_key=[], ca=[], cert=[]))
+trust = Trust.from_arguments(argparse.Namespace(keys=["one/public-key.pem"], session_key=[], ca=[], cert=[], at_signing_time=False))
 key = read_private_key("one/private-key.pem")
 for line in sys.argv[3:]:
     octets = line.encode() + b"\n"
@@ -452,6 +452,7 @@ commonName = supplied
 basicConstraints = critical, CA:TRUE
 [leaf]
 basicConstraints = critical, CA:FALSE
+subjectAltName = DNS:h
 [req]
 distinguished_name = name
 [name]
@@ -485,7 +486,7 @@ END
         row trust 'a signature by another key' "$(certificate leaf 2026-01-15T09:16:31Z)" stray.pem 0111 'h s - 1'
         row both 'a certificate over a q of 256 bits' "$(certificate leaf.long)" long/private-key.pem 0121 'h s - 1'
         row trust 'a q of 256 bits with SHA-1' "$(certificate leaf.long $at)" long/private-key.pem 0111 'h s - 1'
-        row both 'the certificate of the authority' "$(certificate ca)" ca.pem 0111 'h s - 1'
+        row both 'the certificate of the authority' "$(certificate ca)" ca.pem 0111 'ca s - 1'
         row none 'a certificate of another authority' "$(certificate leaf.other)" leaf.pem 0111 'h s - 1'
         row none 'another authority itself' "$(certificate ca-other)" ca-other.pem 0111 'h s - 1'
         row none 'another authority of that name' "$(certificate ca.impostor)" ca-other.pem 0111 'h s - 1'
@@ -493,10 +494,10 @@ END
         row none 'an authority between that is not given' "$(certificate leaf.middle)" leaf.pem 0111 'h s - 1'
         row none 'a certificate that has expired' "$(certificate leaf.expired)" leaf.pem 0111 'h s - 1'
         row none 'a certificate that had expired at the time' "$(certificate leaf.expired $at)" leaf.pem 0111 'h s - 1'
-        row both 'one that had not expired at the time' "$(certificate leaf.expired 2020-12-31T23:59:59Z)" leaf.pem 0111 'h s - 1'
+        row none 'one that had not expired at the time' "$(certificate leaf.expired 2020-12-31T23:59:59Z)" leaf.pem 0111 'h s - 1'
         row none 'one that had, by its offset' "$(certificate leaf.expired 2020-12-31T23:59:59-00:01)" leaf.pem 0111 'h s - 1'
         row none 'a certificate that is not valid yet' "$(certificate leaf.future)" leaf.pem 0111 'h s - 1'
-        row both 'one that is valid at the time' "$(certificate leaf.future 2089-07-01T00:00:00.5Z)" leaf.pem 0111 'h s - 1'
+        row none 'one that is valid at the time' "$(certificate leaf.future 2089-07-01T00:00:00.5Z)" leaf.pem 0111 'h s - 1'
         row none 'before the certificate was valid' "$(certificate leaf 2019-12-31T23:59:59Z)" leaf.pem 0111 'h s - 1'
         row none 'a day that there is not' "$(certificate leaf 2026-02-30T00:00:00Z)" leaf.pem 0111 'h s - 1'
         row none 'a certificate for RSA' "$(certificate leaf.rsa)" leaf.pem 0111 'h s - 1'
@@ -510,6 +511,19 @@ END
         row none 'a certificate in K' "$(certificate leaf | sed 's/ C / K /')" leaf.pem 0111 'h s - 1'
     } | cases payloads >rows
     judge 'certificates' --ca ca.crt
+    {
+        row none 'a certificate that has expired' "$(certificate leaf.expired)" leaf.pem 0111 'h s - 1'
+        row none 'a certificate that had expired at the time' "$(certificate leaf.expired $at)" leaf.pem 0111 'h s - 1'
+        row both 'one that had not expired at the time' "$(certificate leaf.expired 2020-12-31T23:59:59Z)" leaf.pem 0111 'h s - 1'
+        row none 'one that had, by its offset' "$(certificate leaf.expired 2020-12-31T23:59:59-00:01)" leaf.pem 0111 'h s - 1'
+        row none 'a certificate that is not valid yet' "$(certificate leaf.future)" leaf.pem 0111 'h s - 1'
+        row both 'one that is valid at the time' "$(certificate leaf.future 2089-07-01T00:00:00.5Z)" leaf.pem 0111 'h s - 1'
+        row none 'before the certificate was valid' "$(certificate leaf 2019-12-31T23:59:59Z)" leaf.pem 0111 'h s - 1'
+        row none 'a day that there is not' "$(certificate leaf 2026-02-30T00:00:00Z)" leaf.pem 0111 'h s - 1'
+        row both 'a certificate at a time' "$(certificate leaf $at)" leaf.pem 0121 'h s - 1'
+        row both 'a certificate without a time' "$(certificate leaf)" leaf.pem 0121 'h s - 1'
+    } | cases payloads >rows
+    judge 'certificates at the time of the payload' --ca ca.crt --at-signing-time
     {
         row both 'a certificate' "$(certificate leaf)" leaf.pem 0111 'h s - 1'
         row both 'a certificate by an authority between' "$(certificate leaf.middle)" leaf.pem 0111 'h s - 1'
@@ -529,7 +543,7 @@ END
     judge 'a key, but no authority' one/public-key.pem
     {
         row both 'this certificate' "$(certificate leaf.other)" leaf.pem 0111 'h s - 1'
-        row both 'this certificate at any time' "$(certificate leaf.other 1999-01-15T09:16:30Z)" leaf.pem 0111 'h s - 1'
+        row none 'this certificate before it was valid' "$(certificate leaf.other 1999-01-15T09:16:30Z)" leaf.pem 0111 'h s - 1'
         row none 'another certificate of that key' "$(certificate leaf)" leaf.pem 0111 'h s - 1'
         row none 'another certificate' "$(certificate leaf.stray)" stray.pem 0111 'h s - 1'
     } | cases payloads >rows
@@ -542,17 +556,21 @@ END
     } | cases payloads >rows
     judge 'a session with a certificate' --ca ca.crt --session-key 'h s - 1' leaf-public.pem
 
-    refuses 'a key of RSA' 'the key in rsa.pem is no DSA key' seal rsa.pem
-    refuses 'a key of RSA to check with' 'the key in rsa-public.pem is no DSA key' answer rsa-public.pem
+    refuses 'a key of RSA' 'rsa.pem holds a key of RSA: signed syslog has DSA keys alone (RFC 5848, section 4.2.8)' seal rsa.pem
+    refuses 'a key of RSA to check with' 'rsa-public.pem holds a key of RSA: signed syslog has DSA keys alone (RFC 5848, section 4.2.8)' \
+        answer rsa-public.pem
     openssl pkey -in one/private-key.pem -aes128 -passout pass:secret -out locked.pem
     openssl dsa -in one/private-key.pem -aes128 -passout pass:secret -out locked-dsa.pem 2>/dev/null
     for it in locked.pem locked-dsa.pem; do
-        refuses "a key with a passphrase, $it" "the private key in $it has a passphrase, and has to be one without" seal $it
+        refuses "a key with a passphrase, $it" \
+            "$it holds an encrypted private key: a DSA private key in PEM without a passphrase is wanted" seal $it
     done
-    refuses 'a certificate for a key' 'leaf.crt holds no public key, but a certificate: it goes with --cert or --ca' answer leaf.crt
-    refuses 'no authority' 'one/public-key.pem holds no certificate in PEM' answer --ca one/public-key.pem
+    refuses 'a certificate for a key' \
+        'leaf.crt holds a certificate: a DSA public key in PEM is wanted, or give it with --cert or --ca' answer leaf.crt
+    refuses 'no authority' 'one/public-key.pem holds a public key: a certificate in PEM is wanted' answer --ca one/public-key.pem
     refuses 'no certificate' "nowhere can't be read: No such file or directory" answer --cert nowhere
-    refuses 'a certificate for RSA' 'no certificate in leaf.rsa.crt has a DSA key that can be checked with' answer --cert leaf.rsa.crt
+    refuses 'a certificate for RSA' \
+        'no certificate in leaf.rsa.crt has a DSA key, as signed syslog wants it (RFC 5848, section 4.2.8)' answer --cert leaf.rsa.crt
     openssl genpkey -genparam -algorithm DSA -pkeyopt dsa_paramgen_bits:1024 -pkeyopt dsa_paramgen_q_bits:224 -out odd.parameters 2>/dev/null &&
         openssl genpkey -paramfile odd.parameters -out odd.pem 2>/dev/null && openssl pkey -in odd.pem -pubout -out odd-public.pem
     refuses 'a hash that is shorter than a q of 224 bits' \
@@ -583,7 +601,7 @@ openpgp() {
 }
 
 check_openpgp() {
-    local it file
+    local it file asked
     export GNUPGHOME=$scratch/gnupg
     mkdir -m 700 gnupg
     for it in dsa:dsa2048 stranger:dsa2048 rsa:rsa2048; do
@@ -634,16 +652,16 @@ open("key-and-packed.gpg", "wb").write(octets + open("packed.gpg", "rb").read())
         answer dsa-secret.gpg
     refuses 'a private key of OpenPGP in armor' \
         'dsa-secret.asc holds a private key: signatures are checked with the public key alone' answer dsa-secret.asc
-    refuses 'an OpenPGP key of RSA' 'no primary key in rsa-with-dsa.gpg is a DSA key' answer rsa-with-dsa.gpg
+    refuses 'an OpenPGP key of RSA' \
+        'no primary key in rsa-with-dsa.gpg is a DSA key: a DSA public key in PEM, or an OpenPGP key of DSA is wanted' answer rsa-with-dsa.gpg
     head -c 300 dsa.gpg >torn.gpg
     refuses 'an OpenPGP key that breaks off' 'gpg finds no OpenPGP key in torn.gpg' answer torn.gpg
     mkdir -p empty
     PATH=$scratch/empty keys answer dsa.gpg
     expect 'no gpg' 2 '' "ssign-keys: the command gpg is missing; on Debian and Ubuntu \`apt-get install gpg\` installs it"
-    PATH=$scratch/empty keys answer dsa-public.pem <<<"trust $(openpgp dsa.gpg | base64 -w 0)"
-    expect 'no gpg for a payload' 1 '' "ssign-keys: a payload of the type P isn't trusted: the command gpg is missing; on Debian \
-and Ubuntu \`apt-get install gpg\` installs it
-ssign-keys: 0 of 1 payloads state this key"
+    asked="trust $(openpgp dsa.gpg | base64 -w 0)"
+    PATH=$scratch/empty keys answer dsa-public.pem <<<"$asked"
+    expect 'a payload is read without gpg' 0 "$asked" ''
     holds 'nothing is left in the folder of temporary files' test -z "$(ls temporary)"
 }
 

@@ -16,6 +16,8 @@
 """
 from __future__ import annotations
 
+import base64
+import hashlib
 import json
 import os
 import pty
@@ -80,7 +82,7 @@ def check_json(report: str, path: str, log: str, status: str, *options: str) -> 
     assert len(objects) == len(lines) + 1, (len(objects), len(lines))
     for line, it in zip(lines, objects):
         if it["line"] == "session":
-            assert it.pop("key") == ("keys/public-key.pem" if line.endswith(" joined") else None), it
+            check_key(it, line.endswith(" joined"))
         assert list(it.items()) == list(wanted(line, stored, log).items()), (line, it)
     verdict = objects[-1]
     assert verdict["line"] == "verdict" and verdict["status"] == int(status)
@@ -101,6 +103,20 @@ def check_json(report: str, path: str, log: str, status: str, *options: str) -> 
     keys = ["host", "app", "procid", "rsid", "sg", "spri", "last", "gbc", *(["next", "next_gbc"] if counters else []),
             "fallen", "first_fallen"]
     assert all(list(it) == keys for it in verdict["groups"]), verdict["groups"]
+
+
+def check_key(session: Dict[str, object], is_known: bool) -> None:
+    """Takes out of a session what it says of its key, which is that of the test where it is known."""
+    with open("keys/public-key.pem", "rb") as file:
+        der = base64.b64decode(b"".join(file.read().split(b"\n")[1:-2]))
+    key, fingerprint, certificate, payload_time, why = (
+        session.pop(it) for it in ("key", "fingerprint", "certificate", "payload_time", "why"))
+    assert certificate is None, certificate
+    if is_known:
+        assert (key, fingerprint, why) == ("keys/public-key.pem", hashlib.sha256(der).hexdigest(), None), session
+        assert re.fullmatch(r"[0-9]{4}-[0-9]{2}-[0-9]{2}T[0-9:]{8}Z|-", str(payload_time)), payload_time
+    else:
+        assert (key, fingerprint, payload_time) == (None, None, None), session
 
 
 def in_runs(lines: List[str], word: str) -> int:

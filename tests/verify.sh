@@ -64,6 +64,12 @@ keys make keys --ver 0111
 expect 'a key' 0 '' ''
 keys make others --ver 0111
 ten=$root/examples/signed/ten-messages.log
+# key_line FILE: the line of a session whose key stands in this file, with the SHA-256 of its DER.
+key_line() {
+    printf '  key: %s, SHA-256 %s' "$1" "$(sed '/^-----/d' "$1" | base64 -d | sha256sum | cut -d ' ' -f 1)"
+}
+my_key=$(key_line keys/public-key.pem)
+other_key=$(key_line others/public-key.pem)
 words=(--key keys/private-key.pem --ver 0121 --host gate --app signer)
 keys sign "${words[@]}" --rsid 1 --count 4 --lines "$ten"
 cp out signed
@@ -74,11 +80,11 @@ joined='  state: joined; its key is trusted, and its certificate blocks are vali
 rising='    order: the places of the listed messages rise with their numbers'
 all_there='Verdict: All 10 announced messages are there, unchanged, and nothing else is.'
 keys verify --key keys/public-key.pem signed
-says 'a clean log' 0 "$session" "$joined" '  key: keys/public-key.pem' '  group: SG 0, SPRI 0 (all messages)' \
+says 'a clean log' 0 "$session" "$joined" "$my_key" '  group: SG 0, SPRI 0 (all messages)' \
     '    numbers 1 to 10: 10 listed' "$rising" 'Stored messages: 15; 10 are listed, 5 are valid blocks' "$all_there" \
     '  session gate signer - 1, SG 0, SPRI 0: known up to the message with number 10, and to the signature block that GBC counts as 2'
 keys verify --key others/public-key.pem --key keys/public-key.pem --jobs 2 signed
-says 'two keys, two processes' 0 '  key: keys/public-key.pem' "$all_there"
+says 'two keys, two processes' 0 "$my_key" "$all_there"
 as_reviewed 'a clean log' signed
 python3 -B "$root/tests/verdicts.py" lines signed >signed.lines
 keys verify --key keys/public-key.pem --lines signed.lines
@@ -213,10 +219,10 @@ says 'a session of another key behind' 1 'Session: HOSTNAME gate, APP-NAME signe
     '  state: untrusted; its key is none that you trust, so nothing of it counts'
 holds 'its blocks and copies' grep -q '^Verdict: FINDINGS: of 10 announced messages 10 are there, unchanged; 10 stored messages are unlisted; . blocks aren.t believed; 1 session isn.t believed\.$' out
 keys verify --key keys/public-key.pem --key others/public-key.pem both
-says 'both keys' 0 '  key: keys/public-key.pem' '  key: others/public-key.pem' 'Verdict: All 20 announced messages are there, unchanged, and nothing else is.'
+says 'both keys' 0 "$my_key" "$other_key" 'Verdict: All 20 announced messages are there, unchanged, and nothing else is.'
 as_reviewed 'a session of another key' both
 keys verify --key others/public-key.pem both
-says 'the key of the session behind alone' 1 '  key: others/public-key.pem'
+says 'the key of the session behind alone' 1 "$other_key"
 holds 'the session in front has no key' test "$(sed -n '/RSID 1$/,/RSID 2$/p' out | grep -c '  key: ')" = 0
 
 # ---- missing signature blocks: ten messages in groups by PRI, of which each block has one, so that GBC rises from 0 to 9
@@ -529,7 +535,7 @@ says 'a session that is not here' 1 'Session: HOSTNAME gate, APP-NAME signer, PR
 as_reviewed 'a session that is not here' signed --counters counters
 keys verify --key keys/public-key.pem --json --counters counters signed
 holds 'a session that is not here: its object' grep -Fqx \
-    '{"line":"session","host":"gate","app":"signer","procid":"-","rsid":2,"state":"absent","key":null}' out
+    '{"line":"session","host":"gate","app":"signer","procid":"-","rsid":2,"state":"absent","key":null,"fingerprint":null,"certificate":null,"payload_time":null,"why":null}' out
 holds 'a session that is not here: how many' grep -Fq '"sessions":{"absent":1,"joined":1},' out
 kept '1 3' '1 0 0 11' '2 0'
 keys verify --key keys/public-key.pem --counters counters signed

@@ -11,6 +11,7 @@ from . import trust as trusts
 from .blocks import Session
 from .checking import Held
 from .faults import Fault
+from .identity import Finding
 from .processes import Workers
 from .questions import Line, Reader
 from .streams import Output, input_lines
@@ -20,14 +21,14 @@ MOST_JOBS = 1024
 
 
 class Answered(NamedTuple):
-    """A line that holds."""
+    """A line that holds, or what is to be said of a `trust` line that doesn't."""
 
     line: bytes
-    """The line `trust PAYLOAD` or `yes PAYLOAD OCTETS SIGNATURE` with its LF."""
+    """The line `trust PAYLOAD` or `yes PAYLOAD OCTETS SIGNATURE` with its LF; empty where it doesn't hold."""
     session: Optional[Session]
-    """The session that it is asked for; None for a `trust` line behind which no block of that payload is asked about."""
-    key: str
-    """The file that the key was given in: whose key it is."""
+    """The session that it is asked for; None for a `trust` line after which no block of that payload is asked about."""
+    finding: Finding
+    """Whose key it is, or why none is trusted."""
 
     @property
     def is_payload(self) -> bool:
@@ -101,11 +102,12 @@ class Answers(Iterator[Answered]):
             workers.close()
 
     def _answer(self, line: Line, held: Optional[Held]) -> Iterator[Answered]:
-        """A line, where it holds."""
-        self.counts.add(line, held is not None)
+        """A line, where it holds or something is to be said of it."""
+        is_so = held is not None and held.is_so
+        self.counts.add(line, is_so)
         if held:
             text = line.text if line.text.endswith(b"\n") else line.text + b"\n"
-            yield Answered(text, held.session, held.key)
+            yield Answered(text if is_so else b"", held.session, held.finding)
 
 
 def answers(lines: Iterable[bytes], trust: Trust, jobs: int = 1) -> Answers:

@@ -1,89 +1,195 @@
-"""Certificates (RFC 5280): those that the reviewer gave, and whether a chain leads to one of them."""
+"""Certificates (RFC 5280): what one says of its key, of whom it names, and of what its key is for."""
 from __future__ import annotations
 
-import time
-from typing import List, NamedTuple, Optional, Tuple
+import hashlib
+from datetime import datetime, timezone
+from ipaddress import IPv4Address, IPv6Address, ip_address
+from typing import List, NamedTuple, Optional, Tuple, Union
 
-from .commands import ask
 from .faults import Fault
 from .files import pem_parts, read_file
-from .keys import NO_KEY, PublicKey, one_line, public_key_of
+from .identity import CertificateFacts, shown_text
+from .kinds import what_is
+from .keys import NO_KEY, Numbers, PublicKey, numbers_of, one_line
 
 from cryptography import x509
+from cryptography.hazmat.primitives.asymmetric import dsa
 from cryptography.hazmat.primitives.serialization import Encoding
+from cryptography.x509.oid import NameOID
+
+Address = Union[IPv4Address, IPv6Address]
+# A key for one of these signs logs: codeSigning and anyExtendedKeyUsage (RFC 5280, section 4.2.1.12), documentSigning
+# (RFC 9336), and the document signing of Microsoft, which is older.
+SIGNING = frozenset(("1.3.6.1.5.5.7.3.3", "2.5.29.37.0", "1.3.6.1.5.5.7.3.36", "1.3.6.1.4.1.311.10.3.12"))
+# How much of its names a sentence holds.
+SHOWN_NAMES = 3
+SHOWN_LETTERS = 200
+
+
+class Names(NamedTuple):
+    """Whom a certificate is for."""
+
+    texts: Tuple[str, ...]
+    """The values of CN, and the dNSNames."""
+    addresses: Tuple[Address, ...]
+
+    def has(self, host: bytes) -> bool:
+        """Whether a HOSTNAME (RFC 5424, section 6.2.4) is one of them: as a text without regard to the case of ASCII
+        letters, or as an address by its value. An asterisk stands for itself alone."""
+        if host == b"-":
+            return False
+        wanted = host.lower()
+        return any(it.encode("utf-8", "surrogatepass").lower() == wanted for it in self.texts) \
+            or address_of(host) in self.addresses
+
+    def __str__(self) -> str:
+        """Some of them, for a sentence."""
+        found = [*self.texts, *map(str, self.addresses)]
+        more = f" and {len(found) - SHOWN_NAMES} more" if len(found) > SHOWN_NAMES else ""
+        text = shown_text(", ".join(found[:SHOWN_NAMES]))
+        return f"{text[:SHOWN_LETTERS]}{' ..' if len(text) > SHOWN_LETTERS else ''}{more}" if found else "nobody"
 
 
 class Certificate(NamedTuple):
-    """A certificate, its key where that is one of DSA, and who is said to have issued it."""
+    """A certificate, as far as it is used."""
 
     der: bytes
-    pem: bytes
-    key: Optional[PublicKey]
+    numbers: Optional[Numbers]
+    """The numbers of its key; None where that is none of DSA."""
     subject: bytes
     issuer: bytes
+    names: Names
+    not_before: datetime
+    not_after: datetime
+    usage_fault: Optional[str]
+    """Why its key is none for signing logs, or None."""
+    facts: CertificateFacts
+
+    def date_fault(self, moment: datetime) -> Optional[str]:
+        """Why it isn't valid at a time, or None."""
+        if moment < self.not_before:
+            return f"the certificate isn't valid before {spelled(self.not_before)}"
+        if moment > self.not_after:
+            return f"the certificate expired at {spelled(self.not_after)}"
+        return None
 
 
-class Authority(NamedTuple):
-    """A file of --ca: where it is, and of whom it has certificates."""
+def address_of(host: bytes) -> Optional[Address]:
+    """The address that a HOSTNAME spells."""
+    try:
+        return ip_address(host.decode("ascii"))
+    except ValueError:
+        return None
 
-    path: str
-    subjects: Tuple[bytes, ...]
+
+def spelled(moment: datetime) -> str:
+    """A time as RFC 5424 spells it."""
+    return moment.isoformat().replace("+00:00", "Z")
+
+
+def loaded(der: bytes) -> x509.Certificate:
+    """The certificate of the library. Raises whatever the library likes."""
+    return x509.load_der_x509_certificate(der)
 
 
 def read_certificate(der: bytes) -> Optional[Certificate]:
-    """The certificate that has these octets in DER, or None where they are none."""
+    """The certificate that has these octets in DER and no other, or None where they are none."""
     try:
-        return certificate(x509.load_der_x509_certificate(der))
+        found = certificate(loaded(der))
     except Exception:
         # the library raises what it likes over octets of a stranger, KeyError too
         return None
+    return found if found.der == der else None
 
 
 def certificate(found: x509.Certificate) -> Certificate:
     """What is used of a certificate. Raises where it can't be read."""
+    der = found.public_bytes(Encoding.DER)
+    start, end = validity(found)
+    facts = CertificateFacts(found.subject.rfc4514_string(), serial_of(found), hashlib.sha256(der).hexdigest(),
+                             spelled(start), spelled(end))
+    return Certificate(der, stated_key(found), found.subject.public_bytes(), found.issuer.public_bytes(), names_of(found),
+                       start, end, usage_fault(found), facts)
+
+
+def stated_key(found: x509.Certificate) -> Optional[Numbers]:
+    """The numbers of the key of a certificate, which aren't checked here."""
     try:
-        key = public_key_of(found.public_key())
+        key = found.public_key()
     except NO_KEY:
-        key = None
-    return Certificate(found.public_bytes(Encoding.DER), found.public_bytes(Encoding.PEM), key,
-                       found.subject.public_bytes(), found.issuer.public_bytes())
+        return None
+    return numbers_of(key) if isinstance(key, dsa.DSAPublicKey) else None
 
 
-def read_certificates(path: str) -> List[Certificate]:
-    """The certificates in a file of PEM, at least one."""
-    parts = pem_parts(read_file(path), "CERTIFICATE")
+def validity(found: x509.Certificate) -> Tuple[datetime, datetime]:
+    """From when to when a certificate is valid; older versions of the library leave out that this is UTC."""
+    start, end = (getattr(found, f"not_valid_{name}_utc", None) or getattr(found, f"not_valid_{name}").replace(
+        tzinfo=timezone.utc) for name in ("before", "after"))
+    return start, end
+
+
+def serial_of(found: x509.Certificate) -> str:
+    """The serial number in hexadecimal digits, two for each octet."""
+    digits = f"{abs(found.serial_number):X}"
+    return "-" * (found.serial_number < 0) + digits.rjust(len(digits) + len(digits) % 2, "0")
+
+
+def names_of(found: x509.Certificate) -> Names:
+    """Whom a certificate names."""
+    texts = [it.value for it in found.subject.get_attributes_for_oid(NameOID.COMMON_NAME) if isinstance(it.value, str)]
+    addresses: List[Address] = []
+    for extension in found.extensions:
+        if isinstance(extension.value, x509.SubjectAlternativeName):
+            texts += extension.value.get_values_for_type(x509.DNSName)
+            addresses += [it for it in extension.value.get_values_for_type(x509.IPAddress)
+                          if isinstance(it, (IPv4Address, IPv6Address))]
+    return Names(tuple(texts), tuple(addresses))
+
+
+def usage_fault(found: x509.Certificate) -> Optional[str]:
+    """Why the key of a certificate is none for signing logs (RFC 5280, sections 4.2.1.3 and 4.2.1.12)."""
+    for extension in found.extensions:
+        value = extension.value
+        if isinstance(value, x509.KeyUsage) and not (value.digital_signature or value.content_commitment):
+            return "the certificate isn't for signatures, by its keyUsage"
+        if isinstance(value, x509.ExtendedKeyUsage) and SIGNING.isdisjoint(it.dotted_string for it in value):
+            return "the certificate isn't for signing documents or code, by its extendedKeyUsage"
+    return None
+
+
+def read_certificates(path: str, text: bytes) -> List[Certificate]:
+    """The certificates in a text of PEM, at least one."""
+    parts = pem_parts(text, "CERTIFICATE")
     if not parts:
-        raise Fault(f"{path} holds no certificate in PEM")
+        raise Fault(f"{path} holds {what_is(text)}: a certificate in PEM is wanted")
     try:
         return [certificate(x509.load_pem_x509_certificate(part)) for part in parts]
     except Exception as fault:
         raise Fault(f"a certificate in {path} can't be read: {one_line(fault)}") from fault
 
 
-def read_authority(path: str) -> Authority:
-    """A file of --ca."""
-    return Authority(path, tuple(it.subject for it in read_certificates(path)))
+class Signer(NamedTuple):
+    """A certificate whose key the reviewer trusts."""
+
+    certificate: Certificate
+    key: PublicKey
 
 
-def read_signers(path: str) -> List[Certificate]:
+def read_signers(path: str) -> List[Signer]:
     """The certificates with a DSA key in a file of --cert, at least one."""
-    found = [it for it in read_certificates(path) if it.key]
-    if not found:
-        raise Fault(f"no certificate in {path} has a DSA key that can be checked with")
-    return found
+    signers = [Signer(it, key_of(it, path)) for it in read_certificates(path, read_file(path, "a certificate")) if it.numbers]
+    if not signers:
+        raise Fault(f"no certificate in {path} has a DSA key, as signed syslog wants it (RFC 5848, section 4.2.8)")
+    for it in signers:
+        if it.certificate.usage_fault:
+            raise Fault(f"{path} can't be used: {it.certificate.usage_fault}")
+    return signers
 
 
-def is_issued(leaf: Certificate, authority: Authority, moment: Optional[int]) -> bool:
-    """Whether a chain leads from a certificate to one of a file of --ca, at a time in seconds since 1970 or now.
-
-    `-trusted` takes that file alone, and nothing that this machine trusts besides. An authority needn't be a root.
-    """
-    if leaf.issuer not in authority.subjects:
-        return False
-    at = int(time.time()) if moment is None else moment
-    # level 1 leaves out signatures by MD5 and SHA-1, for which others with the same hash can be made
-    said = ask(["openssl", "verify", "-partial_chain", "-auth_level", "1", "-attime", str(at), "-trusted", authority.path],
-               leaf.pem, "openssl")
-    if said.returncode not in (0, 2, -1):
-        raise Fault(f"openssl checks no certificate with {authority.path}: {said.stderr.decode(errors='replace').strip()}")
-    return said.returncode == 0
+def key_of(found: Certificate, path: str) -> PublicKey:
+    """The key of a certificate that the reviewer gave."""
+    assert found.numbers is not None
+    try:
+        return PublicKey(found.numbers)
+    except NO_KEY as fault:
+        raise Fault(f"the key of a certificate in {path} can't be used: {one_line(fault)}") from fault

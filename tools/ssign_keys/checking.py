@@ -7,6 +7,7 @@ from typing import List, NamedTuple, Optional, Sequence, Tuple
 from .blocks import Block, Session, read_block
 from .encoding import decode, is_base64
 from .faults import Fault
+from .identity import Finding
 from .trust import Trust
 
 # The longest text of a signature of DSA: two numbers of 256 bits, each with its count.
@@ -37,17 +38,23 @@ class Chunk:
 
 
 class Held(NamedTuple):
-    """What is known of a question that holds."""
+    """What is known of a question that holds, or of a `trust` line that doesn't."""
 
     session: Optional[Session]
-    key: str
-    """The file of the key."""
+    finding: Finding
+    """Whose key it is, or why none is trusted."""
+
+    @property
+    def is_so(self) -> bool:
+        """Whether the question holds."""
+        return self.finding.identity is not None
 
 
 class Checked(NamedTuple):
     """The answers to a chunk, up to the first question that is none."""
 
     held: List[Optional[Held]]
+    """None for a question that doesn't hold, where nothing is to be said of that."""
     fault: Optional[str]
     """What is wrong with the question behind the last answer; None where all are answered."""
 
@@ -96,12 +103,12 @@ def check_block(trust: Trust, question: Question, payload: Optional[bytes]) -> O
         signer = trust.signer_of(payload, block, octets, signature) if signature else None
     except Fault as fault:
         raise Fault(f"line {question.line_number}: {fault}") from fault
-    return Held(block.session, signer.name) if signer else None
+    return Held(block.session, Finding(signer.identity, "")) if signer else None
 
 
 def check_payload(trust: Trust, question: Question, payload: Optional[bytes],
                   following: Sequence[Question]) -> Optional[Held]:
-    """Whether a `trust` line holds: for the session of the block that is asked about behind it."""
+    """Whether a `trust` line holds: for the session of the block that is asked about after it."""
     if not payload:
         return None
     session = None
@@ -110,10 +117,10 @@ def check_payload(trust: Trust, question: Question, payload: Optional[bytes],
             raise Fault(no_question(following[0].line_number))
         session = block_of(following[0])[1].session
     try:
-        trusted = trust.key_of(payload, session)
+        trusted, why = trust.judge(payload, session)
     except Fault as fault:
         raise Fault(f"line {question.line_number}: {fault}") from fault
-    return Held(session, trusted.name) if trusted else None
+    return Held(session, Finding(trusted.identity if trusted else None, why))
 
 
 def no_question(line_number: int) -> str:

@@ -50,6 +50,12 @@ def read_numbers(octets: bytes) -> Optional[List[int]]:
     return numbers
 
 
+def read_exact_numbers(octets: bytes) -> Optional[List[int]]:
+    """The numbers that octets spell with the counts of bits that they need, or None where they don't."""
+    numbers = read_numbers(octets)
+    return numbers if numbers is not None and spell_numbers(numbers) == octets else None
+
+
 def spell_numbers(numbers: Sequence[int]) -> bytes:
     """The octets of these numbers (RFC 4880, section 3.2)."""
     return b"".join(number.bit_length().to_bytes(2, "big") + number.to_bytes((number.bit_length() + 7) // 8, "big")

@@ -1,6 +1,8 @@
 """Files that the command line names: short ones, read whole, with a sentence for each that can't be."""
 from __future__ import annotations
 
+import os
+import stat
 from typing import List
 
 from .faults import Fault
@@ -9,13 +11,20 @@ from .faults import Fault
 LONGEST = 16 * 1024 * 1024
 
 
-def read_file(path: str) -> bytes:
-    """What stands in a file of keys."""
+def read_file(path: str, wanted: str) -> bytes:
+    """What stands in a file of keys or certificates. `wanted` is what it should hold, with its article."""
     try:
         with open(path, "rb") as file:
+            mode = os.fstat(file.fileno()).st_mode
+            if stat.S_ISCHR(mode) or stat.S_ISBLK(mode):
+                raise Fault(f"{path} is a device: a file with {wanted} is wanted")
             octets = file.read(LONGEST + 1)
+    except IsADirectoryError as fault:
+        raise Fault(f"{path} is a folder: a file with {wanted} is wanted") from fault
     except (OSError, ValueError) as fault:
         raise Fault(f"{path} can't be read: {reason(fault)}") from fault
+    if not octets:
+        raise Fault(f"{path} is empty: a file with {wanted} is wanted")
     if len(octets) > LONGEST:
         raise Fault(f"{path} is no file of keys: it has more than {LONGEST} octets")
     return octets

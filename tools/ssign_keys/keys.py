@@ -17,11 +17,15 @@ except ImportError as missing:
     raise Fault("the Python module cryptography is missing; on Debian and Ubuntu "
                 "`apt-get install python3-cryptography` installs it") from missing
 from .domain import key_fault
+from .kinds import algorithm_of, what_is
 
 # Which hash VER names, and how many bits it has.
 HASHES = {b"0111": (hashes.SHA1, 160), b"0121": (hashes.SHA256, 256)}
 # What `cryptography` raises for a text that spells no key that it knows.
 NO_KEY = (ValueError, TypeError, UnsupportedAlgorithm)
+# What is wanted of a file.
+PRIVATE_KEY = "a DSA private key in PEM"
+PUBLIC_KEY = "a DSA public key in PEM"
 
 
 class Numbers(NamedTuple):
@@ -91,6 +95,14 @@ def fingerprint_of(key: dsa.DSAPublicKey) -> str:
     return hashlib.sha256(spelled).hexdigest()
 
 
+def stated_fingerprint(numbers: Numbers) -> Optional[str]:
+    """The fingerprint of a key that nobody trusts, and whose numbers aren't checked; None where no key has their sizes."""
+    try:
+        return fingerprint_of(library_key(numbers))
+    except NO_KEY:
+        return None
+
+
 class PrivateKey:
     """A private key without a passphrase."""
 
@@ -141,45 +153,41 @@ def numbers_of(key: dsa.DSAPublicKey) -> Numbers:
     return Numbers(parameters.p, parameters.q, parameters.g, public.y)
 
 
-def public_key_of(key: object) -> Optional[PublicKey]:
-    """A key of `cryptography` as ours, or None where it is no DSA key that can be checked with."""
-    if not isinstance(key, dsa.DSAPublicKey):
-        return None
-    try:
-        return PublicKey(numbers_of(key))
-    except NO_KEY:
-        return None
-
-
 def read_private_key(path: str) -> PrivateKey:
     """The key in a file of PEM. Raises Fault where there is none, or one that is no DSA key or has a passphrase."""
-    text = read_file(path)
-    if b"PRIVATE KEY-----" not in text:
-        raise Fault(f"{path} holds no private key in PEM")
+    text = read_file(path, PRIVATE_KEY)
+    what = what_is(text)
+    if "encrypted" in what:
+        raise Fault(f"{path} holds {what}: {PRIVATE_KEY} without a passphrase is wanted")
+    if b"PRIVATE KEY-----" not in text or "SSH" in what:
+        raise Fault(f"{path} holds {what}: {PRIVATE_KEY} is wanted")
     try:
         key = serialization.load_pem_private_key(text, None)
-    except TypeError as fault:
-        raise Fault(f"the private key in {path} has a passphrase, and has to be one without") from fault
     except NO_KEY as fault:
-        if b"ENCRYPTED" in text:
-            raise Fault(f"the private key in {path} has a passphrase, and has to be one without") from fault
         raise Fault(f"the private key in {path} can't be read: {one_line(fault)}") from fault
     if not isinstance(key, dsa.DSAPrivateKey):
-        raise Fault(f"the key in {path} is no DSA key")
+        raise Fault(no_dsa(path, key))
     try:
         return PrivateKey(key)
     except NO_KEY as fault:
         raise Fault(f"the key in {path} can't be used: {one_line(fault)}") from fault
 
 
+def no_dsa(path: str, key: object) -> str:
+    """The sentence for a key of another kind."""
+    return f"{path} holds a key of {algorithm_of(key)}: signed syslog has DSA keys alone (RFC 5848, section 4.2.8)"
+
+
 def read_pem_keys(path: str, text: bytes) -> List[PublicKey]:
     """The public keys in a text of PEM, at least one. Raises Fault where one is no DSA key."""
+    what = what_is(text)
     if b"PRIVATE KEY-----" in text:
-        raise Fault(f"{path} holds a private key: signatures are checked with the public key alone")
+        what = what if "private" in what else "a private key"
+        raise Fault(f"{path} holds {what}: signatures are checked with the public key alone")
     parts = pem_parts(text, "PUBLIC KEY")
     if not parts:
-        what = ", but a certificate: it goes with --cert or --ca" if b"BEGIN CERTIFICATE-----" in text else ""
-        raise Fault(f"{path} holds no public key{what}")
+        hint = ", or give it with --cert or --ca" if what == "a certificate" else ""
+        raise Fault(f"{path} holds {what}: {PUBLIC_KEY} is wanted{hint}")
     return [read_pem_key(path, part) for part in parts]
 
 
@@ -190,7 +198,7 @@ def read_pem_key(path: str, part: bytes) -> PublicKey:
     except NO_KEY as fault:
         raise Fault(f"the public key in {path} can't be read: {one_line(fault)}") from fault
     if not isinstance(key, dsa.DSAPublicKey):
-        raise Fault(f"the key in {path} is no DSA key")
+        raise Fault(no_dsa(path, key))
     try:
         return PublicKey(numbers_of(key))
     except NO_KEY as fault:

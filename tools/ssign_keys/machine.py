@@ -5,6 +5,7 @@ import json
 from typing import BinaryIO, Dict, Optional, Sequence, Union
 
 from .blocks import Session
+from .identity import UNKNOWN, identity_fields
 from .kept import Counters
 from .logs import Log
 from .reach import Reached
@@ -42,10 +43,9 @@ class Machine(Teller):
 
     def session(self, session: Session, state: str) -> None:
         self._vouched = self._notes.of(session)
-        key = None if self._vouched is None else shown_name(self._vouched.key)
-        fields: Fields = {"line": "session"}
-        fields.update(names_of(session))
-        fields.update(state=state, key=key)
+        finding = self._vouched.finding if self._vouched else UNKNOWN
+        fields: Dict[str, object] = {"line": "session", **names_of(session), "state": state}
+        fields.update(identity_fields(finding))
         self._put(fields)
 
     def begin_group(self, group: Group) -> None:

@@ -47,13 +47,12 @@ def stated_numbers(blob: bytes) -> Optional[Numbers]:
     return Numbers(*numbers) if numbers is not None and len(numbers) == 4 else None
 
 
-def seconds(stamp: str) -> Optional[int]:
-    """The time of a TIMESTAMP in whole seconds since 1970, or None where it is `-`. Raises ValueError where there is no
-    such time."""
+def moment_of(stamp: str) -> Optional[datetime]:
+    """The time of a TIMESTAMP in whole seconds, or None where it is `-`. Raises ValueError where there is no such time."""
     if stamp == "-":
         return None
     whole = re.sub(r"\.[0-9]+", "", stamp).replace("Z", "+00:00")
-    return int(datetime.strptime(whole, "%Y-%m-%dT%H:%M:%S%z").timestamp())
+    return datetime.strptime(whole, "%Y-%m-%dT%H:%M:%S%z")
 
 
 def state_key(key: PublicKey, stamp: str) -> bytes:

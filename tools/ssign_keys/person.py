@@ -4,6 +4,7 @@ from __future__ import annotations
 from typing import BinaryIO, Optional, Sequence, Tuple
 
 from .blocks import Session
+from .identity import identity_lines
 from .kept import Counters
 from .logs import Log
 from .reach import Reached
@@ -104,8 +105,8 @@ class Person(Teller):
         self._put(f"Session: {session_words(session)}")
         self._put(f"  state: {state}; {STATES.get(state, 'a state that is not known here')}")
         self._vouched = self._notes.of(session)
-        if self._vouched is not None:
-            self._put(f"  key: {shown_name(self._vouched.key)}")
+        for line in identity_lines(self._vouched.finding) if self._vouched else []:
+            self._put(f"  {line}")
 
     def begin_group(self, group: Group) -> None:
         self._put(f"  group: {group_words(group.sg, group.spri)}")

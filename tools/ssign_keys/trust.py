@@ -2,22 +2,26 @@
 from __future__ import annotations
 
 import argparse
+from datetime import datetime, timezone
 from typing import TYPE_CHECKING, Dict, List, NamedTuple, Optional, Sequence, Tuple
 
 from . import openpgp
 from .blocks import Block, Session, read_block
-from .commands import Missing
 from .faults import Fault
 from .files import read_file
-from .keys import Numbers, PublicKey, read_pem_keys
-from .payloads import Payload, read_payload, seconds, stated_numbers
-from .workplace import say
+from .identity import Identity
+from .keys import NO_KEY, PUBLIC_KEY, Numbers, PublicKey, one_line, read_pem_keys, stated_fingerprint
+from .payloads import Payload, moment_of, read_payload, stated_numbers
 
 if TYPE_CHECKING:
-    from .certificates import Authority, Certificate
+    from .authorities import Authority, Chain
+    from .certificates import Certificate
 
 # The module of certificates is loaded where one is looked at, since that takes half of the time of a start.
 ANY = b"*"
+NO_STATED_KEY = "its payload states no key that is known here, and no --session-key names the session"
+# So many answers about certificates that an authority has signed are kept.
+MOST_KEPT = 10000
 
 
 class Trusted(NamedTuple):
@@ -26,6 +30,24 @@ class Trusted(NamedTuple):
     name: str
     """The file that it was given in, as the command line spells it; for a chain the file of --ca."""
     key: PublicKey
+    certificate: Optional[Certificate]
+    """The certificate that says so, where one does."""
+    stamp: str = "-"
+    """The time of the payload that states the key."""
+
+    @property
+    def identity(self) -> Identity:
+        """Whose key it is, for a report."""
+        facts = self.certificate.facts if self.certificate else None
+        return Identity(self.name, self.key.fingerprint, facts, self.stamp)
+
+
+class Judged(NamedTuple):
+    """What comes of a payload in a session."""
+
+    trusted: Optional[Trusted]
+    why: str
+    """Why no key is trusted; empty where one is."""
 
 
 class SessionKey(NamedTuple):
@@ -43,11 +65,15 @@ class SessionKey(NamedTuple):
 class Stated(NamedTuple):
     """What a payload says of its key."""
 
-    kind: str
+    payload: Payload
     numbers: Optional[Numbers]
     """The key's numbers; None where it has none that are known here."""
     trusted: Optional[Trusted]
     """The key, where --key, --ca or --cert trusts the payload."""
+    why: str
+    """Why it isn't trusted; empty where it is."""
+    is_for_names: bool = False
+    """Whether the key is trusted for those alone whom its certificate names."""
 
 
 def add_arguments(parser: argparse.ArgumentParser) -> None:
@@ -59,17 +85,28 @@ def add_arguments(parser: argparse.ArgumentParser) -> None:
                         help="the key of a session, which is named HOST APP PROCID RSID as in a report; * is any word. "
                              "The first that names a session counts, and no other key is trusted for it")
     parser.add_argument("--ca", action="append", default=[], metavar="CA.pem",
-                        help="trust a payload with a certificate that one of these issued")
+                        help="trust a payload with a certificate that one of these issued for the HOSTNAME of its session")
     parser.add_argument("--cert", action="append", default=[], metavar="CERT.pem",
                         help="trust a payload with this certificate")
+    parser.add_argument("--at-signing-time", action="store_true", help="judge whether a certificate has expired at the "
+                        "payload's time, which its signer states, and not now")
 
 
 def read_public_keys(path: str) -> List[PublicKey]:
     """The keys in a file: public keys in PEM, or OpenPGP keys."""
-    text = read_file(path)
+    text = read_file(path, PUBLIC_KEY)
     if openpgp.is_openpgp(text):
         return openpgp.read_openpgp_keys(path, text)
     return read_pem_keys(path, text)
+
+
+def read_session_keys(path: str) -> List[Trusted]:
+    """The keys in a file of --session-key, which may also be one of certificates."""
+    text = read_file(path, PUBLIC_KEY)
+    if not openpgp.is_openpgp(text) and b"-----BEGIN CERTIFICATE-----" in text and b"-----BEGIN PUBLIC KEY-----" not in text:
+        from . import certificates
+        return [Trusted(path, it.key, it.certificate) for it in certificates.read_signers(path)]
+    return [Trusted(path, it, None) for it in read_public_keys(path)]
 
 
 def read_session_key(words: str, path: str) -> SessionKey:
@@ -77,10 +114,10 @@ def read_session_key(words: str, path: str) -> SessionKey:
     parts = words.encode("utf-8", "surrogateescape").split(b" ")
     if len(parts) != 4 or not all(parts):
         raise Fault(f"the session '{words}' isn't four words HOST APP PROCID RSID with one space between two")
-    keys = read_public_keys(path)
+    keys = read_session_keys(path)
     if len(keys) != 1:
         raise Fault(f"{path} holds {len(keys)} keys, and the session '{words}' has one")
-    return SessionKey(Session(*parts), Trusted(path, keys[0]))
+    return SessionKey(Session(*parts), keys[0])
 
 
 def read_certificates(certs: Sequence[str], cas: Sequence[str]) -> Tuple[Dict[bytes, Trusted], List[Authority]]:
@@ -88,36 +125,38 @@ def read_certificates(certs: Sequence[str], cas: Sequence[str]) -> Tuple[Dict[by
     signers: Dict[bytes, Trusted] = {}
     if not (certs or cas):
         return signers, []
-    from . import certificates
+    from . import authorities, certificates
     for path in certs:
-        for signer in certificates.read_signers(path):
-            if signer.key:
-                signers.setdefault(signer.der, Trusted(path, signer.key))
-    return signers, [certificates.read_authority(path) for path in cas]
+        for it in certificates.read_signers(path):
+            signers.setdefault(it.certificate.der, Trusted(path, it.key, it.certificate))
+    return signers, [authorities.read_authority(path) for path in cas]
 
 
 class Trust:
     """The keys, sessions and certificates that the reviewer gave. It can be handed to another process."""
 
     def __init__(self, keys: Dict[Numbers, Trusted], session_keys: Sequence[SessionKey],
-                 authorities: Sequence[Authority], signers: Dict[bytes, Trusted]) -> None:
+                 authorities: Sequence[Authority], signers: Dict[bytes, Trusted], is_at_signing_time: bool) -> None:
         """Keys by their numbers, and signers by their certificates."""
         self._keys = keys
         self._session_keys = session_keys
         self._authorities = authorities
         self._signers = signers
+        self._is_at_signing_time = is_at_signing_time
+        self._now = datetime.now(timezone.utc).replace(microsecond=0)
         # what was asked last, since questions about one payload stand together
         self._last_payload: Optional[bytes] = None
         self._last_stated: Optional[Stated] = None
-        self._is_told = False
+        # what was found of certificates, each at a time
+        self._kept: Dict[Tuple[bytes, datetime], Judged] = {}
 
     @classmethod
     def from_arguments(cls, arguments: argparse.Namespace) -> Trust:
-        """What the options `keys`, `session_key`, `ca` and `cert` give. Raises Fault where one is wrong."""
+        """What the options `keys`, `session_key`, `ca`, `cert` and `at_signing_time` give. Raises Fault where one is wrong."""
         keys: Dict[Numbers, Trusted] = {}
         for path in arguments.keys:
             for key in read_public_keys(path):
-                keys.setdefault(key.numbers, Trusted(path, key))
+                keys.setdefault(key.numbers, Trusted(path, key, None))
         session_keys = [read_session_key(words, path) for words, path in arguments.session_key]
         patterns: Dict[Session, SessionKey] = {}
         for it in session_keys:
@@ -127,7 +166,7 @@ class Trust:
         signers, authorities = read_certificates(arguments.cert, arguments.ca)
         if not (keys or session_keys or signers or authorities):
             raise Fault("nothing says which key is to be trusted: give a public key, --session-key, --ca or --cert")
-        return cls(keys, session_keys, authorities, signers)
+        return cls(keys, session_keys, authorities, signers, arguments.at_signing_time)
 
     @property
     def patterns(self) -> List[SessionKey]:
@@ -139,20 +178,16 @@ class Trust:
         """Whether the reviewer trusts one key by its file, and nothing else."""
         return len(self._keys) == 1 and not (self._session_keys or self._authorities or self._signers)
 
-    def key_of(self, payload: bytes, session: Optional[Session]) -> Optional[Trusted]:
-        """The key that is trusted for a session with this payload, or None where the payload isn't trusted.
+    def judge(self, payload: bytes, session: Optional[Session]) -> Judged:
+        """The key that is trusted for a session with this payload, or why there is none.
 
         Without a session, what is trusted of the payload in every session.
         """
         stated = self._stated(payload)
         if not stated:
-            return None
-        given = self._session_key(session) if session else None
-        if stated.kind in "NU":
-            return given
-        if given:
-            return given if given.key.numbers == stated.numbers else None
-        return stated.trusted
+            return Judged(None, "its payload can't be read")
+        judged = self._judge_stated(stated, session)
+        return Judged(judged.trusted._replace(stamp=stated.payload.stamp), "") if judged.trusted else judged
 
     def is_valid(self, payload: bytes, octets: bytes, signature: bytes) -> bool:
         """Whether this is the signature of a block's octets by the key that is trusted for its session."""
@@ -161,12 +196,43 @@ class Trust:
 
     def signer_of(self, payload: bytes, block: Block, octets: bytes, signature: bytes) -> Optional[Trusted]:
         """The key that is trusted for the session of a block, where this is its signature of the octets."""
-        trusted = self.key_of(payload, block.session)
+        trusted = self.judge(payload, block.session).trusted
         return trusted if trusted and trusted.key.is_signature(octets, block.version, signature) else None
 
-    def _session_key(self, session: Session) -> Optional[Trusted]:
-        """The key that a --session-key gives for a session."""
-        return next((it.trusted for it in self._session_keys if it.is_for(session)), None)
+    def _judge_stated(self, stated: Stated, session: Optional[Session]) -> Judged:
+        """What comes of what a payload states in a session."""
+        given = next((it.trusted for it in self._session_keys if session and it.is_for(session)), None)
+        if stated.payload.kind in "NU":
+            return self._in_time(given, stated.payload) if given else Judged(None, NO_STATED_KEY)
+        if given:
+            if given.key.numbers != stated.numbers:
+                return Judged(None, f"its payload states another key than {given.name}, which --session-key gives it")
+            return self._in_time(given, stated.payload)
+        if stated.trusted and stated.trusted.certificate and stated.is_for_names:
+            names = stated.trusted.certificate.names
+            if session is None or not names.has(session.host):
+                return Judged(None, f"the certificate isn't for this HOSTNAME: it names {names}")
+        return Judged(stated.trusted, stated.why)
+
+    def _in_time(self, trusted: Trusted, payload: Payload) -> Judged:
+        """A key that the reviewer gave, where its certificate, if it has one, is valid at the time that counts."""
+        why = self._date_fault(trusted.certificate, payload) if trusted.certificate else None
+        return Judged(None, why) if why else Judged(trusted, "")
+
+    def _date_fault(self, certificate: Certificate, payload: Payload) -> Optional[str]:
+        """Why a certificate isn't valid now or at the payload's time, or None."""
+        try:
+            stated = moment_of(payload.stamp)
+        except ValueError:
+            return "its payload states a time that there is not"
+        if stated is not None:
+            fault = certificate.date_fault(stated)
+            if fault or self._is_at_signing_time:
+                return fault and f"{fault}, and the payload states the time {payload.stamp}"
+        fault = certificate.date_fault(self._now)
+        if fault and stated is not None and self._now > certificate.not_after:
+            return f"{fault}: --at-signing-time judges that at the payload's time, which its signer states"
+        return fault
 
     def _stated(self, payload: bytes) -> Optional[Stated]:
         """What a payload states, or None where it is no payload."""
@@ -176,48 +242,70 @@ class Trust:
             self._last_payload = payload
         return self._last_stated
 
-    def _state(self, payload: Payload) -> Optional[Stated]:
+    def _state(self, payload: Payload) -> Stated:
         """What a payload states that was read."""
         if payload.kind == "C":
             return self._state_certificate(payload)
         numbers: Optional[Numbers] = None
         if payload.kind == "K":
             numbers = stated_numbers(payload.blob)
-        elif payload.kind == "P" and (self._keys or self._session_keys):
-            numbers = self._read_openpgp(payload.blob)
-        return Stated(payload.kind, numbers, self._keys.get(numbers) if numbers else None)
-
-    def _read_openpgp(self, blob: bytes) -> Optional[Numbers]:
-        """What a payload with an OpenPGP key states.
-
-        Any sender can put one into a log. So it is said once that there is no gpg to read it, and the rest has its verdict.
-        """
-        try:
-            return openpgp.read_payload_key(blob)
-        except Missing as missing:
-            if not self._is_told:
-                say(f"ssign-keys: a payload of the type P isn't trusted: {missing}")
-            self._is_told = True
-            return None
+        elif payload.kind == "P":
+            numbers = openpgp.read_payload_key(payload.blob)
+        trusted = self._keys.get(numbers) if numbers else None
+        return Stated(payload, numbers, trusted, "" if trusted else unknown_key(numbers))
 
     def _state_certificate(self, payload: Payload) -> Stated:
         """What a payload with a certificate states."""
-        if not (self._signers or self._authorities or self._session_keys):
-            return Stated("C", None, None)
         from . import certificates
         found = certificates.read_certificate(payload.blob)
-        if not found or not found.key or found.der != payload.blob:
-            return Stated("C", None, None)
-        return Stated("C", found.key.numbers, self._signers.get(found.der) or self._issued(found, payload.stamp))
+        if not found:
+            return Stated(payload, None, None, "its payload holds no certificate that can be read")
+        if not found.numbers:
+            return Stated(payload, None, None, "its certificate has no DSA key")
+        given = self._signers.get(found.der)
+        if given:
+            judged = self._in_time(given, payload)
+            return Stated(payload, found.numbers, judged.trusted, judged.why)
+        judged = self._issued(found, payload)
+        return Stated(payload, found.numbers, judged.trusted, judged.why, is_for_names=True)
 
-    def _issued(self, found: Certificate, stamp: str) -> Optional[Trusted]:
-        """The key of a certificate that one of --ca issued."""
-        from . import certificates
+    def _issued(self, found: Certificate, payload: Payload) -> Judged:
+        """The key of a certificate that one of --ca issued. openssl is asked where nothing else stands against it."""
+        from . import authorities
+        if not self._authorities:
+            return Judged(None, "neither --cert nor --ca trusts its certificate")
+        chains, why = authorities.chains(found, self._authorities)
+        why = why or found.usage_fault or self._date_fault(found, payload) or ""
+        if why:
+            return Judged(None, why)
+        moment = (moment_of(payload.stamp) if self._is_at_signing_time else None) or self._now
+        asked = found.der, moment
+        if asked not in self._kept:
+            if len(self._kept) >= MOST_KEPT:
+                self._kept.clear()
+            self._kept[asked] = self._judge_chains(found, chains, moment)
+        return self._kept[asked]
+
+    def _judge_chains(self, found: Certificate, chains: Sequence[Chain], moment: datetime) -> Judged:
+        """The key of a certificate to which chains lead from --ca."""
+        from . import authorities
+        why = ""
+        for chain in chains:
+            why = authorities.chain_fault(found, chain, moment) or ""
+            if not why:
+                break
+        if why or not found.numbers:
+            return Judged(None, why)
         try:
-            moment = seconds(stamp)
-        except ValueError:
-            return None
-        for authority in self._authorities:
-            if found.key and certificates.is_issued(found, authority, moment):
-                return Trusted(authority.path, found.key)
-        return None
+            return Judged(Trusted(chain.path, PublicKey(found.numbers), found), "")
+        except NO_KEY as fault:
+            return Judged(None, f"the key of its certificate can't be used: {one_line(fault)}")
+
+
+def unknown_key(numbers: Optional[Numbers]) -> str:
+    """Why a payload isn't trusted that states a key, or none that is known."""
+    if not numbers:
+        return "its payload states no DSA key that can be read"
+    fingerprint = stated_fingerprint(numbers)
+    whose = f", SHA-256 {fingerprint}" if fingerprint else ""
+    return f"its payload states a key that you didn't give{whose}"

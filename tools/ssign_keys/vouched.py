@@ -13,6 +13,7 @@ from typing import BinaryIO, Dict, Iterable, Iterator, List, Optional, Tuple
 
 from .answer import Answered
 from .blocks import FIRST_ELEMENT, HEADER, LATER_ELEMENT, LONGEST_HEADER, Session
+from .identity import UNKNOWN, Finding, finding_of, note_of
 from .workplace import put
 
 # what follows RSID in a signature block (RFC 5848, section 4.2); a certificate block has no GBC
@@ -23,9 +24,9 @@ GroupName = Tuple[int, int]
 
 @dataclass
 class Vouched:
-    """Of one session: the file of its key, and the greatest GBC of each group."""
+    """Of one session: whose its key is, or why none is trusted, and the greatest GBC of each group."""
 
-    key: str
+    finding: Finding
     greatest: Dict[GroupName, int] = field(default_factory=dict)
 
 
@@ -45,13 +46,16 @@ def counters_of(octets: bytes) -> Optional[Tuple[GroupName, int]]:
 def noted(answered: Iterable[Answered], notes: BinaryIO) -> Iterator[Answered]:
     """Gives on what was answered, and keeps what its blocks vouch for."""
     session: Optional[Session] = None
-    vouched = Vouched("")
+    vouched = Vouched(UNKNOWN)
     for it in answered:
-        if not it.is_payload and it.session is not None:
-            if it.session != session:
-                if session is not None:
-                    put_note(notes, session, vouched)
-                session, vouched = it.session, Vouched(it.key)
+        if it.is_payload or it.session is None:
+            yield it
+            continue
+        if it.session != session:
+            if session is not None:
+                put_note(notes, session, vouched)
+            session, vouched = it.session, Vouched(it.finding)
+        if it.line:
             counters = counters_of(base64.b64decode(it.line.split(b" ", 3)[2]))
             if counters is not None:
                 group, gbc = counters
@@ -65,7 +69,7 @@ def put_note(notes: BinaryIO, session: Session, vouched: Vouched) -> None:
     """Keeps a line of JSON."""
     groups = [[*group, gbc] for group, gbc in vouched.greatest.items()]
     names = [it.decode("latin-1") for it in session]
-    put(notes, json.dumps([names, vouched.key, groups]).encode("ascii") + b"\n")
+    put(notes, json.dumps([names, note_of(vouched.finding), groups]).encode("ascii") + b"\n")
 
 
 class Notes:
@@ -77,7 +81,7 @@ class Notes:
         self._next = self._read()
 
     def of(self, session: Session) -> Optional[Vouched]:
-        """What valid blocks of this session vouch for, or None where it has none. Asked for in the order of a report."""
+        """What is known of this session's key and blocks, or None where nothing is. Asked for in the order of a report."""
         if self._next is None or self._next[0] != session:
             return None
         vouched = self._next[1]
@@ -88,7 +92,7 @@ class Notes:
         line = self._notes.readline()
         if not line:
             return None
-        names, key, groups = json.loads(line)
+        names, note, groups = json.loads(line)
         host, app, procid, rsid = (str(it).encode("latin-1") for it in names)
         rows: List[List[int]] = groups
-        return Session(host, app, procid, rsid), Vouched(key, {(sg, spri): gbc for sg, spri, gbc in rows})
+        return Session(host, app, procid, rsid), Vouched(finding_of(note), {(sg, spri): gbc for sg, spri, gbc in rows})

@@ -1,0 +1,91 @@
+"""Whose key it is: what an auditor compares with what he has by another way."""
+from __future__ import annotations
+
+from typing import Any, Dict, List, NamedTuple, Optional
+
+from .words import shown, shown_name
+
+
+class CertificateFacts(NamedTuple):
+    """What a certificate says of itself, and its fingerprint."""
+
+    subject: str
+    """As RFC 4514 spells it."""
+    serial: str
+    """In hexadecimal digits, as openssl prints it."""
+    fingerprint: str
+    """The SHA-256 of its DER, in hexadecimal digits."""
+    not_before: str
+    not_after: str
+
+
+class Identity(NamedTuple):
+    """The key that signed a session's blocks."""
+
+    file: str
+    """The file that it was given in, as the command line spells it; for a chain the file of --ca."""
+    fingerprint: str
+    """The SHA-256 of its SubjectPublicKeyInfo in DER, in hexadecimal digits."""
+    certificate: Optional[CertificateFacts]
+    stamp: str
+    """The payload's time, which the signer states: a TIMESTAMP or `-`."""
+
+
+class Finding(NamedTuple):
+    """What was found about the key of a session: whose it is, or else why none is trusted."""
+
+    identity: Optional[Identity]
+    why: str
+    """A sentence without its full stop; empty where there is nothing to say."""
+
+
+UNKNOWN = Finding(None, "")
+
+
+def identity_lines(finding: Finding) -> List[str]:
+    """The lines below a session for a person."""
+    lines = []
+    if finding.identity is not None:
+        file, fingerprint, certificate, stamp = finding.identity
+        lines.append(f"key: {shown_name(file)}, SHA-256 {fingerprint}")
+        if certificate is not None:
+            lines.append(f"certificate: {shown_text(certificate.subject)}, serial number {certificate.serial}, SHA-256 "
+                         f"{certificate.fingerprint}, valid from {certificate.not_before} to {certificate.not_after}")
+        lines.append("payload: states no time" if stamp == "-" else f"payload: of {stamp}, as its signer states")
+    if finding.why:
+        lines.append(f"why: {finding.why}")
+    return lines
+
+
+def identity_fields(finding: Finding) -> Dict[str, object]:
+    """The members of a session's object of JSON."""
+    identity = finding.identity
+    certificate = identity.certificate if identity else None
+    facts = certificate and {**certificate._asdict(), "subject": shown_text(certificate.subject)}
+    return {
+        "key": shown_name(identity.file) if identity else None, "fingerprint": identity.fingerprint if identity else None,
+        "certificate": facts, "payload_time": identity.stamp if identity else None, "why": finding.why or None,
+    }
+
+
+def shown_text(text: str) -> str:
+    """A text of a certificate: letters of every language stay, and all that isn't printable becomes `\\xNN`."""
+    return "".join(it if it.isprintable() and it != "\\" else shown(it.encode("utf-8", "surrogatepass")) for it in text)
+
+
+def note_of(finding: Finding) -> List[object]:
+    """A finding as JSON holds it, for `finding_of`."""
+    identity = finding.identity
+    if identity is None:
+        return [None, finding.why]
+    certificate = identity.certificate and list(identity.certificate)
+    return [[identity.file, identity.fingerprint, certificate, identity.stamp], finding.why]
+
+
+def finding_of(note: Any) -> Finding:
+    """The finding of which `note_of` made this."""
+    identity, why = note
+    if identity is None:
+        return Finding(None, why)
+    file, fingerprint, certificate, stamp = identity
+    return Finding(Identity(file, fingerprint, certificate and CertificateFacts(*certificate), stamp), why)
