@@ -17,7 +17,6 @@ What follows prints cases: `yes` or `no`, a tab, what is asked, a tab, and a lin
     key_cases.py wrong PRIVATE OTHER LONG        signatures and payloads of the first key that are right, and ones that
                                                  are wrong in one thing. LONG is a key whose q has 256 bits
     key_cases.py hides PRIVATE                   blocks whose VER hides among octets that are spelled like one
-    key_cases.py versions                        prints the versions of these
     key_cases.py payloads                        for each line of standard input, WANTED, WHAT, PAYLOAD, PRIVATE, VERSION
                                                  and SESSION with tabs between them, a `trust` line and a `yes` line:
                                                  which of them hold WANTED says by `both`, `trust` or `none`
@@ -330,11 +329,6 @@ def print_hidden(private: str) -> None:
         print_cases(iter([("yes", f"VER {version} of {text!r}", yes_line)]))
 
 
-def print_versions() -> None:
-    """The versions of the blocks of `hides`."""
-    print(*(version for version, _ in HIDDEN))
-
-
 def print_payloads() -> None:
     """The cases that standard input asks for."""
     pairs: Dict[str, Pair] = {}
@@ -362,7 +356,7 @@ if __name__ == "__main__":
     COMMANDS: Dict[str, Callable[..., None]] = {
         "log": check_log, "seals": check_seals, "payload": check_payload, "sizes": print_sizes, "public": print_public,
         "blob": print_blob,
-        "rfc": write_rfc, "wrong": print_wrong, "hides": print_hidden, "versions": print_versions,
+        "rfc": write_rfc, "wrong": print_wrong, "hides": print_hidden,
         "payloads": print_payloads,
     }
     COMMANDS[sys.argv[1]](*sys.argv[2:])

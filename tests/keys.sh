@@ -79,14 +79,16 @@ refuses 'a folder with a payload' 'there is a file half/payload, which is not ov
 refuses 'a folder with a link' 'there is a file dangling/public-key.pem, which is not overwritten' make dangling
 holds 'nothing was written there' test "$(ls half dangling)" = $'dangling:\npublic-key.pem\n\nhalf:\npayload'
 
-# wanted LETTER COUNT VERSION..: wants blocks of these versions in turn.
+# wanted LETTER COUNT VERSION..: wants blocks of these versions in turn, one after the other in each session.
 wanted() {
     "$python" - "$@" <<'END'
-import base64, sys
+import base64, hashlib, sys
 letter, count, *versions = sys.argv[1:]
 for number in range(int(count)):
-    for version in versions:
-        octets = f'<110>1 - h {letter}{number} - - [ssign VER="{version}" RSID="1" SG="0" SPRI="0" GBC="0" FMN="1" CNT="1" HB="x"]'
+    for gbc, version in enumerate(versions):
+        digest = (hashlib.sha1 if version == "0111" else hashlib.sha256)(b"%d" % number).digest()
+        octets = (f'<110>1 - h {letter}{number} - - [ssign VER="{version}" RSID="1" SG="0" SPRI="0" GBC="{gbc}" FMN="{gbc + 1}" '
+                  f'CNT="1" HB="{base64.b64encode(digest).decode()}"]')
         print("want", base64.b64encode(octets.encode()).decode())
 END
 }
@@ -107,11 +109,22 @@ keys seal one/private-key.pem < <(head -c -1 wants)
 holds 'a last line without LF' test "$(wc -l <out)" = 40
 cases hides one/private-key.pem >hidden-cases
 cut -f 3 hidden-cases | cut -d ' ' -f 3 | sed 's/^/want /' >hidden-wants
-keys seal one/private-key.pem <hidden-wants
-cp out hidden-seals
-read -r -a versions < <(cases versions)
-holds 'VER is found among octets that are spelled like a block' \
-    cases seals hidden-wants hidden-seals one/public-key.pem "${versions[@]}"
+# of these blocks only those without a MSG or another element are signed, whose header is spelled like one; then by their VER
+sealed_alone=0
+while IFS= read -r line; do
+    keys seal one/private-key.pem <<<"$line"
+    text=$(base64 -d <<<"${line#want }" | tr '\0\n' '??')
+    if [[ $text =~ ^[^\ ]+\ -\ [^\ ]+\ [^\ ]+\ [^\ ]+\ [^\ ]+\ \[ssign\ [^]]*\]$ ]]; then
+        sealed_alone=$((sealed_alone + 1))
+        echo "$line" >hidden-want
+        cp out hidden-seal
+        version=$(grep -o 'VER="0[12]*1"' <<<"$text" | tail -n 1)
+        holds "'$text' is signed by its VER" cases seals hidden-want hidden-seal one/public-key.pem "${version//[^0-9]/}"
+    else
+        holds "'$text' is not signed" test "$status" = 2 -a ! -s out
+    fi
+done <hidden-wants
+holds 'three of them are signed' test "$sealed_alone" = 3
 
 # judge WHAT ARG..: answers the questions of the file `rows` with these arguments, and checks each of them.
 judge() {
@@ -389,7 +402,8 @@ wrong=" is no line \`want OCTETS\` of ssign plan"
 bad seal "line 1$wrong" '' 'want' 'want ' 'want S0V' 'want S0VZ ' ' want S0VZ' 'want  S0VZ' 'Want S0VZ' $'want S0VZ\r' 'want S0V?' 'want =AAA' \
     'want A===' 'want S0VZ S0VZ' 'want S0V=' 'want S0VZS0VZS0U' 'seal S0VZ AAAA'
 refuses 'a line that is wanted of nothing' "line 1$wrong" seal one/private-key.pem <<<'want '
-refuses 'seal: octets that are no block' 'line 1: the octets are no block of VER 0111 or 0121' seal one/private-key.pem <<<'want S0VZ'
+refuses 'seal: octets that are no block' "line 1: the octets aren't a block as \`ssign plan\` writes it, so they aren't signed" \
+    seal one/private-key.pem <<<'want S0VZ'
 refuses 'a wrong line behind good ones' "line 4$wrong" seal one/private-key.pem < <(head -n 3 wants && echo want)
 refuses 'a hash that is shorter than q' \
     'line 1: VER 0111 has a hash of 160 bits, and the number q of the key has 256: use --ver 0121, or another key' \

@@ -7,6 +7,7 @@ from typing import List, Optional
 from .faults import Fault
 from .keys import HASHES, PublicKey
 from .payloads import present_stamp, state_key
+from .stated import refuse_other_key
 
 # The most hashes of a signature block (RFC 5848, section 4.2.6): the fewer blocks, the fewer signatures.
 MOST_HASHES = 99
@@ -20,7 +21,9 @@ ELEMENT = ('[ssign VER="0121" RSID="{rsid}" SG="0" SPRI="191" GBC="9999999999" F
 
 
 def fill(arguments: argparse.Namespace, key: PublicKey) -> None:
-    """Puts in what wasn't given. Raises Fault where the key doesn't go with the VER that was."""
+    """Puts in what wasn't given. Raises Fault where the key doesn't go with the VER or the payload that was."""
+    for text in arguments.payload or []:
+        refuse_other_key(text.encode("utf-8", "surrogateescape"), key, "the payload of --payload")
     arguments.payload = arguments.payload or [state_key(key, present_stamp()).decode("ascii")]
     arguments.ver = arguments.ver or [usual_version(key)]
     _, hash_bits = HASHES.get(arguments.ver[0].encode("utf-8", "surrogateescape"), HASHES[b"0121"])

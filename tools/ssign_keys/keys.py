@@ -110,6 +110,10 @@ class PrivateKey:
         """Raises ValueError where a key of DSA can't have these numbers."""
         self._key = key
         self.public = PublicKey(numbers_of(key.public_key()))
+        p, q, g, y = self.public.numbers
+        x = key.private_numbers().x
+        if not 0 < x < q or pow(g, x, p) != y:
+            raise ValueError("its public number y isn't that of its private number x")
 
     @classmethod
     def generate(cls, key_bits: int, q_bits: int) -> PrivateKey:
@@ -123,7 +127,8 @@ class PrivateKey:
         return key
 
     def sign(self, octets: bytes, version: bytes) -> bytes:
-        """The value of SIGN. Raises Fault where the hash that VER names is shorter than q."""
+        """The value of SIGN. Raises Fault where the hash that VER names is shorter than q, and where the signature that the
+        library made isn't valid."""
         hashed, hash_bits = HASHES[version]
         q_bits = self.public.numbers.q.bit_length()
         if q_bits > hash_bits:
@@ -133,7 +138,10 @@ class PrivateKey:
             spelled = self._key.sign(octets, hashed())
         except UnsupportedAlgorithm as fault:
             raise Fault(f"cryptography doesn't sign with {hashed.name} here: {fault}") from fault
-        return spell_numbers(decode_dss_signature(spelled))
+        signature = spell_numbers(decode_dss_signature(spelled))
+        if not self.public.is_signature(octets, version, signature):
+            raise Fault("cryptography made a signature that isn't valid here, so nothing is signed")
+        return signature
 
     def pem(self) -> bytes:
         """The key without a passphrase, as `read_private_key` takes it."""

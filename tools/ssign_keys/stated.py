@@ -1,0 +1,41 @@
+"""Whose key a payload states that is to be signed: a review would find no signature of another key valid."""
+from __future__ import annotations
+
+from typing import Optional
+
+from . import openpgp
+from .faults import Fault
+from .keys import Numbers, PublicKey
+from .payloads import LONGEST, Payload, read_payload, stated_numbers
+
+KINDS = {"C": "a certificate", "K": "a key", "P": "an OpenPGP key"}
+
+
+def refuse_other_key(octets: bytes, key: PublicKey, where: str) -> None:
+    """Refuses a payload that states another key than this one, or none that is known here. `where` is where it stands.
+
+    A payload of the types N and U states no key. What is no payload is for ssign to refuse.
+    """
+    if len(octets) > LONGEST:
+        raise Fault(f"{where} has {len(octets)} octets, and none of more than {LONGEST} is trusted")
+    payload = read_payload(octets)
+    if payload is None or payload.kind not in KINDS:
+        return
+    numbers = numbers_in(payload)
+    what = f"{where} has the type {payload.kind}"
+    if numbers is None:
+        raise Fault(f"{what}, and holds no DSA key that can be read as {KINDS[payload.kind]}")
+    if numbers != key.numbers:
+        raise Fault(f"{what}, and states another key than that of the private key")
+
+
+def numbers_in(payload: Payload) -> Optional[Numbers]:
+    """The numbers of the key in a payload of the types C, K and P, or None where it has none that can be read."""
+    if payload.kind == "K":
+        return stated_numbers(payload.blob)
+    if payload.kind == "P":
+        return openpgp.read_payload_key(payload.blob)
+    # the module of certificates takes half of the time of a start
+    from . import certificates
+    found = certificates.read_certificate(payload.blob)
+    return found.key.numbers if found and found.key and found.der == payload.blob else None
