@@ -38,4 +38,4 @@ def numbers_in(payload: Payload) -> Optional[Numbers]:
     # the module of certificates takes half of the time of a start
     from . import certificates
     found = certificates.read_certificate(payload.blob)
-    return found.key.numbers if found and found.key and found.der == payload.blob else None
+    return found.numbers if found and found.der == payload.blob else None
