@@ -162,8 +162,7 @@ says 'a torn file behind' 1 "Torn: the log breaks off in the message that begins
 printf 'x' | cat second - >bad
 keys verify --key keys/public-key.pem first bad
 size=$(stat -c %s second)
-refuses 'no frame in the second file' "ssign: F1 $(($(stat -c %s first) + size))
-ssign-keys: this is the octet $size of the log bad"
+refuses 'no frame in the second file' "ssign-keys: bad: octet $size, \`x\`, stands where the length of the next frame should begin (F1)"
 keys verify --key keys/public-key.pem - - <signed
 refuses 'standard input twice' "ssign-keys: standard input, \`-\`, can be given only once"
 
@@ -350,7 +349,7 @@ holds 'a newer ssign: its words' cmp <(sed 's|=/.*/answers |=answers |' called) 
     <(printf '%s\n' 'review --whole' 'questions --max-len=9999' 'review --answers=answers --whole --max-len=9999')
 printf '#!/bin/sh\necho "ssign: F4" >&2\nexit 2\n' >older
 keys verify --key keys/public-key.pem --whole --ssign ./older stored
-refuses 'a refusal is no want of --whole' 'ssign: F4'
+refuses 'a refusal is no want of --whole' "ssign-keys: stored: there isn't enough memory for a message: give the program more memory (F4)"
 # shellcheck disable=SC2016
 printf '#!/bin/sh\nkill -9 $$\n' >older
 keys verify --key keys/public-key.pem --whole --ssign ./older stored
@@ -430,8 +429,11 @@ keys verify --key keys/public-key.pem --counters counters signed
 says 'counters of nothing' 0 "$all_there $part" \
     "$known 10, and to the signature block that GBC counts as 2; the counters cover no message of this group"
 keys verify --key keys/public-key.pem --counters /dev/null signed
-says 'counters without a line' 0 "$all_there The counters file has no line, so it shows nothing."
-as_reviewed 'counters without a line' signed --counters /dev/null
+empty_counters='is empty, so it shows nothing: `ssign counters` writes a line for each joined session, so make it again from a log that is whole'
+for form in '' --json --raw; do
+    keys verify --key keys/public-key.pem --counters /dev/null ${form:+"$form"} signed
+    refuses "counters without a line $form" "ssign-keys: the counters file /dev/null $empty_counters"
+done
 
 # something is cut off
 kept '1 3' '1 0 0 11'
@@ -565,8 +567,6 @@ keys verify --key keys/public-key.pem --counters counters both
 holds 'a session of another key, which sent no block by the counters: they cover all' \
     grep -q "^Verdict: FINDINGS: .*; 1 session isn't believed\\. Nothing is missing up to the counters\\.\$" out
 kept '1 3' '1 0 0 11'
-keys verify --key others/public-key.pem --counters /dev/null signed
-says 'another key, and counters without a line' 1 "$nothing The counters file has no line, so it shows nothing."
 keys verify --key keys/public-key.pem --counters counters --lines "$ten"
 says 'the blocks taken out' 1 'Verdict: FINDINGS: the log holds no block, so nobody can say of its 10 messages what was sent; 10 messages up to the counters are missing or unlisted; 3 signature blocks are missing or aren'\''t believed; 1 session that the counters name isn'\''t here.'
 as_reviewed 'the blocks taken out' "$ten" --counters counters --lines
@@ -577,27 +577,27 @@ as_reviewed 'an empty log, up to counters' empty --counters counters
 head -c 20 signed >stored
 keys verify --key keys/public-key.pem --counters counters stored
 says 'a torn first message, up to counters' 1 'Verdict: FINDINGS: the log breaks off in its first message; 10 messages up to the counters are missing; 3 signature blocks are missing or aren'\''t believed; 1 session that the counters name isn'\''t here.'
-keys verify --key keys/public-key.pem --counters /dev/null empty
-says 'an empty log, and counters without a line' 0 'Verdict: NOTHING WAS SIGNED: the log is empty, so nothing in it is changed, and nobody can say what is missing. The counters file has no line, so it shows nothing.'
+keys verify --key keys/public-key.pem --counters empty empty
+refuses 'an empty log, and counters without a line' "ssign-keys: the counters file empty $empty_counters"
 
 # counters that are refused, before the log is read
+bad_counters() {
+    printf "ssign-keys: the counters file counters: line %d isn't as \`ssign counters\` writes it; an empty line, a CR, and a needless space or zero are wrong too (C1)" "$1"
+}
 for form in '' --json --raw; do
     kept '1 3' '1 0 0 11' '1 0 0 0'
     keys verify --key keys/public-key.pem --counters counters ${form:+"$form"} --answers-out unkept signed
-    refuses "a bad line of counters $form" 'ssign: C1 3
-ssign-keys: this is the line 3 of the counters file counters'
+    refuses "a bad line of counters $form" "$(bad_counters 3)"
     keys verify --key keys/public-key.pem --counters none ${form:+"$form"} --answers-out unkept signed
     refuses "no counters file $form" "ssign-keys: the counters file none can't be read: No such file or directory"
 done
 holds 'bad counters: no answers are kept' test ! -e unkept
 kept '1 3' && printf '\n' >>counters
 keys verify --key keys/public-key.pem --counters counters none
-refuses 'an empty line of counters' 'ssign: C1 2
-ssign-keys: this is the line 2 of the counters file counters'
+refuses 'an empty line of counters' "$(bad_counters 2)"
 kept $'1 3\r'
 keys verify --key keys/public-key.pem --counters counters signed
-refuses 'counters with CR' 'ssign: C1 1
-ssign-keys: this is the line 1 of the counters file counters'
+refuses 'counters with CR' "$(bad_counters 1)"
 keys verify --key keys/public-key.pem --counters "$TMPDIR" signed
 refuses 'a folder of counters' "ssign-keys: the counters file $TMPDIR can't be read: Is a directory"
 keys verify --key keys/public-key.pem --counters counters.1 --counters counters.2 both
@@ -608,7 +608,7 @@ keys verify --key keys/public-key.pem --counters /dev/stdin signed < <(cat count
 says 'counters on standard input' 0 "$all_there Nothing is missing up to the counters."
 kept 'x'
 python3 -B "$root/tests/verdicts.py" terminal "$keys_program" verify --key keys/public-key.pem --counters counters signed >out 2>err
-holds 'a bad line of counters on a terminal: the sentence of ssign explain' grep -qFx "$("$program" explain C1)" out
+holds 'a bad line of counters on a terminal: the same sentence' cmp out <(bad_counters 1; printf '\nstatus 2\n')
 # shellcheck disable=SC2016
 printf '#!/bin/sh\necho "$*" >>called\nfor it in "$@"; do\n    case $it in --counters=*) echo "error: unexpected argument" >&2; exit 2 ;; esac\ndone\nexec %q "$@"\n' "$program" >older
 rm -f called
@@ -658,19 +658,22 @@ holds 'no key: status 2' test "$status" = 2
 holds 'no key: nothing on standard output' test ! -s out
 keys verify --key keys/public-key.pem --max-len 100 signed
 holds 'a limit: status 2' test "$status" = 2
-holds 'a limit: the words of ssign' grep -qx 'ssign: F2 [0-9]*' err
+limited() {
+    grep -qx 'ssign-keys: signed: the length of a frame is over --max-len 100 with its digit at octet [0-9]*: raise it, up to 1048576 (F2)' "$1"
+}
+holds 'a limit: what is said' limited err
 python3 -B "$root/tests/verdicts.py" terminal "$keys_program" verify --key keys/public-key.pem --max-len 100 signed >out 2>err
-holds 'a refusal on a terminal: the sentence of ssign explain' \
-    cmp out <(grep -x 'ssign: F2 [0-9]*' out && "$program" explain F2 && echo 'status 2')
+holds 'a refusal on a terminal: the same sentence' limited out
+holds 'a refusal on a terminal: nothing else' test "$(wc -l <out) $(tail -n 1 out)" = '2 status 2'
 keys verify --key keys/public-key.pem --max-messages 3 signed
-holds 'another limit: the words of ssign' grep -qx 'ssign: F5 [0-9]*' err
+holds 'another limit: what is said' grep -qx 'ssign-keys: signed: the log goes on at octet [0-9]*, after as many messages as --max-messages 3 allows: raise it, up to 10000000 (F5)' err
 # a message that may be a block and is too long: the octet is that of the whole log, not of its blocks
 { cat signed && printf '66000 %066000d' 0 | sed 's/ 0000000/ [ssign /'; } >too-long
 keys verify --key keys/public-key.pem too-long
-refuses 'a block that is too long' "ssign: F2 $(($(stat -c %s signed) + 4))"
+too_long="ssign-keys: too-long: the length of a frame is over --max-len 65536 with its digit at octet $(($(stat -c %s signed) + 4)): raise it, up to 1048576 (F2)"
+refuses 'a block that is too long' "$too_long"
 keys verify --key keys/public-key.pem signed too-long
-refuses 'a block that is too long, in the second log' "ssign: F2 $((2 * $(stat -c %s signed) + 4))
-ssign-keys: this is the octet $(($(stat -c %s signed) + 4)) of the log too-long"
+refuses 'a block that is too long, in the second log' "$too_long"
 # a named pipe is read once, by whoever opened it first
 mkfifo pipe
 keys verify --key keys/public-key.pem --raw signed
@@ -733,12 +736,12 @@ done
 keys sign --key keys/public-key.pem --rsid 1 signed
 holds 'a public key to sign with: status 2' test "$status" = 2
 keys sign "${words[@]}" --rsid 1 signed
-refuses 'a log that is signed already' 'ssign: O3 0'
+refuses 'a log that is signed already' "ssign-keys: signed: the message at place 0 has an element ssign or ssign-cert, and blocks aren't signed again: sign the log without them (O3)"
 keys sign "${words[@]}" --rsid -1 "$ten"
 holds 'a number that ssign refuses: status 2' test "$status" = 2
 holds 'a number that ssign refuses: nothing on standard output' test ! -s out
 keys sign "${words[@]}" --rsid 1 --stamp never --lines "$ten"
-refuses 'a text that ssign refuses' 'ssign: P2'
+refuses 'a text that ssign refuses' 'ssign-keys: --stamp "never": it is no TIMESTAMP such as 2026-01-15T09:15:07Z, and not - (P2)'
 keys sign "${words[@]}" --rsid 1 --rsid 2 --lines "$ten"
 holds 'an option twice: status 2' test "$status" = 2
 keys sign "${words[@]}" --rsid 1 --payload "$(<keys/payload)" --stamp - --pri 14 --procid 7 --msgid M --groups pri --frag 99 --copies 2 --lines - <"$ten"
@@ -748,7 +751,8 @@ keys verify --key keys/public-key.pem signed
 says 'what they gave' 0 'Session: HOSTNAME gate, APP-NAME signer, PROCID 7, RSID 1' "$all_there" '  group: SG 1, SPRI 86 (messages of PRI 86)'
 timeout "$patience" "$keys_program" sign "${words[@]}" --rsid 1 --lines "$ten" >/dev/full 2>err
 holds 'a signed log to a full device: status 2' test "$?" = 2
-holds 'a signed log to a full device: what is said' cmp err <(echo 'ssign: W1')
+holds 'a signed log to a full device: what is said' \
+    cmp err <(echo "ssign-keys: standard output can't be written to its end: don't use what was written (W1)")
 
 # ---- signals: a program that waits is ended with ssign-keys
 # shellcheck disable=SC2016

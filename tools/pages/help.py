@@ -9,7 +9,7 @@ from typing import Dict, List, Optional, Sequence, Tuple
 
 OPTION = re.compile(r" +(?:(-\w), )?(--[a-z][a-z-]*)((?: [<{]?[\w.,]+[>}]?)*)(?:  +(\S.*))?")
 NAMED = re.compile(r" +(\S+)(?:  +(\S.*))?")
-HEADING = re.compile(r"(Commands|Options|Arguments|Examples|options|optional arguments|positional arguments):")
+HEADING = re.compile(r"[A-Za-z][a-z ]*:")
 POSSIBLE = re.compile(r"\[possible values: ([^]]+)\]")
 # values that are few, and that a help tells in a sentence alone
 KNOWN_VALUES = {"--groups": ["one", "pri"]}
@@ -108,11 +108,12 @@ def sections(said: str) -> Dict[str, List[str]]:
 
 
 def options_of(parts: Dict[str, List[str]]) -> List[Option]:
-    """The options of a help."""
+    """The options of a help, which may stand below several headings."""
     options = []
-    for line in parts.get("options", []):
-        found = OPTION.fullmatch(line)
-        options.append(option_of(line, found[4] or "" if found else ""))
+    for line in (it for lines in parts.values() for it in lines):
+        if line.lstrip().startswith("-"):
+            found = OPTION.fullmatch(line)
+            options.append(option_of(line, found[4] or "" if found else ""))
     return options
 
 

@@ -74,6 +74,9 @@ def copy_counters(path: str, workplace: Workplace) -> str:
         except (OSError, ValueError) as fault:
             raise Fault(f"the counters file {shown_name(path)} can't be read: {reason(fault)}") from fault
         finish(copy)
+        if not os.fstat(copy.fileno()).st_size:
+            raise Fault(f"the counters file {shown_name(path)} is empty, so it shows nothing: `ssign counters` writes a line "
+                        "for each joined session, so make it again from a log that is whole")
     return workplace.path("counters")
 
 

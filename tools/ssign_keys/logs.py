@@ -15,6 +15,7 @@ from typing import BinaryIO, Iterable, Iterator, List, Optional, Sequence, Tuple
 
 from .expand import FRONT, PIECE, expand_zstd, expanded, form_of
 from .faults import Fault
+from .form import form_of as form_of_log
 from .progress import Progress
 from .walk import LENGTH, LONGEST, Walk
 from .words import shown_name
@@ -76,14 +77,14 @@ def look(file: BinaryIO) -> Tuple[int, int]:
     return seen.st_size, seen.st_mtime_ns
 
 
-def open_log(names: Sequence[str], are_lines: bool, workplace: Workplace, progress: Progress) -> Log:
-    """Opens the given logs as one."""
+def open_log(names: Sequence[str], named_form: Optional[bool], workplace: Workplace, progress: Progress) -> Log:
+    """Opens the given logs as one. Where nobody says whether they are lines, their first octets do."""
     if list(names).count("-") > 1:
         raise Fault("standard input, `-`, can be given only once")
     if len(names) == 1 and names[0] != "-":
         file = open_file(names[0])
         if stat.S_ISREG(os.fstat(file.fileno()).st_mode) and form_of(os.pread(file.fileno(), FRONT, 0)) is None:
-            return Log(file, [Part(names[0], 0, 0)], are_lines, False)
+            return Log(file, [Part(names[0], 0, 0)], form_of_log(file, [(names[0], 0)], named_form).are_lines, False)
         # whoever writes to a pipe writes to the one that reads it first, so it isn't opened a second time
         sources: Iterator[BinaryIO] = iter([file])
     else:
@@ -94,8 +95,10 @@ def open_log(names: Sequence[str], are_lines: bool, workplace: Workplace, progre
         starts.append((name, spool.tell()))
         with next(sources) as source:
             spool_log(name, source, spool, workplace, progress)
-    parts = [Part(names[0], 0, 0)] if len(names) == 1 else measure(spool, starts, are_lines, progress)
-    return Log(spool, parts, are_lines, True)
+    form = form_of_log(spool, starts, named_form)
+    parts = [Part(names[0], 0, 0)] if len(names) == 1 else measure(spool, starts, form.are_lines, progress)
+    form.refuse_odd()
+    return Log(spool, parts, form.are_lines, True)
 
 
 def open_file(name: str) -> BinaryIO:

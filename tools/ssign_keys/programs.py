@@ -17,18 +17,23 @@ from .workplace import Workplace, say
 
 # `ssign: F1 0`, the line of a refusal
 REFUSAL = re.compile(r"ssign: ([A-Z][0-9]{1,2})(?: ([0-9]+))?\s*")
+# what is said of a wrong word of the command line: its front, its last line, and how many lines of it are held
+MISTAKE = "error: "
+MORE = "For more information, try"
+HELD = 100
 PAUSE = 0.2
 # a line of questions may have as many octets as a payload of the greatest length in base64, and more
 PIECE = 1 << 20
 
 
 class Refused(Exception):
-    """ssign refused, and said so itself. `code` and `where` are what it said, if it was a refusal with a code."""
+    """ssign refused. `code` and `where` are what it said, and `mistake` what it said of a word; None where it said else."""
 
-    def __init__(self, code: Optional[str], where: Optional[int]) -> None:
-        super().__init__(code, where)
+    def __init__(self, code: Optional[str], where: Optional[int], mistake: Optional[str] = None) -> None:
+        super().__init__(code, where, mistake)
         self.code = code
         self.where = where
+        self.mistake = mistake
 
 
 def add_program_argument(parser: argparse.ArgumentParser) -> None:
@@ -57,20 +62,17 @@ def find_program(arguments: argparse.Namespace) -> str:
 
 
 class Run:
-    """A run of ssign that was begun. What it says on standard error is passed on as it comes."""
+    """A run of ssign that was begun. What it says on standard error is passed on as it comes, but for its refusal."""
 
     def __init__(self, program: str, words: Sequence[str], workplace: Workplace, progress: Progress,
-                 log: Union[BinaryIO, int], out: Union[BinaryIO, int], holds_refusal: bool = False) -> None:
-        """Where the output goes to subprocess.PIPE, it is read with `lines`; where the log comes from there, `feed` it.
-
-        A refusal may be held back, for whoever runs ssign over a part of a log; `pass_refusal` says it.
-        """
+                 log: Union[BinaryIO, int], out: Union[BinaryIO, int]) -> None:
+        """Where the output goes to subprocess.PIPE, it is read with `lines`; where the log comes from there, `feed` it."""
         self.name = f"ssign {words[0]}"
-        self._holds_refusal = holds_refusal
         self._progress = progress
         self._said = workplace.new_file("said")
         self._passed = 0
-        self._text = ""
+        self._rest = b""
+        self._held: List[str] = []
         try:
             self.child = subprocess.Popen(
                 [program, *words], stdin=log, stdout=out, stderr=self._said)
@@ -111,37 +113,51 @@ class Run:
             except subprocess.TimeoutExpired:
                 self._pass_on()
                 tick()
-        self._pass_on()
+        self._pass_on(is_end=True)
         self._said.close()
+        if status == 2:
+            raise self._refusal()
+        for line in self._held:
+            say(line)
         if status in (0, 1):
             return status
         if status < 0:
             raise Fault(f"{self.name} was ended by the signal {signal_name(-status)}{HINTS.get(-status, '')}")
-        if status != 2:
-            raise Fault(f"{self.name} ended with the status {status}, which ssign never gives")
-        refusal = REFUSAL.fullmatch(self._text)
-        if refusal is None:
-            raise Refused(None, None)
-        raise Refused(refusal[1], None if refusal[2] is None else int(refusal[2]))
+        raise Fault(f"{self.name} ended with the status {status}, which ssign never gives")
 
-    def _pass_on(self) -> None:
-        """Passes on what it said meanwhile."""
-        said = os.pread(self._said.fileno(), PIECE, self._passed)
-        if not said:
+    def _refusal(self) -> Refused:
+        """What it refused with, by what was held back. What isn't known here is passed on."""
+        first = self._held[0] if self._held else ""
+        refusal = REFUSAL.fullmatch(first)
+        if refusal is not None:
+            return Refused(refusal[1], None if refusal[2] is None else int(refusal[2]))
+        if first.startswith(MISTAKE) and any(line.startswith(MORE) for line in self._held):
+            return Refused(None, None, first[len(MISTAKE):])
+        for line in self._held:
+            say(line)
+        return Refused(None, None)
+
+    def _pass_on(self, is_end: bool = False) -> None:
+        """Passes on the lines that it said meanwhile. A refusal and what follows are held back."""
+        while True:
+            said = os.pread(self._said.fileno(), PIECE, self._passed)
+            self._passed += len(said)
+            *lines, self._rest = (self._rest + said).split(b"\n")
+            if is_end and not said and self._rest:
+                lines, self._rest = [self._rest], b""
+            for octets in lines:
+                self._take(octets.decode("utf-8", "backslashreplace"))
+            if not said:
+                return
+
+    def _take(self, line: str) -> None:
+        """Holds a line back, or passes it on."""
+        if self._held or line.startswith(MISTAKE) or REFUSAL.fullmatch(line):
+            if len(self._held) < HELD:
+                self._held.append(line)
             return
         self._progress.clear()
-        self._passed += len(said)
-        text = said.decode("utf-8", "backslashreplace")
-        self._text = (self._text + text)[-1000:]
-        for line in text.splitlines():
-            if self._holds_refusal and REFUSAL.fullmatch(line):
-                self._text = line
-            else:
-                say(line)
-
-    def pass_refusal(self) -> None:
-        """Says what was held back."""
-        say(self._text.rstrip("\n"))
+        say(line)
 
 
 HINTS: Dict[int, str] = {
@@ -156,19 +172,6 @@ def signal_name(number: int) -> str:
         return signal.Signals(number).name
     except ValueError:
         return str(number)
-
-
-def explain(program: str, code: Optional[str]) -> None:
-    """Says what a refusal means, where a person sees it."""
-    try:
-        if code is None or not os.isatty(2):
-            return
-        said = subprocess.run([program, "explain", code], stdin=subprocess.DEVNULL, stdout=subprocess.PIPE,
-                              stderr=subprocess.DEVNULL, timeout=10, check=False)
-    except (OSError, subprocess.SubprocessError):
-        return
-    if said.returncode == 0:
-        say(said.stdout.decode("utf-8", "backslashreplace").rstrip("\n"))
 
 
 def handed_on(arguments: argparse.Namespace, names: Sequence[str]) -> List[str]:
@@ -186,14 +189,20 @@ LIMITS = ("max-len", "max-messages")
 def add_log_arguments(parser: argparse.ArgumentParser) -> None:
     """Says how a log is read, in the words of ssign, which checks their values."""
     parser.add_argument("--lines", action="store_true", help="the log is one message a line, not octet-counted frames")
+    add_limit_arguments(parser)
+
+
+def add_limit_arguments(parser: argparse._ActionsContainer) -> None:
+    """Says how much of a log is read."""
     parser.add_argument("--max-len", action="append", metavar="N", help="the longest message, in octets: 1 to 1048576 "
                         "(default: 65536)")
     parser.add_argument("--max-messages", action="append", metavar="N", help="the most messages: 1 to 10000000 "
                         "(default: 10000000)")
 
 
-def log_words(arguments: argparse.Namespace) -> List[str]:
-    """The words of `add_log_arguments` for ssign."""
-    return (["--lines"] if arguments.lines else []) + handed_on(arguments, LIMITS)
+def log_words(arguments: argparse.Namespace, are_lines: Optional[bool] = None) -> List[str]:
+    """The words for ssign that say how a log is read: as the options say, but for a form that is known otherwise."""
+    is_of_lines = arguments.lines if are_lines is None else are_lines
+    return (["--lines"] if is_of_lines else []) + handed_on(arguments, LIMITS)
 
 

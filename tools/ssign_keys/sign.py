@@ -3,15 +3,18 @@ from __future__ import annotations
 
 import argparse
 import subprocess
-from typing import Iterator, List
+from typing import Iterator, List, Optional
 
+from . import form as forms
 from .defaults import fill
 from .keys import PrivateKey, read_private_key
 from .logs import Log, open_log
-from .programs import Refused, Run, add_log_arguments, add_program_argument, explain, find_program, handed_on, log_words
+from .programs import Refused, Run, add_limit_arguments, add_program_argument, find_program, handed_on, log_words
 from .progress import Progress
+from .refusals import fault_of, named, warn_of_form
 from .seal import seals
-from .workplace import Workplace, finish, put
+from .unsigned import warning
+from .workplace import Workplace, finish, put, say
 
 # the options of `ssign plan` that are handed on, with what each is
 OPTIONS = {
@@ -36,7 +39,8 @@ def add_arguments(parser: argparse.ArgumentParser) -> None:
     parser.add_argument("--key", required=True, metavar="PRIVATE.pem", help="the private key to sign with")
     for name, (value, meaning) in OPTIONS.items():
         parser.add_argument(f"--{name}", action="append", required=name == "rsid", metavar=value, help=meaning)
-    add_log_arguments(parser)
+    forms.add_arguments(parser)
+    add_limit_arguments(parser)
     add_program_argument(parser)
     parser.add_argument("log", metavar="LOG", help="the log of messages without blocks; - is standard input")
 
@@ -45,20 +49,33 @@ def run(arguments: argparse.Namespace) -> int:
     """Writes the signed log to standard output, and gives the status of `ssign sign`."""
     program = find_program(arguments)
     progress = Progress()
+    log: Optional[Log] = None
     try:
         with Workplace() as workplace:
+            named_form = forms.named_form(arguments)
             key = read_private_key(arguments.key)
             fill(arguments, key.public)
-            words = log_words(arguments) + handed_on(arguments, list(OPTIONS))
-            log = open_log([arguments.log], arguments.lines, workplace, progress)
+            log = open_log([arguments.log], named_form, workplace, progress)
+            words = log_words(arguments, log.are_lines) + handed_on(arguments, list(OPTIONS))
+            warn(arguments.log, log)
             answers = seal(program, words, key, log, workplace, progress)
             return write(program, words, answers, log, workplace, progress)
     except Refused as refused:
         progress.clear()
-        explain(program, refused.code)
+        fault = fault_of(refused, program, arguments, log)
+        if fault is not None:
+            raise fault from refused
         return 2
     finally:
         progress.clear()
+
+
+def warn(name: str, log: Log) -> None:
+    """Says of a log what nothing refuses, and what still is seldom meant."""
+    warn_of_form(log)
+    why = warning(log)
+    if why is not None:
+        say(f"ssign-keys: warning: {named(name)}: {why}")
 
 
 def seal(program: str, words: List[str], key: PrivateKey, log: Log, workplace: Workplace, progress: Progress) -> str:

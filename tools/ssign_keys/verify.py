@@ -8,6 +8,7 @@ import subprocess
 import tempfile
 from typing import BinaryIO, Callable, Iterator, List, NamedTuple, Optional, Type, Union
 
+from . import form as forms
 from . import trust as trust_options
 from .answer import answers
 from .blocks import Session
@@ -16,8 +17,9 @@ from .kept import Counters, copy_counters, is_standard_pipe, read_counters
 from .logs import Log, open_log
 from .machine import Machine
 from .person import Person
-from .programs import Refused, Run, add_log_arguments, add_program_argument, explain, find_program, log_words
+from .programs import Refused, Run, add_limit_arguments, add_program_argument, find_program, log_words
 from .progress import Progress
+from .refusals import fault_of, warn_of_form
 from .report import Reading
 from .strays import Finder
 from .trust import Trust
@@ -32,7 +34,8 @@ def add_arguments(parser: argparse.ArgumentParser) -> None:
     parser.add_argument("--key", dest="keys", action="append", default=[], metavar="PUBLIC.pem",
                         help="an originator's public key, which you got by another way than with the log")
     trust_options.add_arguments(parser)
-    add_log_arguments(parser)
+    forms.add_arguments(parser)
+    add_limit_arguments(parser)
     parser.add_argument("--whole", action="store_true", help="also say which signature blocks of each session are missing, "
                         "by their counter GBC; that is a finding")
     parser.add_argument("--counters", action="append", metavar="FILE", help="also say what is missing up to the "
@@ -69,9 +72,11 @@ def run(arguments: argparse.Namespace) -> int:
             refuse_two_counters(arguments.counters)
             refuse_one_pipe(arguments.counters, arguments.logs)
             trust = Trust.from_arguments(arguments)
+            named_form = forms.named_form(arguments)
             missing = find_missing(program, arguments, workplace, progress)
-            log = open_log(arguments.logs, arguments.lines, workplace, progress)
-            verifier = Verifier(program, log_words(arguments), missing, log, workplace, progress)
+            log = open_log(arguments.logs, named_form, workplace, progress)
+            warn_of_form(log)
+            verifier = Verifier(program, log_words(arguments, log.are_lines), missing, log, workplace, progress)
             notes = verifier.answer(trust, arguments.jobs)
             status = verifier.review()
             verifier.tell_unused(trust)
@@ -87,9 +92,9 @@ def run(arguments: argparse.Namespace) -> int:
             return status
     except Refused as refused:
         progress.clear()
-        tell_file(refused, log)
-        tell_counters_file(refused, arguments.counters)
-        explain(program, refused.code)
+        fault = fault_of(refused, program, arguments, log)
+        if fault is not None:
+            raise fault from refused
         return 2
     finally:
         progress.clear()
@@ -121,13 +126,12 @@ class Verifier:
     def answer(self, trust: Trust, jobs: int) -> Notes:
         """Has ssign ask, and keeps what holds as the answers file."""
         asking = Run(self._program, ["questions", *self._words], self._workplace, self._progress, subprocess.PIPE,
-                     subprocess.PIPE, holds_refusal=True)
+                     subprocess.PIPE)
         asking.feed(self._candidates())
         try:
             notes = self._keep(asking, trust, jobs)
         except Refused as refused:
             self._refuse(refused)
-            asking.pass_refusal()
             raise
         self._log.check_unchanged()
         return Notes(notes)
@@ -233,7 +237,7 @@ def refuse_without(program: str, words: List[str], option: str, what: str, workp
     try:
         Run(program, ["review", *words], workplace, progress, subprocess.DEVNULL, subprocess.DEVNULL).end(lambda: None)
     except Refused as refused:
-        if refused.code is not None:
+        if refused.code is not None or "UTF-8" in (refused.mistake or ""):
             raise
         raise Fault(f"the program {shown_name(program)} has no `review {option}`, so it can't say {what}: name a newer "
                     f"one with --ssign, or leave {option} out") from refused
@@ -263,19 +267,3 @@ def keep_answers(path: str, wanted: str) -> None:
             raise
     except OSError as error:
         raise Fault(f"the answers can't be kept in {shown_name(wanted)}: {error.strerror}") from error
-
-
-def tell_file(refused: Refused, log: Optional[Log]) -> None:
-    """Says in which of several logs the octet lies that a refusal names."""
-    if log is None or len(log.parts) < 2 or refused.where is None or (refused.code or "")[:1] != "F":
-        return
-    part = log.part_of_offset(refused.where)
-    say(f"ssign-keys: this is the octet {refused.where - part.offset} of the log {shown_name(part.name)}")
-
-
-def tell_counters_file(refused: Refused, paths: Optional[List[str]]) -> None:
-    """Says which counters file a refusal is about, since ssign read a copy of it."""
-    if paths is None or (refused.code or "")[:1] != "C":
-        return
-    what = "this is about" if refused.where is None else f"this is the line {refused.where} of"
-    say(f"ssign-keys: {what} the counters file {shown_name(paths[0])}")

@@ -1,0 +1,432 @@
+#!/usr/bin/env python3
+"""Runs ssign-keys with the mistakes of a table, and compares all that it says with a sentence that was written by hand.
+
+    mistakes.py PROGRAM
+
+Each command line is run twice: with standard error as a pipe, and as a terminal. Both times the status and the whole
+sentence have to be those of the table, and standard output has to be empty. PROGRAM is ssign. The last line is
+`mistakes: N passed, M failed`.
+"""
+import os
+import subprocess
+import sys
+import tempfile
+import traceback
+import tty
+
+ROOT = os.path.dirname(os.path.dirname(os.path.abspath(__file__)))
+KEYS = os.path.join(ROOT, "tools", "ssign-keys")
+ARCHIVE = os.path.join(ROOT, "tools", "archive")
+sys.path.insert(0, os.path.dirname(KEYS))
+
+import ssign_archive.cli
+import ssign_keys.cli
+import ssign_keys.sign
+import ssign_keys.verify
+
+TOOLS = {KEYS: ssign_keys.cli.main, ARCHIVE: ssign_archive.cli.main}
+LINE = b"<13>1 - - - - - - %s"
+SEE = "(see `ssign-keys %s --help`)"
+NAMES = ["messages.log", "-dash", "--help", "my log", "new\nline", "\x1b[2J", "back\\slash", b"\xff\xfe.log", "\u00fc\u00f6.log", "'q'\"", "x" * 200]
+
+passed = failed = 0
+
+
+def tell(what, fault=""):
+    """One check, passed where there is no fault."""
+    global passed, failed
+    if not fault:
+        passed += 1
+        return
+    failed += 1
+    print("mistakes: %s: FAILED\n    %s" % (what, fault))
+
+
+def framed(*messages):
+    return b"".join(b"%d %s" % (len(it), it) for it in messages)
+
+
+def lines(*messages):
+    return b"".join(it + b"\n" for it in messages)
+
+
+def shown(name):
+    """A name as it has to be shown: what isn't printable, and the backslash, as \\xNN."""
+    if isinstance(name, str):
+        name = name.encode()
+    return "".join(it if it.isprintable() and it != "\\" else "".join("\\x%02x" % octet for octet in it.encode("utf-8", "surrogateescape"))
+                   for it in name.decode("utf-8", "surrogateescape"))
+
+
+def with_pipe(words, given):
+    """What a run does with pipes: its status, standard output and standard error."""
+    ours, theirs = os.pipe()
+    return started(words, given, ours, theirs)
+
+
+def with_terminal(words, given):
+    """The same with a terminal as standard error."""
+    ours, theirs = os.openpty()
+    tty.setraw(theirs)
+    return started(words, given, ours, theirs)
+
+
+def started(words, given, ours, theirs):
+    """Runs a tool in a process that has its modules already, which saves most of the time."""
+    with tempfile.TemporaryFile() as log, tempfile.TemporaryFile() as out:
+        log.write(given)
+        log.flush()
+        os.lseek(log.fileno(), 0, os.SEEK_SET)
+        sys.stdout.flush()
+        child = os.fork()
+        if child == 0:
+            try:
+                for number, file in enumerate((log.fileno(), out.fileno(), theirs)):
+                    os.dup2(file, number)
+                os.close(ours)
+                status = TOOLS[words[0]]([os.fsdecode(it) for it in words[1:]])
+            except SystemExit as end:
+                status = end.code or 0
+            except BaseException:
+                traceback.print_exc()
+                status = 99
+            sys.stdout.flush()
+            os._exit(status)
+        os.close(theirs)
+        said = b""
+        try:
+            while True:
+                piece = os.read(ours, 4096)
+                if not piece:
+                    break
+                said += piece
+        except OSError:
+            # a terminal whose other end was closed
+            pass
+        os.close(ours)
+        status = os.waitstatus_to_exitcode(os.waitpid(child, 0)[1])
+        os.lseek(out.fileno(), 0, os.SEEK_SET)
+        return status, out.read(), said
+
+
+def at(name):
+    """The name as a word of a command line."""
+    octets = os.fsencode(name)
+    return b"./" + octets if octets.startswith(b"-") else octets
+
+
+def write(name, octets):
+    with open(at(name), "wb") as file:
+        file.write(octets)
+
+
+def write_logs():
+    """The logs that the table names."""
+    two = [LINE % b"a", LINE % b"b"]
+    write("lines", lines(*two))
+    write("frames", framed(*two))
+    write("empty", b"")
+    write("old", b"Jan 15 09:15:07 gate su: root\n")
+    write("dated", b"2026-01-15 09:15:07 gate su: root\n")
+    write("twice.gz", b"")
+    write("bz", b"BZh91AY&SY")
+    write("zip", b"PK\x03\x04....")
+    write("lz4", b"\x04\x22\x4d\x18....")
+    write("bom", b"\xef\xbb\xbf" + lines(*two))
+    write("wide", "\ufeff<13>1 -".encode("utf-16-le"))
+    write("blank", b"\n" + lines(*two))
+    write("binary", b"\x00\x01\x02\x03")
+    write("zero", b"019 " + LINE % b"a")
+    write("between", framed(two[0]) + b"\n" + framed(two[1]))
+    write("inside", framed(two[0]) + b"1x " + two[1])
+    write("long-line", lines(two[0], LINE % (b"x" * 81)))
+    write("long-frame", framed(two[0], LINE % (b"x" * 81)))
+    write("blank-line", lines(two[0], b"", two[1]))
+    write("torn-frames", framed(*two)[:-1])
+    write("torn-lines", lines(*two)[:-1])
+    write("no-5424", lines(two[0], b"<13>Jan 15 09:15:07 gate su: root"))
+    write("bad-host", framed(two[0], b"<13>1 - " + b"h" * 256 + b" - - - -"))
+    write("crlf", b"<13>1 - - - - - -\r\n")
+    write("block", framed(two[0], b"<110>1 - - - - - [ssign VER=\"0111\"]"))
+    write("count-x", b"count x\n")
+
+
+def table():
+    """The mistakes: the words, the log on standard input, and the sentence. The status is 2."""
+    verify = [KEYS, "verify", "--key", "keys/public-key.pem"]
+    sign = [KEYS, "sign", "--key", "keys/private-key.pem", "--rsid", "1"]
+    length = len(LINE % b"a")
+    frame = len(framed(LINE % b"a"))
+    hint = "this looks like one message a line: use --lines (F1)"
+    compressed = "it is compressed by %s: hand over its contents (`%s`) (F1)"
+    outdated = 'it is no TIMESTAMP such as 2026-01-15T09:15:07Z, and not - (P2)'
+    warned = "warning: %s: this looks like octet-counted frames, and is read as lines\nssign-keys: "
+    framed_too = "this looks like octet-counted frames: leave --lines out"
+    wants = '--%s "%s": it has to be a number from %s'
+    for command in (verify, sign):
+        at_end = [*command]
+        yield at_end + ["old"], b"", "old: " + hint
+        yield at_end + ["-"], b"Jan 15 x\n", "standard input: " + hint
+        yield at_end + ["dated"], b"", "dated: " + hint
+        yield at_end + ["--frames", "lines"], b"", "lines: " + hint
+        yield at_end + ["--lines", "--frames", "lines"], b"", "--lines and --frames exclude each other: a log has one form"
+        yield at_end + ["bz"], b"", "bz: " + compressed % ("bzip2", "bzcat")
+        yield at_end + ["zip"], b"", "zip: " + compressed % ("zip", "unzip -p")
+        yield at_end + ["lz4"], b"", "lz4: " + compressed % ("lz4", "lz4cat")
+        yield at_end + ["twice.gz"], b"", "twice.gz: it is compressed by gzip twice: expand it once (F1)"
+        yield at_end + ["bom"], b"", "bom: it begins with a byte order mark, which is no part of a message: remove it (`tail -c +4`) (F1)"
+        yield at_end + ["wide"], b"", "wide: this is a text in UTF-16, and a log is stored as it was sent (F1)"
+        yield at_end + ["keys/public-key.pem"], b"", "keys/public-key.pem: this is a file of keys or certificates, and no log (F1)"
+        yield at_end + ["blank"], b"", "blank: it begins with an empty line: remove that, and use --lines (F1)"
+        yield at_end + ["binary"], b"", "binary: octet 0, `\\x00`, can't stand in the length of the frame that begins at octet 0 (F1)"
+        yield at_end + ["zero"], b"", "zero: octet 0, `0`, can't stand in the length of the frame that begins at octet 0 (F1)"
+        yield at_end + ["between"], b"", "between: octet %d, a line feed, stands where the length of the next frame should begin (F1)" % frame
+        yield at_end + ["inside"], b"", "inside: octet %d, `x`, can't stand in the length of the frame that begins at octet %d (F1)" % (frame + 1, frame)
+        yield at_end + ["--max-len", "20", "long-line"], b"", \
+            "long-line: the line goes on at octet %d, and has more octets than --max-len 20 allows: raise it, up to 1048576 (F2)" % (length + 21)
+        yield at_end + ["--max-len", "20", "long-frame"], b"", \
+            "long-frame: the length of a frame is over --max-len 20 with its digit at octet %d: raise it, up to 1048576 (F2)" % (frame + 1)
+        yield at_end + ["--max-len", "1048576", "-"], b"1048577 ", \
+            "standard input: the length of a frame is over --max-len 1048576 with its digit at octet 6: no message may be longer (F2)"
+        yield at_end + ["--lines", "--max-len", "10", "frames"], b"", warned % "frames" + "frames: " + framed_too + " (F2)"
+        yield at_end + ["--max-messages", "1", "lines"], b"", \
+            "lines: the log goes on at octet %d, after as many messages as --max-messages 1 allows: raise it, up to 10000000 (F5)" % (length + 1)
+        yield at_end + ["--max-messages", "1", "frames"], b"", \
+            "frames: the log goes on at octet %d, after as many messages as --max-messages 1 allows: raise it, up to 10000000 (F5)" % frame
+        yield at_end + ["--lines", "--max-messages", "1", "-"], b"3 abc\n3 abc\n", "standard input: " + framed_too + " (F5)"
+        yield at_end + ["blank-line"], b"", \
+            "blank-line: line 2 is empty (octet %d), and a message has at least one octet: remove the line (F9)" % (length + 1)
+        yield at_end + ["--lines", "-"], b"3 abc\n\n", "standard input: " + framed_too + " (F9)"
+        yield at_end + ["none"], b"", "the log none can't be read: No such file or directory"
+        yield at_end + ["--max-len", "0", "lines"], b"", wants % ("max-len", "0", "1 to 1048576")
+        yield at_end + ["--max-len", "x", "lines"], b"", wants % ("max-len", "x", "1 to 1048576")
+        yield at_end + ["--max-messages", "99999999", "lines"], b"", wants % ("max-messages", "99999999", "1 to 10000000")
+        yield at_end + ["--max-len", "9", "--max-len", "8", "lines"], b"", "--max-len can be given only once"
+        yield at_end + ["--nothing", "lines"], b"", "unrecognized arguments: --nothing (see `ssign-keys --help`)"
+        yield at_end, b"", "the following arguments are required: LOG " + SEE % command[1]
+        yield at_end + ["--max-len", "-1", "lines"], b"", wants % ("max-len", "-1", "1 to 1048576")
+
+    # several logs
+    both = "lines: this is one message a line, and frames isn't: check logs of two forms one by one, or name the form of all " \
+        "with --lines or --frames"
+    yield verify + ["lines", "frames"], b"", both
+    yield verify + ["frames", "lines"], b"", both
+    yield verify + ["empty", "frames", "empty", "lines"], b"", both
+    yield verify + ["lines", "old"], b"", both.replace("frames isn't", "old isn't")
+    yield verify + ["frames", "between"], b"", "between: octet %d, a line feed, stands where the length of the next frame should begin (F1)" % frame
+    yield verify + ["frames", "old"], b"", "old: " + hint
+    yield verify + ["lines", "blank-line"], b"", \
+        "blank-line: line 2 is empty (octet %d), and a message has at least one octet: remove the line (F9)" % (length + 1)
+    yield verify + ["--max-len", "20", "frames", "long-frame"], b"", \
+        "long-frame: the length of a frame is over --max-len 20 with its digit at octet %d: raise it, up to 1048576 (F2)" % (frame + 1)
+    yield verify + ["--max-messages", "3", "frames", "-"], framed(LINE % b"c", LINE % b"d"), \
+        "standard input: the log goes on at octet %d, after as many messages as --max-messages 3 allows: raise it, up to 10000000 (F5)" % frame
+    yield verify + ["torn-frames", "frames"], b"", \
+        "the log torn-frames breaks off in the message that begins at its octet %d, so the next log can't be read behind it: " \
+        "keep only what stands before (`head -c %d`), or, where the next log goes on with this message, join the two (`cat`) " \
+        "and hand them over as one" % (frame, frame)
+    yield verify + ["torn-frames", "lines"], b"", \
+        "the log torn-frames breaks off in the message that begins at its octet %d, so the next log can't be read behind it: " \
+        "keep only what stands before (`head -c %d`), or, where the next log goes on with this message, join the two (`cat`) " \
+        "and hand them over as one" % (frame, frame)
+    yield verify + ["-", "-"], b"", "standard input, `-`, can be given only once"
+
+    # counters
+    no_counters = "is empty, so it shows nothing: `ssign counters` writes a line for each joined session, so make it again " \
+        "from a log that is whole"
+    bad_counters = "isn't as `ssign counters` writes it; an empty line, a CR, and a needless space or zero are wrong too (C1)"
+    yield verify + ["--counters", "empty", "signed"], b"", "the counters file empty " + no_counters
+    yield verify + ["--counters", "/dev/null", "signed"], b"", "the counters file /dev/null " + no_counters
+    yield verify + ["--counters", "/dev/stdin", "signed"], b"", "the counters file /dev/stdin " + no_counters
+    yield verify + ["--counters", "count-x", "signed"], b"", "the counters file count-x: line 1 " + bad_counters
+    yield verify + ["--counters", "/dev/stdin", "signed"], b"count h a p 1 1\n\n", "the counters file /dev/stdin: line 2 " + bad_counters
+    yield verify + ["--counters", "none", "signed"], b"", "the counters file none can't be read: No such file or directory"
+
+    # what is to be signed
+    yield sign + ["torn-frames"], b"", \
+        "torn-frames: the log breaks off in the frame that begins at octet %d: get the rest, or keep what stands before (`head -c %d`) (P1)" % (frame, frame)
+    yield sign + ["torn-lines"], b"", \
+        "torn-lines: the last line, from octet %d on, has no line feed: add it, or keep what stands before (`head -c %d`) (P1)" % (length + 1, length + 1)
+    yield sign + ["--lines", "frames"], b"", warned % "frames" + "frames: " + framed_too + " (P1)"
+    yield sign + ["-"], b"12", "standard input: the log breaks off in the frame that begins at octet 0: get the rest, or keep what stands before (`head -c 0`) (P1)"
+    yield sign + ["no-5424"], b"", \
+        "no-5424: the message at place 1 isn't one of RFC 5424 (VERSION, at its octet 4): leave it out, or correct its sender (O2)"
+    yield sign + ["bad-host"], b"", \
+        "bad-host: the message at place 1 isn't one of RFC 5424 (HOSTNAME, at its octet 8): leave it out, or correct its sender (O2)"
+    yield sign + ["--lines", "old"], b"", \
+        "old: the message at place 0 isn't one of RFC 5424 (PRI, at its octet 0): leave it out, or correct its sender (O2)"
+    yield sign + ["block"], b"", "block: the message at place 1 has an element ssign or ssign-cert, and blocks aren't signed again: " \
+        "sign the log without them (O3)"
+    yield sign + ["signed"], b"", "signed: the message at place 0 has an element ssign or ssign-cert, and blocks aren't signed again: " \
+        "sign the log without them (O3)"
+
+    # texts of options
+    for option, field, longest in (("host", "HOSTNAME", 255), ("app", "APP-NAME", 48), ("procid", "PROCID", 128), ("msgid", "MSGID", 32)):
+        yield sign + ["--" + option, "my host", "lines"], b"", '--%s "my host": a space can\'t stand in it (P2)' % option
+        yield sign + ["--" + option, "", "lines"], b"", '--%s "": it is empty: - stands for no %s (P2)' % (option, field)
+        yield sign + ["--" + option, "b\u00fcro", "lines"], b"", '--%s "b\u00fcro": "\u00fc" can\'t stand in it, but visible ASCII alone (P2)' % option
+        yield sign + ["--" + option, "a\tb", "lines"], b"", '--%s "a\\x09b": "\\x09" can\'t stand in it, but visible ASCII alone (P2)' % option
+        yield sign + ["--" + option, "x" * (longest + 1), "lines"], b"", '--%s "%s": it has %d octets, and %s has at most %d (P2)' % (
+            option, "x" * min(60, longest + 1) + ".." * (longest >= 60), longest + 1, field, longest)
+        yield sign + ["--" + option, b"h\xff", "lines"], b"", '--%s "h\\xff": it isn\'t UTF-8' % option
+    yield sign + ["--stamp", "yesterday", "lines"], b"", '--stamp "yesterday": ' + outdated
+    yield sign + ["--stamp", "", "lines"], b"", '--stamp "": it is empty: - stands for no TIMESTAMP (P2)'
+    yield sign + ["--stamp", "2026-02-29T00:00:00Z", "lines"], b"", '--stamp "2026-02-29T00:00:00Z": 2026-02 has no day 29 (P2)'
+    yield sign + ["--stamp", "2026-13-01T00:00:00Z", "lines"], b"", '--stamp "2026-13-01T00:00:00Z": there is no month 13 (P2)'
+    yield sign + ["--stamp", "2026-01-01T24:00:00Z", "lines"], b"", '--stamp "2026-01-01T24:00:00Z": there is no time 24:00 (P2)'
+    yield sign + ["--stamp", "2026-01-01T23:59:60Z", "lines"], b"", \
+        '--stamp "2026-01-01T23:59:60Z": there is no second 60, since a TIMESTAMP has no leap second (P2)'
+    yield sign + ["--stamp", "2026-01-01T00:00:00+24:00", "lines"], b"", '--stamp "2026-01-01T00:00:00+24:00": there is no time zone +24:00 (P2)'
+    yield sign + ["--stamp", "2026-01-01 00:00:00Z", "lines"], b"", \
+        '--stamp "2026-01-01 00:00:00Z": T and Z are capitals, and T stands between date and time (P2)'
+    yield sign + ["--stamp", "2026-01-01T00:00:00", "lines"], b"", '--stamp "2026-01-01T00:00:00": it ends without its time zone, which is Z for UTC (P2)'
+    yield sign + ["--stamp", "2026-01-01T00:00:00.1234567Z", "lines"], b"", \
+        '--stamp "2026-01-01T00:00:00.1234567Z": a second has at most six decimals (P2)'
+    yield sign + ["--groups", "two", "lines"], b"", '--groups "two": "two" is no number: it has to be one, pri, or numbers such as 63,127,191 (P2)'
+    yield sign + ["--groups", "63,", "lines"], b"", '--groups "63,": "" is no number: it has to be one, pri, or numbers such as 63,127,191 (P2)'
+    yield sign + ["--groups", "063,191", "lines"], b"", '--groups "063,191": "063" has a leading zero (P2)'
+    yield sign + ["--groups", "63,192", "lines"], b"", '--groups "63,192": "192" is no PRI, which is 191 at most (P2)'
+    yield sign + ["--groups", "127,63,191", "lines"], b"", \
+        '--groups "127,63,191": 63 stands after 127, and each number has to be greater than the one before (P2)'
+    yield sign + ["--groups", "63,127", "lines"], b"", '--groups "63,127": its last number has to be 191, so that each PRI has a group (P2)'
+    text = 'it wants the text of the payload, and not the name of its file: --payload "$(cat %s)" (P2)'
+    yield sign + ["--payload", "keys/payload", "lines"], b"", '--payload "keys/payload": ' + text % "keys/payload"
+    yield sign + ["--payload", "none", "lines"], b"", '--payload "none": ' + text % "keys/payload"
+    yield sign + ["--payload", "my log", "lines"], b"", '--payload "my log": ' + text % "'my log'"
+    yield sign + ["--payload=--help", "lines"], b"", '--payload "--help": ' + text % "./--help"
+    yield sign + ["--payload", "now K S0VZ", "lines"], b"", '--payload "now K S0VZ": its first word isn\'t right: ' + outdated
+    yield sign + ["--payload", "- X S0VZ", "lines"], b"", '--payload "- X S0VZ": a letter C, P, K, N or U has to follow its TIMESTAMP and one space (P2)'
+    yield sign + ["--payload", "- K S0V", "lines"], b"", '--payload "- K S0V": its key is no strict base64, all on one line (P2)'
+    yield sign + ["--payload", "- K", "lines"], b"", '--payload "- K": the key in base64 has to follow the letter K and one space (P2)'
+    yield sign + ["--payload", "- N x", "lines"], b"", '--payload "- N x": nothing stands after the letter N (P2)'
+    # the first of several, in the order of ssign
+    yield sign + ["--msgid", "a b", "--stamp", "now", "--host", "", "lines"], b"", '--stamp "now": ' + outdated
+    for option, text, takes in (("rsid", "x", "0 to 9999999999"), ("rsid", "10000000000", "0 to 9999999999"), ("pri", "192", "0 to 191"),
+                                ("count", "0", "1 to 99"), ("count", "100", "1 to 99"), ("frag", "0", "1 to 9999"), ("copies", "10", "1 to 9"),
+                                ("copies", "", "1 to 9"), ("pri", "\x1b[2J", "0 to 191")):
+        words = sign[:4] + [] if option == "rsid" else sign
+        yield words + ["--%s=%s" % (option, text), "lines"], b"", wants % (option, shown(text), takes)
+    yield sign + ["--rsid", "2", "lines"], b"", "--rsid can be given only once"
+    yield sign + ["--host", "a", "--host", "b", "lines"], b"", "--host can be given only once"
+    yield sign[:4] + ["lines"], b"", "the following arguments are required: --rsid " + SEE % "sign"
+    yield sign + ["--host", "-x", "lines"], b"", \
+        "argument --host: expected one argument " + SEE % "sign" + "; a value that begins with a hyphen is given as in --host=-x"
+
+    # names of files
+    for name in NAMES:
+        word = at(name)
+        yield sign + ["--frames", word], b"", "%s: %s" % (shown(word), hint)
+        yield verify + ["--max-messages", "1", "frames", word], b"", \
+            "%s: this is one message a line, and frames isn't: check logs of two forms one by one, or name the form of all " \
+            "with --lines or --frames" % shown(word)
+        yield verify + ["--counters", word, "signed"], b"", "the counters file %s: line 1 %s" % (shown(word), bad_counters)
+    yield verify + ["-dash"], b"", "the following arguments are required: LOG " + SEE % "verify" + "; the file -dash is named ./-dash"
+
+    # the tools themselves
+    choices = "argument COMMAND: invalid choice: 'vreify' (choose from "
+    yield [KEYS, "vreify"], b"", (choices, "(see `ssign-keys --help`)")
+    yield [KEYS, "help", "vreify"], b"", (choices, "(see `ssign-keys --help`)")
+    yield [ARCHIVE, "vreify"], b"", (choices, "(see `ssign-archive --help`)")
+    yield [KEYS, "verify", "signed"], b"", ("", "")
+    yield [KEYS, "make"], b"", "the following arguments are required: DIR " + SEE % "make"
+
+
+def check(case):
+    """What is wrong with a run of the table, without a terminal and on one."""
+    words, given, wanted = case
+    tool = "ssign-archive" if words[0] == ARCHIVE else "ssign-keys"
+    faults = []
+    for runs in (with_pipe, with_terminal):
+        status, out, said = runs(words, given)
+        said = said.decode("utf-8", "backslashreplace")
+        if isinstance(wanted, tuple):
+            is_right = said.startswith("%s: %s" % (tool, wanted[0])) and said.endswith("%s\n" % wanted[1]) and said.count("\n") == 1
+        else:
+            is_right = said == "%s: %s\n" % (tool, wanted)
+        if status != 2 or out or not is_right:
+            faults.append("%s: status %d, %d octets, %r, and not %r" % (runs.__name__, status, len(out), said, wanted))
+    return "\n    ".join(faults)
+
+
+def warnings():
+    """Command lines that succeed, with what is said of their log on standard error."""
+    sign = [KEYS, "sign", "--key", "keys/private-key.pem", "--rsid", "1"]
+    carriage = "each line ends with a CR, which is signed as a part of the message"
+    said = "ssign-keys: warning: %s: %s\n"
+    two = LINE % b"a" + b"\r\n" + LINE % b"b"
+    yield sign + ["-"], b"", 0, said % ("standard input", "the log is empty: its signed log says that a session began, and nothing else")
+    yield sign + ["empty"], b"", 0, said % ("empty", "the log is empty: its signed log says that a session began, and nothing else")
+    yield sign + ["-"], two + b"\r\n", 0, said % ("standard input", carriage)
+    yield sign + ["-"], two + b"\n", 0, said % ("standard input", "1 of 2 lines end with a CR, which is signed as a part of the message")
+    # a CR and its LF on both sides of the pieces in which the log is read
+    long = LINE % (b"x" * (1 << 19))
+    log = lines(*[long[: 1048576 // 2 - 1]] * 1 + [long[: 1048576 // 2 - 1] + b"\r"])
+    yield sign + ["--max-len", "1048576", "-"], log, 0, said % ("standard input", "1 of 2 lines end with a CR, which is signed as a part of the message")
+    yield [KEYS, "verify", "--key", "keys/public-key.pem", "--lines", "signed"], b"", 1, \
+        said % ("signed", "this looks like octet-counted frames, and is read as lines")
+    yield sign + ["lines"], b"", 0, ""
+    yield sign + ["frames"], b"", 0, ""
+    yield sign + ["-"], framed(LINE % b"a\r\n"), 0, ""
+
+
+def check_warnings():
+    for words, given, wanted_status, wanted in warnings():
+        for runs in (with_pipe, with_terminal):
+            status, out, said = runs(words, given)
+            fault = "" if (status, said.decode()) == (wanted_status, wanted) and out else "status %d, %d octets, %r" % (status, len(out), said)
+            tell("%s %s, %s" % (words[1], words[-1], runs.__name__), fault)
+
+
+def check_helps(program):
+    """Help, version, and no words at all."""
+    version = subprocess.run([program, "--version"], stdout=subprocess.PIPE, timeout=60).stdout.split()[1].decode()
+    for tool, name in ((KEYS, "ssign-keys"), (ARCHIVE, "ssign-archive")):
+        status, help_text, said = with_pipe([tool, "--help"], b"")
+        tell(name + " --help", "" if status == 0 and not said and help_text.startswith(b"usage: ") else "status %d" % status)
+        commands = [it.split()[0].decode() for it in help_text.splitlines() if it.startswith(b"    ") and it[4:5] != b" "]
+        wanted = ["make", "sign", "verify", "seal", "answer", "help"] if tool == KEYS else ["split", "join", "review", "prepare", "part", "table", "help"]
+        tell(name + ": the order of the commands", "" if commands == wanted else str(commands))
+        tell(name + " help", "" if with_pipe([tool, "help"], b"") == (0, help_text, b"") else "it isn't --help")
+        for words in (["--version"], ["--version", "x"]):
+            told = with_pipe([tool, *words], b"")
+            tell(name + " --version", "" if told == (0, b"%s %s\n" % (name.encode(), version.encode()), b"") else str(told))
+        tell(name + " without words", "" if with_pipe([tool], b"") == (2, b"", help_text) else "it isn't the help, with status 2")
+        for command in commands[:-1]:
+            asked = with_pipe([tool, command, "--help"], b"")
+            tell("%s %s --help" % (name, command), "" if asked[0] == 0 and asked[1] and not asked[2] else str(asked))
+            tell("%s help %s" % (name, command), "" if with_pipe([tool, "help", command], b"") == asked else "it isn't --help")
+            example = asked[1].partition(b"\nexamples:\n")[2]
+            tell("%s %s has an example" % (name, command), "" if b" %s " % command.encode() in example else "it hasn't")
+        for words in ([], ["--help"], ["--version"]):
+            with open("/dev/full", "wb") as full:
+                run = subprocess.run([tool, *words], stdout=full, stderr=subprocess.PIPE, stdin=subprocess.DEVNULL, timeout=60)
+            fault = "" if run.returncode == 2 and (not words or run.stderr.endswith(b"standard output can't be written: No space left on device\n")) \
+                else "status %d, %r" % (run.returncode, run.stderr)
+            tell("%s %s to a full device" % (name, words), fault)
+
+
+def main():
+    program = os.path.abspath(sys.argv[1])
+    with tempfile.TemporaryDirectory() as folder:
+        os.chdir(folder)
+        os.mkdir("keys")
+        subprocess.run([KEYS, "make", "keys"], check=True)
+        write_logs()
+        for name in NAMES:
+            write(name, lines(LINE % b"a"))
+        subprocess.run("gzip -c frames | gzip -c >twice.gz", shell=True, check=True)
+        with open("signed", "wb") as signed:
+            subprocess.run([KEYS, "sign", "--key", "keys/private-key.pem", "--rsid", "1", "lines"], stdout=signed, check=True)
+        cases = list(table())
+        for case in cases:
+            tell(" ".join(it if isinstance(it, str) else repr(it) for it in case[0][1:]), check(case))
+        print("mistakes: %d command lines, each on a terminal and without one" % len(cases))
+        check_warnings()
+        check_helps(program)
+        os.chdir("/")
+    print("mistakes: %d passed, %d failed" % (passed, failed))
+    return failed > 0 or passed == 0
+
+
+if __name__ == "__main__":
+    sys.exit(main())

@@ -1,0 +1,22 @@
+#!/usr/bin/env bash
+# What `ssign-keys` says of mistakes: one sentence with the file, the place and the option that helps, on a terminal and
+# without one. Whether a log is lines is told by its first octet, and the texts of options are judged as ssign does. See
+# mistakes.py, option_texts.py and log_forms.py.
+# shellcheck source=tests/lib.sh
+. "$(dirname -- "$0")/lib.sh"
+need_program
+if ! python3 -c 'import cryptography' 2>"$scratch/err"; then
+    echo "$name: skipped, since the Python module cryptography is missing"
+    holds 'ssign-keys is there' test -x "$root/tools/ssign-keys"
+    finish
+fi
+export SSIGN=$program
+for part in mistakes option_texts log_forms; do
+    python3 -B "$root/tests/$part.py" "$program" >"$scratch/out"
+    status=$?
+    cat -- "$scratch/out"
+    counts=$(tail -n 1 "$scratch/out")
+    holds "$part.py ends with its counts, and all of them passed" test "$status ${counts##* passed, }" = '0 0 failed'
+    [[ $counts =~ ([0-9]+)\ passed ]] && passed=$((passed + BASH_REMATCH[1]))
+done
+finish

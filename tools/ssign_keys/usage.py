@@ -1,0 +1,167 @@
+"""The command line of a tool: its commands, its help, and the sentence for each mistake in its words.
+
+Each command is a module of the tool's package with two functions:
+
+    add_arguments(parser: argparse.ArgumentParser) -> None     says which words the command takes
+    run(arguments: argparse.Namespace) -> int                  does it, and gives the status
+
+A command raises Fault where it can't do its work. Its module is loaded where the command is named, so that the help
+needs none of what a command does.
+"""
+from __future__ import annotations
+
+import argparse
+import importlib
+import os
+import re
+import sys
+from dataclasses import dataclass
+from typing import IO, Dict, NoReturn, Optional, Protocol, Sequence, Tuple, cast
+
+from . import VERSION
+from .faults import Fault
+from .words import shown, shown_name
+from .workplace import abandon_output, say
+
+HELP = "print this help, or that of a command"
+# the headings of a help, each with the options that stand below it; all others stand below `options`
+GROUPS: Dict[str, Tuple[str, ...]] = {
+    "keys": ("--key", "--session-key", "--ca", "--cert", "--at-signing-time", "--allow-sha1"),
+    "the log": ("--lines", "--frames", "--max-len", "--max-messages", "--max-expanded", "--max-payload"),
+    "the session": ("--rsid", "--host", "--app", "--procid", "--msgid", "--pri", "--stamp"),
+    "the blocks": ("--payload", "--ver", "--groups", "--count", "--frag", "--copies"),
+    "what is reported": ("--whole", "--counters", "--findings", "--raw", "--json", "--answers-out"),
+    "the run": ("--jobs", "--ssign"),
+}
+
+
+class Mistake(Fault):
+    """A word of the command line is wrong."""
+
+
+class Command(Protocol):
+    """What the module of a command has."""
+
+    def add_arguments(self, parser: argparse.ArgumentParser) -> None:
+        """Says which words the command takes."""
+
+    def run(self, arguments: argparse.Namespace) -> int:
+        """Does the command, and gives its status."""
+
+
+@dataclass(frozen=True)
+class Tool:
+    """A tool: its name, what it does, its commands in the order of their use, and examples of them."""
+
+    name: str
+    purpose: str
+    commands: Dict[str, str]
+    examples: Dict[str, Tuple[str, ...]]
+    package: str
+
+    def load(self, command: str) -> Command:
+        """The module of a command."""
+        return cast(Command, importlib.import_module(f".{command}", self.package))
+
+    def epilog(self, *commands: str) -> Optional[str]:
+        """The examples of these commands, as they stand at the end of a help."""
+        lines = [line for it in commands for line in self.examples.get(it, ())]
+        return "\n  ".join(["examples:", *lines]) if lines else None
+
+
+class Parser(argparse.ArgumentParser):
+    """A parser whose complaint is one sentence, like each other fault, and whose help is written to its end."""
+
+    def error(self, message: str) -> NoReturn:
+        """Tells the mistake, and where the right words are found."""
+        raise Mistake(f"{message} (see `{self.prog} --help`)")
+
+    def _print_message(self, message: str, file: Optional[IO[str]] = None) -> None:
+        """Writes a help or a version."""
+        try:
+            sys.stdout.write(message)
+            sys.stdout.flush()
+        except (OSError, ValueError, AttributeError) as error:
+            abandon_output()
+            raise Fault(f"standard output can't be written: {getattr(error, 'strerror', None) or error}") from error
+
+
+def group(parser: argparse.ArgumentParser) -> None:
+    """Has the options of a help stand below their headings."""
+    rest = parser._optionals._group_actions
+    for title, names in GROUPS.items():
+        actions = [it for name in names for it in rest if name in it.option_strings]
+        if actions:
+            parser.add_argument_group(title)._group_actions.extend(actions)
+            rest[:] = [it for it in rest if it not in actions]
+
+
+def make_parser(tool: Tool, words: Sequence[str]) -> Parser:
+    """A parser of all commands, in which the one that these words name has its arguments."""
+    form = argparse.RawDescriptionHelpFormatter
+    parser = Parser(prog=tool.name, description=tool.purpose, formatter_class=form, epilog=tool.epilog(*tool.commands),
+                    allow_abbrev=False)
+    parser.add_argument("--version", action="version", version=f"{tool.name} {VERSION}", help="print the version")
+    commands = parser.add_subparsers(title="commands", dest="command", metavar="COMMAND", required=True)
+    for name, purpose in {**tool.commands, "help": HELP}.items():
+        command = commands.add_parser(name, help=purpose, description=f"{purpose[0].upper()}{purpose[1:]}.",
+                                      formatter_class=form, epilog=tool.epilog(name), allow_abbrev=False)
+        if list(words[:1]) == [name]:
+            module = tool.load(name)
+            module.add_arguments(command)
+            group(command)
+            command.set_defaults(run=module.run)
+    return parser
+
+
+def asked_help(words: Sequence[str]) -> Sequence[str]:
+    """The words of `help COMMAND` as `COMMAND --help`."""
+    if list(words[:1]) != ["help"]:
+        return words
+    return [*(it for it in words[1:] if it not in ("help", "-h", "--help")), "--help"]
+
+
+def run(tool: Tool, words: Sequence[str]) -> int:
+    """Does what the words of the command line ask for, and gives the status. Raises Fault where it can't be done."""
+    if not words:
+        say(make_parser(tool, words).format_help().rstrip("\n"))
+        return 2
+    words = asked_help(words)
+    try:
+        arguments = make_parser(tool, words).parse_args(words)
+    except Mistake as mistake:
+        raise Mistake(f"{mistake}{hint(words)}") from mistake
+    status: int = arguments.run(arguments)
+    return status
+
+
+def hint(words: Sequence[str]) -> str:
+    """What helps with a word that begins with a hyphen and is no option."""
+    for before, word in zip(words, words[1:]):
+        if word.startswith("-") and word not in ("-", "-h", "--help") and os.path.lexists(word):
+            return f"; the file {shown_name(word)} is named ./{shown_name(word)}"
+        if re.fullmatch(r"--[a-z][a-z-]*", before) and re.match(r"-[^-]", word):
+            return f"; a value that begins with a hyphen is given as in {before}={shown_name(word)}"
+    return ""
+
+
+def main(tool: Tool, words: Sequence[str]) -> int:
+    """Runs the command that the words name. Gives the status of the process."""
+    try:
+        return run(tool, words)
+    except Fault as fault:
+        complain(tool, str(fault))
+    except KeyboardInterrupt:
+        return 130
+    except OSError as fault:
+        complain(tool, f"a file can't be read or written: {fault}")
+    except Exception as fault:
+        # a status of 1, which Python gives, would be read as findings
+        complain(tool, f"this is a mistake of {tool.name}, and no verdict: {type(fault).__name__}: {fault}")
+    return 2
+
+
+def complain(tool: Tool, sentence: str) -> None:
+    """Says why there is no verdict. Words of the command line may hold what a terminal takes for a command."""
+    say(f"{tool.name}: " + "".join(it if it.isprintable() else shown(it.encode("utf-8", "surrogateescape"))
+                                   for it in sentence))
