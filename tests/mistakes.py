@@ -410,7 +410,7 @@ def main():
     with tempfile.TemporaryDirectory() as folder:
         os.chdir(folder)
         os.mkdir("keys")
-        subprocess.run([KEYS, "make", "keys"], check=True)
+        subprocess.run([KEYS, "make", "keys", "--ver", "0111"], check=True)
         write_logs()
         for name in NAMES:
             write(name, lines(LINE % b"a"))
