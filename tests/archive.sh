@@ -50,9 +50,13 @@ others() {
         [[ " $* " == *" $number "* ]] || printf '%s\n' "${rows[number - 1]}"
     done
 }
-# jobs FIELD RESULTS: a column of the joblog, without its heading.
+# jobs_of FIELD RESULTS: a column of the joblog, without its heading.
 jobs_of() {
     tail -n +2 "$2/joblog" | cut -f "$1"
+}
+# records RESULTS: the hash of each part's record, which holds when the part was reviewed.
+records() {
+    (cd -- "$1/reports" && sha256sum -- */record) | sort
 }
 
 # ---- splits, which need no engine; they run beside each other
@@ -181,10 +185,11 @@ cp out clean-table
 archive review archive --results several --answers answers --jobs 3
 holds 'several jobs: the same table' cmp out clean-table
 holds 'several jobs: the same reports' cmp <(cat one/reports/*/report) <(cat several/reports/*/report)
+records several >before
 archive review archive --results several --answers answers --jobs 3
 holds 'again: the same table' cmp out clean-table
 holds 'again: nothing is done' grep -qx 'ssign-archive: 8 parts of 8 done before' err
-holds 'again: no job is added' test "$(jobs_of 1 several | sort | tr '\n' ' ')" = '1 2 3 4 5 6 7 8 '
+holds 'again: no part is reviewed' cmp before <(records several)
 archive table several --sessions
 says 'where sessions end' 0 'group gate-1 signer - 1 0 0 1 320 320 from gate-1/night-1.log.gz:1 to gate-1/night-8.log.xz:43' \
     'session gate-3 signer - 2 joined'
@@ -267,7 +272,7 @@ for signal in TERM KILL; do
         holds "$signal: the engine ended too" is_gone "$engine"
     fi
     echo 0 >pause
-    jobs_of 1,3,7 "ended-$signal" | sort >before
+    records "ended-$signal" >before
     count=$(wc -l <before)
     holds "$signal: some parts were done, and not all" test "$count" -ge 2 -a "$count" -lt 8
     for ((turn = 0; turn < 100; turn++)); do
@@ -277,8 +282,8 @@ for signal in TERM KILL; do
     done
     holds "$signal: taken up: the same table" cmp out clean-table
     holds "$signal: taken up: status 0" test "$status" = 0
-    holds "$signal: each part is once in the joblog" test "$(jobs_of 1 "ended-$signal" | sort | tr '\n' ' ')" = '1 2 3 4 5 6 7 8 '
-    holds "$signal: what was done wasn't done again" test -z "$(comm -23 before <(jobs_of 1,3,7 "ended-$signal" | sort))"
+    holds "$signal: each part has a record" test "$(records "ended-$signal" | wc -l)" = 8
+    holds "$signal: what was done wasn't done again" test -z "$(comm -23 before <(records "ended-$signal"))"
     # one run tries the options of each call; those that were stopped run twice
     holds "$signal: no part was run more often" test "$(runs)" -le 14
 done
@@ -353,7 +358,7 @@ says 'a torn file' 1 "${rest[@]}" "at gate-4/night-3.log octet $start: torn, the
     'after gate-4/night-3.log:42, before gate-4/night-4.log.gz:1: gap gate-4 signer - 1 0 0 120 lost' \
     'gate-4 8 353 319 1 0 0 0 0 joined 2 2 findings' 'Findings. 8 parts: 7 clean, 1 with findings, 0 not reviewed in full.'
 harm 4 rm night-3.log
-says 'a missing night' 1 "${rest[@]}" 'note: gate-4 has no file night-3.log; 7 of 8 parts have one' \
+says 'a missing night' 1 "${rest[@]}" 'in gate-4: file night-3.log is missing; 7 of 8 parts have one' \
     'after gate-4/night-2.log.xz:32, before gate-4/night-4.log.gz:1: hole gate-4 signer - 1 0 0 71 110' \
     'after gate-4/night-2.log.xz:32, before gate-4/night-4.log.gz:1: gap gate-4 signer - 1 0 0 111 lost' \
     'at gate-4/night-2.log.xz:34: unlisted'
@@ -389,20 +394,21 @@ says 'put back' 0 "${rows[@]}" 'group gate-2 signer - 5 0 0 1 40 40 from gate-2/
 frame '<13>1 - - - - - - nobody signed this' >>harmed/gate-7/night-3.log
 archive table harms --findings 0
 says 'a file that was changed since' 2 'gate-7 - - - - - - - - - NOT REVIEWED: its files were changed since its review'
-jobs_of 1,3,7 harms | grep -v '^7' | sort >before
+records harms | grep -v gate-7 >before
 # the rows of the originators 1 to 6 and 8
 archive review harmed --results harms --answers answers --jobs 4
 mapfile -t rest < <(others 7)
 says 'its part is done again' 1 "${rest[@]}" 'at gate-7/night-3.log:44: unlisted' 'gate-7 8 355 320 0 0 1 0 0 joined 2 1 finding'
-holds 'and no other' cmp before <(jobs_of 1,3,7 harms | grep -v '^7' | sort)
+holds 'and no other' cmp before <(records harms | grep -v gate-7)
 mkdir harmed/gate-0 && frame x >harmed/gate-0/log
 rm -r harmed/gate-8
 archive review harmed --results harms --answers answers --jobs 4
 mapfile -t rest < <(others 7 8)
-says 'a folder more and one less' 2 "${rest[@]}" 'gate-0 1 1 0 0 0 1 0 0 none 1 finding' \
+says 'a folder more and one less' 2 "${rest[@]}" 'gate-0 1 1 0 0 0 1 0 0 none 2 findings' \
+    'in gate-0: nothing in this part is shown to be authentic; whatever was signed may have been taken out' \
+    'in gate-8: gone, its folder was there before, and holds no file now' \
     'gate-8 - - - - - - - - - NOT REVIEWED: its folder is gone, or holds no file now'
-# one row for each of the originators 1 to 7, whose numbers are greater by one now
-holds 'the others keep their rows of the joblog' cmp <(sed '$d' before | cut -f 2-) <(jobs_of 1,3,7 harms | sort | sed -n 2,7p | cut -f 2-)
+holds 'the others are not reviewed again' cmp <(grep -v gate-8 before) <(records harms | grep -v 'gate-[078]')
 
 # ---- a session whose blocks lie in two parts: each part is clean, and the whole isn't
 mkdir -p divided/archive
@@ -431,7 +437,7 @@ archive review as-lines/archive --results limits --answers as-lines/answers --li
 says 'a limit is handed on' 2 'gate-1 2 23 20 0 0 0 0 0 joined 1 clean'
 holds 'what is beyond it is told' grep -q '^gate-2 .* NOT REVIEWED: ssign review refuses it: ssign: F5 [0-9]*$' out
 archive review as-lines/archive --results unanswered --lines --findings 0
-says 'without answers no session counts' 1 'gate-1 2 23 0 0 0 20 3 0 untrusted 1 24 findings'
+says 'without answers no session counts' 1 'gate-1 2 23 0 0 0 20 3 0 untrusted 1 25 findings'
 holds 'nothing passing is left' test -z "$(ls passing)"
 
 finish

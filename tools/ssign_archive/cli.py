@@ -14,7 +14,9 @@ TOOL = usage.Tool(
         "review": "review each folder of an archive, and put the reports together",
         "prepare": "write what the commands `part` and `table` need, and review nothing",
         "part": "review one folder of a prepared archive",
+        "batch": "review several folders of a prepared archive, in one process",
         "table": "put together the reports that are there",
+        "fixity": "read every log again, and compare it with what was reviewed",
     },
     examples={
         "split": ("ssign-archive split --by host collector.log.gz archive",),
@@ -22,7 +24,9 @@ TOOL = usage.Tool(
         "review": ("ssign-archive review archive --results results --answers answers --jobs 4",),
         "prepare": ("ssign-archive prepare archive --results results --answers answers",),
         "part": ("ssign-archive part results gate",),
+        "batch": ("ssign-archive batch results 1",),
         "table": ("ssign-archive table results",),
+        "fixity": ("ssign-archive fixity results --jobs 4",),
     },
     package=__package__,
 )

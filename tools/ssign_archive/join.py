@@ -44,6 +44,6 @@ def run(arguments: argparse.Namespace) -> int:
         abandon_output()
         raise Fault("standard output can't be written") from fault
     found = file_findings(os.path.basename(folder), reader.read)
-    for where, what in found:
-        say(f"ssign-archive: {where}: {what}")
+    for it in found:
+        say(f"ssign-archive: {it.text()}")
     return 0 if not found else 1 if all(it.octet is None or it.why == "torn" for it in reader.read) else 2

@@ -2,55 +2,57 @@
 from __future__ import annotations
 
 import argparse
+import hashlib
 import os
 import socket
 import time
 from typing import BinaryIO, List
 
 from ssign_keys.faults import Fault
-from ssign_keys.progress import Progress
-from ssign_keys.report import Reading
 from ssign_keys.words import shown_name
 from ssign_keys.workplace import Workplace
 
+from . import record as record_form
 from . import settings as settings_form
+from .derive import Derived, Lines, derive
 from .feeding import run_over
-from .findings import Locator, Places, file_findings
-from .results import Record, Results, answers_seen, record_to_text, write_text
+from .record import SUMMED, Record
+from .results import Results, remove, write_text
 from .settings import Settings
 from .sources import Read, Reader
 from .tree import files_of
+
+PIECE = 1 << 20
 
 
 def add_arguments(parser: argparse.ArgumentParser) -> None:
     """Says which words the command takes."""
     parser.add_argument("results", metavar="DIR", help="the folder that `prepare` made")
-    parser.add_argument("part", metavar="PART", help="the part, as the file `parts` in that folder names it")
+    parser.add_argument("part", metavar="PART", help="the part, as the file `parts` in that folder names it; write -- before "
+                        "DIR where its name may begin with -")
 
 
 def run(arguments: argparse.Namespace) -> int:
-    """Reviews the part. The status is 0 where that was done, whatever was found: the table tells it."""
+    """Reviews the part. The status is 0 where that was done, whatever was found: the table has it."""
     results = Results(arguments.results)
     settings = results.settings()
-    folder = results.folder_of(arguments.part)
-    os.makedirs(folder, exist_ok=True)
-    remove(folder, "record", "failed")
-    try:
-        with Workplace() as workplace:
-            PartReview(arguments.part, settings, folder, workplace).run()
-    except (Fault, OSError) as fault:
-        write_text(os.path.join(folder, "failed"), f"{fault}\n")
-        raise
+    # argparse makes nothing of a word `--`, also behind another one
+    part = arguments.part or "--"
+    with Workplace() as workplace:
+        review_part(results, settings, part, workplace)
     return 0
 
 
-def remove(folder: str, *names: str) -> None:
-    """Removes these files, where they are there."""
-    for name in names:
-        try:
-            os.remove(os.path.join(folder, name))
-        except FileNotFoundError:
-            pass
+def review_part(results: Results, settings: Settings, part: str, workplace: Workplace) -> None:
+    """Reviews a part. Where that comes to no end, its results say why."""
+    folder = results.folder_of(part)
+    os.makedirs(folder, exist_ok=True)
+    remove(os.path.join(folder, "record"), os.path.join(folder, "failed"))
+    try:
+        PartReview(part, settings, folder, workplace).run()
+    except (Fault, OSError) as fault:
+        write_text(os.path.join(folder, "failed"), f"{fault}\n")
+        raise
 
 
 class PartReview:
@@ -62,7 +64,7 @@ class PartReview:
         self._folder = folder
         self._workplace = workplace
         self._began = time.time()
-        self._answers = answers_seen(settings, part)
+        self._given = settings.given_to(part)
 
     def run(self) -> None:
         """Writes what is kept of the part, and the record last."""
@@ -71,19 +73,18 @@ class PartReview:
         reader = Reader(path, files_of(path), settings.are_lines, settings.longest)
         if not reader.files:
             raise Fault(f"no file lies in {shown_name(path)}")
-        names = ("report", "findings", "sessions")
-        passing = {name: os.path.join(self._folder, f"{name}.{os.getpid()}.new") for name in names}
+        passing = {name: os.path.join(self._folder, f"{name}.{os.getpid()}.new") for name in SUMMED}
         try:
             with open(passing["report"], "w+b") as report:
                 status = self._review(reader, report)
                 with open(passing["findings"], "wb") as findings, open(passing["sessions"], "wb") as sessions:
-                    record = self._locate(reader.read, report, findings, sessions, status)
-            for name in names:
+                    record = self._derive(reader.read, report, Lines(findings), Lines(sessions), status)
+            for name in SUMMED:
                 os.rename(passing[name], os.path.join(self._folder, name))
         except BaseException:
-            remove(self._folder, *(os.path.basename(it) for it in passing.values()))
+            remove(*passing.values())
             raise
-        write_text(os.path.join(self._folder, "record"), record_to_text(record))
+        write_text(os.path.join(self._folder, "record"), record_form.to_text(record))
 
     def _review(self, reader: Reader, report: BinaryIO) -> int:
         """Has ssign review the messages, and gives its status, 0 or 1."""
@@ -95,16 +96,21 @@ class PartReview:
             raise Fault(f"the answers file {shown_name(answers)} of this part isn't there")
         return ["review", *([] if answers is None else [f"--answers={answers}"]), *self._settings.words]
 
-    def _locate(self, files: List[Read], report: BinaryIO, findings: BinaryIO, sessions: BinaryIO, status: int) -> Record:
+    def _derive(self, files: List[Read], report: BinaryIO, findings: Lines, sessions: Lines, status: int) -> Record:
         """Goes over the report, and makes the record."""
-        locator = Locator(self._part, Places(self._part, files), findings, sessions, self._settings.is_whole)
-        for where, what in file_findings(self._part, files):
-            locator.write(where, what)
-        Reading(locator).read(report, Progress())
-        if locator.totals.messages != sum(it.messages for it in files):
-            raise Fault("ssign review counts other messages than were handed to it")
-        if (status == 0) != (locator.count == sum(it.octet is not None for it in files)):
+        extra: List[str] = []
+        derived = derive(self._part, self._settings, files, extra, report, findings.put_finding, sessions)
+        if (status == 0) != (derived.reported == 0):
             raise Fault(f"ssign review ended with status {status}, which its report doesn't bear out")
-        return Record(settings_form.to_text(self._settings), self._answers, files, locator.totals, locator.states, status,
-                      locator.count, os.fstat(report.fileno()).st_size, socket.gethostname(), self._began,
-                      time.time() - self._began)
+        sums = {"report": sum_of(report), "findings": findings.sum, "sessions": sessions.sum}
+        return Record(settings_form.to_text(self._settings), self._given, files, sums, derived.totals, derived.states, status,
+                      derived.findings, extra, socket.gethostname(), self._began, time.time() - self._began)
+
+
+def sum_of(file: BinaryIO) -> str:
+    """The SHA-256 of an open file."""
+    file.seek(0)
+    hasher = hashlib.sha256()
+    for piece in iter(lambda: file.read(PIECE), b""):
+        hasher.update(piece)
+    return hasher.hexdigest()

@@ -1,57 +1,49 @@
 """The folder of results: the settings, the list of parts, and for each part its report and the record of its review.
 
     settings           what was asked for
-    parts              the parts, each ended by a NUL; the number of a part in the joblog is its place there, from 1
-    joblog             what GNU parallel says of its jobs
+    parts              the parts, each ended by a NUL; the number of a part is its place there, from 1
+    batches            a line for each job of the review: the numbers of its parts, as a list of JSON
+    joblog             what GNU parallel says of the jobs of the last run
     reports/PART/      report: what `ssign review` wrote; findings, sessions: the same with files and places;
-                       record: what was read; failed: why there is no record
+                       record: what was read, with the SHA-256 of these three; failed: why there is no record
 """
 from __future__ import annotations
 
+import hashlib
 import json
 import os
 import urllib.parse
-from dataclasses import asdict, dataclass, field
-from typing import Dict, List, Optional
+from typing import Dict, List, NamedTuple, Optional
 
 from ssign_keys.faults import Fault
 from ssign_keys.files import reason
-from ssign_keys.report import Totals
 from ssign_keys.words import shown_name
 
+from . import record as record_form
 from . import settings as settings_form
-from .settings import Settings, look_of
-from .sources import Read
+from .derive import Derived, Lines, derive
+from .record import SUMMED, Record
+from .settings import Settings
 from .tree import Stored, files_of
 
+# a longer name of a folder is cut, and ends with a hash of all of it: file systems take 255 octets
+LONGEST_NAME = 200
+PIECE = 1 << 20
 
-@dataclass
-class Record:
-    """What was read of a part, and what the report on it counts."""
 
-    settings: str
-    answers: str
-    files: List[Read]
-    totals: Totals
-    states: Dict[str, int]
-    status: int
-    findings: int
-    report_octets: int
-    host: str = ""
-    began: float = 0.0
-    seconds: float = 0.0
-    # why the record doesn't count, where it doesn't
-    stale: str = field(default="", compare=False)
+class Kept(NamedTuple):
+    """What is kept of a part."""
+
+    record: Optional[Record]
+    derived: Optional[Derived]
+    """What its report counts, where that was asked for and its results count."""
+    fault: str
+    """Why its results don't count; empty where they do, and where the part was never reviewed to its end."""
 
     @property
-    def unread(self) -> List[Read]:
-        """The files of which a part couldn't be read, but for those that only break off."""
-        return [it for it in self.files if it.octet is not None and it.why != "torn"]
-
-    @property
-    def torn(self) -> List[Read]:
-        """The files that break off inside a message."""
-        return [it for it in self.files if it.why == "torn"]
+    def counts(self) -> bool:
+        """Whether there are results that count."""
+        return self.record is not None and not self.fault
 
 
 class Results:
@@ -61,11 +53,14 @@ class Results:
         self.path = os.path.realpath(path)
         self.settings_path = os.path.join(self.path, "settings")
         self.parts_path = os.path.join(self.path, "parts")
+        self.batches_path = os.path.join(self.path, "batches")
         self.joblog_path = os.path.join(self.path, "joblog")
 
     def folder_of(self, part: str) -> str:
         """Where the results of a part are."""
         name = urllib.parse.quote(os.fsencode(part), safe=" ,+=@:~") if part != "." else "%2E"
+        if len(name) > LONGEST_NAME:
+            name = f"{name[:LONGEST_NAME - 66]}~{hashlib.sha256(os.fsencode(part)).hexdigest()}"
         return os.path.join(self.path, "reports", name)
 
     def settings(self) -> Settings:
@@ -80,23 +75,65 @@ class Results:
         except FileNotFoundError:
             return []
 
-    def record(self, part: str, settings: Settings) -> Optional[Record]:
-        """The record of a part, or None where it was never reviewed to its end. `stale` says why it doesn't count."""
-        folder = self.folder_of(part)
+    def write_parts(self, parts: List[str]) -> None:
+        """Keeps the parts."""
+        write_octets(self.parts_path, b"".join(os.fsencode(it) + b"\0" for it in parts))
+
+    def batches(self) -> List[List[int]]:
+        """The numbers of the parts of each job."""
         try:
-            record = record_from_text(read_text(os.path.join(folder, "record")))
-            size = os.stat(os.path.join(folder, "report")).st_size
-        except (Fault, OSError):
-            return None
-        if size != record.report_octets:
-            record.stale = "its report isn't the one that was written"
-        elif record.settings != settings_form.to_text(settings):
-            record.stale = "it was reviewed with other options, or another program or answers file"
-        elif record.answers != answers_seen(settings, part):
-            record.stale = "its answers file was changed"
-        elif [it.stored for it in record.files] != stored_now(settings, part):
-            record.stale = "its files were changed"
-        return record
+            batches = [json.loads(it) for it in read_text(self.batches_path).splitlines()]
+        except ValueError as fault:
+            raise Fault(f"{shown_name(self.batches_path)} holds no batches of ssign-archive") from fault
+        if not all(isinstance(it, list) and all(type(number) is int for number in it) for it in batches):
+            raise Fault(f"{shown_name(self.batches_path)} holds no batches of ssign-archive")
+        return batches
+
+    def write_batches(self, batches: List[List[int]]) -> None:
+        """Keeps the batches."""
+        write_text(self.batches_path, "".join(f"{json.dumps(it, separators=(',', ':'))}\n" for it in batches))
+
+    def kept(self, part: str, settings: Settings, is_deep: bool = True) -> Kept:
+        """What is kept of a part. A deep look reads its report again, and sees that all else is what comes of it."""
+        found = self.recorded(part)
+        if found.record is None:
+            return found
+        fault = stale(found.record, part, settings)
+        if fault or not is_deep:
+            return Kept(found.record, None, fault)
+        try:
+            return Kept(found.record, self._derived(part, settings, found.record), "")
+        except Changed as changed:
+            return Kept(found.record, None, str(changed))
+
+    def recorded(self, part: str) -> Kept:
+        """The record of a part, whatever the part is now."""
+        folder = self.folder_of(part)
+        if not os.path.lexists(os.path.join(folder, "record")):
+            has_report = os.path.lexists(os.path.join(folder, "report")) and not self.failure(part)
+            return Kept(None, None, "it has a report, and no record of it" if has_report else "")
+        try:
+            return Kept(record_form.from_text(read_text(os.path.join(folder, "record"))), None, "")
+        except (Fault, ValueError):
+            return Kept(None, None, "its record was changed")
+
+    def _derived(self, part: str, settings: Settings, record: Record) -> Derived:
+        """What comes of the report of a part. Raises Changed where the results aren't those that come of it."""
+        folder = self.folder_of(part)
+        for name in SUMMED:
+            if sum_of_file(os.path.join(folder, name), f"its {NAMES[name]}") != record.sums[name]:
+                raise Changed(f"its {NAMES[name]} was changed")
+        findings, sessions = Lines(), Lines()
+        try:
+            with open(os.path.join(folder, "report"), "rb") as report:
+                derived = derive(part, settings, record.files, record.extra, report, findings.put_finding, sessions)
+        except (Fault, OSError) as fault:
+            raise Changed("its report was changed") from fault
+        if (findings.sum, sessions.sum) != (record.sums["findings"], record.sums["sessions"]):
+            raise Changed("its findings aren't those of its report")
+        if (derived.totals, derived.states, derived.findings) != (record.totals, record.states, record.findings):
+            raise Changed("its record was changed")
+        return derived
 
     def failure(self, part: str) -> str:
         """Why the last review of a part came to no end."""
@@ -104,6 +141,26 @@ class Results:
             return read_text(os.path.join(self.folder_of(part), "failed")).strip()
         except Fault:
             return ""
+
+
+# how the files of a part's results are called
+NAMES = {"report": "report", "findings": "file of findings", "sessions": "file of sessions"}
+
+
+class Changed(Exception):
+    """Results aren't those that were written."""
+
+
+def stale(record: Record, part: str, settings: Settings) -> str:
+    """Why a record doesn't count of a part as it is now, or nothing where it does."""
+    if record.settings != settings_form.to_text(settings):
+        return "it was reviewed with other options, or another program or answers file"
+    for name, seen in settings.given_to(part).items():
+        if record.given.get(name) != seen:
+            return f"its {name} file was changed"
+    if [it.stored for it in record.files] != stored_now(settings, part):
+        return "its files were changed"
+    return ""
 
 
 def stored_now(settings: Settings, part: str) -> List[Stored]:
@@ -114,15 +171,18 @@ def stored_now(settings: Settings, part: str) -> List[Stored]:
         return []
 
 
-def answers_seen(settings: Settings, part: str) -> str:
-    """What tells another answers file of a part that has one of its own; nothing where it has none."""
-    path = settings.answers_of(part)
-    if path is None or path == settings.answers:
-        return ""
+def sum_of_file(path: str, what: str) -> str:
+    """The SHA-256 of a file. Raises Changed where it can't be read."""
+    hasher = hashlib.sha256()
     try:
-        return look_of(path)
-    except Fault:
-        return "it can't be read"
+        with open(path, "rb") as file:
+            for piece in iter(lambda: file.read(PIECE), b""):
+                hasher.update(piece)
+    except FileNotFoundError as fault:
+        raise Changed(f"{what} is gone") from fault
+    except OSError as fault:
+        raise Changed(f"{what} can't be read ({reason(fault)})") from fault
+    return hasher.hexdigest()
 
 
 def read_text(path: str) -> str:
@@ -136,27 +196,28 @@ def read_text(path: str) -> str:
 
 def write_text(path: str, text: str) -> None:
     """Has a text stand in a file whole, or not at all."""
+    write_octets(path, text.encode("utf-8", "surrogateescape"))
+
+
+def write_octets(path: str, octets: bytes) -> None:
+    """Has octets stand in a file whole, or not at all."""
     passing = f"{path}.{os.getpid()}.new"
     try:
-        with open(passing, "w", encoding="utf-8", errors="surrogateescape") as file:
-            file.write(text)
-        os.rename(passing, path)
+        try:
+            with open(passing, "wb") as file:
+                file.write(octets)
+            os.rename(passing, path)
+        except OSError:
+            remove(passing)
+            raise
     except OSError as fault:
         raise Fault(f"{shown_name(path)} can't be written: {reason(fault)}") from fault
 
 
-def record_to_text(record: Record) -> str:
-    """A record as JSON."""
-    fields = asdict(record)
-    del fields["stale"]
-    return json.dumps(fields, indent=1, sort_keys=True) + "\n"
-
-
-def record_from_text(text: str) -> Record:
-    """The record of a JSON text. Raises Fault where it is none."""
-    try:
-        fields = json.loads(text)
-        files = [Read(stored=Stored(**it.pop("stored")), **it) for it in fields.pop("files")]
-        return Record(files=files, totals=Totals(**fields.pop("totals")), **fields)
-    except (ValueError, KeyError, TypeError) as fault:
-        raise Fault("this is no record of ssign-archive") from fault
+def remove(*paths: str) -> None:
+    """Removes these files, where they are there."""
+    for path in paths:
+        try:
+            os.remove(path)
+        except FileNotFoundError:
+            pass

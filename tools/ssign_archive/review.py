@@ -11,8 +11,8 @@ import sys
 from typing import BinaryIO, List
 
 from ssign_keys.faults import Fault
-from ssign_keys.words import counted, shown_name
-from ssign_keys.workplace import Workplace, say
+from ssign_keys.words import shown_name
+from ssign_keys.workplace import Workplace
 
 from . import settings as settings_form
 from .prepare import Preparation
@@ -39,16 +39,15 @@ def add_arguments(parser: argparse.ArgumentParser) -> None:
 
 def run(arguments: argparse.Namespace) -> int:
     """Reviews what isn't done, and prints the table of everything."""
-    preparation = Preparation(arguments)
+    jobs = (arguments.jobs or os.cpu_count() or 1) * max(1, len(arguments.sshlogin))
+    preparation = Preparation(arguments, jobs)
     parallel = find_parallel()
     with preparation as prepared:
-        left = len(prepared.parts) - len(prepared.done)
-        if prepared.done:
-            say(f"ssign-archive: {counted(len(prepared.done), 'part')} of {len(prepared.parts)} done before")
+        prepared.say_done()
         status = 0
-        if left:
-            status = run_parallel(engine_words(parallel, arguments, prepared), prepared.lock)
-        table = Table(prepared.results, prepared.settings)
+        if prepared.batches:
+            status = run_parallel(engine_words(parallel, arguments, prepared), len(prepared.batches), prepared.lock)
+        table = Table(prepared.results, prepared.settings, prepared.done)
         worst = table.print(arguments.findings, arguments.sessions)
         if status and worst != 2:
             raise Fault(f"GNU parallel ended with the status {status}, though each part was reviewed")
@@ -67,20 +66,20 @@ def find_parallel() -> str:
 
 
 def engine_words(parallel: str, arguments: argparse.Namespace, prepared: Preparation) -> List[str]:
-    """The command line of GNU parallel: a job for each part that the joblog doesn't call done."""
+    """The command line of GNU parallel, which reads the number of a batch for each job. It sees no name of a part."""
     results = prepared.results
     launcher = find_launcher()
     for path in (launcher, results.path):
         if "{" in path:
             raise Fault(f"{shown_name(path)} has a brace in it, which GNU parallel would replace")
-    words = [parallel, "--joblog", results.joblog_path, "--resume-failed", "--retries", str(TRIES)]
+    words = [parallel, "--joblog", results.joblog_path, "--retries", str(TRIES)]
     if arguments.jobs is not None:
         words += ["--jobs", str(arguments.jobs)]
     for login in arguments.sshlogin:
         words += ["--sshlogin", login]
     job = [sys.executable or "python3"] if not arguments.sshlogin else []
-    command = " ".join(map(shlex.quote, [*job, launcher, "part", results.path]))
-    return [*words, "--null", "--arg-file", results.parts_path, f"{command} {{}}"]
+    command = " ".join(map(shlex.quote, [*job, launcher, "batch", results.path]))
+    return [*words, f"{command} {{}}"]
 
 
 def find_launcher() -> str:
@@ -92,14 +91,17 @@ def find_launcher() -> str:
     raise Fault(f"there is no launcher in {shown_name(folder)}")
 
 
-def run_parallel(words: List[str], lock: BinaryIO) -> int:
+def run_parallel(words: List[str], batches: int, lock: BinaryIO) -> int:
     """Runs the engine to its end. A signal that ends this process ends the engine and its jobs too.
 
     Where this process is killed outright, the engine goes on, and holds the lock until it ends.
     """
-    with Workplace():
-        child = subprocess.Popen(words, stdin=subprocess.DEVNULL, stdout=sys.stderr, start_new_session=True,
-                                 pass_fds=[lock.fileno()], env={**os.environ, "PARALLEL_SHELL": SHELL})
+    with Workplace() as workplace:
+        with workplace.new_file("numbers") as numbers:
+            numbers.write(b"".join(b"%d\n" % it for it in range(1, batches + 1)))
+            numbers.seek(0)
+            child = subprocess.Popen(words, stdin=numbers, stdout=sys.stderr, start_new_session=True,
+                                     pass_fds=[lock.fileno()], env={**os.environ, "PARALLEL_SHELL": SHELL})
         try:
             return child.wait()
         except BaseException:

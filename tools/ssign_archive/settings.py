@@ -7,7 +7,7 @@ import json
 import os
 import subprocess
 from dataclasses import asdict, dataclass
-from typing import Callable, List, Optional, Tuple
+from typing import Callable, Dict, List, Optional, Tuple
 
 from ssign_keys.faults import Fault
 from ssign_keys.files import reason
@@ -55,6 +55,16 @@ class Settings:
             return self.answers
         name = os.path.basename(self.archive) if part == "." else part
         return os.path.join(self.answers, f"{name}.answers")
+
+    def given_to(self, part: str) -> Dict[str, str]:
+        """What tells another file of the part's own, by what it is; nothing of one that all parts have."""
+        path = self.answers_of(part)
+        if path is None or path == self.answers:
+            return {"answers": ""}
+        try:
+            return {"answers": look_of(path)}
+        except Fault:
+            return {"answers": "it can't be read"}
 
 
 def add_arguments(parser: argparse.ArgumentParser) -> None:

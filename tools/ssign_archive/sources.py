@@ -4,8 +4,9 @@ from __future__ import annotations
 import hashlib
 import itertools
 import os
+import stat
 from dataclasses import dataclass
-from typing import BinaryIO, Iterator, List, Optional, cast
+from typing import BinaryIO, Iterator, List, Optional, Tuple, cast
 
 from ssign_keys.expand import FRONT, PIECE, Damaged, expanded, form_of
 from ssign_keys.faults import Fault
@@ -24,6 +25,9 @@ class Read:
     place: int
     messages: int = 0
     sha256: str = ""
+    # of the expanded file, as far as it was read
+    plain_size: int = 0
+    plain_sha256: str = ""
     # the octet, of the expanded file, of the first message that wasn't read, and why; "torn" is a finding alone
     octet: Optional[int] = None
     why: str = ""
@@ -49,10 +53,13 @@ class Reader:
         path = os.path.join(self._folder, stored.name)
         read = Read(stored, self.messages)
         cutter = Cutter(self._are_lines, self._longest)
-        hasher = hashlib.sha256()
+        hasher, plain = hashlib.sha256(), hashlib.sha256()
         with open_file(path) as file:
+            seen = look_of_open(path, file, stored)
             try:
                 for octets in gathered(plain_pieces(path, hashed(path, file, hasher))):
+                    plain.update(octets)
+                    read.plain_size += len(octets)
                     whole = cutter.take(octets)
                     read.messages += whole.messages
                     self.messages += whole.messages
@@ -65,18 +72,37 @@ class Reader:
                 read.octet, read.why = cutter.offset, fault.cause
             for _ in hashed(path, file, hasher):
                 pass
-        read.sha256 = hasher.hexdigest()
-        if look(path) != stored:
-            raise Fault(f"{shown_name(path)} was changed while it was read")
+            read.sha256, read.plain_sha256 = hasher.hexdigest(), plain.hexdigest()
+            if look_of_open(path, file, stored) != seen or look(path) != stored:
+                raise changed(path)
         self.read.append(read)
 
 
 def open_file(path: str) -> BinaryIO:
-    """Opens a file for reading."""
+    """Opens a file for reading. One that only waits for somebody to write to it is refused."""
     try:
-        return cast(BinaryIO, open(path, "rb", buffering=0))
+        # a pipe that was put in place of a file would wait for ever without O_NONBLOCK
+        number = os.open(path, os.O_RDONLY | os.O_NONBLOCK | os.O_CLOEXEC)
     except OSError as fault:
         raise Fault(f"{shown_name(path)} can't be read: {reason(fault)}") from fault
+    file = cast(BinaryIO, os.fdopen(number, "rb", buffering=0))
+    if not stat.S_ISREG(os.fstat(number).st_mode):
+        file.close()
+        raise Fault(f"{shown_name(path)} is no regular file")
+    return file
+
+
+def look_of_open(path: str, file: BinaryIO, stored: Stored) -> Tuple[int, int, int]:
+    """What tells that an open file was written to. Raises Fault where it isn't the one that was listed."""
+    seen = os.fstat(file.fileno())
+    if (seen.st_size, seen.st_mtime_ns) != (stored.size, stored.mtime_ns):
+        raise changed(path)
+    return seen.st_size, seen.st_mtime_ns, seen.st_ctime_ns
+
+
+def changed(path: str) -> Fault:
+    """What is said of a file that isn't what it was."""
+    return Fault(f"{shown_name(path)} was changed while it was read")
 
 
 def hashed(path: str, file: BinaryIO, hasher: "hashlib._Hash") -> Iterator[bytes]:

@@ -193,12 +193,12 @@ class Split:
         else:
             print("(b) met: each message with an announced hash lies in the part of the block that announces it")
         found = file_findings(".", self._read)
-        for where, what in found:
-            say(f"ssign-archive: {where}: {what}")
+        for it in found:
+            say(f"ssign-archive: {it.text()}")
         if any(it.octet is not None and it.why != "torn" for it in self._read):
             return 2
         return 1 if strays.count or found else 0
 
     def _where(self, place: int) -> str:
         """A place of the log, with its file."""
-        return f"place {place} ({Places('.', self._read).at(place)})"
+        return f"place {place} ({Places('.', self._read).at(place).text()})"

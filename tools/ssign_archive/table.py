@@ -3,16 +3,16 @@ from __future__ import annotations
 
 import argparse
 import os
-import sys
 from dataclasses import dataclass, fields
-from typing import Dict, Iterator, List, Optional, Sequence
+from typing import Dict, Iterator, List, Mapping, Optional, Sequence
 
-from ssign_keys.faults import Fault
 from ssign_keys.report import Totals
 from ssign_keys.words import counted, shown_name
-from ssign_keys.workplace import abandon_output
 
-from .results import Record, Results
+from .derive import Derived
+from .output import print_lines
+from .record import Record
+from .results import Kept, Results
 from .settings import Settings, number
 from .tree import find_parts, order
 
@@ -40,15 +40,16 @@ def add_table_arguments(parser: argparse.ArgumentParser) -> None:
 def run(arguments: argparse.Namespace) -> int:
     """Prints what is known of all parts, and gives the status."""
     results = Results(arguments.results)
-    return Table(results, results.settings()).print(arguments.findings, arguments.sessions)
+    return Table(results, results.settings(), {}).print(arguments.findings, arguments.sessions)
 
 
 @dataclass
 class Row:
-    """A part with its record, or with why it has none that counts."""
+    """A part with what is kept of it, or with why nothing is that counts."""
 
     part: str
     record: Optional[Record]
+    derived: Derived
     fault: str
 
     @property
@@ -56,7 +57,7 @@ class Row:
         """0 where nothing was found, 1 where something was, 2 where the part wasn't reviewed, or not in full."""
         if self.record is None or self.record.unread:
             return 2
-        return 1 if self.record.findings else 0
+        return 1 if self.derived.findings else 0
 
     @property
     def verdict(self) -> str:
@@ -65,16 +66,17 @@ class Row:
             return f"NOT REVIEWED: {self.fault}"
         if self.record.unread:
             return f"NOT IN FULL: {counted(len(self.record.unread), 'file')} can't be read to the end"
-        if self.record.findings:
-            return counted(self.record.findings, "finding")
-        return "clean" if self.record.totals.messages else "empty"
+        return counted(self.derived.findings, "finding") if self.derived.findings else "clean"
 
     def cells(self) -> List[str]:
         """What stands in the columns."""
         if self.record is None:
             return [shown_name(self.part), *["-"] * (len(HEADINGS) - 2), self.verdict]
-        return [shown_name(self.part), *numbers(len(self.record.files), self.record.totals),
-                states_text(self.record.states), self.verdict]
+        return [shown_name(self.part), *numbers(len(self.record.files), self.derived.totals),
+                states_text(self.derived.states), self.verdict]
+
+
+NOTHING = Derived(Totals(), {}, 0, 0)
 
 
 def numbers(files: int, totals: Totals) -> List[str]:
@@ -92,39 +94,48 @@ def states_text(states: Dict[str, int]) -> str:
 class Table:
     """The rows of all parts of an archive, as it is now."""
 
-    def __init__(self, results: Results, settings: Settings) -> None:
+    def __init__(self, results: Results, settings: Settings, known: Mapping[str, Kept]) -> None:
+        """Of a part that is known its report was read a short time ago, and isn't read again."""
         self._results = results
         self._settings = settings
         listed = results.parts()
         found = find_parts(settings.archive)
-        there = set(found)
-        names = sorted({*listed, *found}, key=order)
-        self.rows = [self._row(it, it in there) for it in names]
+        self._there = there = set(found.parts)
+        self._empty = found.empty
+        names = sorted({*listed, *found.parts}, key=order)
+        self.rows = [self._row(it, it in there, known.get(it)) for it in names]
         self._divided = self._find_divided()
+        self._gone = self._find_gone()
+        # what was found that no part's own results have
+        self._whole = [*self._divided, *self._gone]
 
-    def _row(self, part: str, is_there: bool) -> Row:
+    def _row(self, part: str, is_there: bool, known: Optional[Kept]) -> Row:
         if not is_there:
-            return Row(part, None, "its folder is gone, or holds no file now")
-        record = self._results.record(part, self._settings)
-        if record is None:
-            return Row(part, None, self._results.failure(part) or "no review of it came to its end")
-        return Row(part, None, f"{record.stale} since its review") if record.stale else Row(part, record, "")
+            return Row(part, None, NOTHING, "its folder is gone, or holds no file now")
+        kept = self._results.kept(part, self._settings, known is None)
+        derived = kept.derived or (known.derived if known is not None else None)
+        if kept.fault:
+            return Row(part, None, NOTHING, f"{kept.fault} since its review" if kept.record else kept.fault)
+        if kept.record is None or derived is None:
+            return Row(part, None, NOTHING, self._results.failure(part) or "no review of it came to its end")
+        return Row(part, kept.record, derived, "")
 
     def print(self, most: int, with_sessions: bool) -> int:
         """Prints everything, and gives the status."""
-        try:
-            for line in self._lines(most, with_sessions):
-                sys.stdout.write(line + "\n")
-            sys.stdout.flush()
-        except (OSError, ValueError, AttributeError) as fault:
-            abandon_output()
-            raise Fault(f"standard output can't be written: {getattr(fault, 'strerror', None) or fault}") from fault
+        print_lines(self._lines(most, with_sessions))
         return self.status
 
     @property
     def status(self) -> int:
-        """The worst of all rows. A session that lies in two parts is a finding of the whole."""
-        return max(1 if self._divided else 0, *(it.status for it in self.rows))
+        """The worst of all rows, and 1 at least where something was found of the whole."""
+        return max(1 if self._whole else 0, *(it.status for it in self.rows))
+
+    def _find_gone(self) -> List[str]:
+        """Folders and files that aren't there, or are empty."""
+        found = [f"in {shown_name(it)}: empty, the folder holds no file" for it in self._empty]
+        found += [f"in {shown_name(it.part)}: gone, its folder was there before, and holds no file now" for it in self.rows
+                  if it.part not in self._there]
+        return [*found, *self._absent()]
 
     def _find_divided(self) -> List[str]:
         """Sessions whose blocks lie in several parts, so that no part shows what is true of them."""
@@ -144,12 +155,11 @@ class Table:
             if with_sessions:
                 yield from self._file(row, "sessions", -1)
             yield from self._file(row, "findings", most)
-            if row.record.findings > most:
+            if row.derived.findings > most:
                 path = os.path.join(self._results.folder_of(row.part), "findings")
-                yield f"in {shown_name(row.part)}: {row.record.findings - most} more findings stand in {shown_name(path)}"
-        yield from self._divided
+                yield f"in {shown_name(row.part)}: {row.derived.findings - most} more findings stand in {shown_name(path)}"
+        yield from self._whole
         yield from aligned([list(HEADINGS), *[it.cells() for it in self.rows], self._total()])
-        yield from self._absent()
         yield self._verdict()
 
     def _file(self, row: Row, name: str, most: int) -> Iterator[str]:
@@ -172,8 +182,8 @@ class Table:
             files += len(row.record.files)
             for it in fields(Totals):
                 if it.name != "torn":
-                    setattr(total, it.name, getattr(total, it.name) + getattr(row.record.totals, it.name))
-            for state, count in row.record.states.items():
+                    setattr(total, it.name, getattr(total, it.name) + getattr(row.derived.totals, it.name))
+            for state, count in row.derived.states.items():
                 states[state] = states.get(state, 0) + count
         return ["total", *numbers(files, total), states_text(states), self._total_verdict()]
 
@@ -191,8 +201,8 @@ class Table:
         for part, has in names.items():
             for name in common:
                 if name not in has:
-                    yield (f"note: {shown_name(part)} has no file {shown_name(name)}; {counts[name]} of {len(names)} parts "
-                           "have one")
+                    yield (f"in {shown_name(part)}: file {shown_name(name)} is missing; {counts[name]} of {len(names)} parts have "
+                           "one")
 
     def _verdict(self) -> str:
         """The last line."""
@@ -201,6 +211,8 @@ class Table:
                   "full")
         if self._divided:
             shares += f"; {counted(len(self._divided), 'session')} in several parts"
+        if self._gone:
+            shares += f"; {counted(len(self._gone), 'file or folder', 'files or folders')} missing or empty"
         if self.status == 2:
             return f"NO VERDICT ON THE WHOLE ARCHIVE. {shares}."
         return f"{'Findings' if self.status else 'Clean'}. {shares}."

@@ -4,14 +4,15 @@ from __future__ import annotations
 import os
 import stat
 from dataclasses import dataclass
-from typing import List, Set, Tuple
+from typing import List, NamedTuple, Set, Tuple
 
 from ssign_keys.faults import Fault
 from ssign_keys.files import reason
 from ssign_keys.words import shown_name
 
-# what may lie beside a folder under its name and is no log: its answers, and the places of its messages before a split
-BESIDE = (".answers", ".places")
+# what may lie beside a folder under its name and is no log: what a review of it is given, and the places of its messages
+# before a split
+BESIDE = (".answers", ".counters", ".manifest", ".places")
 
 
 @dataclass(frozen=True)
@@ -39,9 +40,19 @@ def order(name: str) -> bytes:
     return os.fsencode(name)
 
 
-def find_parts(archive: str) -> List[str]:
-    """The folders below an archive that hold logs, by their path from there, sorted. The archive itself is `.`."""
+class Found(NamedTuple):
+    """The folders below an archive, by their path from there, sorted. The archive itself is `.`."""
+
+    parts: List[str]
+    """Those that hold logs."""
+    empty: List[str]
+    """Those that hold nothing."""
+
+
+def find_parts(archive: str) -> Found:
+    """The folders below an archive. Raises Fault where none holds a log."""
     parts: List[str] = []
+    empty: List[str] = []
     seen: Set[Tuple[int, int]] = set()
     waiting = ["."]
     while waiting:
@@ -50,9 +61,11 @@ def find_parts(archive: str) -> List[str]:
         waiting += [name if folder == "." else os.path.join(folder, name) for name in folders]
         if logs:
             parts.append(folder)
+        elif not folders:
+            empty.append(folder)
     if not parts:
         raise Fault(f"no file lies below {shown_name(archive)}")
-    return sorted(parts, key=order)
+    return Found(sorted(parts, key=order), sorted(empty, key=order))
 
 
 def entries(path: str, seen: Set[Tuple[int, int]]) -> Tuple[List[str], List[str]]:
