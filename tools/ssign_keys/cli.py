@@ -13,6 +13,7 @@ TOOL = usage.Tool(
         "make": "make a key pair, and the payload that states it",
         "sign": "sign a log with a private key",
         "verify": "say what a signed log proves, with the originator's public key",
+        "manifest": "keep a list of signed logs, and check logs against it",
         "seal": "sign what `ssign plan` wants to have signed",
         "answer": "answer what `ssign questions` asks about keys and signatures",
     },
@@ -20,6 +21,10 @@ TOOL = usage.Tool(
         "make": ("mkdir -m 700 keys && ssign-keys make keys",),
         "sign": ("ssign-keys sign --key keys/private-key.pem --rsid 1 --host gate --app signer messages.log > signed.frames",),
         "verify": ("ssign-keys verify --key keys/public-key.pem signed.frames",),
+        "manifest": (
+            "ssign-keys manifest add manifest signed.frames --counters counters",
+            "ssign-keys manifest check manifest /srv/logs --logs '*.frames'",
+        ),
         "seal": ("ssign-keys seal keys/private-key.pem < plan > seals",),
         "answer": ("ssign-keys answer keys/public-key.pem < questions > answers",),
     },

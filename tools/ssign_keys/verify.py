@@ -9,6 +9,7 @@ import tempfile
 from typing import BinaryIO, Callable, Iterator, List, NamedTuple, Optional, Type, Union
 
 from . import form as forms
+from . import manifested
 from . import trust as trust_options
 from .answer import answers
 from .blocks import Session
@@ -16,6 +17,7 @@ from .faults import Fault
 from .kept import Counters, copy_counters, is_standard_pipe, read_counters
 from .logs import Log, open_log
 from .machine import Machine
+from .manifested import Listed
 from .person import Person
 from .programs import Refused, Run, add_limit_arguments, add_program_argument, find_program, log_words
 from .progress import Progress
@@ -43,6 +45,7 @@ def add_arguments(parser: argparse.ArgumentParser) -> None:
                         "finding")
     parser.add_argument("--jobs", type=positive, default=1, metavar="N", help="check signatures by so many processes "
                         "(default: 1)")
+    manifested.add_arguments(parser)
     form = parser.add_mutually_exclusive_group()
     form.add_argument("--raw", action="store_true", help="print the report of `ssign review` as it stands")
     form.add_argument("--json", action="store_true", help="print a JSON object for each line of the report, and one for "
@@ -72,24 +75,35 @@ def run(arguments: argparse.Namespace) -> int:
             refuse_two_counters(arguments.counters)
             refuse_one_pipe(arguments.counters, arguments.logs)
             trust = Trust.from_arguments(arguments)
+            listed = Listed.from_arguments(arguments)
             named_form = forms.named_form(arguments)
             missing = find_missing(program, arguments, workplace, progress)
             log = open_log(arguments.logs, named_form, workplace, progress)
             warn_of_form(log)
+            if listed is not None:
+                missing = add_counters(missing, listed.look(log), program, workplace, progress)
             verifier = Verifier(program, log_words(arguments, log.are_lines), missing, log, workplace, progress)
             notes = verifier.answer(trust, arguments.jobs)
             status = verifier.review()
             verifier.tell_unused(trust)
             out = verifier.report
+            if listed is not None:
+                listed.compare(verifier.report)
             if not arguments.raw:
                 out = workplace.new_file("out")
+                if listed is not None:
+                    listed.put(out, arguments.json)
                 verifier.tell(Machine if arguments.json else Person, out, notes, status)
+                if listed is not None:
+                    listed.close(out, arguments.json)
+            elif listed is not None:
+                listed.say()
             log.check_unchanged()
             if arguments.answers_out is not None:
                 keep_answers(verifier.answers_path, arguments.answers_out)
             progress.clear()
             write_out(out)
-            return status
+            return max(status, 1) if listed is not None and listed.found else status
     except Refused as refused:
         progress.clear()
         fault = fault_of(refused, program, arguments, log)
@@ -228,6 +242,26 @@ def find_missing(program: str, arguments: argparse.Namespace, workplace: Workpla
     path = copy_counters(arguments.counters[0], workplace)
     words.append(f"--counters={path}")
     refuse_without(program, words, "--counters", "what is missing up to counters", workplace, progress)
+    return Missing(words, read_counters(path))
+
+
+def add_counters(missing: Missing, lines: List[bytes], program: str, workplace: Workplace, progress: Progress) -> Missing:
+    """Has the review use these lines too, which are those of a counters file."""
+    if not lines:
+        return missing
+    path = workplace.path("counters")
+    if missing.counters is None:
+        workplace.new_file("counters").close()
+    with open(path, "r+b") as file:
+        end = file.seek(0, os.SEEK_END)
+        # the last LF of a counters file may be missing
+        if end and os.pread(file.fileno(), 1, end - 1) != b"\n":
+            put(file, b"\n")
+        put(file, b"".join(lines))
+        finish(file)
+    words = [it for it in missing.words if not it.startswith("--counters=")] + [f"--counters={path}"]
+    if missing.counters is None:
+        refuse_without(program, words, "--counters", "what is missing up to the manifest's counters", workplace, progress)
     return Missing(words, read_counters(path))
 
 

@@ -1,0 +1,267 @@
+"""Keeps a manifest of signed logs, and checks a folder of logs against it."""
+from __future__ import annotations
+
+import argparse
+import fnmatch
+import hashlib
+import json
+import os
+import subprocess
+from typing import BinaryIO, Dict, Iterator, List, Optional, Tuple
+
+from . import form as forms
+from .blocks import Session
+from .faults import Fault
+from .kept import copy_counters
+from .logs import Log, open_file, open_log
+from .manifest_file import Appending
+from .manifest_findings import Stored, bare, of_logs, of_manifest
+from .manifest_form import FIRST_SUM, STAMP, Entry, Extent, Mark, SetAside, file_of, read_manifest, read_mark, stamp_of
+from .payloads import present_stamp
+from .programs import Refused, Run, add_limit_arguments, add_program_argument, find_program, log_words
+from .progress import Progress
+from .refusals import fault_of
+from .streams import Output
+from .walk import Walk, read_at
+from .words import counted, shown_name
+from .workplace import Workplace, say
+
+ACTIONS = ("add", "check")
+PIECE = 1 << 20
+
+
+def add_arguments(parser: argparse.ArgumentParser) -> None:
+    """Says which words the command takes."""
+    parser.add_argument("action", choices=ACTIONS, metavar="ACTION", help="add: append the entry of a signed log that was "
+                        "verified, and print its number and hash; check: compare a folder of logs with the manifest "
+                        "[possible values: add, check]")
+    parser.add_argument("manifest", metavar="MANIFEST", help="the manifest; to begin one, make an empty file")
+    parser.add_argument("place", metavar="LOG", help="add: the signed log; check: the folder of the logs")
+    parser.add_argument("--counters", metavar="FILE", help="add: the counters of the log, as `ssign counters` wrote them; has "
+                        "to be given")
+    parser.add_argument("--set-aside", metavar="FILE", help="add: the file of the messages that couldn't be signed, as frames")
+    parser.add_argument("--signed", metavar="TIME", help="add: when the log was signed, in UTC as 2026-11-27T04:00:00Z "
+                        "(default: now)")
+    parser.add_argument("--last", metavar="N:SHA256", help="the last entry as `add` printed it, which was kept apart: add "
+                        "refuses a manifest that ends with another one; check looks whether it is there")
+    parser.add_argument("--logs", metavar="PATTERN", help="check: the names of signed logs in the folder, as *.frames; "
+                        "names with a dot in front are skipped (default: *)")
+    parser.add_argument("--json", action="store_true", help="check: print a JSON object for each finding, and one for the total")
+    forms.add_arguments(parser)
+    add_limit_arguments(parser)
+    add_program_argument(parser)
+
+
+def run(arguments: argparse.Namespace) -> int:
+    """Does the action."""
+    kept = None if arguments.last is None else read_mark(arguments.last)
+    with_other = {"add": ("logs", "json"), "check": ("counters", "set_aside", "signed", "lines", "frames", "max_len", "max_messages")}
+    for name in with_other[arguments.action]:
+        if getattr(arguments, name):
+            raise Fault(f"--{name.replace('_', '-')} doesn't go with `manifest {arguments.action}`")
+    if arguments.action == "check":
+        return check(arguments, kept)
+    if arguments.counters is None:
+        raise Fault("`manifest add` needs the counters of the log: --counters FILE")
+    return add(arguments, kept)
+
+
+# ---- add
+
+def add(arguments: argparse.Namespace, kept: Optional[Mark]) -> int:
+    """Appends the entry of a log, and prints its number and hash."""
+    program, progress = find_program(arguments), Progress()
+    log: Optional[Log] = None
+    arguments.log = arguments.place
+    try:
+        with Workplace() as workplace:
+            log = open_log([real_name(arguments.place)], forms.named_form(arguments), workplace, progress)
+            entry = make_entry(arguments, program, log, workplace, progress)
+            log.check_unchanged()
+            with Appending(arguments.manifest, kept) as appending:
+                number = appending.manifest.last.number
+                entry = appending.append(entry)
+            if entry.number <= number:
+                say(f"ssign-keys: the entry {entry.number} is of this log already, so nothing is added")
+            try:
+                with Output() as output:
+                    output.add(f"{entry.mark}\n".encode("ascii"))
+                    output.release()
+            except Fault as fault:
+                raise Fault(f"the entry stands in the manifest as {entry.mark}, but {fault}") from fault
+            return 0
+    except Refused as refused:
+        progress.clear()
+        fault = fault_of(refused, program, arguments, log)
+        if fault is not None:
+            raise fault from refused
+        return 2
+    finally:
+        progress.clear()
+
+
+def real_name(path: str) -> str:
+    """The path of a log, which isn't standard input."""
+    if path == "-":
+        raise Fault("standard input has no name that a manifest could hold: name the log's file")
+    return path
+
+
+def name_for(path: str) -> str:
+    """The name of a file in a manifest."""
+    try:
+        return file_of(os.path.basename(path))
+    except ValueError as fault:
+        raise Fault(f"{shown_name(path)} has a name that isn't UTF-8, which a manifest can't hold: give it another one") from fault
+
+
+def make_entry(arguments: argparse.Namespace, program: str, log: Log, workplace: Workplace, progress: Progress) -> Entry:
+    """The entry of a log, but for its number and the hash of the line before."""
+    try:
+        signed = stamp_of(present_stamp() if arguments.signed is None else arguments.signed)
+    except ValueError as fault:
+        raise Fault(f"--signed {shown_name(arguments.signed)}: this is no time in UTC as {STAMP.replace('%', '')}") from fault
+    session, gbc, ends = read_lines(arguments.counters, workplace)
+    groups = extents_of(program, log_words(arguments, log.are_lines), log, session, gbc, ends, workplace, progress)
+    name = name_for(bare(arguments.place))
+    size, sha256 = sum_of(log.file, 0, log.size)
+    return Entry(1, FIRST_SUM, signed, name, size, sha256, session, gbc, groups, set_aside_of(arguments.set_aside))
+
+
+def read_lines(path: str, workplace: Workplace) -> Tuple[Session, int, Dict[Tuple[int, int], int]]:
+    """What a counters file says: its session, the next GBC, and the last number of each group. It has one session."""
+    name = shown_name(path)
+    sessions = set()
+    gbcs: List[int] = []
+    ends: Dict[Tuple[int, int], int] = {}
+    with open(copy_counters(path, workplace), "rb") as file:
+        for count, line in enumerate(file, 1):
+            fields = line.rstrip(b"\n").split(b" ")
+            if len(fields) not in (6, 8) or fields[0] != b"count" or not all(it.isdigit() and len(it) < 12 for it in fields[4:]):
+                raise Fault(f"the line {count} of the counters file {name} isn't one that `ssign counters` writes")
+            sessions.add(Session(*fields[1:5]))
+            if len(fields) == 6:
+                gbcs.append(int(fields[5]))
+            else:
+                ends[int(fields[5]), int(fields[6])] = int(fields[7]) - 1
+    if len(sessions) != 1 or len(gbcs) != 1:
+        raise Fault(f"the counters file {name} has {counted(len(sessions), 'session')} and {counted(len(gbcs), 'line')} with a "
+                    "GBC: an entry is of one session, which has one")
+    return sessions.pop(), gbcs[0], ends
+
+
+def extents_of(program: str, words: List[str], log: Log, session: Session, gbc: int, ends: Dict[Tuple[int, int], int],
+               workplace: Workplace, progress: Progress) -> Tuple[Extent, ...]:
+    """The numbers that the log's signature blocks announce. Raises Fault where the counters aren't those of the log."""
+    firsts: Dict[Tuple[int, int], int] = {}
+    lasts: Dict[Tuple[int, int], int] = {}
+    greatest = -1
+    for line in inspected(program, words, log, workplace, progress):
+        fields = line.split(b" ")
+        if Session(*fields[2:6]) != session:
+            raise Fault(f"the log holds a block of the session {Session(*fields[2:6])}, and the counters are of {session}")
+        if fields[0] != b"signature":
+            continue
+        sg, spri, number, first, count = map(int, fields[6:])
+        group = sg, spri
+        greatest = max(greatest, number)
+        firsts[group] = min(first, firsts.get(group, first))
+        lasts[group] = max(first + count - 1, lasts.get(group, 0))
+    if lasts != ends or greatest + 1 != gbc:
+        raise Fault("the counters aren't those of the log: the signature blocks in it go to other numbers")
+    return tuple(Extent(*group, firsts[group], lasts[group]) for group in sorted(lasts))
+
+
+def inspected(program: str, words: List[str], log: Log, workplace: Workplace, progress: Progress) -> Iterator[bytes]:
+    """The lines of `ssign inspect` about blocks. Raises Fault where the log breaks off, or has none."""
+    inspecting = Run(program, ["inspect", "--findings", *words], workplace, progress, log.rewind(), subprocess.PIPE)
+    count = 0
+    for line in inspecting.lines(lambda: progress.show("looking at blocks", log.position(), log.size, "octets")):
+        line = line.rstrip(b"\n")
+        word = line.partition(b" ")[0]
+        if word == b"torn":
+            raise Fault("the log breaks off, so it isn't the log that was signed")
+        if word in (b"signature", b"certificate"):
+            count += 1
+            yield line
+    if not count:
+        raise Fault("the log holds no block, so it isn't a signed log")
+
+
+def sum_of(file: BinaryIO, start: int, end: int) -> Tuple[int, str]:
+    """How many octets of a file lie between two, and their SHA-256."""
+    hasher = hashlib.sha256()
+    at = start
+    while at < end:
+        piece = read_at(file, at, min(PIECE, end - at))
+        if not piece:
+            break
+        hasher.update(piece)
+        at += len(piece)
+    return at - start, hasher.hexdigest()
+
+
+def set_aside_of(path: Optional[str]) -> Optional[SetAside]:
+    """The file of messages that couldn't be signed."""
+    if path is None:
+        return None
+    with open_file(path) as file:
+        size = os.fstat(file.fileno()).st_size
+        walk = Walk(file, False)
+        while walk.step(1 << 20):
+            pass
+        if walk.offset != size:
+            raise Fault(f"{shown_name(path)} isn't a file of whole frames: nothing is one at its octet {walk.offset}")
+        length, sha256 = sum_of(file, 0, size)
+    return SetAside(name_for(path), length, sha256, walk.place)
+
+
+# ---- check
+
+def check(arguments: argparse.Namespace, kept: Optional[Mark]) -> int:
+    """Prints what is wrong with the manifest, and with the logs in a folder."""
+    with Workplace() as workplace, Output() as output:
+        manifest = read_manifest(arguments.manifest)
+        logs = list(stored_in(arguments.place, arguments.logs or "*", arguments.manifest, workplace))
+        found = [*of_manifest(manifest, kept), *of_logs(manifest, logs)]
+        status = 1 if found else 0
+        lines = [it.line() if arguments.json else it.text() for it in found]
+        mark = "{}:{}".format(*manifest.last)
+        if arguments.json:
+            total = {"line": "total", "status": status, "entries": len(manifest.entries), "logs": len(logs),
+                     "findings": len(found), "last": mark}
+            lines.append(json.dumps(total, separators=(",", ":")))
+        else:
+            lines.append(f"{counted(len(found), 'finding') if found else 'Clean'}. "
+                         f"{counted(len(manifest.entries), 'entry', 'entries')}, {counted(len(logs), 'log')}; the last entry is "
+                         f"{mark}")
+        output.add("".join(f"{it}\n" for it in lines).encode("utf-8", "backslashreplace"))
+        output.release()
+    return status
+
+
+def stored_in(folder: str, pattern: str, manifest: str, workplace: Workplace) -> Iterator[Stored]:
+    """The logs in a folder, in the order of their names. The manifest itself is none."""
+    try:
+        names = sorted((it for it in os.listdir(folder) if not it.startswith(".")), key=os.fsencode)
+    except OSError as fault:
+        raise Fault(f"the folder {shown_name(folder)} can't be read: {fault.strerror}") from fault
+    for name in names:
+        path = os.path.join(folder, name)
+        if os.path.isdir(path) or (os.path.exists(path) and os.path.samefile(path, manifest)):
+            continue
+        if fnmatch.fnmatchcase(bare(name), pattern) or fnmatch.fnmatchcase(name, pattern):
+            yield stored_at(path, name, workplace)
+
+
+def stored_at(path: str, name: str, workplace: Workplace) -> Stored:
+    """A log of a folder, expanded where it is compressed."""
+    if os.path.exists(path) and not os.path.isfile(path):
+        raise Fault(f"{shown_name(path)} is no regular file")
+    log = open_log([path], False, workplace, Progress())
+    try:
+        size, sha256 = sum_of(log.file, 0, log.size)
+        log.check_unchanged()
+    finally:
+        log.file.close()
+    return Stored(shown_name(name), bare(name), size, sha256)

@@ -1,0 +1,198 @@
+"""What a manifest shows of logs: each that is gone, cut, changed, renamed or unknown, and what is wrong with the manifest."""
+from __future__ import annotations
+
+import json
+from dataclasses import dataclass
+from typing import Dict, List, NamedTuple, Optional, Sequence, Tuple
+
+from .blocks import Session
+from .manifest_form import Entry, Extent, Manifest, Mark
+from .words import counted, shown_name
+
+# how a compressed log is named after the one that was compressed
+ENDINGS = (".gz", ".xz", ".zst")
+
+
+class Stored(NamedTuple):
+    """A log as it lies there, expanded where it is compressed."""
+
+    label: str
+    """What a person is shown."""
+    name: str
+    """Its name, without its folder and without what says how it is compressed; empty where it has none."""
+    size: int
+    sha256: str
+
+
+@dataclass(frozen=True)
+class Found:
+    """A finding. The first word of `what` says of which kind it is."""
+
+    where: str
+    what: str
+    entry: Optional[int] = None
+
+    @property
+    def kind(self) -> str:
+        """The first word."""
+        return self.what.partition(" ")[0].rstrip(",:")
+
+    def text(self) -> str:
+        """As a line of text."""
+        return f"{self.where}: {self.what}"
+
+    def line(self) -> str:
+        """As an object of JSON."""
+        fields = {"line": "manifest", "kind": self.kind, "where": self.where, "entry": self.entry, "what": self.what}
+        return json.dumps(fields, separators=(",", ":"))
+
+
+def bare(name: str) -> str:
+    """The name of a log before it was compressed."""
+    for ending in ENDINGS:
+        if name.endswith(ending) and name != ending:
+            return name[: -len(ending)]
+    return name
+
+
+def of_manifest(manifest: Manifest, kept: Optional[Mark]) -> List[Found]:
+    """What is wrong with the manifest itself: lines that were changed or cut, entries twice, and an RSID that was skipped."""
+    found = [Found(f"line {it}", "broken, it doesn't follow the line before; a line was changed, put in or taken out", it)
+             for it in manifest.broken]
+    if manifest.torn is not None:
+        found.append(Found(f"line {manifest.torn}", "torn, the manifest breaks off in this line"))
+    if kept is not None:
+        found += not_kept(manifest, kept)
+    return found + twice(manifest.entries) + skipped(manifest.entries)
+
+
+def not_kept(manifest: Manifest, kept: Mark) -> List[Found]:
+    """What is wrong where the entry isn't there whose number and hash were kept."""
+    number, given = kept
+    if number == 0:
+        return []
+    if number > len(manifest.entries):
+        return [Found(f"entry {number}", f"cut, the manifest has {counted(len(manifest.entries), 'entry', 'entries')}, and this "
+                      "one was kept", number)]
+    if manifest.entries[number - 1].sum != given:
+        return [Found(f"entry {number}", "replaced, it isn't the one whose SHA-256 was kept", number)]
+    return []
+
+
+def twice(entries: Sequence[Entry]) -> List[Found]:
+    """Entries of one log, one file or one session."""
+    found: List[Found] = []
+    seen: Dict[Tuple[str, object], int] = {}
+    for line, it in enumerate(entries, 1):
+        for what, key in (("log", it.name), ("file", it.sha256), ("session", it.session)):
+            first = seen.setdefault((what, key), line)
+            if first != line:
+                found.append(Found(f"line {line}", f"twice, the line {first} has this {what} too", it.number))
+                break
+    return found
+
+
+def skipped(entries: Sequence[Entry]) -> List[Found]:
+    """RSIDs that no entry has, between those of two entries of one signer."""
+    found: List[Found] = []
+    last: Dict[Tuple[bytes, ...], int] = {}
+    for line, it in enumerate(entries, 1):
+        signer, rsid = it.session[:3], int(it.session.rsid)
+        before = last.get(signer)
+        names = b" ".join(signer).decode("ascii")
+        if before is not None and rsid > before + 1:
+            which = f"RSID {before + 1}" if rsid == before + 2 else f"RSID {before + 1} to {rsid - 1}"
+            found.append(Found(f"line {line}", f"skipped, no line before it has {which} of {names}", it.number))
+        elif before is not None and rsid < before:
+            found.append(Found(f"line {line}", f"order, its RSID of {names} is less than the one before", it.number))
+        last[signer] = max(rsid, before or 0)
+    return found
+
+
+class Names:
+    """The entries of a manifest by the names and by the octets of their logs."""
+
+    def __init__(self, manifest: Manifest) -> None:
+        self._by_name = {it.name: it for it in reversed(manifest.entries)}
+        self._by_sum = {it.sha256: it for it in reversed(manifest.entries)}
+        self._aside = {it.set_aside.name: it for it in manifest.entries if it.set_aside is not None}
+
+    def entry(self, stored: Stored) -> Optional[Entry]:
+        """The entry of a log: the one that has its name, or else its octets."""
+        return self._by_name.get(stored.name) or self._by_sum.get(stored.sha256)
+
+    def look(self, stored: Stored) -> Optional[Found]:
+        """What is wrong with a log."""
+        entry = self._by_name.get(stored.name)
+        other = self._by_sum.get(stored.sha256)
+        if entry is None:
+            aside = self._aside.get(stored.name)
+            if aside is not None and aside.set_aside is not None:
+                return differs(stored, aside.number, aside.set_aside.size, aside.set_aside.sha256)
+            if other is None:
+                return Found(stored.label, "unknown, no entry names this log")
+            if not stored.name:
+                return None
+        elif entry.sha256 == stored.sha256:
+            return None
+        if other is not None:
+            return Found(stored.label, f"renamed, it has the octets of {shown_name(other.name)} in entry {other.number}",
+                         other.number)
+        assert entry is not None
+        return differs(stored, entry.number, entry.size, entry.sha256)
+
+
+def differs(stored: Stored, number: int, size: int, sha256: str) -> Optional[Found]:
+    """How a file differs from the one of an entry."""
+    if stored.sha256 == sha256:
+        return None
+    if stored.size == 0:
+        return Found(stored.label, f"empty, entry {number} has {counted(size, 'octet')}", number)
+    if stored.size != size:
+        word = "shorter" if stored.size < size else "longer"
+        return Found(stored.label, f"{word}, it has {counted(stored.size, 'octet')}, and entry {number} has {size}", number)
+    return Found(stored.label, f"changed, it has the size of entry {number}, and another SHA-256", number)
+
+
+def of_logs(manifest: Manifest, logs: Sequence[Stored]) -> List[Found]:
+    """What is wrong with all logs that are there, and which are missing."""
+    names = Names(manifest)
+    found = [it for it in map(names.look, logs) if it is not None]
+    here = {it.name for it in logs}
+    for entry in manifest.entries:
+        for name in (entry.name, *(() if entry.set_aside is None else (entry.set_aside.name,))):
+            if name not in here:
+                found.append(Found(shown_name(name), f"missing, entry {entry.number} names it, and it isn't here", entry.number))
+    return found
+
+
+class Reviewed(NamedTuple):
+    """What a review says of sessions: their states, and the first and the last number of each group."""
+
+    states: Dict[Session, str]
+    groups: Dict[Session, List[Extent]]
+
+
+def of_review(entry: Entry, label: str, reviewed: Reviewed) -> Optional[Found]:
+    """Whether the session of an entry, and its numbers, are those that a review has."""
+    state = reviewed.states.get(entry.session)
+    if state is None or state == "absent":
+        return Found(label, f"session, entry {entry.number} has the session {entry.session}, which isn't here", entry.number)
+    if state != "joined":
+        return Found(label, f"session, the session {entry.session} of entry {entry.number} is {state}", entry.number)
+    if reviewed.groups.get(entry.session, []) != list(entry.groups):
+        return Found(label, f"numbers, entry {entry.number} has {extents(entry.groups)}, and here are "
+                     f"{extents(reviewed.groups.get(entry.session, []))}", entry.number)
+    return None
+
+
+def of_sessions(entries: Sequence[Entry], reviewed: Reviewed) -> List[Found]:
+    """Sessions of a review that no entry of its logs has."""
+    known = {it.session for it in entries}
+    return [Found(f"session {it}", "unknown, no entry of these logs has it") for it, state in reviewed.states.items()
+            if it not in known and state != "absent"]
+
+
+def extents(groups: Sequence[Extent]) -> str:
+    """The numbers of groups in words."""
+    return ", ".join(f"numbers {it.first} to {it.last} of SG {it.sg}, SPRI {it.spri}" for it in groups) or "no numbers"

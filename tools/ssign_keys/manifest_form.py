@@ -1,0 +1,276 @@
+"""A manifest: a line of JSON for each signed log, which holds the hash of the line before (docs/FORMATS.md, "A manifest")."""
+from __future__ import annotations
+
+import hashlib
+import json
+import os
+import re
+import stat
+from dataclasses import dataclass, field
+from datetime import datetime
+from typing import BinaryIO, Dict, List, NamedTuple, Optional, Tuple, cast
+
+from .blocks import Session
+from .faults import Fault
+from .files import reason
+from .words import shown_name
+
+# a longer line is none of a manifest
+LONGEST = 1 << 20
+FIRST_SUM = "0" * 64
+SUM = re.compile(r"[0-9a-f]{64}")
+STAMP = "%Y-%m-%dT%H:%M:%SZ"
+KEYS = ("entry", "previous", "signed", "name", "size", "sha256", "host", "app", "procid", "rsid", "groups", "counters",
+        "set_aside")
+# the most octets of HOSTNAME, APP-NAME and PROCID (RFC 5424, section 6)
+NAMES = {"host": 255, "app": 48, "procid": 128}
+MOST = 9999999999
+
+
+class Extent(NamedTuple):
+    """The numbers of a group that a log has."""
+
+    sg: int
+    spri: int
+    first: int
+    last: int
+
+
+class SetAside(NamedTuple):
+    """The file of the messages that couldn't be signed."""
+
+    name: str
+    size: int
+    sha256: str
+    messages: int
+
+
+@dataclass(frozen=True)
+class Entry:
+    """A signed log, as it was when it was signed and verified."""
+
+    number: int
+    previous: str
+    signed: str
+    name: str
+    size: int
+    sha256: str
+    session: Session
+    gbc: int
+    """The GBC of the session's next signature block."""
+    groups: Tuple[Extent, ...]
+    set_aside: Optional[SetAside]
+
+    @property
+    def counters(self) -> List[str]:
+        """The lines of `ssign counters`."""
+        front = f"count {self.session}"
+        return [f"{front} {self.gbc}", *(f"{front} {it.sg} {it.spri} {it.last + 1}" for it in self.groups)]
+
+    def line(self) -> bytes:
+        """The line of the entry, with its LF."""
+        host, app, procid, rsid = (it.decode("ascii") for it in self.session)
+        fields = {
+            "entry": self.number, "previous": self.previous, "signed": self.signed, "name": self.name, "size": self.size,
+            "sha256": self.sha256, "host": host, "app": app, "procid": procid, "rsid": int(rsid),
+            "groups": [it._asdict() for it in self.groups], "counters": self.counters,
+            "set_aside": None if self.set_aside is None else self.set_aside._asdict(),
+        }
+        return json.dumps(fields, separators=(",", ":")).encode("ascii") + b"\n"
+
+    @property
+    def sum(self) -> str:
+        """The SHA-256 of the line, which the next entry repeats."""
+        return hashlib.sha256(self.line()).hexdigest()
+
+    @property
+    def mark(self) -> str:
+        """The number and the hash, as whoever keeps them apart writes them down."""
+        return f"{self.number}:{self.sum}"
+
+
+class Mark(NamedTuple):
+    """The number and the hash of an entry, which somebody kept apart."""
+
+    number: int
+    sum: str
+
+
+def read_mark(text: str) -> Mark:
+    """What `N:SHA-256` says. Raises Fault where it is nothing of that form."""
+    number, colon, given = text.partition(":")
+    if not (colon and re.fullmatch(r"0|[1-9][0-9]{0,9}", number) and SUM.fullmatch(given)):
+        raise Fault(f"--last {shown_name(text)}: this is no number of an entry, a colon and 64 digits of a SHA-256, as "
+                    "`ssign-keys manifest add` prints them")
+    if number == "0" and given != FIRST_SUM:
+        raise Fault("--last: of a manifest without entries the hash is 64 zeros")
+    return Mark(int(number), given)
+
+
+@dataclass
+class Manifest:
+    """The entries of a manifest, with what is wrong with the file as a whole."""
+
+    path: str
+    entries: List[Entry] = field(default_factory=list)
+    # the lines, from 1, that don't follow the line before
+    broken: List[int] = field(default_factory=list)
+    # the line, from 1, in which the file breaks off
+    torn: Optional[int] = None
+
+    @property
+    def last(self) -> Mark:
+        """The number and the hash of the last entry."""
+        return Mark(self.entries[-1].number, self.entries[-1].sum) if self.entries else Mark(0, FIRST_SUM)
+
+
+def open_manifest(path: str, flags: int) -> BinaryIO:
+    """Opens a manifest, which has to be a regular file that is there."""
+    try:
+        number = os.open(path, flags | os.O_NONBLOCK | os.O_CLOEXEC)
+    except FileNotFoundError as fault:
+        raise Fault(f"the manifest {shown_name(path)} isn't there; to begin one, make an empty file of this name") from fault
+    except (OSError, ValueError) as fault:
+        raise Fault(f"the manifest {shown_name(path)} can't be opened: {reason(fault)}") from fault
+    if not stat.S_ISREG(os.fstat(number).st_mode):
+        os.close(number)
+        raise Fault(f"the manifest {shown_name(path)} is no regular file")
+    return cast(BinaryIO, os.fdopen(number, "r+b" if flags & os.O_RDWR else "rb"))
+
+
+def read_manifest(path: str) -> Manifest:
+    """A manifest. Raises Fault at the first bad line."""
+    with open_manifest(path, os.O_RDONLY) as file:
+        return read_entries(path, file)
+
+
+def read_entries(path: str, file: BinaryIO) -> Manifest:
+    """The manifest in an open file."""
+    manifest = Manifest(path)
+    try:
+        while True:
+            line = file.readline(LONGEST)
+            if not line:
+                return manifest
+            number = len(manifest.entries) + 1
+            if not line.endswith(b"\n"):
+                if len(line) >= LONGEST:
+                    raise bad(path, number, f"it has more than {LONGEST} octets")
+                manifest.torn = number
+                return manifest
+            add_line(manifest, number, line)
+    except OSError as fault:
+        raise Fault(f"the manifest {shown_name(path)} can't be read: {reason(fault)}") from fault
+
+
+def add_line(manifest: Manifest, number: int, line: bytes) -> None:
+    """Takes a line of a manifest."""
+    try:
+        entry = read_entry(line)
+    except ValueError as fault:
+        raise bad(manifest.path, number, str(fault)) from fault
+    if (entry.number - 1, entry.previous) != manifest.last:
+        manifest.broken.append(number)
+    manifest.entries.append(entry)
+
+
+def bad(path: str, number: int, why: str) -> Fault:
+    """What is said of a line that is no entry."""
+    return Fault(f"the line {number} of the manifest {shown_name(path)} is no entry: {why}")
+
+
+def read_entry(line: bytes) -> Entry:
+    """The entry of a line. Raises ValueError, with a sentence, where it isn't spelled as one."""
+    try:
+        fields = json.loads(line.decode("ascii"))
+    except (ValueError, RecursionError) as fault:
+        raise ValueError("it is no JSON in ASCII") from fault
+    if not isinstance(fields, dict) or tuple(fields) != KEYS:
+        raise ValueError("it is no object with the keys of an entry in their order")
+    entry = make_entry(fields)
+    if entry.line() != line:
+        raise ValueError("it isn't spelled as an entry is, or its counters aren't those of its groups")
+    return entry
+
+
+def make_entry(fields: Dict[str, object]) -> Entry:
+    """The entry that has these values."""
+    session = Session(*(name_of(fields, it) for it in NAMES), str(number_of(fields, "rsid", 0, MOST)).encode())
+    counters = fields["counters"]
+    if not isinstance(counters, list) or not counters or not isinstance(counters[0], str):
+        raise ValueError("its counters aren't the lines of a counters file")
+    gbc = counters[0].rpartition(" ")[2]
+    if not re.fullmatch(r"[0-9]{1,11}", gbc):
+        raise ValueError("its first counter has no GBC")
+    aside = fields["set_aside"]
+    return Entry(number_of(fields, "entry", 1, MOST), sum_of(fields, "previous"), stamp_of(fields["signed"]),
+                 file_of(fields["name"]), number_of(fields, "size", 1, 1 << 62), sum_of(fields, "sha256"), session, int(gbc),
+                 extents_of(fields["groups"]), None if aside is None else set_aside_of(aside))
+
+
+def number_of(fields: Dict[str, object], key: str, least: int, most: int) -> int:
+    """A number of the entry."""
+    value = fields[key]
+    if type(value) is not int or not least <= value <= most:
+        raise ValueError(f"{key} is no number from {least} to {most}")
+    return value
+
+
+def sum_of(fields: Dict[str, object], key: str) -> str:
+    """A SHA-256 of the entry."""
+    value = fields[key]
+    if not isinstance(value, str) or not SUM.fullmatch(value):
+        raise ValueError(f"{key} isn't a SHA-256 of 64 small hexadecimal digits")
+    return value
+
+
+def name_of(fields: Dict[str, object], key: str) -> bytes:
+    """One of the names of the session."""
+    value = fields[key]
+    if not isinstance(value, str) or not re.fullmatch(r"[!-~]{1,%d}" % NAMES[key], value):
+        raise ValueError(f"{key} isn't 1 to {NAMES[key]} printable characters of ASCII without a space")
+    return value.encode("ascii")
+
+
+def stamp_of(value: object) -> str:
+    """When it was signed."""
+    if isinstance(value, str):
+        try:
+            if datetime.strptime(value, STAMP).strftime(STAMP) == value:
+                return value
+        except ValueError:
+            pass
+    raise ValueError("signed is no time in UTC as 2026-11-27T04:00:00Z")
+
+
+def file_of(value: object) -> str:
+    """The name of a file, without a folder."""
+    if not isinstance(value, str) or value in ("", ".", "..") or "/" in value or "\0" in value:
+        raise ValueError("a name is no name of a file without its folder")
+    try:
+        value.encode("utf-8")
+    except UnicodeEncodeError as fault:
+        raise ValueError("a name isn't Unicode") from fault
+    return value
+
+
+def extents_of(value: object) -> Tuple[Extent, ...]:
+    """The groups, which rise by SG and SPRI."""
+    found: List[Extent] = []
+    for it in value if isinstance(value, list) else [None]:
+        if not isinstance(it, dict) or tuple(it) != Extent._fields:
+            raise ValueError("its groups aren't objects with sg, spri, first and last")
+        extent = Extent(number_of(it, "sg", 0, 3), number_of(it, "spri", 0, 191), number_of(it, "first", 1, MOST),
+                        number_of(it, "last", 1, MOST))
+        if extent.first > extent.last or (found and found[-1][:2] >= extent[:2]):
+            raise ValueError("its groups don't rise by SG and SPRI, or one ends before it begins")
+        found.append(extent)
+    return tuple(found)
+
+
+def set_aside_of(value: object) -> SetAside:
+    """The file of the messages that couldn't be signed."""
+    if not isinstance(value, dict) or tuple(value) != SetAside._fields:
+        raise ValueError("set_aside isn't null or an object with name, size, sha256 and messages")
+    return SetAside(file_of(value["name"]), number_of(value, "size", 0, 1 << 62), sum_of(value, "sha256"),
+                    number_of(value, "messages", 0, 1 << 62))

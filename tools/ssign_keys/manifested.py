@@ -1,0 +1,144 @@
+"""Checks the logs that are verified against a manifest: their octets, their names, their sessions and their numbers."""
+from __future__ import annotations
+
+import argparse
+from typing import BinaryIO, Dict, List, Optional, Sequence
+
+from .blocks import Session
+from .faults import Fault
+from .kept import Counters
+from .logs import Log
+from .manifest import sum_of
+from .manifest_findings import Found, Names, Reviewed, Stored, bare, of_manifest, of_review, of_sessions
+from .manifest_form import Entry, Extent, Manifest, Mark, read_manifest, read_mark
+from .progress import Progress
+from .report import Group, Reading, Teller
+from .words import counted, shown_name
+from .workplace import put, say
+
+
+def add_arguments(parser: argparse.ArgumentParser) -> None:
+    """Says how a manifest is given."""
+    parser.add_argument("--manifest", metavar="FILE", help="also compare the logs with their entries in this manifest, and "
+                        "use the counters of these as those of --counters; each difference is a finding")
+    parser.add_argument("--manifest-last", metavar="N:SHA256", help="the last entry of the manifest, which was kept apart; "
+                        "that it isn't there is a finding")
+
+
+class Extents(Teller):
+    """Keeps the states of the sessions, and the first and last number of each group."""
+
+    def __init__(self) -> None:
+        # a report that was made with counters has more lines
+        super().__init__(True, Counters())
+        self.reviewed = Reviewed({}, {})
+
+    def session(self, session: Session, state: str) -> None:
+        """Keeps its state."""
+        self.reviewed.states[session] = state
+
+    def begin_group(self, group: Group) -> None:
+        """Its numbers aren't known yet."""
+
+    def listed(self, group: Group, numbers: Sequence[int], places: Sequence[int]) -> None:
+        """The group counts them."""
+
+    def gap(self, group: Group, number: int, why: str) -> None:
+        """The group counts it."""
+
+    def hole(self, group: Group, first: int, last: int) -> None:
+        """The group counts them."""
+
+    def end_group(self, group: Group) -> None:
+        """Keeps its numbers."""
+        self.reviewed.groups.setdefault(group.session, []).append(Extent(group.sg, group.spri, group.first, group.last))
+
+    def stray(self, kind: str, place: int, cause: str) -> None:
+        """No session has it."""
+
+    def torn(self, offset: int) -> None:
+        """No session has it."""
+
+    def end(self, count: int) -> None:
+        """Nothing more comes."""
+
+
+class Listed:
+    """The given logs, beside a manifest."""
+
+    def __init__(self, manifest: Manifest, kept: Optional[Mark]) -> None:
+        self.path = manifest.path
+        self._manifest = manifest
+        self._kept = kept
+        self._entries: List[Entry] = []
+        self._labels: Dict[int, str] = {}
+        self.found: List[Found] = []
+
+    @classmethod
+    def from_arguments(cls, arguments: argparse.Namespace) -> Optional[Listed]:
+        """The manifest that the options name, or None where they name none."""
+        if arguments.manifest is None:
+            if arguments.manifest_last is not None:
+                raise Fault("--manifest-last says something of a manifest: name it with --manifest")
+            return None
+        kept = None if arguments.manifest_last is None else read_mark(arguments.manifest_last)
+        return cls(read_manifest(arguments.manifest), kept)
+
+    def look(self, log: Log) -> List[bytes]:
+        """Compares the logs with their entries. Gives the counters of these, as lines of a counters file."""
+        names = Names(self._manifest)
+        self.found = of_manifest(self._manifest, self._kept)
+        ends = [*(it.offset for it in log.parts[1:]), log.size]
+        for part, end in zip(log.parts, ends):
+            size, sha256 = sum_of(log.file, part.offset, end)
+            name = "" if part.name == "-" else bare(part.name.rpartition("/")[2])
+            self._take(names, Stored(shown_name(part.name), name, size, sha256))
+        return [f"{line}\n".encode("ascii") for it in self._entries for line in it.counters]
+
+    def _take(self, names: Names, stored: Stored) -> None:
+        """Compares a log with its entry."""
+        found = names.look(stored)
+        if found is not None:
+            self.found.append(found)
+        entry = names.entry(stored)
+        if entry is None:
+            return
+        if entry.number in self._labels:
+            self.found.append(Found(stored.label, f"twice, entry {entry.number} is of {self._labels[entry.number]} too",
+                                    entry.number))
+            return
+        self._labels[entry.number] = stored.label
+        self._entries.append(entry)
+
+    def compare(self, report: BinaryIO) -> None:
+        """Compares the sessions and numbers of the entries with those of a report."""
+        teller = Extents()
+        Reading(teller).read(report, Progress())
+        for it in self._entries:
+            found = of_review(it, self._labels[it.number], teller.reviewed)
+            if found is not None:
+                self.found.append(found)
+        self.found += of_sessions(self._entries, teller.reviewed)
+
+    def sentence(self) -> str:
+        """What was found, in a sentence."""
+        name = shown_name(self.path)
+        if not self.found:
+            return f"Manifest {name}: each log, its session and its numbers are those of its entry."
+        return f"Manifest {name}: {counted(len(self.found), 'finding')}."
+
+    def put(self, out: BinaryIO, is_json: bool) -> None:
+        """Writes the findings into a passing file."""
+        lines = [it.line() if is_json else f"  {it.text()}" for it in self.found]
+        lines = lines if is_json else [self.sentence(), *lines]
+        put(out, "".join(f"{it}\n" for it in lines).encode("utf-8", "backslashreplace"))
+
+    def close(self, out: BinaryIO, is_json: bool) -> None:
+        """Says once more, after the verdict, that something was found."""
+        if self.found and not is_json:
+            put(out, f"{self.sentence()} They stand above, and the status is 1.\n".encode("utf-8", "backslashreplace"))
+
+    def say(self) -> None:
+        """Says the findings on standard error, where standard output has the report alone."""
+        for it in self.found:
+            say(f"ssign-keys: {it.text()}")
