@@ -69,7 +69,8 @@ def primary(fields: List[bytes], data: List[bytes]) -> Primary:
     """The key of a `pub` or `sec` line and of the `pkd` lines after it."""
     numbers = None
     if fields[3] == b"%d" % DSA and len(data) == 4:
-        numbers = Numbers(*(int(number, 16) for number in data))
+        # of a number 0 gpg prints no digit
+        numbers = Numbers(*(int(number or b"0", 16) for number in data))
     return Primary(fields[0] == b"sec", numbers, fields[1].decode("ascii", "replace"), fields[6].decode("ascii", "replace"))
 
 
