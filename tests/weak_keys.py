@@ -1,0 +1,179 @@
+#!/usr/bin/env python3
+"""What tests/weak-keys.sh tries: keys with which anybody can sign, and others that are none of DSA (weak_domains.py).
+
+    weak_keys.py TOOLS PEM FOLDER    each weak key is refused by each way in which a reviewer gives a key, and by each way
+                                     in which a payload states one; PEM is the private key of a good pair
+"""
+from __future__ import annotations
+
+import argparse
+import base64
+import os
+import shutil
+import subprocess
+import sys
+import time
+from typing import Callable, Dict, List
+
+import dsa_model
+import small_certificates
+from dsa_model import Key, Pair
+from key_cases import block
+from weak_domains import Weak, forged, weak_keys
+
+# A key of any size is refused within so many seconds, by a machine that has other things to do.
+PATIENCE = 30.0
+failed: List[str] = []
+counts: Dict[str, int] = {}
+
+
+def tell(what: str, is_so: bool, said: object) -> None:
+    """Counts a case, and keeps what is wrong with it."""
+    way = what.split(":")[0]
+    counts[way] = counts.get(way, 0) + 1
+    if not is_so:
+        failed.append(f"{what}: {str(said)[:300]}")
+
+
+def packet(key: Key) -> bytes:
+    """An OpenPGP key (RFC 4880, section 5.5.2) without a name."""
+    body = b"\x04\x60\x00\x00\x00\x11" + dsa_model.blob(key)
+    return b"\x99" + len(body).to_bytes(2, "big") + body
+
+
+def said_of(make: Callable[[], object]) -> str:
+    """What is said in place of an answer."""
+    from ssign_keys.faults import Fault
+    try:
+        return f"taken: {make()}"
+    except Fault as fault:
+        return str(fault)
+
+
+def write(path: str, octets: bytes) -> str:
+    """A file, and its name."""
+    with open(path, "wb") as file:
+        file.write(octets)
+    return path
+
+
+def trust(**options: object) -> object:
+    """What ssign-keys makes of these options."""
+    from ssign_keys.trust import Trust
+    given: Dict[str, object] = {"keys": [], "session_key": [], "ca": [], "cert": [], "at_signing_time": False, **options}
+    return Trust.from_arguments(argparse.Namespace(**given))
+
+
+def try_files(weak: Weak, good: Pair, folder: str) -> None:
+    """The key in files of the reviewer."""
+    path = write(os.path.join(folder, "weak.pem"), dsa_model.pem(weak.key))
+    wanted = f"the key in {path} can't be used: {weak.why}"
+    for way, make in (("--key", lambda: trust(keys=[path])), ("--session-key", lambda: trust(session_key=[("* * * *", path)]))):
+        tell(f"{way}: {weak.what}", said_of(make) == wanted, said_of(make))
+    issued = small_certificates.certificate("leaf", weak.key, "ca", good, hosts=["h"])
+    path = write(os.path.join(folder, "weak.crt"), small_certificates.pem(issued))
+    wanted = f"the key of a certificate in {path} can't be used: {weak.why}"
+    for way, make in (("--cert", lambda: trust(cert=[path])), ("--ca as authority", lambda: trust(ca=[path])),
+                      ("--session-key with a certificate", lambda: trust(session_key=[("* * * *", path)]))):
+        tell(f"{way}: {weak.what}", said_of(make) == wanted, said_of(make))
+
+
+def try_payloads(weak: Weak, good: Pair, authority: object) -> None:
+    """A certificate with the key that a good authority issued, in a payload; and a forged signature."""
+    from ssign_keys.blocks import Session
+    issued = small_certificates.certificate("leaf", weak.key, "ca", good, hosts=["h"])
+    payload = b"- C " + base64.b64encode(issued)
+    judged = authority.judge(payload, Session(b"h", b"s", b"-", b"1"))  # type: ignore[attr-defined]
+    tell(f"--ca: {weak.what}", judged.trusted is None and bool(judged.why), judged)
+    if judged.why.startswith("the key of"):
+        tell(f"--ca says why: {weak.what}", judged.why == f"the key of its certificate can't be used: {weak.why}", judged.why)
+    octets = block("0121", "forged")
+    signature = forged(weak.key, octets, b"0121")
+    if signature is not None:
+        tell(f"forged signatures: {weak.what}", not authority.is_valid(payload, octets, signature),  # type: ignore[attr-defined]
+             "a forged signature is valid")
+
+
+def try_command(weak: Weak, tools: str, folder: str) -> None:
+    """The whole command, with the key in PEM and as an OpenPGP key where gpg is here."""
+    path = write(os.path.join(folder, "weak.pem"), dsa_model.pem(weak.key))
+    began = time.monotonic()
+    done = subprocess.run([sys.executable, os.path.join(tools, "ssign-keys"), "answer", path], stdin=subprocess.DEVNULL,
+                          capture_output=True, timeout=120)
+    took = time.monotonic() - began
+    wanted = f"ssign-keys: the key in {path} can't be used: {weak.why}\n"
+    tell(f"the command: {weak.what}", (done.returncode, done.stdout, done.stderr.decode()) == (2, b"", wanted),
+         (done.returncode, done.stdout, done.stderr))
+    tell(f"in time: {weak.what}", took < PATIENCE, f"{took} seconds")
+
+
+def try_openpgp(weak: Weak, folder: str) -> None:
+    """The key in an OpenPGP file of the reviewer."""
+    path = write(os.path.join(folder, "weak.gpg"), packet(weak.key))
+    said = said_of(lambda: trust(keys=[path]))
+    # gpg itself reads no number 0, and none that is too long
+    wanted = (f"a key in {path} can't be used: {weak.why}", f"gpg finds no OpenPGP key in {path}",
+              f"no primary key in {path} is a DSA key: a DSA public key in PEM, or an OpenPGP key of DSA is wanted")
+    tell(f"OpenPGP: {weak.what}", said in wanted, said)
+    counts["OpenPGP, by its numbers"] = counts.get("OpenPGP, by its numbers", 0) + (said == wanted[0])
+
+
+def try_good(good: Pair, folder: str) -> None:
+    """That the good key passes by each way, so that it isn't the way that is refused."""
+    octets = block("0121", "good")
+    signature = b"".join(map(dsa_model.spell, dsa_model.sign(good, octets, b"0121")))
+    key = write(os.path.join(folder, "good.pem"), dsa_model.pem(good.key))
+    self_issued = small_certificates.certificate("ca", good.key, "ca", good, is_authority=True)
+    ca = write(os.path.join(folder, "ca.pem"), small_certificates.pem(self_issued))
+    leaf = small_certificates.certificate("leaf", good.key, "ca", good, hosts=["h"])
+    cert = write(os.path.join(folder, "leaf.pem"), small_certificates.pem(leaf))
+    k, c = (f"- {kind} ".encode() + base64.b64encode(it) for kind, it in (("K", dsa_model.blob(good.key)), ("C", leaf)))
+    p = b"- P " + base64.b64encode(packet(good.key))
+    for way, payload, options in (
+            ("--key", k, {"keys": [key]}), ("--key, P", p, {"keys": [key]}),
+            ("--session-key", k, {"session_key": [("h s - 1", key)]}),
+            ("--session-key, N", b"- N", {"session_key": [("h s - 1", cert)]}), ("--cert", c, {"cert": [cert]}),
+            ("--ca", c, {"ca": [ca]})):
+        given = trust(**options)
+        tell(f"good: {way}", given.is_valid(payload, octets, signature), way)  # type: ignore[attr-defined]
+        tell(f"good, another signature: {way}", not given.is_valid(payload, octets, signature[::-1]), way)  # type: ignore[attr-defined]
+
+
+def library_takes(weak: Weak) -> bool:
+    """Whether the library alone takes a forged signature for one of the key."""
+    from ssign_keys.keys import checked_key
+    octets = block("0121", "library")
+    signature = forged(weak.key, octets, b"0121")
+    try:
+        return signature is not None and checked_key(weak.key).is_signature(octets, b"0121", signature)  # type: ignore[arg-type]
+    except Exception:
+        return False
+
+
+def main(tools: str, pem: str, folder: str) -> None:
+    """Tries all, and prints what failed and how much was tried."""
+    sys.path.insert(0, tools)
+    good = dsa_model.read_pair(pem)
+    try_good(good, folder)
+    authority = trust(ca=[os.path.join(folder, "ca.pem")])
+    has_gpg = shutil.which("gpg") is not None
+    keys = list(weak_keys(good))
+    for place, weak in enumerate(keys):
+        try_files(weak, good, folder)
+        try_payloads(weak, good, authority)
+        # the start of a process takes longer than all the rest
+        if place % 6 == 0 or "bits" in weak.what and max(weak.key).bit_length() > 4096:
+            try_command(weak, tools, folder)
+        if has_gpg and all(it.bit_length() < 1 << 16 for it in weak.key):
+            try_openpgp(weak, folder)
+    taken = sum(map(library_takes, keys))
+    tell("forged signatures that the library takes", taken >= 8, f"{taken}: the attacks show too little")
+    print(f"weak keys: {len(keys)}; forged signatures that the library alone takes: {taken}"
+          + ("" if has_gpg else "; no gpg here, so none is given as an OpenPGP key"))
+    print("cases: " + ", ".join(f"{way} {count}" for way, count in counts.items()))
+    if failed:
+        raise SystemExit("\n".join(failed))
+
+
+if __name__ == "__main__":
+    main(*sys.argv[1:])

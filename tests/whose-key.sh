@@ -1,0 +1,162 @@
+#!/usr/bin/env bash
+# Whose key a verdict rests on: the fingerprints that `ssign-keys verify` prints are those of openssl, and it says why it
+# doesn't trust a certificate; a revoked OpenPGP key is refused, and an expired one is named. Which certificates and OpenPGP
+# keys are taken: whose_key.py beside this file.
+# shellcheck source=tests/lib.sh
+. "$(dirname -- "$0")/lib.sh"
+need_program
+export SSIGN=$program
+keys_program=$root/tools/ssign-keys
+for each in "python3 -c 'import cryptography'" 'openssl version'; do
+    if ! eval "$each" >/dev/null 2>&1; then
+        echo "$name: \`$each\` fails here, so nothing is tried"
+        holds 'ssign-keys is there' test -x "$keys_program"
+        finish
+    fi
+done
+cd -- "$scratch" || exit 1
+# keys ARG..: runs ssign-keys as `run` does the program.
+keys() {
+    timeout "$patience" "$keys_program" "$@" >"$scratch/out" 2>"$scratch/err"
+    status=$?
+}
+
+# ---- an originator's key, and authorities of openssl
+mkdir one
+keys make --ver 0111 one
+openssl genpkey -algorithm EC -pkeyopt ec_paramgen_curve:P-256 -out ec.pem 2>/dev/null
+openssl genpkey -algorithm RSA -pkeyopt rsa_keygen_bits:2048 -out rsa.pem 2>/dev/null
+openssl genpkey -algorithm ED25519 -out ed.pem 2>/dev/null
+cp one/private-key.pem dsa.pem
+cat >ca.conf <<'END'
+[ca]
+default_ca = here
+[here]
+new_certs_dir = .
+database = index.txt
+rand_serial = yes
+default_md = sha256
+policy = any
+unique_subject = no
+[any]
+commonName = optional
+organizationName = optional
+[req]
+distinguished_name = name
+[name]
+END
+touch index.txt
+
+# issue NAME SUBJECT ISSUER KEY EXTENSIONS [FROM TO [HASH]]: the certificate NAME.crt for a key, by ISSUER.pem and
+# ISSUER.crt; an issuer that is NAME signs its own. EXTENSIONS are lines of openssl with `;` between them.
+issue() {
+    local own=(-cert "$3.crt" -keyfile "$3.pem")
+    [[ $1 == "$3" ]] && own=(-selfsign -keyfile "$3.pem")
+    { cat ca.conf && echo '[these]' && tr ';' '\n' <<<"$5"; } >this.conf
+    openssl req -new -utf8 -key "$4" -subj "$2" -config ca.conf -out request.csr 2>>openssl.said
+    openssl ca -batch -utf8 -config this.conf -extensions these "${own[@]}" -startdate "${6-20200101000000Z}" \
+        -enddate "${7-20900101000000Z}" -md "${8-sha256}" -in request.csr -out "$1.crt" -notext 2>>openssl.said
+    [[ -s $1.crt ]] || tell "openssl issues $1" "$(tail -n 3 openssl.said)"
+}
+is_ca='basicConstraints = critical, CA:TRUE'
+for each in ec rsa ed dsa; do
+    issue "$each" "/O=Authority/CN=ca of $each" "$each" "$each.pem" "$is_ca"
+done
+
+# signed CERTIFICATE HOST [STAMP]: the log of one message, signed by the key for HOST, whose payload has the certificate.
+signed() {
+    printf '<13>1 - - - - - - one\n' >plain
+    "$keys_program" sign --key one/private-key.pem --rsid 1 --host "$2" --app s --lines --ver 0121 \
+        --payload "${3--} C $(openssl x509 -in "$1.crt" -outform DER | base64 -w 0)" plain >log 2>err ||
+        tell "a log with $1" "$(<err)"
+}
+
+# taken WHAT ARG..: verify with these options trusts the session of the log.
+taken() {
+    keys verify "${@:2}" log
+    [[ $status == 0 ]] && grep -q '^  key: ' out && tell "$1" '' || tell "$1" "    status $status: $(head -c 700 out) $(head -c 300 err)"
+}
+
+# not_taken WHAT WHY ARG..: verify with these options doesn't, and says why in words that begin so.
+not_taken() {
+    keys verify "${@:3}" log
+    [[ $status == 1 ]] && grep -Fq "  why: $2" out && ! grep -q '^  key: ' out && tell "$1" '' ||
+        tell "$1" "    status $status: $(head -c 700 out) $(head -c 300 err)"$'\n'"    and not: $2"
+}
+
+# ---- fingerprints are those of openssl
+spki=$(openssl pkey -pubin -in one/public-key.pem -outform DER | sha256sum | cut -d ' ' -f 1)
+for each in ec rsa ed dsa; do
+    issue "leaf-$each" "/O=Originators/CN=$each.example.org" "$each" one/private-key.pem 'subjectAltName = DNS:gate'
+    signed "leaf-$each" gate 2026-01-15T09:16:30.25+02:00
+    taken "an issuer with a key of $each" --ca "$each.crt"
+    holds "$each: the key" grep -Fqx "  key: $each.crt, SHA-256 $spki" out
+    print=$(openssl x509 -in "leaf-$each.crt" -noout -fingerprint -sha256 | sed 's/.*=//; s/://g' | tr A-F a-f)
+    serial=$(openssl x509 -in "leaf-$each.crt" -noout -serial | sed 's/.*=//')
+    subject=$(openssl x509 -in "leaf-$each.crt" -noout -subject -nameopt RFC2253 | sed 's/^subject=//')
+    holds "$each: the certificate" grep -Fqx "  certificate: $subject, serial number $serial, SHA-256 $print, valid from \
+2020-01-01T00:00:00Z to 2090-01-01T00:00:00Z" out
+    holds "$each: the time" grep -Fqx '  payload: of 2026-01-15T09:16:30.25+02:00, as its signer states' out
+    keys verify --json --ca "$each.crt" log
+    holds "$each: as JSON" grep -Fq "\"key\":\"$each.crt\",\"fingerprint\":\"$spki\",\"certificate\":{\"subject\":\"$subject\",\
+\"serial\":\"$serial\",\"fingerprint\":\"$print\",\"not_before\":\"2020-01-01T00:00:00Z\",\"not_after\":\"2090-01-01T00:00:00Z\"},\
+\"payload_time\":\"2026-01-15T09:16:30.25+02:00\",\"why\":null}" out
+done
+
+# ---- why a certificate isn't trusted
+signed leaf-rsa elsewhere
+not_taken 'another HOSTNAME' "the certificate isn't for this HOSTNAME: it names rsa.example.org, gate" --ca rsa.crt
+holds 'the state stays' grep -q '^  state: untrusted' out
+keys verify --json --ca rsa.crt log
+holds 'as JSON' grep -Fq '"key":null,"fingerprint":null,"certificate":null,"payload_time":null,"why":"the certificate' out
+taken 'this certificate, for any session' --cert leaf-rsa.crt
+issue old /CN=gate rsa one/private-key.pem 'keyUsage = digitalSignature' 20200101000000Z 20210101000000Z
+signed old gate 2020-06-01T00:00:00Z
+not_taken 'expired now' 'the certificate expired at 2021-01-01T00:00:00Z: --at-signing-time judges that' --ca rsa.crt
+taken 'valid at the time that is stated' --ca rsa.crt --at-signing-time
+issue constrained '/CN=gate' rsa one/private-key.pem '1.2.3.4 = critical, ASN1:NULL'
+signed constrained gate
+not_taken 'an extension that has to be known' 'openssl refuses its certificate: unhandled critical extension' --ca rsa.crt
+cp rsa.pem old-ca.pem
+issue old-ca '/O=Authority/CN=ca of rsa' old-ca rsa.pem "$is_ca" 20200101000000Z 20210101000000Z
+signed leaf-rsa gate
+not_taken 'an authority that has expired' 'openssl refuses a certificate above its own: ' --ca old-ca.crt
+said=$(python3 -B "$root/tests/whose_key.py" "$root/tools" one/private-key.pem 2>&1) && fault='' || fault=$said
+tell 'certificates and OpenPGP keys that are taken, and others' "$fault"
+echo "$name: $(tail -n 1 <<<"$said")"
+
+# ---- OpenPGP keys of the reviewer
+check_gpg() {
+    export GNUPGHOME=$scratch/gnupg
+    mkdir -m 700 gnupg
+    local each
+    for each in revoked expired whole; do
+        gpg --batch --quiet --passphrase '' --faked-system-time 20200101T000000 \
+            --quick-gen-key "$each" dsa2048 sign "$([[ $each == expired ]] && echo 1y || echo never)" 2>>gpg.said
+    done
+    fingerprint=$(gpg --with-colons --list-keys revoked 2>/dev/null | awk -F: '$1 == "fpr" { print $10; exit }')
+    sed 's/^:---/---/' "gnupg/openpgp-revocs.d/$fingerprint.rev" | gpg --batch --quiet --import 2>>gpg.said
+    for each in revoked expired whole; do
+        gpg --export "$each" >"$each.gpg"
+        gpg --armor --export "$each" >"$each.asc"
+    done
+    gpgconf --kill gpg-agent
+    for each in gpg asc; do
+        keys answer "revoked.$each" </dev/null
+        expect "a revoked key, $each" 2 '' "ssign-keys: a key in revoked.$each was revoked by its owner, so no signature of it is trusted"
+        keys answer "expired.$each" </dev/null
+        holds "an expired key, $each: it is named" grep -Eqx \
+            "ssign-keys: a key in expired.$each expired at 202[01]-[0-9]{2}-[0-9]{2}T[0-9:]{8}Z, and is used all the same" err
+        holds "an expired key, $each: it is used" test "$status" = 0
+    done
+    keys answer --session-key '* * * *' revoked.gpg </dev/null
+    expect 'a revoked key of a session' 2 '' "ssign-keys: a key in revoked.gpg was revoked by its owner, so no signature of it is trusted"
+    keys answer whole.gpg </dev/null
+    expect 'a key that is neither' 0 '' ''
+}
+if command -v gpg >/dev/null; then
+    check_gpg
+else
+    echo "$name: no gpg here, so no revoked and no expired OpenPGP key is tried"
+fi
+finish
