@@ -1,8 +1,9 @@
-"""Expands compressed logs: gzip and xz by the standard library, zstd by its command."""
+"""Expands compressed logs, up to a limit: gzip and xz by the standard library, zstd by its command."""
 from __future__ import annotations
 
+import argparse
 import lzma
-import os
+import re
 import subprocess
 import zlib
 from typing import BinaryIO, Callable, Dict, Iterator, Optional, Protocol
@@ -12,11 +13,49 @@ from .words import shown, shown_name
 from .workplace import Workplace
 
 PIECE = 1 << 20
+# A decoder copies what stands behind the end of its stream, and a piece may hold 50,000 streams of nothing.
+SLICE = 1 << 17
 # the first octets of a file tell its form; the longest of them are xz's
 FRONT = 6
 FORMS = {b"\x1f\x8b": "gzip", b"\xfd7zXZ\x00": "xz", b"\x28\xb5\x2f\xfd": "zstd"}
 # no file of `xz -9` asks for more than 65 MiB
 XZ_MEMORY = 1 << 28
+# What a compressed log may grow to: so many times its size, and at least so many octets. A log of text grows to ten or
+# twenty times its size; zeros, to a thousand times in gzip, and to many thousand times in xz and zstd.
+TIMES = 100
+LEAST = 10 ** 9
+SIZE = re.compile(r"([0-9]{1,15})([KMGT]?)")
+UNITS = {"": 1, "K": 10 ** 3, "M": 10 ** 6, "G": 10 ** 9, "T": 10 ** 12}
+
+
+def add_arguments(parser: argparse.ArgumentParser) -> None:
+    """Says how far a compressed log may grow; `max_expanded` of the parsed arguments."""
+    parser.add_argument("--max-expanded", type=read_size, metavar="SIZE", help="refuse a compressed log that expands to "
+                        "more octets than this, as 500M or 5G (default: 100 times its size, and at least 1G)")
+
+
+def read_size(word: str) -> int:
+    """A number of octets, which may end with K, M, G or T: thousands, millions and so on."""
+    parts = SIZE.fullmatch(word) if word.isascii() else None
+    if not parts or not int(parts[1]):
+        raise argparse.ArgumentTypeError(f"'{word}' is no size such as 500M or 5G")
+    return int(parts[1]) * UNITS[parts[2]]
+
+
+def most_expanded(size: int, given: Optional[int]) -> int:
+    """How many octets a compressed file of this size may expand to."""
+    return max(TIMES * size, LEAST) if given is None else given
+
+
+def limited(name: str, form: str, pieces: Iterator[bytes], most: int) -> Iterator[bytes]:
+    """Gives on what a compressed file expands to, and refuses it at the first piece that goes past a limit."""
+    total = 0
+    for piece in pieces:
+        total += len(piece)
+        if total > most:
+            raise Fault(f"{shown_name(name)} is compressed by {form} and expands to more than {most} octets: if it may, say "
+                        "up to how many with --max-expanded")
+        yield piece
 
 
 class Decoder(Protocol):
@@ -90,7 +129,7 @@ def expanded(name: str, form: str, pieces: Iterator[bytes]) -> Iterator[bytes]:
     """
     decoder: Optional[Decoder] = None
     try:
-        for piece in pieces:
+        for piece in slices(pieces):
             while piece:
                 if decoder is None:
                     piece = piece.lstrip(b"\0")
@@ -108,21 +147,33 @@ def expanded(name: str, form: str, pieces: Iterator[bytes]) -> Iterator[bytes]:
         raise Damaged(name, form, "its end is missing")
 
 
-def expand_zstd(name: str, packed: BinaryIO, plain: BinaryIO, workplace: Workplace) -> None:
-    """Expands a file of zstd behind what stands in another file, at whose end it leaves that."""
-    plain.flush()
+def slices(pieces: Iterator[bytes]) -> Iterator[bytes]:
+    """The same octets in shorter pieces."""
+    for piece in pieces:
+        for place in range(0, len(piece), SLICE):
+            yield piece[place:place + SLICE]
+
+
+def expanded_zstd(name: str, packed: BinaryIO, workplace: Workplace) -> Iterator[bytes]:
+    """Expands a file of zstd by its command, which ends with the workplace at the latest."""
     with workplace.new_file("zstd.errors") as errors:
         try:
-            child = subprocess.Popen(["zstd", "-dcq"], stdin=packed, stdout=plain, stderr=errors)
+            child = subprocess.Popen(["zstd", "-dcq"], stdin=packed, stdout=subprocess.PIPE, stderr=errors)
         except OSError as error:
             raise Fault(
                 f"{shown_name(name)} is compressed by zstd, and there is no command zstd here that can be run: "
                 "apt-get install zstd"
             ) from error
         workplace.adopt(child)
+        assert child.stdout is not None
+        with child.stdout as out:
+            while True:
+                piece = out.read(PIECE)
+                if not piece:
+                    break
+                yield piece
         status = child.wait()
         errors.seek(0)
         said = errors.read(1000).splitlines()
     if status != 0:
         raise Damaged(name, "zstd", shown(said[-1]) if said else f"zstd ended with status {status}")
-    plain.seek(0, os.SEEK_END)

@@ -13,7 +13,7 @@ import sys
 from dataclasses import dataclass
 from typing import BinaryIO, Iterable, Iterator, List, Optional, Sequence, Tuple, cast
 
-from .expand import FRONT, PIECE, expand_zstd, expanded, form_of
+from .expand import FRONT, PIECE, expanded, expanded_zstd, form_of, limited, most_expanded
 from .faults import Fault
 from .form import form_of as form_of_log
 from .progress import Progress
@@ -71,14 +71,21 @@ class Log:
         return self.parts[bisect.bisect_right(self._offsets, offset) - 1]
 
 
-def look(file: BinaryIO) -> Tuple[int, int]:
-    """What tells that a file was written to: its size, and when it was changed last."""
+def look(file: BinaryIO) -> Tuple[int, int, int]:
+    """What tells that a file was written to: its size, and when it was changed last.
+
+    Whoever writes to a file can set its time of change back, but not that of its status, which each of the two moves on.
+    """
     seen = os.fstat(file.fileno())
-    return seen.st_size, seen.st_mtime_ns
+    return seen.st_size, seen.st_mtime_ns, seen.st_ctime_ns
 
 
-def open_log(names: Sequence[str], named_form: Optional[bool], workplace: Workplace, progress: Progress) -> Log:
-    """Opens the given logs as one. Where nobody says whether they are lines, their first octets do."""
+def open_log(names: Sequence[str], named_form: Optional[bool], workplace: Workplace, progress: Progress,
+             max_expanded: Optional[int] = None) -> Log:
+    """Opens the given logs as one. Where nobody says whether they are lines, their first octets do.
+
+    A compressed log grows to so many octets at most, or else to what `most_expanded` allows.
+    """
     if list(names).count("-") > 1:
         raise Fault("standard input, `-`, can be given only once")
     if len(names) == 1 and names[0] != "-":
@@ -94,7 +101,7 @@ def open_log(names: Sequence[str], named_form: Optional[bool], workplace: Workpl
     for name in names:
         starts.append((name, spool.tell()))
         with next(sources) as source:
-            spool_log(name, source, spool, workplace, progress)
+            spool_log(name, source, max_expanded, spool, workplace, progress)
     form = form_of_log(spool, starts, named_form)
     parts = [Part(names[0], 0, 0)] if len(names) == 1 else measure(spool, starts, form.are_lines, progress)
     form.refuse_odd()
@@ -128,9 +135,10 @@ def open_source(name: str) -> BinaryIO:
     return open_standard_input() if name == "-" else open_file(name)
 
 
-def spool_log(name: str, source: BinaryIO, spool: BinaryIO, workplace: Workplace, progress: Progress) -> None:
+def spool_log(name: str, source: BinaryIO, max_expanded: Optional[int], spool: BinaryIO, workplace: Workplace,
+              progress: Progress) -> None:
     """Puts the plain octets of a log behind those that stand there."""
-    pieces = read_pieces(source, name, progress)
+    pieces = read_pieces(source, name, "copying the log", progress)
     front = b""
     for piece in pieces:
         front += piece
@@ -138,14 +146,18 @@ def spool_log(name: str, source: BinaryIO, spool: BinaryIO, workplace: Workplace
             break
     form = form_of(front)
     pieces = itertools.chain([front], pieces)
-    if form == "zstd":
-        with workplace.new_file("zstd") as packed:
-            put_all(packed, pieces)
-            packed.seek(0)
-            expand_zstd(name, packed, spool, workplace)
-        os.remove(workplace.path("zstd"))
-    else:
-        put_all(spool, expanded(name, form, pieces) if form else pieces)
+    if form is None:
+        put_all(spool, pieces)
+        return
+    # how long it is, a pipe says only at its end
+    with workplace.new_file("packed") as packed:
+        put_all(packed, pieces)
+        most = most_expanded(packed.tell(), max_expanded)
+        packed.seek(0)
+        grown = expanded_zstd(name, packed, workplace) if form == "zstd" else \
+            expanded(name, form, read_pieces(packed, name, "expanding the log", progress))
+        put_all(spool, limited(name, form, grown, most))
+    os.remove(workplace.path("packed"))
 
 
 def put_all(file: BinaryIO, pieces: Iterable[bytes]) -> None:
@@ -155,7 +167,7 @@ def put_all(file: BinaryIO, pieces: Iterable[bytes]) -> None:
     finish(file)
 
 
-def read_pieces(source: BinaryIO, name: str, progress: Progress) -> Iterator[bytes]:
+def read_pieces(source: BinaryIO, name: str, phase: str, progress: Progress) -> Iterator[bytes]:
     """The octets of a file that are left."""
     total = 0
     while True:
@@ -169,7 +181,7 @@ def read_pieces(source: BinaryIO, name: str, progress: Progress) -> Iterator[byt
             return
         yield piece
         total += len(piece)
-        progress.show("copying the log", total, 0, "octets")
+        progress.show(phase, total, 0, "octets")
 
 
 # ---- several logs

@@ -5,6 +5,7 @@ import argparse
 import subprocess
 from typing import Iterator, List, Optional
 
+from . import expand as expand_options
 from . import form as forms
 from .defaults import fill
 from .keys import PrivateKey, read_private_key
@@ -41,6 +42,7 @@ def add_arguments(parser: argparse.ArgumentParser) -> None:
         parser.add_argument(f"--{name}", action="append", required=name == "rsid", metavar=value, help=meaning)
     forms.add_arguments(parser)
     add_limit_arguments(parser)
+    expand_options.add_arguments(parser)
     add_program_argument(parser)
     parser.add_argument("log", metavar="LOG", help="the log of messages without blocks; - is standard input")
 
@@ -55,7 +57,7 @@ def run(arguments: argparse.Namespace) -> int:
             named_form = forms.named_form(arguments)
             key = read_private_key(arguments.key)
             fill(arguments, key.public)
-            log = open_log([arguments.log], named_form, workplace, progress)
+            log = open_log([arguments.log], named_form, workplace, progress, arguments.max_expanded)
             words = log_words(arguments, log.are_lines) + handed_on(arguments, list(OPTIONS))
             warn(arguments.log, log)
             answers = seal(program, words, key, log, workplace, progress)

@@ -8,6 +8,7 @@ import subprocess
 import tempfile
 from typing import BinaryIO, Callable, Iterator, List, NamedTuple, Optional, Type, Union
 
+from . import expand as expand_options
 from . import form as forms
 from . import manifested
 from . import trust as trust_options
@@ -38,6 +39,7 @@ def add_arguments(parser: argparse.ArgumentParser) -> None:
     trust_options.add_arguments(parser)
     forms.add_arguments(parser)
     add_limit_arguments(parser)
+    expand_options.add_arguments(parser)
     parser.add_argument("--whole", action="store_true", help="also say which signature blocks of each session are missing, "
                         "by their counter GBC; that is a finding")
     parser.add_argument("--counters", action="append", metavar="FILE", help="also say what is missing up to the "
@@ -78,7 +80,7 @@ def run(arguments: argparse.Namespace) -> int:
             listed = Listed.from_arguments(arguments)
             named_form = forms.named_form(arguments)
             missing = find_missing(program, arguments, workplace, progress)
-            log = open_log(arguments.logs, named_form, workplace, progress)
+            log = open_log(arguments.logs, named_form, workplace, progress, arguments.max_expanded)
             warn_of_form(log)
             if listed is not None:
                 missing = add_counters(missing, listed.look(log), program, workplace, progress)
