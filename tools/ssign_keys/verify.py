@@ -2,10 +2,7 @@
 from __future__ import annotations
 
 import argparse
-import os
-import shutil
 import subprocess
-import tempfile
 from typing import BinaryIO, Callable, Iterator, List, NamedTuple, Optional, Type, Union
 
 from . import expand as expand_options
@@ -13,6 +10,7 @@ from . import form as forms
 from . import manifested
 from . import trust as trust_options
 from .answer import answers
+from .answers_out import AnswersOut
 from .blocks import Session
 from .faults import Fault
 from .kept import Counters, copy_counters, is_standard_pipe, read_counters
@@ -72,8 +70,8 @@ def run(arguments: argparse.Namespace) -> int:
     progress = Progress()
     log: Optional[Log] = None
     try:
-        with Workplace() as workplace:
-            refuse_to_overwrite(arguments.answers_out)
+        with Workplace() as workplace, AnswersOut(arguments.answers_out) as answers_out:
+            answers_out.check()
             refuse_two_counters(arguments.counters)
             refuse_one_pipe(arguments.counters, arguments.logs)
             trust = Trust.from_arguments(arguments)
@@ -101,8 +99,7 @@ def run(arguments: argparse.Namespace) -> int:
             elif listed is not None:
                 listed.say()
             log.check_unchanged()
-            if arguments.answers_out is not None:
-                keep_answers(verifier.answers_path, arguments.answers_out)
+            answers_out.keep(verifier.answers_path)
             progress.clear()
             write_out(out)
             return max(status, 1) if listed is not None and listed.found else status
@@ -277,29 +274,3 @@ def refuse_without(program: str, words: List[str], option: str, what: str, workp
             raise
         raise Fault(f"the program {shown_name(program)} has no `review {option}`, so it can't say {what}: name a newer "
                     f"one with --ssign, or leave {option} out") from refused
-
-
-def refuse_to_overwrite(path: Optional[str]) -> None:
-    """Refuses a file of answers that is there already, before anything is done."""
-    if path is not None and os.path.lexists(path):
-        raise Fault(f"the file {shown_name(path)} is there already, and isn't overwritten")
-
-
-def keep_answers(path: str, wanted: str) -> None:
-    """Copies the answers file to where it is wanted, so that the whole of it stands there, or nothing."""
-    folder = os.path.dirname(wanted) or "."
-    try:
-        number, part = tempfile.mkstemp(prefix=".ssign-keys-", dir=folder)
-        try:
-            with open(path, "rb") as source, os.fdopen(number, "wb") as target:
-                shutil.copyfileobj(source, target)
-            mask = os.umask(0)
-            os.umask(mask)
-            os.chmod(part, 0o666 & ~mask)
-            refuse_to_overwrite(wanted)
-            os.rename(part, wanted)
-        except BaseException:
-            os.unlink(part)
-            raise
-    except OSError as error:
-        raise Fault(f"the answers can't be kept in {shown_name(wanted)}: {error.strerror}") from error
