@@ -142,7 +142,7 @@ refuses 'a bomb without the option' "$(too_long bomb gzip 1000000000)"
 # a bomb within a bomb is expanded once
 gzip -c bomb >packed
 keys verify --key keys/public-key.pem packed
-refuses 'gzip in gzip' 'ssign: F1 0'
+refuses 'gzip in gzip' 'ssign-keys: packed: it is compressed by gzip twice: expand it once (F1)'
 # streams of nothing take time by their number: 100,000 and then 200,000 of them
 holds 'streams of nothing' python3 -B - "$root/tools" <<'P'
 import gzip, lzma, sys, time
