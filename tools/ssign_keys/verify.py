@@ -2,6 +2,7 @@
 from __future__ import annotations
 
 import argparse
+import os
 import subprocess
 from typing import BinaryIO, Callable, Iterator, List, NamedTuple, Optional, Type, Union
 
