@@ -288,13 +288,14 @@ verify() {
 }
 verify nights/night-1.frames nights/night-2.frames nights/night-3.frames
 finds 'verify: three nights' 0 'Manifest manifest: each log, its session and its numbers are those of its entry.' \
-    'Verdict: All 12 announced messages are there, unchanged, and nothing else is. Nothing is missing up to the counters.'
+    'Verdict: All 12 announced messages are present and unchanged, and each other stored message is a verified block. Nothing is missing up to the counters.'
 gzip -k nights/night-1.frames
 verify nights/night-1.frames.gz
 finds 'verify: a compressed night' 0 'Manifest manifest: each log, its session and its numbers are those of its entry.'
 verify nights/night-4.frames
 finds 'verify: a log without an entry' 1 'Manifest manifest: 2 findings.' '  nights/night-4.frames: unknown, no entry names this log' \
-    '  session gate signer - 4: unknown, no entry of these logs has it' 'Manifest manifest: 2 findings. They stand above, and the status is 1.'
+    '  session gate signer - 4: unknown, no entry of these logs has it'
+holds 'verify: a log without an entry: the verdict' grep -q '^Verdict: FINDINGS: of 4 announced messages 4 are present and unchanged; .*2 differences from the manifest\.' out
 cp nights/night-2.frames other
 verify other
 finds 'verify: another name' 1 '  other: renamed, it has the octets of night-2.frames in entry 2'

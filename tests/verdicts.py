@@ -31,6 +31,11 @@ from typing import Callable, Dict, List, Optional, Tuple
 from review_runs import frame, read_frames, read_lines
 
 
+# what a verdict says of messages that hold the mark of a block and are none
+MARKED = ["unreadable", "first_unreadable", "first_unreadable_cause", "first_unreadable_octet", "ordinary_with_mark",
+          "first_ordinary_with_mark"]
+
+
 def messages(path: str) -> Tuple[List[bytes], Optional[int]]:
     """The messages of frames, and where a torn one begins."""
     with open(path, "rb") as file:
@@ -38,9 +43,9 @@ def messages(path: str) -> Tuple[List[bytes], Optional[int]]:
     return found
 
 
-def escaped(octets: bytes) -> str:
+def escaped(octets: bytes, most: int) -> str:
     """The front of a text as verify shows it."""
-    return "".join(chr(it) if 32 <= it < 127 and it != ord("\\") else "\\x%02x" % it for it in octets[:60])
+    return "".join(chr(it) if 32 <= it < 127 and it != ord("\\") else "\\x%02x" % it for it in octets[:most])
 
 
 def wanted(line: str, stored: List[bytes], log: str) -> Dict[str, object]:
@@ -56,7 +61,7 @@ def wanted(line: str, stored: List[bytes], log: str) -> Dict[str, object]:
     elif word == "ok":
         names.update(number=int(fields[6]), place=int(fields[7]))
     elif word == "gap":
-        names.update(number=int(fields[6]), why=fields[7])
+        names.update(number=int(fields[6]), why=fields[7], likely_places=[])
     elif word in ("hole", "tail"):
         names.update(first=int(fields[6]), last=int(fields[7]))
     elif word == "blocks":
@@ -69,8 +74,34 @@ def wanted(line: str, stored: List[bytes], log: str) -> Dict[str, object]:
         text = stored[int(fields[0])]
         names.update(place=int(fields[0]))
         names.update({"cause": fields[1]} if word == "spoilt" else {})
-        names.update(file=log, file_place=int(fields[0]), octets=len(text), text=escaped(text))
+        names.update(file=log, file_place=int(fields[0]), octets=len(text), text=escaped(text, 2048 if word == "unlisted" else 60))
     return names
+
+
+def likely(lines: List[str]) -> Dict[str, List[int]]:
+    """For each line of a missing number, the places of what its message likely became.
+
+    Numbers are missing between two listed ones, or one and an end, and messages are unlisted between the same: as many,
+    and then each number has one of them, or another count up to ten, and then they are all told.
+    """
+    found: Dict[str, List[int]] = {}
+    unlisted = [int(it.split(" ")[1]) for it in lines if it.startswith("unlisted ")]
+    groups: Dict[str, List[str]] = {}
+    for it in lines:
+        if it.startswith(("ok ", "gap ", "hole ")):
+            groups.setdefault(" ".join(it.split(" ")[1:7]), []).append(it)
+    for entries in groups.values():
+        at = [index for index, it in enumerate(entries) if it.startswith("ok ")]
+        for low, high in zip([-1, *at], [*at, len(entries)]):
+            between = entries[low + 1:high]
+            left = int(entries[low].split(" ")[-1]) if low >= 0 else -1
+            right = int(entries[high].split(" ")[-1]) if high < len(entries) else 1 << 40
+            here = [it for it in unlisted if left < it < right]
+            if all(it.endswith(" lost") for it in between):
+                is_matched = len(here) == len(between)
+                found.update({it: [here[index]] if is_matched else here if len(here) <= 10 else []
+                              for index, it in enumerate(between)})
+    return found
 
 
 def check_json(report: str, path: str, log: str, status: str, *options: str) -> None:
@@ -80,28 +111,38 @@ def check_json(report: str, path: str, log: str, status: str, *options: str) -> 
     with open(report, encoding="ascii") as file_of_lines, open(path, encoding="ascii") as file_of_objects:
         lines, objects = file_of_lines.read().splitlines(), [json.loads(it) for it in file_of_objects]
     assert len(objects) == len(lines) + 1, (len(objects), len(lines))
+    pairs = likely(lines)
     for line, it in zip(lines, objects):
         if it["line"] == "session":
             check_key(it, line.endswith(" joined"))
-        assert list(it.items()) == list(wanted(line, stored, log).items()), (line, it)
+        expected = wanted(line, stored, log)
+        expected.update({"likely_places": pairs[line]} if line in pairs else {})
+        assert list(it.items()) == list(expected.items()), (line, it)
     verdict = objects[-1]
     assert verdict["line"] == "verdict" and verdict["status"] == int(status)
     words = [it.split(" ")[0] for it in lines]
-    for count, word in (("listed", "ok"), ("unlisted", "unlisted"), ("refused", "refused"), ("spoilt", "spoilt")):
+    for count, word in (("listed", "ok"), ("unlisted", "unlisted"), ("unverified", "refused"), ("spoilt", "spoilt")):
         assert verdict[count] == words.count(word), count
-    assert verdict["lost"] + verdict["disputed"] == words.count("gap")
+    assert verdict["verified"] == len(stored) - sum(map(words.count, ("ok", "unlisted", "refused", "spoilt")))
+    assert verdict["missing"] == sum(it.endswith(" lost") for it in lines)
+    assert verdict["missing"] + verdict["disputed"] == words.count("gap")
+    is_clean = all(it.startswith(("ok ", "end ")) or it.endswith(" joined") for it in lines)
+    assert verdict["review_status"] == int(not is_clean)
+    assert verdict["status"] == int(not is_clean or not verdict["listed"])
     assert sum(verdict["sessions"].values()) == words.count("session")
-    missing = {"missing_numbers": in_runs(lines, "tail")} if "--counters" in options else {}
+    missing = {"missing_up_to_counters": in_runs(lines, "tail")} if "--counters" in options else {}
     if missing or "--whole" in options:
         missing["missing_blocks"] = in_runs(lines, "blocks")
-    assert {key: verdict[key] for key in verdict if "missing" in key} == missing, (verdict, missing)
-    assert list(verdict) == ["line", "status", "verdict", "sessions", "listed", "lost", "disputed", "unannounced", *missing,
-                             "unlisted", "refused", "spoilt", "torn", "groups"], list(verdict)
+    assert {key: verdict[key] for key in verdict if "missing_" in key} == missing, (verdict, missing)
+    assert list(verdict) == ["line", "status", "review_status", "verdict", "sessions", "listed", "missing", "disputed",
+                             "unannounced", *missing, "unlisted", "verified", "unverified", "spoilt", *MARKED, "torn",
+                             "groups"], list(verdict)
+    assert [verdict[it] for it in MARKED] == [0, None, None, None, 0, None], verdict
     counters = options[options.index("--counters") + 1] if "--counters" in options else None
-    found = [{key: it[key] for key in it if key not in ("gbc", "fallen", "first_fallen")} for it in verdict["groups"]]
+    found = [{key: it[key] for key in it if key not in ("gbc", "out_of_order", "first_out_of_order")} for it in verdict["groups"]]
     assert found == groups(lines, counters), (found, groups(lines, counters))
     keys = ["host", "app", "procid", "rsid", "sg", "spri", "last", "gbc", *(["next", "next_gbc"] if counters else []),
-            "fallen", "first_fallen"]
+            "out_of_order", "first_out_of_order"]
     assert all(list(it) == keys for it in verdict["groups"]), verdict["groups"]
 
 

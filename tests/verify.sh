@@ -46,7 +46,10 @@ as_reviewed() {
     mv out raw
     local raw_status=$status
     timeout "$patience" "$program" review --answers answers "$@" <"$log" >reviewed
-    holds "$what: the status of ssign review" test "$?" = "$raw_status"
+    local review_status=$?
+    # nothing is authentic where nothing is listed
+    grep -q '^ok ' reviewed || review_status=1
+    holds "$what: the status of ssign review, or 1 where nothing is listed" test "$review_status" = "$raw_status"
     holds "$what: the report of ssign review" cmp raw reviewed
     keys verify --key keys/public-key.pem --json "$@" "$log"
     holds "$what: the JSON" python3 -B "$root/tests/verdicts.py" json raw out "$log" "$status" "$@"
@@ -78,11 +81,11 @@ holds 'its messages are those of the log' cmp <(python3 -B "$root/tests/verdicts
 session='Session: HOSTNAME gate, APP-NAME signer, PROCID -, RSID 1'
 joined='  state: joined; its key is trusted, and its certificate blocks are validly signed'
 rising='    order: the places of the listed messages rise with their numbers'
-all_there='Verdict: All 10 announced messages are there, unchanged, and nothing else is.'
+all_there='Verdict: All 10 announced messages are present and unchanged, and each other stored message is a verified block.'
 keys verify --key keys/public-key.pem signed
 says 'a clean log' 0 "$session" "$joined" "$my_key" '  group: SG 0, SPRI 0 (all messages)' \
-    '    numbers 1 to 10: 10 listed' "$rising" 'Stored messages: 15; 10 are listed, 5 are valid blocks' "$all_there" \
-    '  session gate signer - 1, SG 0, SPRI 0: known up to the message with number 10, and to the signature block that GBC counts as 2'
+    '    numbers 1 to 10: 10 listed' "$rising" 'Stored messages: 15 (10 listed, 5 verified blocks)' "$all_there" \
+    '  session gate signer - 1, SG 0, SPRI 0: known up to message 10 and signature block 3 (GBC 2)'
 keys verify --key others/public-key.pem --key keys/public-key.pem --jobs 2 signed
 says 'two keys, two processes' 0 "$my_key" "$all_there"
 as_reviewed 'a clean log' signed
@@ -130,14 +133,15 @@ if command -v zstd >/dev/null; then
 else
     echo "$name: no zstd here, so logs that it compressed are left out"
 fi
-keys verify --key keys/public-key.pem <(printf '') && says 'an empty log' 0 \
-    'Verdict: NOTHING WAS SIGNED: the log is empty, so nothing in it is changed, and nobody can say what is missing.'
+nothing_shown='Nothing in this log is shown to be authentic. Whatever was signed may have been taken out.'
+keys verify --key keys/public-key.pem <(printf '')
+says 'an empty log' 1 "Verdict: NOTHING IS SHOWN: the log is empty. $nothing_shown"
 
 # certificate blocks alone: the session is joined, and nothing is announced
 grep -v '\[ssign ' signed.lines >unannounced.lines
 keys verify --key keys/public-key.pem --lines unannounced.lines
 says 'the signature blocks taken out' 1 "$joined" \
-    'Verdict: FINDINGS: no block that is believed announces a message; 10 stored messages are unlisted.'
+    "Verdict: NOTHING IS SHOWN: no verified block announces a message; 10 stored messages are unlisted. $nothing_shown"
 as_reviewed 'the signature blocks taken out' unannounced.lines --lines
 
 # several files: the first ends behind the seventh message, the second holds the rest and a message that nobody signed
@@ -147,7 +151,7 @@ keys verify --key keys/public-key.pem first second
 says 'two files' 0 "$all_there"
 keys verify --key keys/public-key.pem first third
 says 'a place in the second file' 1 '  place 15 (place 8 of third): <13>1 - - - - - - nobody signed this' \
-    'Verdict: FINDINGS: of 10 announced messages 10 are there, unchanged; 1 stored message is unlisted.'
+    'Verdict: FINDINGS: of 10 announced messages 10 are present and unchanged; 1 stored message is unlisted.'
 keys verify --key keys/public-key.pem first - <third
 says 'a file and standard input' 1 '  place 15 (place 8 of -): <13>1 - - - - - - nobody signed this'
 gzip -k first
@@ -174,13 +178,15 @@ edit() {
 edit 's/name=mallory,/name=gregory,/'
 keys verify --key keys/public-key.pem stored
 says 'a message changed' 1 '    missing: number 6' '    numbers 1 to 10: 9 listed, 1 missing' \
-    '  place 8: <86>1 2026-01-15T09:15:07.311Z gate.example.org useradd 1040 ..' \
-    'Verdict: FINDINGS: of 10 announced messages 9 are there, unchanged, and 1 is missing or changed; 1 stored message is unlisted.'
+    '  place 8: <86>1 2026-01-15T09:15:07.311Z gate.example.org useradd 1040 - - new user: name=gregory, UID=1003' \
+    '  missing number 6 of gate signer - 1, SG 0, SPRI 0: after number 5 at place 7, before number 7 at place 9' \
+    '    likely place 8: <86>1 2026-01-15T09:15:07.311Z gate.example.org useradd 1040 - - new user: name=gregory, UID=1003' \
+    'Verdict: FINDINGS: of 10 announced messages 9 are present and unchanged, 1 is missing; 1 stored message is unlisted.'
 as_reviewed 'a message changed' stored
 edit 's/83 <37>1 2026-01-15T09:16:30Z.*became root//'
 keys verify --key keys/public-key.pem stored
 says 'a message taken out' 1 '    missing: number 7' \
-    'Verdict: FINDINGS: of 10 announced messages 9 are there, unchanged, and 1 is missing or changed.'
+    'Verdict: FINDINGS: of 10 announced messages 9 are present and unchanged, 1 is missing.'
 # messages N by N: `damage KIND` writes them to the file stored
 damage() {
     python3 -B "$root/tests/verdicts.py" damage "$1" signed >stored
@@ -188,37 +194,37 @@ damage() {
 }
 damage put-in
 says 'a message put in' 1 '  place 3: <13>1 - - - - - - put in' \
-    'Verdict: FINDINGS: of 10 announced messages 10 are there, unchanged; 1 stored message is unlisted.'
+    'Verdict: FINDINGS: of 10 announced messages 10 are present and unchanged; 1 stored message is unlisted.'
 damage twice
-says 'a copy too many' 1 'Verdict: FINDINGS: of 10 announced messages 10 are there, unchanged; 1 stored message is unlisted.' \
-    'Stored messages that no block announces, or copies too many (unlisted):'
+says 'a copy too many' 1 'Verdict: FINDINGS: of 10 announced messages 10 are present and unchanged; 1 stored message is unlisted.' \
+    'Unlisted messages (stored, and no number lists them: no verified block announces them, or they are copies too many):'
 damage block
-says 'a block changed' 1 '    not announced: numbers 5 to 8 (4 messages); the block that did is missing, or isn'\''t believed' \
-    'Blocks that aren'\''t believed (refused):' '    numbers 1 to 10: 6 listed, 4 not announced' \
-    'Verdict: FINDINGS: of 6 announced messages 6 are there, unchanged; 4 numbers aren'\''t announced; 4 stored messages are unlisted; 1 block isn'\''t believed.'
+says 'a block changed' 1 '    unannounced: numbers 5 to 8 (4 messages); the blocks for them are missing or unverified' \
+    'Unverified blocks (refused in a report):' '    numbers 1 to 10: 6 listed, 4 unannounced' \
+    'Verdict: FINDINGS: of 6 announced messages 6 are present and unchanged; 4 numbers are unannounced; 4 stored messages are unlisted; 1 block is unverified.'
 as_reviewed 'a block changed' stored
 damage tail
-says 'the tail cut off behind a block' 0 'Verdict: All 8 announced messages are there, unchanged, and nothing else is.' \
-    '  session gate signer - 1, SG 0, SPRI 0: known up to the message with number 8, and to the signature block that GBC counts as 1'
+says 'the tail cut off behind a block' 0 'Verdict: All 8 announced messages are present and unchanged, and each other stored message is a verified block.' \
+    '  session gate signer - 1, SG 0, SPRI 0: known up to message 8 and signature block 2 (GBC 1)'
 damage order
 says 'another order' 0 '    order: 1 listed message stands in front of the one with the number before, first number 4' \
-    'Verdict: All 10 announced messages are there, unchanged, and nothing else is. But they don'\''t stand in the order in which they were signed.'
+    'Verdict: All 10 announced messages are present and unchanged, and each other stored message is a verified block. But the listed messages don'\''t stand in the order of their numbers.'
 damage run
 says 'a run of messages taken out' 1 '    missing: numbers 1 to 3 (3 messages)' '    missing: number 9' '    numbers 1 to 10: 6 listed, 4 missing'
 head -c -3 signed >stored
 keys verify --key keys/public-key.pem stored
-says 'a torn end' 1 'Verdict: FINDINGS: of 8 announced messages 8 are there, unchanged; 2 stored messages are unlisted; the log breaks off.'
-nothing='Verdict: NOTHING IS SHOWN: no session here has a key that you trust and certificate blocks that hold, so no signature counts, and nobody can say of the 15 stored messages what was sent.'
+says 'a torn end' 1 'Verdict: FINDINGS: of 8 announced messages 8 are present and unchanged; 2 stored messages are unlisted; the log breaks off.'
+nothing="Verdict: NOTHING IS SHOWN: no session here is joined, so no block is verified; 10 stored messages are unlisted; 5 blocks are unverified; 1 session isn't joined. $nothing_shown"
 keys verify --key others/public-key.pem signed
-says 'another key' 1 '  state: untrusted; its key is none that you trust, so nothing of it counts' "$nothing"
+says 'another key' 1 '  state: untrusted; it states no key that you trust; its signatures were ignored' "$nothing"
 keys sign --key others/private-key.pem --ver 0121 --host gate --app signer --rsid 2 --lines "$ten"
 cat signed out >both
 keys verify --key keys/public-key.pem both
 says 'a session of another key behind' 1 'Session: HOSTNAME gate, APP-NAME signer, PROCID -, RSID 2' "$joined" \
-    '  state: untrusted; its key is none that you trust, so nothing of it counts'
-holds 'its blocks and copies' grep -q '^Verdict: FINDINGS: of 10 announced messages 10 are there, unchanged; 10 stored messages are unlisted; . blocks aren.t believed; 1 session isn.t believed\.$' out
+    '  state: untrusted; it states no key that you trust; its signatures were ignored'
+holds 'its blocks and copies' grep -q '^Verdict: FINDINGS: of 10 announced messages 10 are present and unchanged; 10 stored messages are unlisted; . blocks are unverified; 1 session isn.t joined\.$' out
 keys verify --key keys/public-key.pem --key others/public-key.pem both
-says 'both keys' 0 "$my_key" "$other_key" 'Verdict: All 20 announced messages are there, unchanged, and nothing else is.'
+says 'both keys' 0 "$my_key" "$other_key" 'Verdict: All 20 announced messages are present and unchanged, and each other stored message is a verified block.'
 as_reviewed 'a session of another key' both
 keys verify --key others/public-key.pem both
 says 'the key of the session behind alone' 1 "$other_key"
@@ -240,8 +246,8 @@ same_without() {
     holds "$what: it is the verdict without --whole" cmp out with
     holds "$what: and its status" test "$status" = "$wanted"
 }
-unseen_block="the block isn't here, or isn't believed, and messages that it announced may be missing unseen"
-unseen_blocks="they aren't here, or aren't believed, and messages that they announced may be missing unseen"
+unseen_block="which isn't here or is unverified; messages that it announced may be missing without another line saying so"
+unseen_blocks="which aren't here or are unverified; messages that they announced may be missing without another line saying so"
 cp grouped stored
 keys verify --key keys/public-key.pem --whole stored
 says 'no block is missing' 0 "$all_there"
@@ -250,16 +256,16 @@ as_reviewed 'no block is missing' stored --whole
 as_reviewed 'no block is missing, without --whole' stored
 
 lose 1
-nine_there='Verdict: All 9 announced messages are there, unchanged, and nothing else is.'
+nine_there='Verdict: All 9 announced messages are present and unchanged, and each other stored message is a verified block.'
 keys verify --key keys/public-key.pem stored
 says 'a group taken out, without --whole' 0 "$nine_there"
-holds 'a group taken out, without --whole: no block is named' test "$(grep -ci 'missing signature' out)" = 0
+holds 'a group taken out, without --whole: no block is named' test "$(grep -ci 'missing: signature' out)" = 0
 keys verify --key keys/public-key.pem --whole stored
 cp out with
-says 'a group taken out' 1 "  missing signature blocks: GBC 1; $unseen_block" 'Stored messages: 20; 9 are listed, 11 are valid blocks' \
-    'Verdict: FINDINGS: of 9 announced messages 9 are there, unchanged; 1 signature block is missing or isn'\''t believed, so messages may be missing unseen.'
+says 'a group taken out' 1 "  missing: signature block 2 (GBC 1), $unseen_block" 'Stored messages: 20 (9 listed, 11 verified blocks)' \
+    'Verdict: FINDINGS: of 9 announced messages 9 are present and unchanged; 1 signature block is missing or unverified, so messages may be missing without another line saying so.'
 keys verify --key keys/public-key.pem stored
-holds 'a group taken out: nothing else is said otherwise' cmp <(grep -v '^Verdict: ' out) <(grep -v '^Verdict: \|^  missing signature' with)
+holds 'a group taken out: nothing else is said otherwise' cmp <(grep -v '^Verdict: ' out) <(grep -v '^Verdict: \|^  missing: signature' with)
 as_reviewed 'a group taken out' stored --whole
 as_reviewed 'a group taken out, without --whole' stored
 keys verify --key keys/public-key.pem --json --whole stored
@@ -268,13 +274,13 @@ holds 'a group taken out: its object' grep -Fqx \
 holds 'a group taken out: how many' grep -Fq '"unannounced":0,"missing_blocks":1,"unlisted":0,' out
 python3 -B "$root/tests/verdicts.py" lines stored >stored.lines
 keys verify --key keys/public-key.pem --whole --lines stored.lines
-says 'a group taken out, as lines' 1 "  missing signature blocks: GBC 1; $unseen_block"
+says 'a group taken out, as lines' 1 "  missing: signature block 2 (GBC 1), $unseen_block"
 
 lose 0 3 4 5
 keys verify --key keys/public-key.pem --whole stored
-says 'two runs' 1 "  missing signature blocks: GBC 0; $unseen_block" "  missing signature blocks: GBC 3 to 5 (3 blocks); $unseen_blocks"
+says 'two runs' 1 "  missing: signature block 1 (GBC 0), $unseen_block" "  missing: signature blocks 4 to 6 (GBC 3 to 5), $unseen_blocks"
 holds 'two runs: in the verdict' \
-    grep -q '; 4 signature blocks are missing or aren.t believed, so messages may be missing unseen\(;.*\)\?\.$' out
+    grep -q '; 4 signature blocks are missing or unverified, so messages may be missing without another line saying so\(;.*\)\?\.$' out
 as_reviewed 'two runs' stored --whole
 keys verify --key keys/public-key.pem --json --whole stored
 holds 'two runs: how many' grep -Fq ',"missing_blocks":4,' out
@@ -290,13 +296,13 @@ holds 'the last block: none is known to be missing' grep -Fq ',"missing_blocks":
 # a block that is changed, and no message taken out
 LC_ALL=C sed -e 's/ GBC="1" / GBC="0" /' grouped >stored
 keys verify --key keys/public-key.pem --whole stored
-says 'a block changed, in a group of its own' 1 "  missing signature blocks: GBC 1; $unseen_block" \
-    'Verdict: FINDINGS: of 9 announced messages 9 are there, unchanged; 1 signature block is missing or isn'\''t believed, so messages may be missing unseen; 1 stored message is unlisted; 1 block isn'\''t believed.'
+says 'a block changed, in a group of its own' 1 "  missing: signature block 2 (GBC 1), $unseen_block" \
+    'Verdict: FINDINGS: of 9 announced messages 9 are present and unchanged; 1 signature block is missing or unverified, so messages may be missing without another line saying so; 1 stored message is unlisted; 1 block is unverified.'
 as_reviewed 'a block changed, in a group of its own' stored --whole
 damage block
 keys verify --key keys/public-key.pem --whole stored
-says 'a block changed' 1 "  missing signature blocks: GBC 1; $unseen_block" \
-    'Verdict: FINDINGS: of 6 announced messages 6 are there, unchanged; 4 numbers aren'\''t announced; 1 signature block is missing or isn'\''t believed, so messages may be missing unseen; 4 stored messages are unlisted; 1 block isn'\''t believed.'
+says 'a block changed' 1 "  missing: signature block 2 (GBC 1), $unseen_block" \
+    'Verdict: FINDINGS: of 6 announced messages 6 are present and unchanged; 4 numbers are unannounced; 1 signature block is missing or unverified, so messages may be missing without another line saying so; 4 stored messages are unlisted; 1 block is unverified.'
 
 # each session has its own, below its own groups
 lose 2
@@ -307,20 +313,19 @@ lose 7
 cat front stored >both
 keys verify --key keys/public-key.pem --whole both
 holds 'two sessions: status 1' test "$status" = 1
-holds 'two sessions: each has its own' cmp <(grep -o '^Session: .*\|^  missing signature blocks: [^;]*' out) \
-    <(printf '%s\n' "$session" '  missing signature blocks: GBC 2' "${session/%1/2}" '  missing signature blocks: GBC 7')
+holds 'two sessions: each has its own' cmp <(grep -o '^Session: .*\|^  missing: signature block [^,]*' out) \
+    <(printf '%s\n' "$session" '  missing: signature block 3 (GBC 2)' "${session/%1/2}" '  missing: signature block 8 (GBC 7)')
 as_reviewed 'two sessions' both --whole
 keys verify --key others/public-key.pem --whole both
-says 'another key: no block counts' 1 '  state: untrusted; its key is none that you trust, so nothing of it counts'
+says 'another key: no block counts' 1 '  state: untrusted; it states no key that you trust; its signatures were ignored'
 cp both stored
 cp out with
 keys verify --key others/public-key.pem stored
 holds 'another key: it is the verdict without --whole' cmp out with
 keys verify --key keys/public-key.pem --whole "$root/examples/producers/logger.log"
-holds 'no block at all' grep -q '^Verdict: NOTHING WAS SIGNED: ' out
+holds 'no block at all' grep -q "^Verdict: NOTHING IS SHOWN: .* $nothing_shown\$" out
 keys verify --key keys/public-key.pem --whole <(printf '')
-says 'an empty log, with --whole' 0 \
-    'Verdict: NOTHING WAS SIGNED: the log is empty, so nothing in it is changed, and nobody can say what is missing.'
+says 'an empty log, with --whole' 1 "Verdict: NOTHING IS SHOWN: the log is empty. $nothing_shown"
 
 # an older ssign: without --whole it is called by the same words as ever, and with it nothing is asked
 cp both stored
@@ -367,32 +372,32 @@ count() {
     timeout "$patience" "$program" counters --answers answers <"$1"
 }
 # the front of the line that says how far a group is known
-known='  session gate signer - 1, SG 0, SPRI 0: known up to the message with number'
-nothing_of_it='no block that is believed announces a message of it'
-both_said='The verdict says nothing of what was sent after the counters and after the last block that is here:'
-both_end='Whether anything came behind these, and is missing, nobody can tell from this log and these counters.'
-log_said='The verdict says nothing of what was sent behind the last block that is here:'
-log_end='Whether anything came behind these, and is missing, nobody can tell from this log.'
+known='  session gate signer - 1, SG 0, SPRI 0: known up to message'
+nothing_of_it='no verified block announces a message of it'
+both_said="The verdict doesn't cover anything sent after the last signature block in this log and after the counters:"
+both_end="Whether anything sent later is missing, this log and these counters can't show."
+log_said="The verdict doesn't cover anything sent after the last signature block in this log:"
+log_end="Whether anything sent later is missing, this log can't show."
 keys sign "${words[@]}" --rsid 1 --count 4 --lines "$ten"
 cp out signed
 kept '1 3' '1 0 0 11'
 holds 'the counters that are kept' cmp counters <(count signed)
 keys verify --key keys/public-key.pem --counters counters signed
 says 'up to counters: all is there' 0 "$all_there Nothing is missing up to the counters." "$both_said" \
-    "$known 10, and to the signature block that GBC counts as 2; the counters go as far, to number 10, and to GBC 2" "$both_end"
+    "$known 10 and signature block 3 (GBC 2); the counters go as far, to message 10 and signature block 3 (GBC 2)" "$both_end"
 cp out with
 holds 'up to counters: no other word for the last block' test "$(grep -cFx -e "$log_said" -e "$log_end" out)" = 0
 keys verify --key keys/public-key.pem --whole --counters counters signed
 says 'up to counters, with --whole' 0 "$all_there Nothing is missing up to the counters."
 holds 'up to counters, with --whole: the same' cmp out with
 keys verify --key keys/public-key.pem signed
-says 'without counters' 0 "$all_there" "$log_said" "$known 10, and to the signature block that GBC counts as 2" "$log_end"
+says 'without counters' 0 "$all_there" "$log_said" "$known 10 and signature block 3 (GBC 2)" "$log_end"
 holds 'without counters: no word of them' test "$(grep -ci 'counters' out)" = 0
 as_reviewed 'up to counters: all is there' signed --counters counters
 keys verify --key keys/public-key.pem --json --counters counters signed
-holds 'up to counters: its groups' grep -Fq '"last":10,"gbc":2,"next":11,"next_gbc":3,"fallen":0,' out
+holds 'up to counters: its groups' grep -Fq '"last":10,"gbc":2,"next":11,"next_gbc":3,"out_of_order":0,' out
 keys verify --key keys/public-key.pem --json signed
-holds 'without counters: no key of them' test "$(grep -c 'missing\|next' out)" = 0
+holds 'without counters: no key of them' test "$(grep -c 'missing_\|next' out)" = 0
 keys verify --key keys/public-key.pem --counters <(cat counters) - <signed
 says 'up to counters from a pipe' 0 "$all_there Nothing is missing up to the counters."
 
@@ -403,7 +408,7 @@ holds 'the counters of examples/signed' cmp "$root/examples/signed/signed.counte
 part='Nothing is missing up to the counters, which cover only a part of this log.'
 kept '1 2' '1 0 0 9'
 keys verify --key keys/public-key.pem --counters counters signed
-says 'older counters' 0 "$all_there $part" "$known 10, and to the signature block that GBC counts as 2; the counters cover only the front, up to number 8, and to GBC 1"
+says 'older counters' 0 "$all_there $part" "$known 10 and signature block 3 (GBC 2); the counters cover only the front, up to message 8 and signature block 2 (GBC 1)"
 as_reviewed 'older counters' signed --counters counters
 kept '1 3' '1 0 0 10'
 keys verify --key keys/public-key.pem --counters counters signed
@@ -414,20 +419,20 @@ says 'counters older by a block' 0 "$all_there $part"
 kept '1 3'
 keys verify --key keys/public-key.pem --counters counters signed
 says 'counters of blocks alone' 0 "$all_there $part" \
-    "$known 10, and to the signature block that GBC counts as 2; the counters don't name this group"
+    "$known 10 and signature block 3 (GBC 2); the counters don't name this group"
 as_reviewed 'counters of blocks alone' signed --counters counters
 kept '1 0 0 11'
 keys verify --key keys/public-key.pem --counters counters signed
 says 'counters of messages alone' 0 "$all_there $part" \
-    "$known 10, and to the signature block that GBC counts as 2; the counters go as far, to number 10, but name no signature block"
+    "$known 10 and signature block 3 (GBC 2); the counters go as far, to message 10, but name no signature block"
 kept '1 0 0 10'
 keys verify --key keys/public-key.pem --counters counters signed
 says 'counters of fewer messages alone' 0 "$all_there $part" \
-    "$known 10, and to the signature block that GBC counts as 2; the counters cover only the front, up to number 9"
+    "$known 10 and signature block 3 (GBC 2); the counters cover only the front, up to message 9"
 kept '1 0' '1 0 0 1'
 keys verify --key keys/public-key.pem --counters counters signed
 says 'counters of nothing' 0 "$all_there $part" \
-    "$known 10, and to the signature block that GBC counts as 2; the counters cover no message of this group"
+    "$known 10 and signature block 3 (GBC 2); the counters cover no message of this group"
 keys verify --key keys/public-key.pem --counters /dev/null signed
 empty_counters='is empty, so it shows nothing: `ssign counters` writes a line for each joined session, so make it again from a log that is whole'
 for form in '' --json --raw; do
@@ -438,40 +443,40 @@ done
 # something is cut off
 kept '1 3' '1 0 0 11'
 damage tail
-says 'the tail cut off, without counters' 0 'Verdict: All 8 announced messages are there, unchanged, and nothing else is.'
+says 'the tail cut off, without counters' 0 'Verdict: All 8 announced messages are present and unchanged, and each other stored message is a verified block.'
 keys verify --key keys/public-key.pem --counters counters stored
-tail_line='  missing or unlisted, by the counters: SG 0, SPRI 0 (all messages), numbers 9 to 10 (2 messages); no block that is believed goes beyond number 8'
-says 'the tail cut off' 1 "$tail_line" "  missing signature blocks: GBC 2; $unseen_block" \
-    'Verdict: FINDINGS: of 8 announced messages 8 are there, unchanged; 2 messages up to the counters are missing; 1 signature block is missing or isn'\''t believed, so messages may be missing unseen.' \
-    "$known 8, and to the signature block that GBC counts as 1; the counters go on to number 10, and to GBC 2"
+tail_line='  missing or unlisted, by the counters: SG 0, SPRI 0 (all messages), numbers 9 to 10 (2 messages); no verified block announces a number after 8'
+says 'the tail cut off' 1 "$tail_line" "  missing: signature block 3 (GBC 2), $unseen_block" \
+    'Verdict: FINDINGS: of 8 announced messages 8 are present and unchanged; 2 messages up to the counters are missing; 1 signature block is missing or unverified, so messages may be missing without another line saying so.' \
+    "$known 8 and signature block 2 (GBC 1); the counters go on to message 10 and signature block 3 (GBC 2)"
 as_reviewed 'the tail cut off' stored --counters counters
 as_reviewed 'the tail cut off, with --whole too' stored --counters counters --whole
 keys verify --key keys/public-key.pem --json --counters counters stored
 holds 'the tail cut off: its object' grep -Fqx \
     '{"line":"tail","host":"gate","app":"signer","procid":"-","rsid":1,"sg":0,"spri":0,"first":9,"last":10}' out
-holds 'the tail cut off: how many' grep -Fq '"unannounced":0,"missing_numbers":2,"missing_blocks":1,"unlisted":0,' out
+holds 'the tail cut off: how many' grep -Fq '"unannounced":0,"missing_up_to_counters":2,"missing_blocks":1,"unlisted":0,' out
 kept '1 2' '1 0 0 10'
 keys verify --key keys/public-key.pem --counters counters stored
-says 'one message cut off' 1 'Verdict: FINDINGS: of 8 announced messages 8 are there, unchanged; 1 message up to the counters is missing.' \
-    '  missing or unlisted, by the counters: SG 0, SPRI 0 (all messages), number 9; no block that is believed goes beyond number 8'
+says 'one message cut off' 1 'Verdict: FINDINGS: of 8 announced messages 8 are present and unchanged; 1 message up to the counters is missing.' \
+    '  missing or unlisted, by the counters: SG 0, SPRI 0 (all messages), number 9; no verified block announces a number after 8'
 kept '1 3' '1 0 0 11'
 head -c -3 signed >stored
 keys verify --key keys/public-key.pem --counters counters stored
 says 'a torn end up to counters' 1 "$tail_line" \
-    'Verdict: FINDINGS: of 8 announced messages 8 are there, unchanged; 2 messages up to the counters are missing or unlisted; 1 signature block is missing or isn'\''t believed, so messages may be missing unseen; 2 stored messages are unlisted; the log breaks off.'
+    'Verdict: FINDINGS: of 8 announced messages 8 are present and unchanged; 2 messages up to the counters are missing or unlisted; 1 signature block is missing or unverified, so messages may be missing without another line saying so; 2 stored messages are unlisted; the log breaks off.'
 as_reviewed 'a torn end up to counters' stored --counters counters
 edit 's/83 <37>1 2026-01-15T09:16:30Z.*became root//'
 keys verify --key keys/public-key.pem --counters counters stored
-says 'a message taken out, up to counters' 1 'Verdict: FINDINGS: of 10 announced messages 9 are there, unchanged, and 1 is missing or changed. Nothing else is missing up to the counters.'
+says 'a message taken out, up to counters' 1 'Verdict: FINDINGS: of 10 announced messages 9 are present and unchanged, 1 is missing. Nothing else is missing up to the counters.'
 damage put-in
 keys verify --key keys/public-key.pem --counters counters stored
-says 'a message put in, up to counters' 1 'Verdict: FINDINGS: of 10 announced messages 10 are there, unchanged; 1 stored message is unlisted. Nothing is missing up to the counters.'
+says 'a message put in, up to counters' 1 'Verdict: FINDINGS: of 10 announced messages 10 are present and unchanged; 1 stored message is unlisted. Nothing is missing up to the counters.'
 damage order
 keys verify --key keys/public-key.pem --counters counters stored
-says 'another order, up to counters' 0 "$all_there But they don't stand in the order in which they were signed. Nothing is missing up to the counters."
+says 'another order, up to counters' 0 "$all_there But the listed messages don't stand in the order of their numbers. Nothing is missing up to the counters."
 damage block
 keys verify --key keys/public-key.pem --counters counters stored
-says 'a block changed, up to counters' 1 'Verdict: FINDINGS: of 6 announced messages 6 are there, unchanged; 4 numbers aren'\''t announced; 1 signature block is missing or isn'\''t believed, so messages may be missing unseen; 4 stored messages are unlisted; 1 block isn'\''t believed.'
+says 'a block changed, up to counters' 1 'Verdict: FINDINGS: of 6 announced messages 6 are present and unchanged; 4 numbers are unannounced; 1 signature block is missing or unverified, so messages may be missing without another line saying so; 4 stored messages are unlisted; 1 block is unverified.'
 as_reviewed 'a block changed, up to counters' stored --counters counters
 
 # groups by PRI, of which each block has one message. GBC: 0 has PRI 34, 1 has 38, 2 has 86, 3 has 78, 4 has 85, 5 has
@@ -484,29 +489,29 @@ keys verify --key keys/public-key.pem --counters counters grouped
 says 'groups up to counters' 0 "$all_there Nothing is missing up to the counters."
 lose 8
 keys verify --key keys/public-key.pem --counters counters stored
-says 'the last block of a group' 1 "  missing signature blocks: GBC 8; $unseen_block" \
-    '  missing or unlisted, by the counters: SG 1, SPRI 86 (messages of PRI 86), number 3; no block that is believed goes beyond number 2' \
-    '  session gate signer - 1, SG 1, SPRI 86: known up to the message with number 2, and to the signature block that GBC counts as 5; the counters go on to number 3, and to GBC 9' \
-    'Verdict: FINDINGS: of 9 announced messages 9 are there, unchanged; 1 message up to the counters is missing; 1 signature block is missing or isn'\''t believed, so messages may be missing unseen.'
+says 'the last block of a group' 1 "  missing: signature block 9 (GBC 8), $unseen_block" \
+    '  missing or unlisted, by the counters: SG 1, SPRI 86 (messages of PRI 86), number 3; no verified block announces a number after 2' \
+    '  session gate signer - 1, SG 1, SPRI 86: known up to message 2 and signature block 6 (GBC 5); the counters go on to message 3 and signature block 10 (GBC 9)' \
+    'Verdict: FINDINGS: of 9 announced messages 9 are present and unchanged; 1 message up to the counters is missing; 1 signature block is missing or unverified, so messages may be missing without another line saying so.'
 as_reviewed 'the last block of a group' stored --counters counters
 lose 1
 keys verify --key keys/public-key.pem --counters counters stored
-says 'a group gone' 1 "  missing signature blocks: GBC 1; $unseen_block" \
-    '  missing or unlisted, by the counters: SG 1, SPRI 38 (messages of PRI 38), number 1; no block that is believed announces a message of this group' \
-    'Verdict: FINDINGS: of 9 announced messages 9 are there, unchanged; 1 message up to the counters is missing; 1 signature block is missing or isn'\''t believed, so messages may be missing unseen.'
+says 'a group gone' 1 "  missing: signature block 2 (GBC 1), $unseen_block" \
+    '  missing or unlisted, by the counters: SG 1, SPRI 38 (messages of PRI 38), number 1; no verified block announces a message of this group' \
+    'Verdict: FINDINGS: of 9 announced messages 9 are present and unchanged; 1 message up to the counters is missing; 1 signature block is missing or unverified, so messages may be missing without another line saying so.'
 holds 'a group gone: it stands where it belongs' cmp <(sed -n 's/^  session gate signer - 1, //p' out | sed -n 2,4p) <(printf '%s\n' \
-    'SG 1, SPRI 37: known up to the message with number 1, and to the signature block that GBC counts as 6; the counters go as far, to number 1, and to GBC 9' \
-    "SG 1, SPRI 38: $nothing_of_it; the counters go on to number 1, and to GBC 9" \
-    'SG 1, SPRI 46: known up to the message with number 1, and to the signature block that GBC counts as 9; the counters go as far, to number 1, and to GBC 9')
+    'SG 1, SPRI 37: known up to message 1 and signature block 7 (GBC 6); the counters go as far, to message 1 and signature block 10 (GBC 9)' \
+    "SG 1, SPRI 38: $nothing_of_it; the counters go on to message 1 and signature block 10 (GBC 9)" \
+    'SG 1, SPRI 46: known up to message 1 and signature block 10 (GBC 9); the counters go as far, to message 1 and signature block 10 (GBC 9)')
 as_reviewed 'a group gone' stored --counters counters
 lose 9
 keys verify --key keys/public-key.pem --counters counters stored
-says 'the last block of all' 1 "  missing signature blocks: GBC 9; $unseen_block" \
-    '  missing or unlisted, by the counters: SG 1, SPRI 46 (messages of PRI 46), number 1; no block that is believed announces a message of this group'
+says 'the last block of all' 1 "  missing: signature block 10 (GBC 9), $unseen_block" \
+    '  missing or unlisted, by the counters: SG 1, SPRI 46 (messages of PRI 46), number 1; no verified block announces a message of this group'
 as_reviewed 'the last block of all' stored --counters counters
 python3 -B "$root/tests/verdicts.py" lines stored >stored.lines
 keys verify --key keys/public-key.pem --counters counters --lines stored.lines
-says 'the last block of all, as lines' 1 "  missing signature blocks: GBC 9; $unseen_block"
+says 'the last block of all, as lines' 1 "  missing: signature block 10 (GBC 9), $unseen_block"
 
 # two sessions, whose files are put one behind the other; a session that isn't here; and a session without a counter
 keys sign "${words[@]}" --rsid 2 --count 4 --lines "$ten"
@@ -515,7 +520,7 @@ cat signed second >both
 kept '1 3' '1 0 0 11' && mv counters counters.1
 kept '2 3' '2 0 0 11' && mv counters counters.2
 kept '2 1' '2 0 0 5' && mv counters counters.old
-twenty_there='Verdict: All 20 announced messages are there, unchanged, and nothing else is.'
+twenty_there='Verdict: All 20 announced messages are present and unchanged, and each other stored message is a verified block.'
 for order in '1 2' '2 1' 'old 1 2' '2 old 1'; do
     # shellcheck disable=SC2086
     cat $(printf 'counters.%s ' $order) >counters
@@ -525,15 +530,15 @@ for order in '1 2' '2 1' 'old 1 2' '2 old 1'; do
 done
 keys verify --key keys/public-key.pem --counters counters.1 both
 says 'a session without a counter' 0 "$twenty_there $part" \
-    "$known 10, and to the signature block that GBC counts as 2; the counters go as far, to number 10, and to GBC 2" \
-    "${known/- 1/- 2} 10, and to the signature block that GBC counts as 2; the counters don't name this group"
+    "$known 10 and signature block 3 (GBC 2); the counters go as far, to message 10 and signature block 3 (GBC 2)" \
+    "${known/- 1/- 2} 10 and signature block 3 (GBC 2); the counters don't name this group"
 keys verify --key keys/public-key.pem --counters counters signed
 says 'a session that is not here' 1 'Session: HOSTNAME gate, APP-NAME signer, PROCID -, RSID 2' \
     '  state: absent; the counters name it, and no block of it is here' \
-    '  missing or unlisted, by the counters: SG 0, SPRI 0 (all messages), numbers 1 to 10 (10 messages); no block that is believed announces a message of this group' \
-    "  missing signature blocks: GBC 0 to 2 (3 blocks); $unseen_blocks" \
-    'Verdict: FINDINGS: of 10 announced messages 10 are there, unchanged; 10 messages up to the counters are missing; 3 signature blocks are missing or aren'\''t believed, so messages may be missing unseen; 1 session that the counters name isn'\''t here.' \
-    "  session gate signer - 2, SG 0, SPRI 0: $nothing_of_it; the counters go on to number 10, and to GBC 2"
+    '  missing or unlisted, by the counters: SG 0, SPRI 0 (all messages), numbers 1 to 10 (10 messages); no verified block announces a message of this group' \
+    "  missing: signature blocks 1 to 3 (GBC 0 to 2), $unseen_blocks" \
+    'Verdict: FINDINGS: of 10 announced messages 10 are present and unchanged; 10 messages up to the counters are missing; 3 signature blocks are missing or unverified, so messages may be missing without another line saying so; 1 session that the counters name isn'\''t here.' \
+    "  session gate signer - 2, SG 0, SPRI 0: $nothing_of_it; the counters go on to message 10 and signature block 3 (GBC 2)"
 as_reviewed 'a session that is not here' signed --counters counters
 keys verify --key keys/public-key.pem --json --counters counters signed
 holds 'a session that is not here: its object' grep -Fqx \
@@ -542,7 +547,7 @@ holds 'a session that is not here: how many' grep -Fq '"sessions":{"absent":1,"j
 kept '1 3' '1 0 0 11' '2 0'
 keys verify --key keys/public-key.pem --counters counters signed
 says 'a session that sent nothing, and is not here' 1 '  state: absent; the counters name it, and no block of it is here' \
-    'Verdict: FINDINGS: of 10 announced messages 10 are there, unchanged; 1 session that the counters name isn'\''t here.'
+    'Verdict: FINDINGS: of 10 announced messages 10 are present and unchanged; 1 session that the counters name isn'\''t here.'
 keys verify --key keys/public-key.pem --session-key 'gate signer - 2' keys/public-key.pem --counters counters signed
 holds 'a session that only the counters name: it is said' \
     grep -qFx "ssign-keys: the log has no session 'gate signer - 2', for which --session-key gives a key" err
@@ -550,33 +555,33 @@ holds 'a session that only the counters name: it is said' \
 # a session that isn't joined, a log without a block, and an empty one
 kept '1 3' '1 0 0 11'
 keys verify --key others/public-key.pem --counters counters signed
-says 'another key, up to counters' 1 '  state: untrusted; its key is none that you trust, so nothing of it counts' \
-    '  missing or unlisted, by the counters: SG 0, SPRI 0 (all messages), numbers 1 to 10 (10 messages); no block that is believed announces a message of this group' \
-    "${nothing%.}; 10 messages up to the counters are missing or unlisted; 3 signature blocks are missing or aren't believed." \
-    "  session gate signer - 1, SG 0, SPRI 0: $nothing_of_it; the counters go on to number 10, and to GBC 2"
+says 'another key, up to counters' 1 '  state: untrusted; it states no key that you trust; its signatures were ignored' \
+    '  missing or unlisted, by the counters: SG 0, SPRI 0 (all messages), numbers 1 to 10 (10 messages); no verified block announces a message of this group' \
+    "${nothing/10 stored/10 messages up to the counters are missing or unlisted; 3 signature blocks are missing or unverified, so messages may be missing without another line saying so; 10 stored}" \
+    "  session gate signer - 1, SG 0, SPRI 0: $nothing_of_it; the counters go on to message 10 and signature block 3 (GBC 2)"
 keys sign --key others/private-key.pem --ver 0121 --host gate --app signer --rsid 2 --lines "$ten"
 cat signed out >both
 keys verify --key keys/public-key.pem --counters counters both
 says 'a session of another key, which the counters do not name' 1 \
-    '  state: untrusted; its key is none that you trust, so nothing of it counts'
+    '  state: untrusted; it states no key that you trust; its signatures were ignored'
 holds 'a session of another key, which the counters do not name: they cover a part' \
-    grep -q "^Verdict: FINDINGS: .*; 1 session isn't believed\\. ${part//./\\.}\$" out
+    grep -q "^Verdict: FINDINGS: .*; 1 session isn't joined\\. ${part//./\\.}\$" out
 as_reviewed 'a session of another key, which the counters do not name' both --counters counters
 kept '1 3' '1 0 0 11' '2 0'
 keys verify --key keys/public-key.pem --counters counters both
 holds 'a session of another key, which sent no block by the counters: they cover all' \
-    grep -q "^Verdict: FINDINGS: .*; 1 session isn't believed\\. Nothing is missing up to the counters\\.\$" out
+    grep -q "^Verdict: FINDINGS: .*; 1 session isn't joined\\. Nothing is missing up to the counters\\.\$" out
 kept '1 3' '1 0 0 11'
 keys verify --key keys/public-key.pem --counters counters --lines "$ten"
-says 'the blocks taken out' 1 'Verdict: FINDINGS: the log holds no block, so nobody can say of its 10 messages what was sent; 10 messages up to the counters are missing or unlisted; 3 signature blocks are missing or aren'\''t believed; 1 session that the counters name isn'\''t here.'
+says 'the blocks taken out' 1 "Verdict: NOTHING IS SHOWN: of its 10 messages none is a block; 10 messages up to the counters are missing or unlisted; 3 signature blocks are missing or unverified, so messages may be missing without another line saying so; 10 stored messages are unlisted; 1 session that the counters name isn't here. $nothing_shown"
 as_reviewed 'the blocks taken out' "$ten" --counters counters --lines
 printf '' >empty
 keys verify --key keys/public-key.pem --counters counters empty
-says 'an empty log, up to counters' 1 'Verdict: FINDINGS: the log is empty; 10 messages up to the counters are missing; 3 signature blocks are missing or aren'\''t believed; 1 session that the counters name isn'\''t here.'
+says 'an empty log, up to counters' 1 "Verdict: NOTHING IS SHOWN: the log is empty; 10 messages up to the counters are missing; 3 signature blocks are missing or unverified, so messages may be missing without another line saying so; 1 session that the counters name isn't here. $nothing_shown"
 as_reviewed 'an empty log, up to counters' empty --counters counters
 head -c 20 signed >stored
 keys verify --key keys/public-key.pem --counters counters stored
-says 'a torn first message, up to counters' 1 'Verdict: FINDINGS: the log breaks off in its first message; 10 messages up to the counters are missing; 3 signature blocks are missing or aren'\''t believed; 1 session that the counters name isn'\''t here.'
+says 'a torn first message, up to counters' 1 "Verdict: NOTHING IS SHOWN: the log breaks off in its first message; 10 messages up to the counters are missing; 3 signature blocks are missing or unverified, so messages may be missing without another line saying so; 1 session that the counters name isn't here. $nothing_shown"
 keys verify --key keys/public-key.pem --counters empty empty
 refuses 'an empty log, and counters without a line' "ssign-keys: the counters file empty $empty_counters"
 
@@ -629,12 +634,12 @@ for it in logger rsyslog syslog-ng; do
     log=$root/examples/producers/$it.log
     count=$(python3 -B "$root/tests/verdicts.py" count "$log")
     keys verify --key keys/public-key.pem "$log"
-    says "$it: no block" 1 "Verdict: NOTHING WAS SIGNED: the log holds no block, so nobody can say of its $count messages what was sent."
+    says "$it: no block" 1 "Verdict: NOTHING IS SHOWN: of its $count messages none is a block; $count stored messages are unlisted. $nothing_shown"
     keys sign "${words[@]}" --rsid 3 --count 99 "$log"
     holds "$it: signed" test "$status" = 0
     cp out real
     keys verify --key keys/public-key.pem real
-    says "$it: as it is" 0 "Verdict: All $count announced messages are there, unchanged, and nothing else is."
+    says "$it: as it is" 0 "Verdict: All $count announced messages are present and unchanged, and each other stored message is a verified block."
 done
 frame $'<13>1 - - - - - - \e]0;owned\a\e[2J\x80\xff\\x1b\r\n\x7f' >hostile
 keys verify --key keys/public-key.pem hostile
@@ -700,7 +705,9 @@ refuses 'a name with a control octet' 'ssign-keys: no\x1b[31m.pem can'\''t be re
 seq -f '<13>1 - h s - - - %.0f' 60000 >many
 keys verify --key keys/public-key.pem --lines many
 holds 'many unlisted lines: in time' test "$status" = 1
-holds 'many unlisted lines: each is shown' test "$(grep -c '^  place ' out)" = 60000
+holds 'many unlisted lines: ten are shown' test "$(grep -c '^  place ' out)" = 10
+holds 'many unlisted lines: where the others stand' grep -qFx '  and 59,990 more, at places 10 to 59999' out
+holds 'many unlisted lines: no other line is as long' test "$(wc -l <out)" = 14
 keys verify --key keys/public-key.pem --max-len=-1 signed
 holds 'no limit: status 2' test "$status" = 2
 holds 'no limit: nothing on standard output' test ! -s out

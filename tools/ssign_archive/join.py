@@ -3,12 +3,12 @@ from __future__ import annotations
 
 import argparse
 import os
-import sys
 
 from ssign_keys.faults import Fault
+from ssign_keys.output import batched, write_out
 from ssign_keys.programs import add_log_arguments
 from ssign_keys.words import shown_name
-from ssign_keys.workplace import abandon_output, say
+from ssign_keys.workplace import say
 
 from .findings import file_findings
 from .messages import DEFAULT_LONGEST
@@ -36,13 +36,7 @@ def run(arguments: argparse.Namespace) -> int:
     reader = Reader(folder, files_of(folder), arguments.lines, longest_of(arguments))
     if not reader.files:
         raise Fault(f"no file lies in {shown_name(folder)}")
-    try:
-        for whole in reader.wholes():
-            sys.stdout.buffer.write(whole.octets)
-        sys.stdout.buffer.flush()
-    except (BrokenPipeError, ValueError, AttributeError) as fault:
-        abandon_output()
-        raise Fault("standard output can't be written") from fault
+    write_out(batched(whole.octets for whole in reader.wholes()))
     found = file_findings(os.path.basename(folder), reader.read)
     for it in found:
         say(f"ssign-archive: {it.text()}")

@@ -13,6 +13,7 @@ from ssign_keys.workplace import say
 
 from . import settings as settings_form
 from .batch import make_batches
+from .output import print_lines
 from .results import Kept, Results, write_text
 from .tree import find_parts, order
 
@@ -28,7 +29,7 @@ def add_arguments(parser: argparse.ArgumentParser) -> None:
 def run(arguments: argparse.Namespace) -> int:
     """Prepares, and says how many parts are left to do."""
     with Preparation(arguments, JOBS) as prepared:
-        print(f"{len(prepared.parts)} parts, of which {len(prepared.left)} are to be reviewed")
+        print_lines([f"{len(prepared.parts)} parts, of which {len(prepared.left)} are to be reviewed"])
     return 0
 
 

@@ -14,6 +14,7 @@ from typing import BinaryIO, Dict, Iterator, List, NamedTuple, Set, Tuple
 
 from ssign_keys.faults import Fault
 from ssign_keys.files import reason
+from ssign_keys.output import print_text
 from ssign_keys.programs import add_log_arguments, add_program_argument, find_program, log_words
 from ssign_keys.words import counted, shown_name
 from ssign_keys.workplace import Workplace, say
@@ -179,25 +180,28 @@ class Split:
 
     def tell(self) -> int:
         """Prints the parts and the premises, and gives the status."""
-        parts, strays = self._parts, self._strays
-        for number in sorted(range(len(parts.names)), key=parts.names.__getitem__):
-            print(f"{parts.names[number]}: {counted(parts.messages[number], 'message')}, "
-                  f"{counted(parts.blocks[number], 'block')}")
-        print(f"{counted(sum(parts.messages), 'message')} in {counted(len(parts.names), 'part')}")
-        print("(a) met: all blocks of a session lie in one part")
-        if strays.count:
-            here, there = (parts.names[it] for it in strays.first_parts)
-            print(f"(b) NOT MET: {counted(strays.count, 'announced hash', 'announced hashes')} with the message in another "
-                  f"part. First: the message at {self._where(strays.first_place)} lies in {here}, and a block of {there} "
-                  "announces it. The reports on the parts don't add up to the report on the whole log.")
-        else:
-            print("(b) met: each message with an announced hash lies in the part of the block that announces it")
+        print_text("".join(f"{line}\n" for line in self._lines()))
         found = file_findings(".", self._read)
         for it in found:
             say(f"ssign-archive: {it.text()}")
         if any(it.octet is not None and it.why != "torn" for it in self._read):
             return 2
-        return 1 if strays.count or found else 0
+        return 1 if self._strays.count or found else 0
+
+    def _lines(self) -> Iterator[str]:
+        """A line for each part, one for all of them, and one for each premise."""
+        parts, strays = self._parts, self._strays
+        for number in sorted(range(len(parts.names)), key=parts.names.__getitem__):
+            yield f"{parts.names[number]}: {counted(parts.messages[number], 'message')}, {counted(parts.blocks[number], 'block')}"
+        yield f"{counted(sum(parts.messages), 'message')} in {counted(len(parts.names), 'part')}"
+        yield "(a) met: all blocks of a session lie in one part"
+        if not strays.count:
+            yield "(b) met: each message with an announced hash lies in the part of the block that announces it"
+            return
+        here, there = (parts.names[it] for it in strays.first_parts)
+        yield (f"(b) NOT MET: {counted(strays.count, 'announced hash', 'announced hashes')} with the message in another part. "
+               f"First: the message at {self._where(strays.first_place)} lies in {here}, and a block of {there} announces it. "
+               "The reports on the parts don't add up to the report on the whole log.")
 
     def _where(self, place: int) -> str:
         """A place of the log, with its file."""

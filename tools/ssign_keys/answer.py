@@ -2,7 +2,6 @@
 from __future__ import annotations
 
 import argparse
-import sys
 from dataclasses import dataclass
 from types import TracebackType
 from typing import Generator, Iterable, Iterator, NamedTuple, Optional, Type
@@ -16,6 +15,7 @@ from .processes import Workers
 from .questions import Line, Reader
 from .streams import Output, input_lines
 from .trust import Trust
+from .workplace import say
 
 MOST_JOBS = 1024
 
@@ -150,5 +150,5 @@ def run(arguments: argparse.Namespace) -> int:
     if not counts.payloads or counts.trusted_payloads:
         return 0
     what = "state this key" if trust.has_one_key else "are trusted"
-    print(f"ssign-keys: {counts.trusted_payloads} of {counts.payloads} payloads {what}", file=sys.stderr)
+    say(f"ssign-keys: {counts.trusted_payloads} of {counts.payloads} payloads {what}")
     return 1

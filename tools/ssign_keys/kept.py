@@ -39,10 +39,6 @@ class Counters:
             group = session, numbers[0], numbers[1]
             self._groups[group] = max(numbers[2], self._groups.get(group, 0))
 
-    def is_empty(self) -> bool:
-        """Whether there is no counter."""
-        return not self._sessions
-
     def names(self, session: Session) -> bool:
         """Whether a counter is one of this session."""
         return session in self._sessions

@@ -1,18 +1,18 @@
-"""Tells a program of a report: one object of JSON a line (docs/FORMATS.md, "A verdict as JSON")."""
+"""Writes a report for programs: one object of JSON a line (docs/FORMATS.md, "A verdict as JSON")."""
 from __future__ import annotations
 
 import json
 from typing import BinaryIO, Dict, Optional, Sequence, Union
 
 from .blocks import Session
+from .broken_blocks import Broken
 from .identity import UNKNOWN, identity_fields
-from .kept import Counters
-from .logs import Log
+from .pairs import Stretch, Stretches
 from .reach import Reached
 from .report import Group, Teller
-from .strays import Finder
+from .reviewed import Reviewed
+from .strays import most_shown
 from .verdict import sentence
-from .vouched import Notes, Vouched
 from .words import shown, shown_name
 from .workplace import put
 
@@ -28,79 +28,121 @@ def names_of(session: Session) -> Fields:
 class Machine(Teller):
     """Writes JSON into a passing file, as the report is read."""
 
-    def __init__(self, out: BinaryIO, log: Log, finder: Finder, notes: Notes, is_whole: bool,
-                 counters: Optional[Counters]) -> None:
-        super().__init__(is_whole, counters)
+    def __init__(self, out: BinaryIO, reviewed: Reviewed, only_findings: bool) -> None:
+        super().__init__(reviewed.is_whole, reviewed.counters)
         self._out = out
-        self._log = log
-        self._finder = finder
-        self._notes = notes
-        self._vouched: Optional[Vouched] = None
+        self._reviewed = reviewed
+        self._only_findings = only_findings
         self._front = ""
+        self._stretches = Stretches(reviewed.survey.unlisted)
 
     def _put(self, fields: object) -> None:
         put(self._out, json.dumps(fields, separators=(",", ":")).encode("ascii") + b"\n")
 
     def session(self, session: Session, state: str) -> None:
-        self._vouched = self._notes.of(session)
-        finding = self._vouched.finding if self._vouched else UNKNOWN
+        """Writes a session, with whose its key is."""
+        vouched = self._reviewed.notes.of(session)
+        finding = vouched.finding if vouched else UNKNOWN
         fields: Dict[str, object] = {"line": "session", **names_of(session), "state": state}
         fields.update(identity_fields(finding))
         self._put(fields)
 
     def begin_group(self, group: Group) -> None:
+        """Makes the front of its objects for listed messages."""
+        self._stretches.begin_group()
         front: Fields = {"line": "ok", **names_of(group.session), "sg": group.sg, "spri": group.spri}
         self._front = json.dumps(front, separators=(",", ":"))[:-1]
 
     def listed(self, group: Group, numbers: Sequence[int], places: Sequence[int]) -> None:
+        """Writes the missing numbers before these, and listed messages."""
+        self._put_lost(group, self._stretches.listed((numbers[0], places[0]), (numbers[-1], places[-1])))
+        if self._only_findings:
+            return
         front = self._front
         text = "".join(f'{front},"number":{number},"place":{place}}}\n' for number, place in zip(numbers, places))
         put(self._out, text.encode("ascii"))
 
     def gap(self, group: Group, number: int, why: str) -> None:
-        self._put({"line": "gap", **names_of(group.session), "sg": group.sg, "spri": group.spri, "number": number, "why": why})
+        """Keeps a missing number until what follows it is known, and writes a disputed one."""
+        if why == "lost":
+            self._stretches.lost(number)
+            return
+        self._put_lost(group, self._stretches.other())
+        self._put_gap(group, number, why, ())
+
+    def _put_lost(self, group: Group, stretch: Optional[Stretch]) -> None:
+        if stretch is None:
+            return
+        for number in range(stretch.first, stretch.last + 1):
+            self._put_gap(group, number, "lost", stretch.likely_of(number))
+
+    def _put_gap(self, group: Group, number: int, why: str, likely: Sequence[int]) -> None:
+        self._put({"line": "gap", **names_of(group.session), "sg": group.sg, "spri": group.spri, "number": number,
+                   "why": why, "likely_places": list(likely)})
 
     def hole(self, group: Group, first: int, last: int) -> None:
-        self._put({"line": "hole", **names_of(group.session), "sg": group.sg, "spri": group.spri, "first": first, "last": last})
+        """Writes unannounced numbers."""
+        self._put_lost(group, self._stretches.other())
+        self._put({"line": "hole", **names_of(group.session), "sg": group.sg, "spri": group.spri, "first": first,
+                   "last": last})
 
     def end_group(self, group: Group) -> None:
-        greatest = None if self._vouched is None else self._vouched.greatest.get((group.sg, group.spri))
-        self.reach.add(group.session, group.sg, group.spri, group.last, greatest, group.fallen,
-                       group.first_fallen if group.fallen else None)
+        """Writes missing numbers at the end of a group."""
+        self._put_lost(group, self._stretches.end_group())
 
     def tail(self, session: Session, sg: int, spri: int, first: int, last: int) -> None:
+        """Writes numbers that are missing up to a counter."""
         self._put({"line": "tail", **names_of(session), "sg": sg, "spri": spri, "first": first, "last": last})
 
     def missing_blocks(self, session: Session, first: int, last: int) -> None:
+        """Writes missing signature blocks."""
         self._put({"line": "blocks", **names_of(session), "first": first, "last": last})
 
     def stray(self, kind: str, place: int, cause: str) -> None:
-        found = self._finder.find(place)
+        """Writes a message that is unlisted, refused or spoilt."""
+        found = self._reviewed.finder.find(place, most_shown(kind))
         why: Fields = {"cause": cause} if kind == "spoilt" else {}
-        self._put({"line": kind, "place": place, **why, "file": shown_name(found.file), "file_place": found.place, "octets": found.octets, "text": found.text})
+        self._put({"line": kind, "place": place, **why, "file": shown_name(found.file), "file_place": found.place,
+                   "octets": found.octets, "text": found.text})
 
     def torn(self, offset: int) -> None:
-        part = self._log.part_of_offset(offset)
+        """Writes where the log breaks off."""
+        part = self._reviewed.log.part_of_offset(offset)
         self._put({"line": "torn", "offset": offset, "file": shown_name(part.name), "file_offset": offset - part.offset})
 
     def end(self, count: int) -> None:
+        """Writes how many messages there are."""
         self._put({"line": "end", "count": count})
 
-    def verdict(self, status: int) -> None:
-        """Tells the verdict, with all counts, and how far it reaches."""
-        totals = self.totals
-        missing: Fields = {} if self.counters is None else {"missing_numbers": totals.tails}
+    def verdict(self) -> bytes:
+        """Writes the verdict, with all counts, and how far it reaches. Gives nothing that would stand in front."""
+        facts, survey, totals = self._reviewed.facts, self._reviewed.survey, self.totals
+        missing: Fields = {} if self.counters is None else {"missing_up_to_counters": totals.tails}
         missing.update({} if self.missing is None else {"missing_blocks": self.missing})
-        said = sentence(status, totals, self.states, self.missing or 0, self.reach.coverage())
         self._put({
-            "line": "verdict", "status": status, "verdict": said,
-            "sessions": dict(sorted(self.states.items())), "listed": totals.listed, "lost": totals.lost,
+            "line": "verdict", "status": facts.status, "review_status": facts.review_status, "verdict": sentence(facts),
+            "sessions": dict(sorted(self.states.items())), "listed": totals.listed, "missing": totals.lost,
             "disputed": totals.disputed, "unannounced": totals.unannounced, **missing, "unlisted": totals.unlisted,
-            "refused": totals.refused, "spoilt": totals.spoilt, "torn": totals.torn is not None,
-            "groups": [self._group(it) for it in self.reach],
+            "verified": survey.verified, "unverified": totals.refused, "spoilt": totals.spoilt,
+            **broken_fields(facts.broken), "torn": totals.torn is not None,
+            "groups": [self._group(it) for it in survey.reach],
         })
+        return b""
 
     def _group(self, it: Reached) -> Fields:
         counted: Fields = {} if self.counters is None else {"next": it.next_number, "next_gbc": it.next_gbc}
         return {**names_of(it.session), "sg": it.sg, "spri": it.spri, "last": it.last, "gbc": it.gbc, **counted,
-                "fallen": it.fallen, "first_fallen": it.first_fallen}
+                "out_of_order": it.fallen, "first_out_of_order": it.first_fallen}
+
+
+def broken_fields(broken: Broken) -> Fields:
+    """How many messages hold the mark of a block and are none, and where the first of them stands."""
+    first = broken.first
+    return {
+        "unreadable": broken.unreadable,
+        "first_unreadable": None if first is None else first.place,
+        "first_unreadable_cause": None if first is None else first.cause,
+        "first_unreadable_octet": None if first is None else first.octet,
+        "ordinary_with_mark": broken.ordinary,
+        "first_ordinary_with_mark": broken.first_ordinary,
+    }

@@ -120,6 +120,11 @@ class Listed:
                 self.found.append(found)
         self.found += of_sessions(self._entries, teller.reviewed)
 
+    def count(self, report: BinaryIO) -> int:
+        """Compares a report, and gives how many findings there are in all."""
+        self.compare(report)
+        return len(self.found)
+
     def sentence(self) -> str:
         """What was found, in a sentence."""
         name = shown_name(self.path)
@@ -132,11 +137,6 @@ class Listed:
         lines = [it.line() if is_json else f"  {it.text()}" for it in self.found]
         lines = lines if is_json else [self.sentence(), *lines]
         put(out, "".join(f"{it}\n" for it in lines).encode("utf-8", "backslashreplace"))
-
-    def close(self, out: BinaryIO, is_json: bool) -> None:
-        """Says once more, after the verdict, that something was found."""
-        if self.found and not is_json:
-            put(out, f"{self.sentence()} They stand above, and the status is 1.\n".encode("utf-8", "backslashreplace"))
 
     def say(self) -> None:
         """Says the findings on standard error, where standard output has the report alone."""

@@ -1,35 +1,53 @@
-"""Tells a person of a report: sessions and groups in a few lines each, then what is wrong, then the verdict."""
+"""Shows a person a report: sessions and groups in a few lines each, then what is wrong, then the verdict.
+
+A list of many lines is shown in short, so that a person finds what matters. `--json` and `--raw` have all of it.
+"""
 from __future__ import annotations
 
-from typing import BinaryIO, Optional, Sequence, Tuple
+from typing import BinaryIO, Dict, List, NamedTuple, Optional, Sequence
 
 from .blocks import Session
 from .identity import identity_lines
-from .kept import Counters
-from .logs import Log
+from .pairs import Neighbour, Stretch, Stretches
 from .reach import Reached
 from .report import Group, Teller
-from .strays import SHOWN, Finder
+from .reviewed import Reviewed
+from .strays import most_shown
+from .summaries import FEW, Few, Runs
 from .verdict import sentence
-from .vouched import Notes, Vouched
+from .vouched import Vouched
 from .words import counted, shown, shown_name
 from .workplace import put
 
+# a text of more lines has the verdict in front too
+LONG = 40
 STATES = {
     "joined": "its key is trusted, and its certificate blocks are validly signed",
-    "disputed": "its certificate blocks contradict each other, so its key isn't known and nothing of it counts",
-    "incomplete": "certificate blocks of it are missing, so its key isn't known and nothing of it counts",
-    "malformed": "its certificate blocks hold no payload of RFC 5848, section 5.2.1, so nothing of it counts",
-    "untrusted": "its key is none that you trust, so nothing of it counts",
+    "disputed": "its certificate blocks contradict each other, so its key isn't known; its signatures were ignored",
+    "incomplete": "certificate blocks of it are missing, so its key isn't known; its signatures were ignored",
+    "malformed": "its certificate blocks hold no payload of RFC 5848, section 5.2.1; its signatures were ignored",
+    "untrusted": "it states no key that you trust; its signatures were ignored",
     "unaccepted": "its payload is trusted, but its certificate blocks aren't all validly signed by a key that you trust for "
-                  "it, so nothing of it counts",
+                  "it; its signatures were ignored",
     "absent": "the counters name it, and no block of it is here",
 }
 HEADINGS = {
-    "unlisted": "Stored messages that no block announces, or copies too many (unlisted):",
-    "refused": "Blocks that aren't believed (refused):",
-    "spoilt": "Messages that look like blocks and are none (spoilt):",
+    "unlisted": "Unlisted messages (stored, and no number lists them: no verified block announces them, or they are copies "
+                "too many)",
+    "refused": "Unverified blocks (refused in a report)",
+    "spoilt": "Spoilt blocks (they have a block's element, and are no blocks)",
 }
+PAIRS = "Likely pairs (missing numbers, and unlisted messages between the same neighbours; a hash can't show its message)"
+
+
+class Pair(NamedTuple):
+    """Missing numbers of a group, with their neighbours, and the places of what they likely became."""
+
+    group: Group
+    first: int
+    last: int
+    stretch: Stretch
+    places: Sequence[int]
 
 
 def session_words(session: Session) -> str:
@@ -41,153 +59,325 @@ def session_words(session: Session) -> str:
 def group_words(sg: int, spri: int) -> str:
     """A group, with the messages that belong to it (RFC 5848, section 4.2.3)."""
     members = ("all messages", f"messages of PRI {spri}", f"messages of a range up to PRI {spri}", "by private arrangement")
-    return f"SG {sg}, SPRI {spri} ({members[sg]})"
+    return f"SG {sg}, SPRI {spri} ({members[sg] if sg < len(members) else 'no group of the RFC'})"
 
 
 def numbers_words(first: int, last: int) -> str:
     """A run of numbers with its length."""
     if first == last:
         return f"number {first}"
-    return f"numbers {first} to {last} ({last - first + 1} messages)"
+    return f"numbers {first} to {last} ({last - first + 1:,} messages)"
 
 
 def blocks_words(first: int, last: int) -> str:
     """A run of missing signature blocks, and what that means."""
     if first == last:
-        return f"GBC {first}; the block isn't here, or isn't believed, and messages that it announced may be missing unseen"
-    return (f"GBC {first} to {last} ({last - first + 1} blocks); they aren't here, or aren't believed, and messages that they "
-            "announced may be missing unseen")
+        return (f"missing: signature block {first + 1} (GBC {first}), which isn't here or is unverified; messages that it "
+                "announced may be missing without another line saying so")
+    return (f"missing: signature blocks {first + 1} to {last + 1} (GBC {first} to {last}), which aren't here or are "
+            "unverified; messages that they announced may be missing without another line saying so")
+
+
+def block_words(gbc: int) -> str:
+    """A signature block by its counter, which begins with 0 (RFC 5848, section 4.2.4)."""
+    return f"signature block {gbc + 1} (GBC {gbc})"
 
 
 def reach_words(group: Reached) -> str:
     """How far the log goes in a group."""
     if group.last == 0:
-        return "no block that is believed announces a message of it"
-    counter = "" if group.gbc is None else f", and to the signature block that GBC counts as {group.gbc}"
-    return f"known up to the message with number {group.last}{counter}"
+        return "no verified block announces a message of it"
+    return f"known up to message {group.last}" + ("" if group.gbc is None else f" and {block_words(group.gbc)}")
 
 
 def counters_words(group: Reached) -> str:
     """How far the counters go in a group, as compared with the log."""
     if group.next_number is None:
         return "the counters don't name this group"
-    gbc = f", and to GBC {group.next_gbc - 1}" if group.next_gbc else ""
+    block = f" and {block_words(group.next_gbc - 1)}" if group.next_gbc else ""
     if group.next_number == 1:
         return "the counters cover no message of this group"
     last = group.next_number - 1
     if last > group.last:
-        return f"the counters go on to number {last}{gbc}"
+        return f"the counters go on to message {last}{block}"
     if group.is_covered:
-        return f"the counters go as far, to number {last}{gbc}"
-    if last == group.last and not gbc:
-        return f"the counters go as far, to number {last}, but name no signature block"
-    return f"the counters cover only the front, up to number {last}{gbc}"
+        return f"the counters go as far, to message {last}{block}"
+    if last == group.last and not block:
+        return f"the counters go as far, to message {last}, but name no signature block"
+    return f"the counters cover only the front, up to message {last}{block}"
+
+
+def neighbours_words(stretch: Stretch) -> str:
+    """Between which listed messages a number is missing."""
+    sides = [f"{side} number {it[0]} at place {it[1]}"
+             for side, it in (("after", stretch.before), ("before", stretch.behind)) if it is not None]
+    return ", ".join(sides) or "of which no other number is listed"
 
 
 class Person(Teller):
     """Writes for a person, into a passing file, as the report is read."""
 
-    def __init__(self, out: BinaryIO, log: Log, finder: Finder, notes: Notes, is_whole: bool,
-                 counters: Optional[Counters]) -> None:
-        super().__init__(is_whole, counters)
+    def __init__(self, out: BinaryIO, reviewed: Reviewed, only_findings: bool) -> None:
+        super().__init__(reviewed.is_whole, reviewed.counters)
         self._out = out
-        self._log = log
-        self._finder = finder
-        self._notes = notes
+        self._reviewed = reviewed
+        self._only_findings = only_findings
+        self.lines = 0
         self._vouched: Optional[Vouched] = None
-        self._lost: Optional[Tuple[int, int]] = None
-        self._heading = ""
+        # headings that are written once something follows them
+        self._session_heading: List[str] = []
+        self._group_heading: List[str] = []
+        self._states: Dict[str, Few] = {}
+        # where the present session is counted as one that isn't shown
+        self._left: Optional[Few] = None
+        self._stretches = Stretches(reviewed.survey.unlisted)
+        self._pairs: List[Pair] = []
+        self._pair_count = 0
+        self._begin_lists()
+        self._kind = ""
+        self._shown = 0
+        self._runs = Runs()
 
     def _put(self, line: str) -> None:
         put(self._out, line.encode("utf-8", "backslashreplace") + b"\n")
+        self.lines += 1
+
+    def _begin_lists(self) -> None:
+        self._missing, self._holes, self._disputed, self._tails, self._blocks = Few(), Few(), Few(), Few(), Few()
+
+    # ---- sessions
 
     def session(self, session: Session, state: str) -> None:
-        self._put(f"Session: {session_words(session)}")
-        self._put(f"  state: {state}; {STATES.get(state, 'a state that is not known here')}")
-        self._vouched = self._notes.of(session)
-        for line in identity_lines(self._vouched.finding) if self._vouched else []:
-            self._put(f"  {line}")
+        """Shows a session that isn't joined, and keeps the heading of another until something follows it."""
+        self._end_session()
+        self._vouched = self._reviewed.notes.of(session)
+        self._session_heading = [f"Session: {session_words(session)}", f"  state: {state}; {STATES[state]}"]
+        if self._vouched is not None:
+            self._session_heading += [f"  {it}" for it in identity_lines(self._vouched.finding)]
+        self._left = None
+        if state == "joined":
+            is_shown = not self._only_findings
+        else:
+            states = self._states.setdefault(state, Few())
+            is_shown = states.takes()
+            self._left = None if is_shown else states
+        if is_shown:
+            self._need_session()
 
-    def begin_group(self, group: Group) -> None:
-        self._put(f"  group: {group_words(group.sg, group.spri)}")
-
-    def listed(self, group: Group, numbers: Sequence[int], places: Sequence[int]) -> None:
-        self._end_lost()
-
-    def gap(self, group: Group, number: int, why: str) -> None:
-        if why == "lost":
-            if self._lost is not None and self._lost[1] + 1 == number:
-                self._lost = self._lost[0], number
-                return
-            self._end_lost()
-            self._lost = number, number
-            return
-        self._end_lost()
-        self._put(f"    disputed: number {number}; valid blocks announce two different messages for it")
-
-    def hole(self, group: Group, first: int, last: int) -> None:
-        self._end_lost()
-        self._put(f"    not announced: {numbers_words(first, last)}; the block that did is missing, or isn't believed")
-
-    def _end_lost(self) -> None:
-        if self._lost is not None:
-            self._put(f"    missing: {numbers_words(*self._lost)}")
-            self._lost = None
-
-    def end_group(self, group: Group) -> None:
-        self._end_lost()
-        self._put(f"    numbers {group.first} to {group.last}: {group.listed} listed"
-                  + (f", {group.lost} missing" if group.lost else "")
-                  + (f", {group.disputed} disputed" if group.disputed else "")
-                  + (f", {group.unannounced} not announced" if group.unannounced else ""))
-        if group.fallen:
-            self._put(f"    order: {counted(group.fallen, 'listed message stands', 'listed messages stand')} in front of the "
-                      f"one with the number before, first number {group.first_fallen}")
-        elif group.listed > 1:
-            self._put("    order: the places of the listed messages rise with their numbers")
-        greatest = None if self._vouched is None else self._vouched.greatest.get((group.sg, group.spri))
-        self.reach.add(group.session, group.sg, group.spri, group.last, greatest)
+    def _need_session(self) -> None:
+        for line in self._session_heading:
+            self._put(line)
+        self._session_heading = []
+        if self._left is not None:
+            # it is shown after all
+            self._left.left -= 1
+            self._left = None
 
     def tail(self, session: Session, sg: int, spri: int, first: int, last: int) -> None:
-        known = f"goes beyond number {first - 1}" if first > 1 else "announces a message of this group"
+        """Shows what is missing up to a counter."""
+        if not self._tails.takes(last - first + 1):
+            return
+        self._need_session()
+        known = f"announces a number after {first - 1}" if first > 1 else "announces a message of this group"
         self._put(f"  missing or unlisted, by the counters: {group_words(sg, spri)}, {numbers_words(first, last)}; no "
-                  f"block that is believed {known}")
+                  f"verified block {known}")
 
     def missing_blocks(self, session: Session, first: int, last: int) -> None:
-        self._put(f"  missing signature blocks: {blocks_words(first, last)}")
+        """Shows which signature blocks are missing."""
+        if self._blocks.takes(last - first + 1):
+            self._need_session()
+            self._put(f"  {blocks_words(first, last)}")
+
+    def _end_session(self) -> None:
+        if self._tails.left:
+            self._put(f"  and {counted(self._tails.left, 'more run')} of messages, missing or unlisted by the counters "
+                      f"({counted(self._tails.left_numbers, 'message')})")
+        if self._blocks.left:
+            self._put(f"  and {counted(self._blocks.left, 'more run')} of missing signature blocks "
+                      f"({counted(self._blocks.left_numbers, 'block')})")
+        self._begin_lists()
+
+    # ---- groups
+
+    def begin_group(self, group: Group) -> None:
+        """Keeps the heading of a group."""
+        self._begin_lists()
+        self._stretches.begin_group()
+        self._group_heading = [f"  group: {group_words(group.sg, group.spri)}"]
+        if not self._only_findings:
+            self._need_group()
+
+    def _need_group(self) -> None:
+        self._need_session()
+        for line in self._group_heading:
+            self._put(line)
+        self._group_heading = []
+
+    def listed(self, group: Group, numbers: Sequence[int], places: Sequence[int]) -> None:
+        """Shows the missing numbers before these."""
+        first: Neighbour = (numbers[0], places[0])
+        self._show_missing(group, self._stretches.listed(first, (numbers[-1], places[-1])))
+
+    def gap(self, group: Group, number: int, why: str) -> None:
+        """Keeps a missing number, or shows a disputed one."""
+        if why == "lost":
+            self._stretches.lost(number)
+            return
+        self._show_missing(group, self._stretches.other())
+        if self._disputed.takes():
+            self._need_group()
+            self._put(f"    disputed: number {number}; verified blocks announce two different messages for it")
+
+    def hole(self, group: Group, first: int, last: int) -> None:
+        """Shows unannounced numbers."""
+        self._show_missing(group, self._stretches.other())
+        if self._holes.takes(last - first + 1):
+            self._need_group()
+            self._put(f"    unannounced: {numbers_words(first, last)}; the block for it is missing or unverified" if
+                      first == last else f"    unannounced: {numbers_words(first, last)}; the blocks for them are missing or "
+                      "unverified")
+
+    def _show_missing(self, group: Group, stretch: Optional[Stretch]) -> None:
+        if stretch is None:
+            return
+        if self._missing.takes(stretch.last - stretch.first + 1):
+            self._need_group()
+            self._put(f"    missing: {numbers_words(stretch.first, stretch.last)}")
+        if not stretch.likely:
+            return
+        self._pair_count += len(stretch.likely) if stretch.is_matched else 1
+        if not stretch.is_matched and len(self._pairs) < FEW:
+            self._pairs.append(Pair(group, stretch.first, stretch.last, stretch, stretch.likely))
+        elif stretch.is_matched:
+            self._pairs += [Pair(group, it, it, stretch, stretch.likely_of(it))
+                            for it in range(stretch.first, min(stretch.last + 1, stretch.first + FEW - len(self._pairs)))]
+
+    def end_group(self, group: Group) -> None:
+        """Shows the counts of a group, and its order."""
+        self._show_missing(group, self._stretches.end_group())
+        if group.lost or group.disputed or group.unannounced or group.fallen:
+            self._need_group()
+        for few, what in ((self._missing, "missing"), (self._disputed, "disputed"), (self._holes, "unannounced")):
+            if few.left:
+                self._put(f"    and {counted(few.left, 'more run')} of {what} numbers "
+                          f"({counted(few.left_numbers, 'number')})")
+        self._begin_lists()
+        if not self._group_heading:
+            self._put_counts(group)
+        self._group_heading = []
+
+    def _put_counts(self, group: Group) -> None:
+        counts = "".join(f", {count:,} {what}" for count, what in (
+            (group.lost, "missing"), (group.disputed, "disputed"), (group.unannounced, "unannounced")) if count)
+        self._put(f"    numbers {group.first} to {group.last}: {group.listed:,} listed{counts}")
+        if group.fallen:
+            stand = counted(group.fallen, "listed message stands", "listed messages stand")
+            self._put(f"    order: {stand} in front of the one with the number before, first number {group.first_fallen}")
+        elif group.listed > 1 and not self._only_findings:
+            self._put("    order: the places of the listed messages rise with their numbers")
+
+    # ---- messages by their places
 
     def stray(self, kind: str, place: int, cause: str) -> None:
-        if self._heading != kind:
-            self._heading = kind
-            self._put(HEADINGS[kind])
-        found = self._finder.find(place)
-        where = f"place {place}"
-        if len(self._log.parts) > 1:
-            where += f" (place {found.place} of {shown_name(found.file)})"
-        if cause:
-            where += f", {cause}"
-        self._put(f"  {where}: {found.text}{' ..' if found.octets > SHOWN else ''}")
+        """Shows the first few messages of a kind, and keeps the places of the others."""
+        if self._kind != kind:
+            self._end_list()
+            self._kind, self._shown, self._runs = kind, 0, Runs()
+            self._put(f"{HEADINGS[kind]}:")
+        if self._shown == FEW:
+            self._runs.add(place)
+            return
+        self._shown += 1
+        self._put(f"  {self._where(place)}{f', {cause}' if cause else ''}: {self._text(place, kind)}")
+
+    def _where(self, place: int) -> str:
+        log = self._reviewed.log
+        if len(log.parts) == 1:
+            return f"place {place}"
+        part = log.part_of_place(place)
+        return f"place {place} (place {place - part.place} of {shown_name(part.name)})"
+
+    def _text(self, place: int, kind: str) -> str:
+        found = self._reviewed.finder.find(place, most_shown(kind))
+        return found.text + (f" .. ({found.octets:,} octets)" if found.octets > most_shown(kind) else "")
+
+    def _end_list(self) -> None:
+        if not self._kind:
+            # the sessions end here
+            self._end_session()
+            self._end_states()
+        elif self._runs.count:
+            self._put(f"  and {self._runs.count:,} more, at {'place' if self._runs.count == 1 else 'places'} {self._runs}")
+        self._runs = Runs()
+
+    def _end_states(self) -> None:
+        for state, few in self._states.items():
+            if few.left:
+                self._put(f"And {counted(few.left, 'more session')}: {state}; {STATES[state]}")
 
     def torn(self, offset: int) -> None:
-        part = self._log.part_of_offset(offset)
+        """Shows where the log breaks off."""
+        self._end_lists()
+        part = self._reviewed.log.part_of_offset(offset)
         where = shown_name(part.name)
         self._put(f"Torn: the log breaks off in the message that begins at octet {offset - part.offset} of {where}")
 
     def end(self, count: int) -> None:
-        blocks = count - self.totals.listed - self.totals.unlisted - self.totals.refused - self.totals.spoilt
-        said = f"{counted(self.totals.listed, 'is', 'are')} listed, {counted(blocks, 'is a valid block', 'are valid blocks')}"
-        self._put(f"Stored messages: {count}; {said}")
+        """Shows how many messages there are of each kind."""
+        self._end_lists()
+        totals = self.totals
+        kinds = [counted(totals.unlisted, "unlisted", "unlisted"), counted(totals.refused, "unverified block"),
+                 counted(totals.spoilt, "spoilt block")]
+        others = "".join(f", {it}" for it in kinds if not it.startswith("0 "))
+        if not self._only_findings:
+            self._put(f"Stored messages: {count:,} ({totals.listed:,} listed, "
+                      f"{counted(self._reviewed.survey.verified, 'verified block')}{others})")
 
-    def verdict(self, status: int) -> None:
-        """Tells the verdict, and what it says nothing of."""
-        self._put(f"Verdict: {sentence(status, self.totals, self.states, self.missing or 0, self.reach.coverage())}")
-        if not self.reach:
+    def _end_lists(self) -> None:
+        if self._kind != "end":
+            self._end_list()
+            self._put_pairs()
+            self._kind = "end"
+
+    def _put_pairs(self) -> None:
+        if self._pairs:
+            self._put(f"{PAIRS}:")
+        # texts are looked up by rising place, in one walk
+        texts = {place: "" for it in self._pairs for place in it.places}
+        for place in sorted(texts):
+            texts[place] = self._text(place, "unlisted")
+        for it in self._pairs:
+            session = " ".join(map(shown, it.group.session))
+            self._put(f"  missing {numbers_words(it.first, it.last)} of {session}, SG {it.group.sg}, SPRI {it.group.spri}: "
+                      f"{neighbours_words(it.stretch)}")
+            for place in it.places:
+                self._put(f"    likely {self._where(place)}: {texts[place]}")
+        if self._pair_count > len(self._pairs):
+            self._put(f"  and {counted(self._pair_count - len(self._pairs), 'more likely pair')}")
+
+    # ---- the verdict
+
+    def verdict(self) -> bytes:
+        """Shows how far the log goes, and the verdict. Gives what has to stand in front: the verdict of a long text."""
+        self._put_reach()
+        said = f"Verdict: {sentence(self._reviewed.facts)}"
+        self._put(said)
+        return f"{said}\n".encode("utf-8") if self.lines > LONG else b""
+
+    def _put_reach(self) -> None:
+        reach = self._reviewed.survey.reach
+        if not reach:
             return
-        where = "behind" if self.counters is None else "after the counters and after"
-        self._put(f"The verdict says nothing of what was sent {where} the last block that is here:")
-        for it in self.reach:
+        both = "" if self.counters is None else " and after the counters"
+        self._put("The verdict doesn't cover anything sent after the last signature block in this log"
+                  f"{both}{'.' if self._only_findings else ':'}")
+        if self._only_findings:
+            return
+        for number, it in enumerate(reach):
+            if number == FEW:
+                self._put(f"  and {counted(len(reach) - FEW, 'more group')}")
+                break
             host, app, procid, rsid = map(shown, it.session)
-            counted = "" if self.counters is None else f"; {counters_words(it)}"
-            self._put(f"  session {host} {app} {procid} {rsid}, SG {it.sg}, SPRI {it.spri}: {reach_words(it)}{counted}")
-        both = "" if self.counters is None else " and these counters"
-        self._put(f"Whether anything came behind these, and is missing, nobody can tell from this log{both}.")
+            further = "" if self.counters is None else f"; {counters_words(it)}"
+            self._put(f"  session {host} {app} {procid} {rsid}, SG {it.sg}, SPRI {it.spri}: {reach_words(it)}{further}")
+        self._put(f"Whether anything sent later is missing, this log{' and these counters' if both else ''} can't show.")

@@ -12,10 +12,8 @@ from .kept import Counters
 class Coverage(enum.Enum):
     """How much of what a log announces the counters cover."""
 
-    NOTHING = enum.auto()
-    """There is no counter."""
     PART = enum.auto()
-    """The log goes on behind a counter, or has a group, or a session that isn't believed, without one."""
+    """The log goes on after a counter, or has a group, or a session that isn't joined, without one."""
     ALL = enum.auto()
 
 
@@ -29,7 +27,7 @@ class Reached:
     last: int
     """The last number that is announced, or 0 where none is."""
     gbc: Optional[int]
-    """The greatest GBC of its signature blocks that are here and believed."""
+    """The greatest GBC of its verified signature blocks."""
     next_number: Optional[int]
     """The number of its next message, by the counters."""
     next_gbc: Optional[int]
@@ -86,7 +84,5 @@ class Reach:
         """How much the counters cover, or None where no counters were given."""
         if self._counters is None:
             return None
-        if self._counters.is_empty():
-            return Coverage.NOTHING
         is_whole = not self._has_unknown and all(it.is_covered for it in self._groups)
         return Coverage.ALL if is_whole else Coverage.PART

@@ -1,10 +1,12 @@
 """Reads the report of `ssign review` from its file, line by line, without keeping it (docs/FORMATS.md, "A report").
 
-Nothing is decided about a message here. What is counted are the lines.
+Nothing is decided about a message here. What is counted are the lines. A report whose lines can't all be true, or
+aren't all known, is no report: it is refused.
 """
 from __future__ import annotations
 
 import operator
+import re
 from abc import ABC, abstractmethod
 from dataclasses import dataclass
 from typing import BinaryIO, Dict, Iterator, List, Optional, Sequence
@@ -13,10 +15,19 @@ from .blocks import Session
 from .faults import Fault
 from .kept import Counters
 from .progress import Progress
-from .reach import Reach
+from .words import shown
 
 # lines are read by so many octets, so that a long stretch of `ok` lines is taken at once
 PIECE = 1 << 16
+# the words of a report, with how many fields follow each, and where they stand among the others
+FIELDS = {b"session": 5, b"ok": 8, b"gap": 8, b"hole": 8, b"tail": 8, b"blocks": 6, b"unlisted": 1, b"refused": 1,
+          b"spoilt": 2, b"torn": 1, b"end": 1}
+ORDER = {b"unlisted": 1, b"refused": 2, b"spoilt": 3, b"torn": 4, b"end": 5}
+STATES = ("joined", "disputed", "incomplete", "malformed", "untrusted", "unaccepted", "absent")
+# what follows the front of `ok` lines: numbers and places
+ROWS = re.compile(rb"(?:[1-9][0-9]{0,19} (?:0|[1-9][0-9]{0,19})\n)+")
+# a long line isn't shown whole
+SHOWN = 60
 
 
 @dataclass
@@ -38,13 +49,17 @@ class Group:
     place: int = -1
 
     def reach(self, first: int, last: int) -> None:
-        """Takes numbers into account, which rise in a report."""
+        """Takes numbers into account. A report has a line about each of them from 1 on."""
+        if first != self.last + 1 or last < first:
+            raise wrong(f"number {first} of the group SG {self.sg}, SPRI {self.spri} follows number {self.last}")
         self.first = self.first or first
         self.last = last
 
     def list(self, numbers: Sequence[int], places: Sequence[int]) -> None:
         """Takes listed messages into account."""
         self.reach(numbers[0], numbers[-1])
+        if len(numbers) > 1 and list(numbers) != list(range(numbers[0], numbers[0] + len(numbers))):
+            raise wrong(f"the numbers from {numbers[0]} to {numbers[-1]} aren't all there")
         self.listed += len(numbers)
         before = [self.place, *places[:-1]]
         fallen = sum(map(operator.gt, before, places))
@@ -91,8 +106,6 @@ class Teller(ABC):
         self.totals = Totals()
         self.states: Dict[str, int] = {}
         self.counters = counters
-        # the groups of joined sessions, and those of `tail` lines
-        self.reach = Reach(counters)
         # how many signature blocks are missing; None where the report doesn't speak of them
         self.missing: Optional[int] = 0 if is_whole or counters is not None else None
 
@@ -139,16 +152,38 @@ class Teller(ABC):
         """Tells how many messages there are."""
 
 
+def wrong(what: str) -> Fault:
+    """What is said of a report that can't be right."""
+    return Fault(f"the report of ssign review is wrong, so there is no verdict: {what}")
+
+
+def number_of(field: bytes) -> int:
+    """A number of a report."""
+    if not field.isdigit() or len(field) > 20 or len(field) > 1 and field.startswith(b"0"):
+        raise wrong(f"{text_of(field)} stands in place of a number")
+    return int(field)
+
+
+def text_of(octets: bytes) -> str:
+    """The front of a line, or of a field, for a complaint."""
+    return f"'{shown(octets[:SHOWN])}{' ..' if len(octets) > SHOWN else ''}'"
+
+
 class Reading:
     """Goes over a report, counts, and has a teller tell."""
 
     def __init__(self, teller: Teller) -> None:
         self._teller = teller
         self._session = Session(b"", b"", b"", b"")
+        self._state = ""
         self._group: Optional[Group] = None
+        # the group before it in the session
+        self._before = (-1, -1)
         # the front of an `ok` line of the present group, up to its number
         self._front = b""
-        self._has_ended = False
+        # where the last line stands among the others, and the place that it has
+        self._order = 0
+        self._place = -1
 
     def read(self, report: BinaryIO, progress: Progress) -> None:
         """Reads it to its end. Raises Fault where that isn't the end of a report."""
@@ -159,19 +194,19 @@ class Reading:
             if not self._take_listed(lines):
                 for line in lines.split(b"\n")[:-1]:
                     self._take(line)
-        if not self._has_ended:
-            raise Fault("the report of ssign review has no end")
+        if self._order != ORDER[b"end"]:
+            raise wrong("it has no end")
 
     def _take_listed(self, lines: bytes) -> bool:
         """Takes a stretch of lines at once, if all are `ok` lines of the present group. This is most of most reports."""
         if self._group is None or not lines.startswith(self._front):
             return False
-        try:
-            rest = list(map(int, lines.replace(self._front, b"").split()))
-        except ValueError:
+        if lines.count(b"\n" + self._front) != lines.count(b"\n") - 1:
             return False
-        if len(rest) != 2 * lines.count(b"\n"):
+        text = lines.replace(self._front, b"")
+        if ROWS.fullmatch(text) is None:
             return False
+        rest = list(map(int, text.split()))
         self._list(self._group, rest[0::2], rest[1::2])
         return True
 
@@ -181,71 +216,107 @@ class Reading:
 
     def _take(self, line: bytes) -> None:
         word, *fields = line.split(b" ")
-        if self._has_ended:
-            raise Fault("the report of ssign review goes on behind its end")
+        if len(fields) != FIELDS.get(word):
+            raise wrong(f"it has a line of another kind, {text_of(line)}")
+        order = ORDER.get(word, 0)
+        if order < self._order or order == ORDER[b"end"] == self._order:
+            raise wrong(f"the line {text_of(line)} stands too late")
+        if order != self._order:
+            self._order, self._place = order, -1
         if word in (b"ok", b"gap", b"hole"):
             self._take_number(word, fields)
             return
         self._close_group()
-        totals, teller = self._teller.totals, self._teller
         if word == b"session":
-            self._session = Session(*fields[:4])
-            state = fields[4].decode("ascii")
-            teller.states[state] = teller.states.get(state, 0) + 1
-            if state not in ("joined", "absent"):
-                teller.reach.pass_over(self._session)
-            teller.session(self._session, state)
-        elif word == b"tail" and teller.counters is not None:
-            self._take_tail(*map(int, fields[4:8]))
-        elif word == b"blocks" and teller.missing is not None:
-            first, last = int(fields[4]), int(fields[5])
-            teller.missing += last - first + 1
-            teller.missing_blocks(self._session, first, last)
+            self._take_session(fields)
+        elif word == b"tail" and self._teller.counters is not None:
+            self._take_tail(fields)
+        elif word == b"blocks" and self._teller.missing is not None:
+            self._take_blocks(fields)
         elif word in (b"unlisted", b"refused", b"spoilt"):
-            kind = word.decode("ascii")
-            setattr(totals, kind, getattr(totals, kind) + 1)
-            teller.stray(kind, int(fields[0]), fields[1].decode("ascii") if fields[1:] else "")
+            self._take_stray(word.decode("ascii"), fields)
         elif word == b"torn":
-            totals.torn = int(fields[0])
-            teller.torn(totals.torn)
+            self._teller.totals.torn = number_of(fields[0])
+            self._teller.torn(self._teller.totals.torn)
         elif word == b"end":
-            totals.messages = int(fields[0])
-            self._has_ended = True
-            teller.end(totals.messages)
+            self._teller.totals.messages = number_of(fields[0])
+            self._teller.end(self._teller.totals.messages)
         else:
-            raise Fault(f"the report of ssign review has a line of another kind: {line[:40]!r}")
+            raise wrong(f"it has a line that wasn't asked for, {text_of(line)}")
 
-    def _take_tail(self, sg: int, spri: int, first: int, last: int) -> None:
+    def _take_session(self, fields: List[bytes]) -> None:
+        session, state = Session(*fields[:4]), fields[4].decode("ascii", "replace")
+        if state not in STATES or state == "absent" and self._teller.counters is None:
+            raise wrong(f"it has a session whose state is {text_of(fields[4])}")
+        if session == self._session:
+            raise wrong(f"it has the session {text_of(bytes(str(session), 'ascii'))} twice")
+        self._session, self._state, self._before = session, state, (-1, -1)
+        self._teller.states[state] = self._teller.states.get(state, 0) + 1
+        self._teller.session(session, state)
+
+    def _check_session(self, fields: List[bytes]) -> None:
+        """Sees that a line is about the present session, below whose line it stands."""
+        if Session(*fields[:4]) != self._session:
+            raise wrong(f"a line about {text_of(b' '.join(fields[:4]))} stands below the session "
+                        f"{text_of(bytes(str(self._session), 'ascii'))}")
+
+    def _take_tail(self, fields: List[bytes]) -> None:
+        self._check_session(fields)
+        sg, spri, first, last = map(number_of, fields[4:])
+        if not 0 < first <= last:
+            raise wrong(f"it has a tail from {first} to {last}")
         self._teller.totals.tails += last - first + 1
-        if first == 1:
-            # nothing of this group is announced, so no other line has it
-            self._teller.reach.add(self._session, sg, spri, 0, None)
         self._teller.tail(self._session, sg, spri, first, last)
 
+    def _take_blocks(self, fields: List[bytes]) -> None:
+        self._check_session(fields)
+        first, last = map(number_of, fields[4:])
+        if last < first:
+            raise wrong(f"it has missing blocks from {first} to {last}")
+        self._teller.missing = (self._teller.missing or 0) + last - first + 1
+        self._teller.missing_blocks(self._session, first, last)
+
+    def _take_stray(self, kind: str, fields: List[bytes]) -> None:
+        place, totals = number_of(fields[0]), self._teller.totals
+        if place <= self._place:
+            raise wrong(f"the place {place} follows the place {self._place}")
+        self._place = place
+        setattr(totals, kind, getattr(totals, kind) + 1)
+        self._teller.stray(kind, place, fields[1].decode("ascii", "replace") if fields[1:] else "")
+
     def _take_number(self, word: bytes, fields: List[bytes]) -> None:
-        sg, spri = int(fields[4]), int(fields[5])
+        self._check_session(fields)
+        if self._state != "joined":
+            raise wrong(f"a session that is {self._state or 'not there'} has the line {text_of(word)}")
+        sg, spri, number = map(number_of, fields[4:7])
         group = self._group
         if group is None or (group.sg, group.spri) != (sg, spri):
             self._close_group()
+            if (sg, spri) <= self._before:
+                raise wrong(f"the group SG {sg}, SPRI {spri} stands behind a later one")
+            self._before = sg, spri
             group = self._group = Group(self._session, sg, spri)
             self._front = b" ".join([b"ok", *fields[:6], b""])
             self._teller.begin_group(group)
-        number = int(fields[6])
         if word == b"ok":
-            self._list(group, [number], [int(fields[7])])
+            self._list(group, [number], [number_of(fields[7])])
         elif word == b"gap":
-            group.reach(number, number)
-            why = fields[7].decode("ascii")
-            if why == "lost":
-                group.lost += 1
-            else:
-                group.disputed += 1
-            self._teller.gap(group, number, why)
+            self._take_gap(group, number, fields[7].decode("ascii", "replace"))
         else:
-            last = int(fields[7])
+            last = number_of(fields[7])
             group.reach(number, last)
             group.unannounced += last - number + 1
             self._teller.hole(group, number, last)
+
+    def _take_gap(self, group: Group, number: int, why: str) -> None:
+        group.reach(number, number)
+        if why == "lost":
+            group.lost += 1
+        elif why == "disputed":
+            group.disputed += 1
+        else:
+            raise wrong(f"number {number} is {text_of(why.encode('ascii', 'replace'))}")
+        self._teller.gap(group, number, why)
 
     def _close_group(self) -> None:
         if self._group is not None:
@@ -268,4 +339,4 @@ def stretches(report: BinaryIO) -> Iterator[bytes]:
         else:
             rest += piece
     if rest:
-        raise Fault("the report of ssign review breaks off")
+        raise wrong("it breaks off")

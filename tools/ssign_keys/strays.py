@@ -8,8 +8,14 @@ from .progress import Progress
 from .walk import Walk
 from .words import shown
 
-# how many octets of a message are shown
-SHOWN = 60
+# how many octets of a message are shown: of a block its front, and of an unlisted message so many that a change at its
+# end is seen. Each receiver should take messages of 2048 octets (RFC 5424, section 6.1)
+SHOWN, SHOWN_UNLISTED = 60, 2048
+
+
+def most_shown(kind: str) -> int:
+    """How many octets are shown of a message that is unlisted, refused or spoilt."""
+    return SHOWN_UNLISTED if kind == "unlisted" else SHOWN
 
 
 class Found(NamedTuple):
@@ -29,8 +35,8 @@ class Finder:
         self._progress = progress
         self._walk = Walk(log.file, log.are_lines)
 
-    def find(self, place: int) -> Found:
-        """The message at this place of the log."""
+    def find(self, place: int, most: int) -> Found:
+        """The message at this place of the log, with so many octets of its text."""
         if place < self._walk.place:
             self._walk = Walk(self._log.file, self._log.are_lines)
         walk = self._walk
@@ -38,7 +44,7 @@ class Finder:
             if not walk.step(place - walk.place):
                 raise self._log.changed()
             self._progress.show("looking up messages", walk.offset, self._log.size, "octets")
-        front = walk.front(SHOWN)
+        front = walk.front(most)
         if front is None:
             raise self._log.changed()
         text, octets = front

@@ -1,14 +1,14 @@
 """Standard input and output of a command that says nothing before it has succeeded."""
 from __future__ import annotations
 
-import os
-import shutil
+import sys
 import tempfile
 from types import TracebackType
-from typing import IO, Iterator, Optional, Type
+from typing import BinaryIO, Iterator, Optional, Type, cast
 
 from .faults import Fault
 from .files import reason
+from .output import file_pieces, write_out
 
 # What is held in memory; more goes to a temporary file.
 HELD = 16 * 1024 * 1024
@@ -16,6 +16,8 @@ HELD = 16 * 1024 * 1024
 
 def input_lines() -> Iterator[bytes]:
     """The lines of standard input, each with its LF but perhaps the last."""
+    if sys.stdin is None:
+        raise Fault("standard input is closed")
     try:
         with open(0, "rb", closefd=False) as stream:
             yield from stream
@@ -28,7 +30,7 @@ class Output:
 
     def __init__(self) -> None:
         """Nothing yet."""
-        self._held: IO[bytes] = tempfile.SpooledTemporaryFile(HELD)
+        self._held = cast(BinaryIO, tempfile.SpooledTemporaryFile(HELD))
 
     def __enter__(self) -> Output:
         """Itself."""
@@ -48,25 +50,4 @@ class Output:
 
     def release(self) -> None:
         """Writes all that is held to standard output."""
-        self._held.seek(0)
-        try:
-            # written through at once, so that no failure comes later and unseen
-            with open(os.dup(1), "wb", buffering=0) as stream:
-                shutil.copyfileobj(self._held, Whole(stream), 1024 * 1024)
-        except OSError as fault:
-            raise Fault(f"standard output can't be written: {reason(fault)}") from fault
-
-
-class Whole:
-    """A stream each of whose writes writes all."""
-
-    def __init__(self, stream: IO[bytes]) -> None:
-        """The stream, which may write less."""
-        self._stream = stream
-
-    def write(self, octets: bytes) -> int:
-        """Writes all of the octets, as often as it takes."""
-        left = memoryview(octets)
-        while left:
-            left = left[self._stream.write(left):]
-        return len(octets)
+        write_out(file_pieces(self._held))

@@ -14,14 +14,14 @@ import argparse
 import importlib
 import os
 import re
-import sys
 from dataclasses import dataclass
-from typing import IO, Dict, NoReturn, Optional, Protocol, Sequence, Tuple, cast
+from typing import Dict, NoReturn, Optional, Protocol, Sequence, Tuple, cast
 
 from . import VERSION
 from .faults import Fault
+from .output import need_standard_files, print_text
 from .words import shown, shown_name
-from .workplace import abandon_output, say
+from .workplace import say
 
 HELP = "print this help, or that of a command"
 # the headings of a help, each with the options that stand below it; all others stand below `options`
@@ -76,14 +76,9 @@ class Parser(argparse.ArgumentParser):
         """Tells the mistake, and where the right words are found."""
         raise Mistake(f"{message} (see `{self.prog} --help`)")
 
-    def _print_message(self, message: str, file: Optional[IO[str]] = None) -> None:
-        """Writes a help or a version."""
-        try:
-            sys.stdout.write(message)
-            sys.stdout.flush()
-        except (OSError, ValueError, AttributeError) as error:
-            abandon_output()
-            raise Fault(f"standard output can't be written: {getattr(error, 'strerror', None) or error}") from error
+    def _print_message(self, message: str, file: object = None) -> None:
+        """Writes a help or a version. Whatever goes elsewhere is a Fault."""
+        print_text(message)
 
 
 def group(parser: argparse.ArgumentParser) -> None:
@@ -148,6 +143,7 @@ def hint(words: Sequence[str]) -> str:
 def main(tool: Tool, words: Sequence[str]) -> int:
     """Runs the command that the words name. Gives the status of the process."""
     try:
+        need_standard_files()
         return run(tool, words)
     except Fault as fault:
         complain(tool, str(fault))

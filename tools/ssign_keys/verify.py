@@ -1,34 +1,40 @@
-"""Says what a signed log proves: asks ssign, answers what it asks about keys, and tells what it reports."""
+"""Says what a signed log proves: asks ssign, answers what it asks about keys, and shows what it reports."""
 from __future__ import annotations
 
 import argparse
 import os
 import subprocess
-from typing import BinaryIO, Callable, Iterator, List, NamedTuple, Optional, Type, Union
+from itertools import chain
+from typing import Callable, Iterator, List, NamedTuple, Optional, Type, Union
 
 from . import expand as expand_options
 from . import form as forms
 from . import manifested
 from . import trust as trust_options
+from .agreement import Survey, Walked
 from .answer import answers
 from .answers_out import AnswersOut
 from .blocks import Session
+from .broken_blocks import Broken, Search
 from .faults import Fault
 from .kept import Counters, copy_counters, is_standard_pipe, read_counters
 from .logs import Log, open_log
 from .machine import Machine
 from .manifested import Listed
+from .output import file_pieces, write_out
 from .person import Person
 from .programs import Refused, Run, add_limit_arguments, add_program_argument, find_program, log_words
 from .progress import Progress
 from .refusals import fault_of, warn_of_form
 from .report import Reading
+from .reviewed import Reviewed
 from .strays import Finder
 from .trust import Trust
+from .verdict import Facts
 from .vouched import Notes, noted
 from .walk import Walk
 from .words import shown_name
-from .workplace import Workplace, finish, put, say, write_out
+from .workplace import Workplace, finish, put, say
 
 
 def add_arguments(parser: argparse.ArgumentParser) -> None:
@@ -48,9 +54,12 @@ def add_arguments(parser: argparse.ArgumentParser) -> None:
                         "(default: 1)")
     manifested.add_arguments(parser)
     form = parser.add_mutually_exclusive_group()
-    form.add_argument("--raw", action="store_true", help="print the report of `ssign review` as it stands")
+    form.add_argument("--raw", action="store_true", help="print the report of `ssign review` as it stands; the status is "
+                      "that of the verdict")
     form.add_argument("--json", action="store_true", help="print a JSON object for each line of the report, and one for "
                       "the verdict")
+    parser.add_argument("--findings", action="store_true", help="leave out what is no finding; of --raw and --json, the "
+                        "lines `ok`")
     parser.add_argument("--answers-out", metavar="FILE", help="keep the answers file, for `ssign review --answers`; FILE "
                         "may not be there yet")
     add_program_argument(parser)
@@ -66,7 +75,7 @@ def positive(text: str) -> int:
 
 
 def run(arguments: argparse.Namespace) -> int:
-    """Prints the verdict, and gives the status of `ssign review`."""
+    """Prints the verdict, and gives its status: that of `ssign review`, or 1 where nothing is listed."""
     program = find_program(arguments)
     progress = Progress()
     log: Optional[Log] = None
@@ -84,26 +93,15 @@ def run(arguments: argparse.Namespace) -> int:
             if listed is not None:
                 missing = add_counters(missing, listed.look(log), program, workplace, progress)
             verifier = Verifier(program, log_words(arguments, log.are_lines), missing, log, workplace, progress)
-            notes = verifier.answer(trust, arguments.jobs)
-            status = verifier.review()
-            verifier.tell_unused(trust)
-            out = verifier.report
-            if listed is not None:
-                listed.compare(verifier.report)
-            if not arguments.raw:
-                out = workplace.new_file("out")
-                if listed is not None:
-                    listed.put(out, arguments.json)
-                verifier.tell(Machine if arguments.json else Person, out, notes, status)
-                if listed is not None:
-                    listed.close(out, arguments.json)
-            elif listed is not None:
-                listed.say()
+            verifier.answer(trust, arguments.jobs)
+            reviewed = verifier.review(listed)
+            verifier.name_unused(trust)
+            pieces = verifier.output(reviewed, arguments, listed)
             log.check_unchanged()
             answers_out.keep(verifier.answers_path)
             progress.clear()
-            write_out(out)
-            return max(status, 1) if listed is not None and listed.found else status
+            write_out(pieces)
+            return reviewed.facts.status
     except Refused as refused:
         progress.clear()
         fault = fault_of(refused, program, arguments, log)
@@ -135,31 +133,31 @@ class Verifier:
         self._workplace = workplace
         self._progress = progress
         self.answers_path = workplace.path("answers")
-        self.report = workplace.new_file("report")
+        self._report = workplace.new_file("report")
+        self._notes = workplace.new_file("notes")
+        # what was seen of the log; nothing, where ssign didn't read all of it
+        self._walked = Walked(0, 0, 0, 0)
 
-    def answer(self, trust: Trust, jobs: int) -> Notes:
-        """Has ssign ask, and keeps what holds as the answers file."""
+    def answer(self, trust: Trust, jobs: int) -> None:
+        """Has ssign ask, and keeps what holds as the answers file, and what valid blocks vouch for as notes."""
         asking = Run(self._program, ["questions", *self._words], self._workplace, self._progress, subprocess.PIPE,
                      subprocess.PIPE)
         asking.feed(self._candidates())
         try:
-            notes = self._keep(asking, trust, jobs)
+            self._keep(asking, trust, jobs)
         except Refused as refused:
             self._refuse(refused)
             raise
         self._log.check_unchanged()
-        return Notes(notes)
 
-    def _keep(self, asking: Run, trust: Trust, jobs: int) -> BinaryIO:
+    def _keep(self, asking: Run, trust: Trust, jobs: int) -> None:
         """Answers the questions of a run, and keeps the answers, and what they vouch for."""
-        notes = self._workplace.new_file("notes")
         with self._workplace.new_file("answers") as file, \
                 answers(asking.lines(lambda: None), trust, jobs) as answered:
-            for count, it in enumerate(noted(answered, notes), 1):
+            for count, it in enumerate(noted(answered, self._notes), 1):
                 put(file, it.line)
                 self._progress.show("checking signatures", count, 0, "valid blocks")
             finish(file)
-        return notes
 
     def _refuse(self, refused: Refused) -> None:
         """Has the whole log refused that was refused already by the messages that may be blocks.
@@ -174,19 +172,34 @@ class Verifier:
 
         Which of them are blocks, and what is asked, ssign says; the log is refused, where it has to be, by the review.
         """
-        walk = Walk(self._log.file, self._log.are_lines)
-        for it in walk.candidates():
+        walk, marked = Walk(self._log.file, self._log.are_lines), 0
+        for marked, it in enumerate(walk.candidates(), 1):
             yield it
             self._progress.show("looking for blocks", walk.offset, self._log.size, "octets")
+        self._walked = Walked(walk.place, walk.offset, self._log.size, marked)
 
-    def review(self) -> int:
-        """Has ssign review the log under the answers that were kept, and gives its status."""
-        return self._review([f"--answers={self.answers_path}", *self._missing.words])
+    def review(self, listed: Optional[Listed]) -> Reviewed:
+        """Has ssign review the log under the answers that were kept, and sees that all that is known of it agrees."""
+        status = self._review([f"--answers={self.answers_path}", *self._missing.words])
+        is_whole, counters = bool(self._missing.words), self._missing.counters
+        survey = Survey(self._walked, Notes(self._notes), is_whole, counters)
+        Reading(survey).read(self._report, self._progress)
+        survey.check(status)
+        facts = Facts(status, survey.totals, survey.states, survey.missing or 0, survey.reach.coverage(),
+                      self._broken_blocks(survey), 0 if listed is None else listed.count(self._report))
+        finder = Finder(self._log, self._progress)
+        return Reviewed(self._log, finder, Notes(self._notes), survey, facts, is_whole, counters)
+
+    def _broken_blocks(self, survey: Survey) -> Broken:
+        """What holds the mark of a block and is none. In most logs there is nothing more to look for."""
+        if self._walked.marked == survey.verified + survey.totals.refused + survey.totals.spoilt:
+            return Broken()
+        return Search(self._log, survey.unlisted, self._progress).run(self._program, self._words, self._workplace)
 
     def _review(self, words: List[str]) -> int:
         """Has ssign review the log, with these words besides."""
         reviewing = Run(self._program, ["review", *words, *self._words], self._workplace, self._progress,
-                        self._log.rewind(), self.report)
+                        self._log.rewind(), self._report)
         try:
             return reviewing.end(self._reading("reviewing"))
         except Refused:
@@ -194,13 +207,13 @@ class Verifier:
             self._log.check_unchanged()
             raise
 
-    def tell_unused(self, trust: Trust) -> None:
+    def name_unused(self, trust: Trust) -> None:
         """Says which --session-key names no session of the log, since a name that was mistyped restricts nothing."""
         unused = trust.patterns
         if not unused:
             return
-        self.report.seek(0)
-        for line in self.report:
+        self._report.seek(0)
+        for line in self._report:
             if line.startswith(b"session ") and not line.endswith(b" absent\n"):
                 session = Session(*line.split(b" ")[1:5])
                 unused = [it for it in unused if not it.is_for(session)]
@@ -208,16 +221,33 @@ class Verifier:
             self._progress.clear()
             say(f"ssign-keys: the log has no session '{it.pattern}', for which --session-key gives a key")
 
-    def tell(self, form: Union[Type[Machine], Type[Person]], out: BinaryIO, notes: Notes, status: int) -> None:
-        """Tells the report and the verdict in one of the two forms."""
-        finder = Finder(self._log, self._progress)
-        teller = form(out, self._log, finder, notes, bool(self._missing.words), self._missing.counters)
-        Reading(teller).read(self.report, self._progress)
-        teller.verdict(status)
+    def output(self, reviewed: Reviewed, arguments: argparse.Namespace, listed: Optional[Listed]) -> Iterator[bytes]:
+        """The pieces of what is to be printed, in the form that was asked for. All of it is made first."""
+        if arguments.raw:
+            if listed is not None:
+                listed.say()
+            pieces = file_pieces(self._report)
+            return without_listed(pieces) if arguments.findings else pieces
+        out = self._workplace.new_file("out")
+        if listed is not None:
+            listed.put(out, arguments.json)
+        make: Type[Union[Machine, Person]] = Machine if arguments.json else Person
+        form = make(out, reviewed, arguments.findings)
+        Reading(form).read(self._report, self._progress)
+        front = form.verdict()
         finish(out)
+        return chain([front], file_pieces(out))
 
     def _reading(self, phase: str) -> Callable[[], None]:
         return lambda: self._progress.show(phase, self._log.position(), self._log.size, "octets")
+
+
+def without_listed(pieces: Iterator[bytes]) -> Iterator[bytes]:
+    """The lines of a report that are no `ok` lines."""
+    rest = b""
+    for piece in pieces:
+        *lines, rest = (rest + piece).split(b"\n")
+        yield b"".join(it + b"\n" for it in lines if not it.startswith(b"ok "))
 
 
 def refuse_two_counters(paths: Optional[List[str]]) -> None:

@@ -37,7 +37,6 @@ class Workplace:
         self._children: List[subprocess.Popen[bytes]] = []
 
     def __enter__(self) -> Workplace:
-        fill_standard_files()
         owner = os.getpid()
 
         def end(number: int, frame: Optional[FrameType]) -> None:
@@ -113,47 +112,10 @@ def finish(file: BinaryIO) -> None:
         raise no_room(error) from error
 
 
-def fill_standard_files() -> None:
-    """Refuses a closed standard output, and has no other file take the place of a closed one."""
-    if sys.stdout is None:
-        raise Fault("standard output is closed")
-    while True:
-        number = os.open(os.devnull, os.O_RDWR)
-        if number > 2:
-            os.close(number)
-            return
-
-
 def say(sentence: str) -> None:
     """Writes a line to standard error. That nobody reads it is no fault of the run."""
     try:
         sys.stderr.write(sentence + "\n")
         sys.stderr.flush()
     except (OSError, ValueError, AttributeError):
-        pass
-
-
-def write_out(file: BinaryIO) -> None:
-    """Copies a finished text to standard output, from the front of the file on."""
-    file.seek(0)
-    try:
-        out = sys.stdout.buffer
-        while True:
-            piece = file.read(1 << 20)
-            if not piece:
-                break
-            out.write(piece)
-        out.flush()
-    except (OSError, ValueError, AttributeError) as error:
-        abandon_output()
-        raise Fault(f"standard output can't be written: {getattr(error, 'strerror', None) or error}") from error
-
-
-def abandon_output() -> None:
-    """Has the interpreter not try once more, at its end, to write what couldn't be written."""
-    try:
-        nothing = os.open(os.devnull, os.O_WRONLY)
-        os.dup2(nothing, 1)
-        os.close(nothing)
-    except OSError:
         pass

@@ -1,0 +1,126 @@
+"""Whether the status of `ssign review`, the lines of its report and the log agree. If they don't, there is no verdict.
+
+A report is surveyed before anything of it is shown: also one that is passed on as it stands.
+"""
+from __future__ import annotations
+
+from array import array
+from typing import NamedTuple, Optional, Sequence
+
+from .blocks import Session
+from .kept import Counters
+from .reach import Reach
+from .report import Group, Teller, wrong
+from .vouched import Notes, Vouched
+
+
+class Walked(NamedTuple):
+    """What was seen of a log without ssign."""
+
+    messages: int
+    """How many whole messages it has."""
+    end: int
+    """The octet behind the last of them."""
+    size: int
+    """How many octets it has."""
+    marked: int
+    """How many messages hold the octets `[ssign`. Each block is one of them."""
+
+
+class Survey(Teller):
+    """Counts the lines of a report, and keeps which messages are unlisted, and how far each group goes."""
+
+    def __init__(self, walked: Walked, notes: Notes, is_whole: bool, counters: Optional[Counters]) -> None:
+        """Nothing is surveyed yet."""
+        super().__init__(is_whole, counters)
+        self.unlisted = array("I")
+        self.reach = Reach(counters)
+        self._notes = notes
+        self._vouched: Optional[Vouched] = None
+        self._groups = 0
+        self._walked = walked
+        # for each place whether a line has it
+        self._seen = bytearray(walked.messages)
+
+    @property
+    def verified(self) -> int:
+        """How many blocks are verified: no line is about one of them."""
+        totals = self.totals
+        return totals.messages - totals.listed - totals.unlisted - totals.refused - totals.spoilt
+
+    @property
+    def has_findings(self) -> bool:
+        """Whether a line is a finding."""
+        totals = self.totals
+        return bool(totals.lost or totals.disputed or totals.unannounced or totals.tails or totals.unlisted
+                    or totals.refused or totals.spoilt or totals.torn is not None or self.missing
+                    or sum(self.states.values()) != self.states.get("joined", 0))
+
+    def check(self, status: int) -> None:
+        """Raises Fault where the status, the lines and the log don't agree."""
+        if status == 0 and self.has_findings:
+            raise wrong("the status is 0, and it has findings")
+        if status == 1 and not self.has_findings:
+            raise wrong("the status is 1, and it has no finding")
+        totals, walked = self.totals, self._walked
+        if totals.messages != walked.messages:
+            raise wrong(f"it counts {totals.messages} messages, and the log has {walked.messages}")
+        if totals.torn != (walked.end if walked.end < walked.size else None):
+            raise wrong("it doesn't say how the log ends")
+        named = totals.listed + totals.unlisted + totals.refused + totals.spoilt
+        if self._seen.count(1) != named:
+            raise wrong("two of its lines are about one message")
+        if totals.refused + totals.spoilt + self.verified > walked.marked:
+            raise wrong(f"it leaves out messages: only {walked.marked} can be blocks")
+        if self.verified < self.states.get("joined", 0) + self._groups:
+            raise wrong("its sessions have more blocks than it leaves room for")
+
+    def _name(self, places: Sequence[int]) -> None:
+        seen = self._seen
+        if max(places) >= len(seen):
+            raise wrong(f"it has the place {max(places)}, and the log has {len(seen)} messages")
+        for place in places:
+            seen[place] = 1
+
+    def session(self, session: Session, state: str) -> None:
+        """Looks up what its blocks vouch for."""
+        self._vouched = self._notes.of(session)
+        if state not in ("joined", "absent"):
+            self.reach.pass_over(session)
+
+    def begin_group(self, group: Group) -> None:
+        """Counts the group, which has a signature block at least."""
+        self._groups += 1
+
+    def listed(self, group: Group, numbers: Sequence[int], places: Sequence[int]) -> None:
+        """Takes places."""
+        self._name(places)
+
+    def gap(self, group: Group, number: int, why: str) -> None:
+        """Is counted already."""
+
+    def hole(self, group: Group, first: int, last: int) -> None:
+        """Is counted already."""
+
+    def end_group(self, group: Group) -> None:
+        """Keeps how far the group goes."""
+        greatest = None if self._vouched is None else self._vouched.greatest.get((group.sg, group.spri))
+        self.reach.add(group.session, group.sg, group.spri, group.last, greatest, group.fallen,
+                       group.first_fallen if group.fallen else None)
+
+    def tail(self, session: Session, sg: int, spri: int, first: int, last: int) -> None:
+        """Keeps a group of which no other line has anything, since nothing of it is announced."""
+        if first == 1:
+            self.reach.add(session, sg, spri, 0, None)
+
+    def stray(self, kind: str, place: int, cause: str) -> None:
+        """Takes a place."""
+        self._name((place,))
+        if kind == "unlisted":
+            self.unlisted.append(place)
+
+    def torn(self, offset: int) -> None:
+        """Is kept already."""
+
+    def end(self, count: int) -> None:
+        """Is kept already."""

@@ -1,0 +1,23 @@
+"""What there is to show of a review: the log, what was surveyed of its report, and what the verdict rests on."""
+from __future__ import annotations
+
+from typing import NamedTuple, Optional
+
+from .agreement import Survey
+from .kept import Counters
+from .logs import Log
+from .strays import Finder
+from .verdict import Facts
+from .vouched import Notes
+
+
+class Reviewed(NamedTuple):
+    """All that a form of the report is made of, but for the lines."""
+
+    log: Log
+    finder: Finder
+    notes: Notes
+    survey: Survey
+    facts: Facts
+    is_whole: bool
+    counters: Optional[Counters]
