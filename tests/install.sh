@@ -172,7 +172,7 @@ holds 'the ssign in PATH is not the one that it runs' test ! -e other-ran
 if [[ $has_cryptography ]]; then
     keys verify --key "$signed/public-key.pem" "$signed/signed.frames"
     expect 'ssign-keys verify' 0 'SOME TEXT' ''
-    holds 'its verdict' grep -qx 'Verdict: All 10 announced messages are there, unchanged, and nothing else is.' out
+    holds 'its verdict' grep -qx 'Verdict: All 10 announced messages are present and unchanged, and each other stored message is a verified block.' out
     mkdir keys
     keys make keys
     expect 'ssign-keys make' 0 '' ''

@@ -117,7 +117,7 @@ told() {
     holds "$1: no complaint beside" test ! -s err
 }
 reviewed
-told 'a clean log' 0 "<6>ssign-review: $signed: clean. All 10 announced messages are there, unchanged, and nothing else is."
+told 'a clean log' 0 "<6>ssign-review: $signed: clean. All 10 announced messages are present and unchanged, and each other stored message is a verified block."
 holds 'the whole verdict stands in front' grep -q '^Session: ' out
 reviewed --max-len 10
 told 'an option that has the log refused' 2 "<3>ssign-review: $signed: no verdict, status 2"
