@@ -56,8 +56,8 @@ class Survey(Teller):
                     or totals.refused or totals.spoilt or totals.torn is not None or self.missing
                     or sum(self.states.values()) != self.states.get("joined", 0))
 
-    def check(self, status: int) -> None:
-        """Raises Fault where the status, the lines and the log don't agree."""
+    def check(self, status: int, valid: int) -> None:
+        """Raises Fault where the status, the lines and the log don't agree. So many blocks have a valid signature."""
         if status == 0 and self.has_findings:
             raise wrong("the status is 0, and it has findings")
         if status == 1 and not self.has_findings:
@@ -72,6 +72,8 @@ class Survey(Teller):
             raise wrong("two of its lines are about one message")
         if totals.refused + totals.spoilt + self.verified > walked.marked:
             raise wrong(f"it leaves out messages: only {walked.marked} can be blocks")
+        if self.verified > valid:
+            raise wrong(f"it leaves room for {self.verified} verified blocks, and only {valid} signatures are valid")
         if self.verified < self.states.get("joined", 0) + self._groups:
             raise wrong("its sessions have more blocks than it leaves room for")
 

@@ -137,6 +137,8 @@ class Verifier:
         self._notes = workplace.new_file("notes")
         # what was seen of the log; nothing, where ssign didn't read all of it
         self._walked = Walked(0, 0, 0, 0)
+        # how many blocks have a valid signature
+        self._valid = 0
 
     def answer(self, trust: Trust, jobs: int) -> None:
         """Has ssign ask, and keeps what holds as the answers file, and what valid blocks vouch for as notes."""
@@ -156,6 +158,7 @@ class Verifier:
                 answers(asking.lines(lambda: None), trust, jobs) as answered:
             for count, it in enumerate(noted(answered, self._notes), 1):
                 put(file, it.line)
+                self._valid += it.line.startswith(b"yes ")
                 self._progress.show("checking signatures", count, 0, "valid blocks")
             finish(file)
 
@@ -184,7 +187,7 @@ class Verifier:
         is_whole, counters = bool(self._missing.words), self._missing.counters
         survey = Survey(self._walked, Notes(self._notes), is_whole, counters)
         Reading(survey).read(self._report, self._progress)
-        survey.check(status)
+        survey.check(status, self._valid)
         facts = Facts(status, survey.totals, survey.states, survey.missing or 0, survey.reach.coverage(),
                       self._broken_blocks(survey), 0 if listed is None else listed.count(self._report))
         finder = Finder(self._log, self._progress)

@@ -1,0 +1,147 @@
+#!/usr/bin/env bash
+# What the verdict of `ssign-keys verify` claims: logs that were really signed and then damaged so that it could claim more
+# than is known; what is shown of long lists; and likely pairs of a missing number and an unlisted message.
+# shellcheck source=tests/lib.sh
+. "$(dirname -- "$0")/lib.sh"
+need_program
+keys_program=$root/tools/ssign-keys
+if ! python3 -c 'import cryptography' 2>/dev/null; then
+    echo "$name: no cryptography for python3 here (apt-get install python3-cryptography), so nothing of ssign-keys is run"
+    holds 'ssign-keys is there' test -x "$keys_program"
+    finish
+fi
+export SSIGN=$program
+cd -- "$scratch" || exit 1
+mkdir passing made made/keys other
+export TMPDIR=$scratch/passing
+"$keys_program" make made/keys
+"$keys_program" make other
+# sign NAME OPTION..: signs the messages of standard input, one a line, into the file NAME.
+sign() {
+    "$keys_program" sign --key made/keys/private-key.pem --host gate --app signer --rsid 1 --lines "${@:2}" - >"$1"
+}
+sign made/signed --count 4 <"$root/examples/signed/ten-messages.log"
+if python3 -B "$root/tests/hostile_verdicts.py" made "$keys_program" >said 2>&1; then
+    tell 'no verdict claims more than is known' ''
+else
+    tell 'no verdict claims more than is known' "$(sed 's/^/    /' said)"
+fi
+echo "$name: $(tail -n 1 said)"
+
+# verify ARG..: runs `ssign-keys verify` as `run` does the program.
+verify() {
+    timeout "$patience" "$keys_program" verify "$@" >out 2>err
+    status=$?
+}
+# says WHAT STATUS LINE..: the last run ended so, complained of nothing, and each LINE stands in its output.
+says() {
+    local what=$1 wanted=$2 line fault=''
+    [[ $status == "$wanted" ]] || fault+="    status $status, and not $wanted"$'\n'
+    [[ ! -s err ]] || fault+="    stderr: $(head -c 300 err | cat -v)"$'\n'
+    for line in "${@:3}"; do
+        grep -Fqx -e "$line" out || fault+="    no line: $line"$'\n'
+    done
+    [[ -z $fault ]] || fault+="$(head -c 3000 out | cat -v)"
+    tell "$what" "$fault"
+}
+key=(--key made/keys/public-key.pem)
+
+# ---- what ends in a sentence of its own
+verify "${key[@]}" made/signed
+says 'nothing was done to the log' 0 'Verdict: All 10 announced messages are present and unchanged, and each other stored message is a verified block.'
+holds 'the verdict is the last line' grep -q '^Verdict: ' <(tail -n 1 out)
+holds 'a short text has it once' test "$(grep -c '^Verdict: ' out)" = 1
+seq -f '<13>1 - gate app - - - message %.0f' 11000 | sign long --count 99
+python3 -B - "$root" <<'END'
+import sys
+sys.path.insert(0, sys.argv[1] + "/tests")
+from review_runs import frame, read_frames
+stored = read_frames(open("long", "rb").read())[0]
+blocks = [it for it in stored if b"[ssign" in it]
+open("stored", "wb").write(b"".join(frame(it + b"\n" if it in blocks[-1003:] else it) for it in stored))
+# each block of 1,003 copies is broken in front of the log that is whole
+many = [blocks[-1] + b"\r"] * 1003
+open("broken", "wb").write(b"".join(map(frame, [b"<13>1 - - - - - - x"] * 12 + many)))
+END
+verify "${key[@]}" broken
+holds 'a count of four digits has a comma' grep -qF \
+    ' 1,003 messages hold "[ssign" but can'\''t be read as blocks: the first at place 12, M8 at its last octet; usually a CR or LF was added when the log was stored. ' out
+
+# ---- a wrong key over a long log: a few lines, the verdict in front of lists and behind them
+verify --key other/public-key.pem long
+holds 'a wrong key: status 1' test "$status" = 1
+holds 'a wrong key: a few lines' test "$(wc -l <out)" -le 40
+holds 'a wrong key: how many follow' grep -qFx '  and 10,990 more, at places 11 to 108, 110 to 208, 210 to 308, 310 to 408, 410 to 508, 510 to 608, 610 to 708, 710 to 808, 810 to 908, 910 to 1008 and 102 more runs up to 11112' out
+verify --key other/public-key.pem --json long
+holds 'a wrong key: the JSON has each message' test "$(grep -c '^{"line":"unlisted",' out)" = 11000
+verify --key other/public-key.pem --raw --findings long
+holds 'a wrong key: so has the report' test "$(grep -c '^unlisted ' out)" = 11000
+python3 -B - "$root" <<'END'
+import sys
+sys.path.insert(0, sys.argv[1] + "/tests")
+from review_runs import frame, read_frames
+stored = read_frames(open("long", "rb").read())[0]
+# each second message is taken out, so that as many runs of one number are missing
+messages = [it for it in stored if b"[ssign" not in it]
+gone = set(messages[1::2])
+open("halved", "wb").write(b"".join(frame(it) for it in stored if it not in gone))
+END
+verify "${key[@]}" halved
+says 'many runs of missing numbers' 1 '    missing: number 2' '    missing: number 20' \
+    '    and 5,490 more runs of missing numbers (5,490 numbers)' '    numbers 1 to 11000: 5,500 listed, 5,500 missing' \
+    'Verdict: FINDINGS: of 11,000 announced messages 5,500 are present and unchanged, 5,500 are missing.'
+holds 'many runs of missing numbers: no eleventh' test "$(grep -c '^    missing: ' out)" = 10
+
+# 30 sessions under a stranger's key, of which ten are shown, and one that is clean
+for rsid in $(seq 30); do
+    "$keys_program" sign --key other/private-key.pem --host gate --app stranger --rsid "$rsid" --lines - <<<'<13>1 - - - - - - x'
+done >strangers
+cat made/signed strangers >both
+verify "${key[@]}" both
+says 'many sessions' 1 'And 20 more sessions: untrusted; it states no key that you trust; its signatures were ignored'
+holds 'many sessions: ten of them' test "$(grep -c '^  state: untrusted; ' out)" = 10
+holds 'many sessions: a long text' test "$(wc -l <out)" -gt 40
+holds 'a long text begins with the verdict, and ends with it' cmp <(head -n 1 out) <(tail -n 1 out)
+holds 'a long text: it is the verdict' grep -q '^Verdict: FINDINGS: of 10 announced messages 10 are present and unchanged; 30 stored ' <(head -n 1 out)
+verify "${key[@]}" --findings both
+holds 'findings: the clean session is left out' test "$(grep -c ', APP-NAME signer,' out)" = 0
+holds 'findings: the others are there' test "$(grep -c ', APP-NAME stranger,' out)" = 10
+holds 'findings: no order, no counts' test "$(grep -c 'rise with their numbers\|^Stored messages' out)" = 0
+verify "${key[@]}" --findings made/signed
+says 'findings of a clean log' 0 'Verdict: All 10 announced messages are present and unchanged, and each other stored message is a verified block.' \
+    "The verdict doesn't cover anything sent after the last signature block in this log."
+holds 'findings of a clean log: nothing else' test "$(wc -l <out)" = 2
+verify "${key[@]}" --findings --json made/signed
+holds 'findings as JSON: no listed message' test "$(grep -c '"line":"ok"' out)" = 0
+holds 'findings as JSON: the verdict counts them' grep -q '"listed":10,' out
+verify "${key[@]}" --findings --raw made/signed
+holds 'findings of the report: no ok line' cmp out <(printf '%s\n' 'session gate signer - 1 joined' "end $(timeout "$patience" "$program" inspect <made/signed | tail -n 1 | cut -d ' ' -f 2)")
+
+# ---- likely pairs
+text=$(head -c 1900 /dev/zero | tr '\0' t)
+{ seq -f '<13>1 - gate app - - - message %.0f' 4 && printf '<13>1 - gate app - - - %s end\n' "$text" && seq -f '<13>1 - gate app - - - message %.0f' 6 9; } |
+    sign long-text --count 9
+LC_ALL=C sed 's/t end/t END/' long-text >stored
+verify "${key[@]}" stored
+place=$(grep -o '^  place [0-9]*' out)
+place=${place##* }
+says 'a change at the end of a long message is seen' 1 \
+    "  missing number 5 of gate signer - 1, SG 0, SPRI 0: after number 4 at place $((place - 1)), before number 6 at place $((place + 1))" \
+    "    likely place $place: <13>1 - gate app - - - $text END"
+holds 'likely is called likely' grep -q '^Likely pairs ' out
+# pairs WHAT EDIT LIKELY..: after an edit of the lines of the signed log, these numbers and places are likely pairs.
+pairs() {
+    python3 -B "$root/tests/verdicts.py" lines made/signed | sed -n -e '/\[ssign/p' -e '/\[ssign/!{' -e "$2" -e 'p' -e '}' >stored.lines
+    verify "${key[@]}" --lines stored.lines
+    holds "$1" cmp <(grep -o '^  missing number[^:]*\|^    likely place [0-9]*' out | sed 's/ of gate.*//') <(printf '%s' "${@:3}")
+}
+pairs 'one message changed' 's/name=mallory/name=gregory/' $'  missing number 6\n' $'    likely place 8\n'
+pairs 'a message changed and the next taken out' 's/name=mallory/name=gregory/;/became root/d' $'  missing numbers 6 to 7 (2 messages)\n' $'    likely place 8\n'
+pairs 'two neighbours changed' 's/name=mallory/name=gregory/;s/became root/became toor/' $'  missing number 6\n' $'    likely place 8\n' $'  missing number 7\n' $'    likely place 9\n'
+pairs 'a message taken out' '/name=mallory/d'
+pairs 'the first message changed' '/^<[0-9]*>1 2026-01-15T09:12:44/s/.$/_/' $'  missing number 1\n' $'    likely place 2\n'
+{ cat made/signed && frame '<13>1 - - - - - - behind'; } >stored
+verify "${key[@]}" stored
+holds 'an unlisted message alone is no pair' test "$(grep -c '^Likely' out)" = 0
+holds 'no passing file is left' test -z "$(ls -A -- "$TMPDIR")"
+finish
