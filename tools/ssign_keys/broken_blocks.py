@@ -1,7 +1,7 @@
 """Finds messages that hold `[ssign`, as a block does, and are no blocks: what is wrong with each, ssign says.
 
-An ordinary message of RFC 5424 may hold these octets in its text. So it is no broken block, and is counted by itself.
-What a number lists was sent so, and isn't counted at all.
+An ordinary message of RFC 5424 may hold these octets in its text. So it is no broken block, and is grouped by itself.
+What a number lists was sent so, and isn't grouped at all.
 """
 from __future__ import annotations
 
@@ -15,7 +15,7 @@ from .programs import Run
 from .progress import Progress
 from .report import number_of, wrong
 from .walk import Walk
-from .words import counted
+from .words import grouped
 from .workplace import Workplace
 
 LINE_ENDS = b"\r\n"
@@ -55,7 +55,7 @@ class Broken:
         where = "its last octet" if first.octet == first.octets - 1 else f"its octet {first.octet}"
         if first.octet >= first.octets:
             where = "its end"
-        said = counted(self.unreadable, "message holds \"[ssign\" but can't be read as a block: it stands at",
+        said = grouped(self.unreadable, "message holds \"[ssign\" but can't be read as a block: it stands at",
                        "messages hold \"[ssign\" but can't be read as blocks: the first at")
         said = f" {said} place {first.place}, {first.cause} at {where}"
         if self.ended == self.unreadable:
@@ -65,7 +65,7 @@ class Broken:
     def _ordinary_words(self) -> str:
         if not self.ordinary:
             return ""
-        said = counted(self.ordinary, "unlisted message holds \"[ssign\" elsewhere than a block does: it stands at",
+        said = grouped(self.ordinary, "unlisted message holds \"[ssign\" elsewhere than a block does: it stands at",
                        "unlisted messages hold \"[ssign\" elsewhere than a block does: the first at")
         return f" {said} place {self.first_ordinary}."
 

@@ -16,7 +16,7 @@ from .strays import most_shown
 from .summaries import FEW, Few, Runs
 from .verdict import sentence
 from .vouched import Vouched
-from .words import counted, shown, shown_name
+from .words import grouped, shown, shown_name
 from .workplace import put
 
 # a text of more lines has the verdict in front too
@@ -128,7 +128,7 @@ class Person(Teller):
         self._session_heading: List[str] = []
         self._group_heading: List[str] = []
         self._states: Dict[str, Few] = {}
-        # where the present session is counted as one that isn't shown
+        # where the present session is grouped as one that isn't shown
         self._left: Optional[Few] = None
         self._stretches = Stretches(reviewed.survey.unlisted)
         self._pairs: List[Pair] = []
@@ -190,11 +190,11 @@ class Person(Teller):
 
     def _end_session(self) -> None:
         if self._tails.left:
-            self._put(f"  and {counted(self._tails.left, 'more run')} of messages, missing or unlisted by the counters "
-                      f"({counted(self._tails.left_numbers, 'message')})")
+            self._put(f"  and {grouped(self._tails.left, 'more run')} of messages, missing or unlisted by the counters "
+                      f"({grouped(self._tails.left_numbers, 'message')})")
         if self._blocks.left:
-            self._put(f"  and {counted(self._blocks.left, 'more run')} of missing signature blocks "
-                      f"({counted(self._blocks.left_numbers, 'block')})")
+            self._put(f"  and {grouped(self._blocks.left, 'more run')} of missing signature blocks "
+                      f"({grouped(self._blocks.left_numbers, 'block')})")
         self._begin_lists()
 
     # ---- groups
@@ -233,9 +233,8 @@ class Person(Teller):
         self._show_missing(group, self._stretches.other())
         if self._holes.takes(last - first + 1):
             self._need_group()
-            self._put(f"    unannounced: {numbers_words(first, last)}; the block for it is missing or unverified" if
-                      first == last else f"    unannounced: {numbers_words(first, last)}; the blocks for them are missing or "
-                      "unverified")
+            blocks = "the block for it is" if first == last else "the blocks for them are"
+            self._put(f"    unannounced: {numbers_words(first, last)}; {blocks} missing or unverified")
 
     def _show_missing(self, group: Group, stretch: Optional[Stretch]) -> None:
         if stretch is None:
@@ -259,8 +258,8 @@ class Person(Teller):
             self._need_group()
         for few, what in ((self._missing, "missing"), (self._disputed, "disputed"), (self._holes, "unannounced")):
             if few.left:
-                self._put(f"    and {counted(few.left, 'more run')} of {what} numbers "
-                          f"({counted(few.left_numbers, 'number')})")
+                self._put(f"    and {grouped(few.left, 'more run')} of {what} numbers "
+                          f"({grouped(few.left_numbers, 'number')})")
         self._begin_lists()
         if not self._group_heading:
             self._put_counts(group)
@@ -271,7 +270,7 @@ class Person(Teller):
             (group.lost, "missing"), (group.disputed, "disputed"), (group.unannounced, "unannounced")) if count)
         self._put(f"    numbers {group.first} to {group.last}: {group.listed:,} listed{counts}")
         if group.fallen:
-            stand = counted(group.fallen, "listed message stands", "listed messages stand")
+            stand = grouped(group.fallen, "listed message stands", "listed messages stand")
             self._put(f"    order: {stand} in front of the one with the number before, first number {group.first_fallen}")
         elif group.listed > 1 and not self._only_findings:
             self._put("    order: the places of the listed messages rise with their numbers")
@@ -313,7 +312,7 @@ class Person(Teller):
     def _end_states(self) -> None:
         for state, few in self._states.items():
             if few.left:
-                self._put(f"And {counted(few.left, 'more session')}: {state}; {STATES[state]}")
+                self._put(f"And {grouped(few.left, 'more session')}: {state}; {STATES[state]}")
 
     def torn(self, offset: int) -> None:
         """Shows where the log breaks off."""
@@ -326,12 +325,12 @@ class Person(Teller):
         """Shows how many messages there are of each kind."""
         self._end_lists()
         totals = self.totals
-        kinds = [counted(totals.unlisted, "unlisted", "unlisted"), counted(totals.refused, "unverified block"),
-                 counted(totals.spoilt, "spoilt block")]
+        kinds = [grouped(totals.unlisted, "unlisted", "unlisted"), grouped(totals.refused, "unverified block"),
+                 grouped(totals.spoilt, "spoilt block")]
         others = "".join(f", {it}" for it in kinds if not it.startswith("0 "))
         if not self._only_findings:
             self._put(f"Stored messages: {count:,} ({totals.listed:,} listed, "
-                      f"{counted(self._reviewed.survey.verified, 'verified block')}{others})")
+                      f"{grouped(self._reviewed.survey.verified, 'verified block')}{others})")
 
     def _end_lists(self) -> None:
         if self._kind != "end":
@@ -353,7 +352,7 @@ class Person(Teller):
             for place in it.places:
                 self._put(f"    likely {self._where(place)}: {texts[place]}")
         if self._pair_count > len(self._pairs):
-            self._put(f"  and {counted(self._pair_count - len(self._pairs), 'more likely pair')}")
+            self._put(f"  and {grouped(self._pair_count - len(self._pairs), 'more likely pair')}")
 
     # ---- the verdict
 
@@ -375,7 +374,7 @@ class Person(Teller):
             return
         for number, it in enumerate(reach):
             if number == FEW:
-                self._put(f"  and {counted(len(reach) - FEW, 'more group')}")
+                self._put(f"  and {grouped(len(reach) - FEW, 'more group')}")
                 break
             host, app, procid, rsid = map(shown, it.session)
             further = "" if self.counters is None else f"; {counters_words(it)}"

@@ -1,6 +1,6 @@
 """The verdict on a log: a status and a few sentences, made of the counts of its report and of what ssign said.
 
-Each claim has its condition here. A verdict that isn't the best one never says more than what was counted.
+Each claim has its condition here. A verdict that isn't the best one never says more than what was grouped.
 """
 from __future__ import annotations
 
@@ -10,7 +10,7 @@ from typing import Dict, List, Optional
 from .broken_blocks import Broken
 from .reach import Coverage
 from .report import Totals
-from .words import counted
+from .words import grouped
 
 NOTHING = "Nothing in this log is shown to be authentic. Whatever was signed may have been taken out."
 
@@ -82,7 +82,7 @@ def announced(totals: Totals) -> str:
     signed = totals.listed + totals.lost + totals.disputed
     if signed == 0:
         return "no verified block announces a message"
-    said = f"of {counted(signed, 'announced message')} {are(totals.listed)} present and unchanged"
+    said = f"of {grouped(signed, 'announced message')} {are(totals.listed)} present and unchanged"
     if totals.lost:
         said += f", {are(totals.lost)} missing"
     if totals.disputed:
@@ -144,4 +144,4 @@ def are(count: int) -> str:
 
 def several(count: int, one: str, many: str) -> str:
     """A count with its words, or nothing where it is 0."""
-    return counted(count, one, many) if count else ""
+    return grouped(count, one, many) if count else ""

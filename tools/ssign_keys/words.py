@@ -19,5 +19,10 @@ def shown_name(name: str) -> str:
 
 
 def counted(count: int, one: str, many: str = "") -> str:
-    """A number with its noun: `1 message`, `2 messages`, `1,003 messages`."""
+    """A number with its noun: `1 message`, `2 messages`."""
+    return f"{count} {one}" if count == 1 else f"{count} {many or one + 's'}"
+
+
+def grouped(count: int, one: str, many: str = "") -> str:
+    """A number with its noun, and with commas where it is long: `1 message`, `1,003 messages`."""
     return f"{count} {one}" if count == 1 else f"{count:,} {many or one + 's'}"
