@@ -103,7 +103,7 @@ def check_block(trust: Trust, question: Question, payload: Optional[bytes]) -> O
         signer = trust.signer_of(payload, block, octets, signature) if signature else None
     except Fault as fault:
         raise Fault(f"line {question.line_number}: {fault}") from fault
-    return Held(block.session, Finding(signer.identity, "")) if signer else None
+    return Held(block.session, signer) if signer else None
 
 
 def check_payload(trust: Trust, question: Question, payload: Optional[bytes],
@@ -117,10 +117,9 @@ def check_payload(trust: Trust, question: Question, payload: Optional[bytes],
             raise Fault(no_question(following[0].line_number))
         session = block_of(following[0])[1].session
     try:
-        trusted, why = trust.judge(payload, session)
+        return Held(session, trust.judge(payload, session).finding)
     except Fault as fault:
         raise Fault(f"line {question.line_number}: {fault}") from fault
-    return Held(session, Finding(trusted.identity if trusted else None, why))
 
 
 def no_question(line_number: int) -> str:

@@ -9,7 +9,7 @@ from . import openpgp
 from .blocks import Block, Session, read_block
 from .faults import Fault
 from .files import read_file
-from .identity import Identity
+from .identity import UNKNOWN, Finding, Identity
 from .keys import NO_KEY, PUBLIC_KEY, Numbers, PublicKey, one_line, read_pem_keys, stated_fingerprint
 from .payloads import Payload, moment_of, read_payload, stated_numbers
 
@@ -19,6 +19,7 @@ if TYPE_CHECKING:
 
 # The module of certificates is loaded where one is looked at, since that takes half of the time of a start.
 ANY = b"*"
+UNREAD = "its payload can't be read"
 NO_STATED_KEY = "its payload states no key that is known here, and no --session-key names the session"
 # So many answers about certificates that an authority has signed are kept.
 MOST_KEPT = 10000
@@ -32,14 +33,6 @@ class Trusted(NamedTuple):
     key: PublicKey
     certificate: Optional[Certificate]
     """The certificate that says so, where one does."""
-    stamp: str = "-"
-    """The time of the payload that states the key."""
-
-    @property
-    def identity(self) -> Identity:
-        """Whose key it is, for a report."""
-        facts = self.certificate.facts if self.certificate else None
-        return Identity(self.name, self.key.fingerprint, facts, self.stamp)
 
 
 class Judged(NamedTuple):
@@ -48,6 +41,8 @@ class Judged(NamedTuple):
     trusted: Optional[Trusted]
     why: str
     """Why no key is trusted; empty where one is."""
+    finding: Finding = UNKNOWN
+    """The same for a report."""
 
 
 class SessionKey(NamedTuple):
@@ -147,6 +142,7 @@ class Trust:
         # what was asked last, since questions about one payload stand together
         self._last_payload: Optional[bytes] = None
         self._last_stated: Optional[Stated] = None
+        self._last_judged: Optional[Tuple[Stated, Optional[Session], Judged]] = None
         # what was found of certificates, each at a time
         self._kept: Dict[Tuple[bytes, datetime], Judged] = {}
 
@@ -185,19 +181,23 @@ class Trust:
         """
         stated = self._stated(payload)
         if not stated:
-            return Judged(None, "its payload can't be read")
-        judged = self._judge_stated(stated, session)
-        return Judged(judged.trusted._replace(stamp=stated.payload.stamp), "") if judged.trusted else judged
+            return Judged(None, UNREAD, Finding(None, UNREAD))
+        last = self._last_judged
+        if last is None or last[0] is not stated or last[1] != session:
+            trusted, why, _ = self._judge_stated(stated, session)
+            identity = identity_of(trusted, stated.payload.stamp) if trusted else None
+            last = self._last_judged = stated, session, Judged(trusted, why, Finding(identity, why))
+        return last[2]
 
     def is_valid(self, payload: bytes, octets: bytes, signature: bytes) -> bool:
         """Whether this is the signature of a block's octets by the key that is trusted for its session."""
         block = read_block(octets)
         return block is not None and self.signer_of(payload, block, octets, signature) is not None
 
-    def signer_of(self, payload: bytes, block: Block, octets: bytes, signature: bytes) -> Optional[Trusted]:
-        """The key that is trusted for the session of a block, where this is its signature of the octets."""
-        trusted = self.judge(payload, block.session).trusted
-        return trusted if trusted and trusted.key.is_signature(octets, block.version, signature) else None
+    def signer_of(self, payload: bytes, block: Block, octets: bytes, signature: bytes) -> Optional[Finding]:
+        """Whose key is trusted for the session of a block, where this is its signature of the octets."""
+        trusted, _, finding = self.judge(payload, block.session)
+        return finding if trusted and trusted.key.is_signature(octets, block.version, signature) else None
 
     def _judge_stated(self, stated: Stated, session: Optional[Session]) -> Judged:
         """What comes of what a payload states in a session."""
@@ -300,6 +300,12 @@ class Trust:
             return Judged(Trusted(chain.path, PublicKey(found.numbers), found), "")
         except NO_KEY as fault:
             return Judged(None, f"the key of its certificate can't be used: {one_line(fault)}")
+
+
+def identity_of(trusted: Trusted, stamp: str) -> Identity:
+    """Whose key it is that a payload with this time states."""
+    facts = trusted.certificate.facts if trusted.certificate else None
+    return Identity(trusted.name, trusted.key.fingerprint, facts, stamp)
 
 
 def unknown_key(numbers: Optional[Numbers]) -> str:
