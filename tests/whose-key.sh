@@ -110,6 +110,8 @@ holds 'the state stays' grep -q '^  state: untrusted' out
 keys verify --json --ca rsa.crt log
 holds 'as JSON' grep -Fq '"key":null,"fingerprint":null,"certificate":null,"payload_time":null,"why":"the certificate' out
 taken 'this certificate, for any session' --cert leaf-rsa.crt
+taken 'the certificate of a session, by a pipe' --session-key 'elsewhere * * *' <(cat leaf-rsa.crt)
+taken 'the key of a session, by a pipe' --session-key 'elsewhere * * *' <(cat one/public-key.pem)
 issue old /CN=gate rsa one/private-key.pem 'keyUsage = digitalSignature' 20200101000000Z 20210101000000Z
 signed old gate 2020-06-01T00:00:00Z
 not_taken 'expired now' 'the certificate expired at 2021-01-01T00:00:00Z: --at-signing-time judges that' --ca rsa.crt

@@ -177,7 +177,12 @@ class Signer(NamedTuple):
 
 def read_signers(path: str) -> List[Signer]:
     """The certificates with a DSA key in a file of --cert, at least one."""
-    signers = [Signer(it, key_of(it, path)) for it in read_certificates(path, read_file(path, "a certificate")) if it.numbers]
+    return signers_in(path, read_file(path, "a certificate"))
+
+
+def signers_in(path: str, text: bytes) -> List[Signer]:
+    """The certificates with a DSA key in the text of a file."""
+    signers = [Signer(it, key_of(it, path)) for it in read_certificates(path, text) if it.numbers]
     if not signers:
         raise Fault(f"no certificate in {path} has a DSA key, as signed syslog wants it (RFC 5848, section 4.2.8)")
     for it in signers:

@@ -89,7 +89,11 @@ def add_arguments(parser: argparse.ArgumentParser) -> None:
 
 def read_public_keys(path: str) -> List[PublicKey]:
     """The keys in a file: public keys in PEM, or OpenPGP keys."""
-    text = read_file(path, PUBLIC_KEY)
+    return public_keys_in(path, read_file(path, PUBLIC_KEY))
+
+
+def public_keys_in(path: str, text: bytes) -> List[PublicKey]:
+    """The keys in the text of a file."""
     if openpgp.is_openpgp(text):
         return openpgp.read_openpgp_keys(path, text)
     return read_pem_keys(path, text)
@@ -100,8 +104,8 @@ def read_session_keys(path: str) -> List[Trusted]:
     text = read_file(path, PUBLIC_KEY)
     if not openpgp.is_openpgp(text) and b"-----BEGIN CERTIFICATE-----" in text and b"-----BEGIN PUBLIC KEY-----" not in text:
         from . import certificates
-        return [Trusted(path, it.key, it.certificate) for it in certificates.read_signers(path)]
-    return [Trusted(path, it, None) for it in read_public_keys(path)]
+        return [Trusted(path, it.key, it.certificate) for it in certificates.signers_in(path, text)]
+    return [Trusted(path, it, None) for it in public_keys_in(path, text)]
 
 
 def read_session_key(words: str, path: str) -> SessionKey:
