@@ -4,6 +4,7 @@
 #   make install              installs below PREFIX
 #   make uninstall            takes away what `make install` put there
 #   make deb                  makes a Debian package in the folder BUILD
+#   make test                 runs the tests that need no more than the program; JOBS says how many at a time
 #   make pages                makes man/ and completions/ again, from what --help says
 #
 # DESTDIR is a scratch root in front of PREFIX. PYTHON is the interpreter for both tools; without it `env` finds one.
@@ -26,7 +27,10 @@ uninstall:
 deb:
 	@tools/deb.sh
 
+test:
+	@tests/all.sh $(if $(JOBS),-j $(JOBS))
+
 pages:
 	@tools/make-pages
 
-.PHONY: all install uninstall deb pages
+.PHONY: all install uninstall deb test pages

@@ -5,8 +5,6 @@
 # shellcheck source=tests/lib.sh
 . "$(dirname -- "$0")/lib.sh"
 need_program
-# the scripts run in the order of their names, so the one that installs the engine comes behind this one
-bash "$root/tests/install-tools.sh" >"$scratch/installed" 2>&1 || cat -- "$scratch/installed"
 export SSIGN=$program
 tool=$root/tools/archive
 archives=$root/tests/archives.py
@@ -166,12 +164,12 @@ holds 'the recipe for Slurm has at most thirty lines' test "$(wc -l <part.sbatch
 archive prepare archive --results slurm --answers answers
 SLURM_ARRAY_TASK_ID=3 bash part.sbatch
 holds 'the recipe for Slurm reviews the part of its number' test -e slurm/reports/gate-3/record
-if command -v sbatch >out; then
-    sbatch --wait --array=1-8 part.sbatch >out 2>err
+if command -v sbatch >out && timeout 20 sinfo --noheader >out 2>err </dev/null; then
+    timeout 600 sbatch --wait --array=1-8 part.sbatch >out 2>err
     archive table slurm
     says 'an array of Slurm' 0 "${rows[@]}"
 else
-    echo "$name: skipped an array of Slurm, since sbatch isn't here"
+    echo "$name: skipped an array of Slurm, since no cluster answers here (sbatch, sinfo)"
 fi
 if ! { parallel --version 2>&1 </dev/null | grep -q '^GNU parallel'; } then
     echo "$name: skipped what needs GNU parallel, which isn't here (apt-get install parallel)"

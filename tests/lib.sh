@@ -3,7 +3,9 @@
 # `finish`, whose line `NAME: N passed, M failed` is what ./check adds up.
 #
 # A test that drives the program calls `need_program` first. The program is the file that the variable SSIGN names, or
-# else the one that a build of this repository leaves.
+# else the one that a build of this repository leaves, or else the recorded one, if it is of these sources and runs here.
+# A test that needs other programs, which ./check alone makes, calls `need_made`. A test that can't be run at all calls
+# `leave_out`.
 set -u
 
 root=$(CDPATH='' cd -- "$(dirname -- "${BASH_SOURCE[0]}")/.." && pwd) || exit 1
@@ -19,11 +21,50 @@ patience=60
 scratch=$(mktemp -d) || exit 1
 trap 'rm -rf -- "$scratch"' EXIT
 
-need_program() {
+# find_program: has `program` name a program that is there, or says why there is none.
+find_program() {
+    local recorded=$root/release/ssign-x86_64-linux sources why
     [[ -f $program && -x $program ]] && return
-    echo "$name: there is no program $program; ./ssign builds it"
+    if [[ ${SSIGN-} ]]; then
+        echo "$name: there is no program $program; ./ssign builds it"
+        return 1
+    fi
+    sources=$("$root/release/sources.sh")
+    if [[ ! $sources || $sources != "$(sed -n 's/^sources //p' "$recorded.txt" 2>"$scratch/fault")" ]]; then
+        why="isn't of these sources"
+    elif ! "$recorded" --version </dev/null >"$scratch/fault" 2>&1; then
+        why="doesn't run here"
+    else
+        program=$recorded
+        return
+    fi
+    echo "$name: there is no program $program, and the recorded one $why; ./ssign --build builds one"
+    return 1
+}
+
+need_program() {
+    find_program && return
     failed=1
     finish
+}
+
+# leave_out WHY: ends a test that can't be run here, with the status 77. tests/all.sh repeats the line.
+leave_out() {
+    echo "$name: left out: $1"
+    exit 77
+}
+
+# need_made FILE..: leaves the test out if one of these programs isn't there. ./check has made them all and says so by the
+# variable SSIGN_GATE, so there a test that lacks one has failed.
+need_made() {
+    local file
+    for file in "$@"; do
+        [[ -f $file && -x $file ]] && continue
+        [[ ${SSIGN_GATE-} ]] || leave_out "${file#"$root/"} isn't here, which ./check makes"
+        echo "$name: there is no program $file; ./check leaves it behind"
+        failed=1
+        finish
+    done
 }
 
 # run ARG..: runs the program on this function's standard input, and keeps what it wrote and how it ended.

@@ -5,6 +5,12 @@
 # shellcheck source=tests/lib.sh
 . "$(dirname -- "$0")/lib.sh"
 
+rows=${ROWS_TESTS:-$root/crates/test_rows/out/test_rows_tests}
+origins=${ORIGINS_TESTS:-$root/crates/test_origins/out/test_origins_tests}
+runs=${RUNS_TESTS:-$root/crates/test_runs/out/test_runs_tests}
+signings=${SIGNINGS_TESTS:-$root/crates/test_signings/out/test_signings_tests}
+need_made "$rows" "$origins" "$runs" "$signings"
+
 # play NUMBER PROGRAM TEST: runs a test of a program with the allocation of this number refused; 0 refuses none.
 play() {
     REFUSED=$1 LD_PRELOAD=$scratch/refuse.so "$2" "$3"
@@ -18,10 +24,6 @@ fails() {
 # call again.
 plays() {
     local program=$1 again=$2 other=$3 count number
-    if [[ ! -x $program ]]; then
-        tell "$again" "    there is no program $program; ./check leaves it behind"
-        return
-    fi
     holds "$again passes with memory" "$program" "$again"
     [[ -f $scratch/refuse.so ]] || return
     count=$(play 0 "$program" "$again" 2>&1 | sed -n 's/^allocations //p')
@@ -37,18 +39,14 @@ if command -v cc >/dev/null; then
 else
     echo "$name: no cc here, so no allocation is refused"
 fi
-rows=${ROWS_TESTS:-$root/crates/test_rows/out/test_rows_tests}
 plays "$rows" frames::failing::goes_on_after_want_of_memory frames::streams::streams
 plays "$rows" blocks::joining::sequences blocks::joining::longest
 plays "$rows" memory::gives_the_answer_after_want_of_memory blocks::writing::written
-plays "${ORIGINS_TESTS:-$root/crates/test_origins/out/test_origins_tests}" \
-    scripts::goes_on_after_want_of_memory scripts::scripts
-runs=${RUNS_TESTS:-$root/crates/test_runs/out/test_runs_tests}
+plays "$origins" scripts::goes_on_after_want_of_memory scripts::scripts
 plays "$runs" memory::goes_on_after_want_of_memory asking::asking
 plays "$runs" memory::wants_memory_or_gives_the_output keeping::keeping
 plays "$runs" stops::wants_memory_or_gives_the_output rows::rows
 plays "$runs" inspections::wants_memory_or_says_what_there_is ends::ends
-signings=${SIGNINGS_TESTS:-$root/crates/test_signings/out/test_signings_tests}
 plays "$signings" stops::wants_memory_or_gives_the_output rows::makes
 plays "$signings" answers::goes_on_after_want_of_memory answers::refuses
 

@@ -5,4 +5,4 @@
 . "$(dirname -- "$0")/lib.sh"
 need_program
 
-exec python3 -B "$root/tests/nights.py" "$program" "$@"
+python3 -B "$root/tests/nights.py" "$program" "$@"

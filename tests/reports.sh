@@ -3,4 +3,4 @@
 # shellcheck source=tests/lib.sh
 . "$(dirname -- "$0")/lib.sh"
 need_program
-exec python3 -B "$root/tests/reports.py" "$program"
+python3 -B "$root/tests/reports.py" "$program"

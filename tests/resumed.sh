@@ -4,4 +4,4 @@
 . "$(dirname -- "$0")/lib.sh"
 need_program
 
-exec python3 -B "$root/tests/resumed.py" "$program"
+python3 -B "$root/tests/resumed.py" "$program"

@@ -6,13 +6,10 @@ programs=()
 for it in tool_timing tool_originated tool_reviewed; do
     made=$root/crates/$it/out/$it
     [[ -z ${TOOLS:-} ]] || made=$TOOLS/$it/out/$it
-    if [[ ! -x $made ]]; then
-        echo "$name: there is no program $made; ./check leaves it behind"
-        failed=1
-        finish
-    fi
+    need_made "$made"
     programs+=("$made")
 done
+need_program
 if ! command -v cc >/dev/null; then
     echo "$name: no cc here, so no memory is counted"
     tell 'the programs are there' ''

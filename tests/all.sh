@@ -1,0 +1,87 @@
+#!/usr/bin/env bash
+# Runs the tests that need no more than the program, several at a time: what `make test` does.
+#
+#     tests/all.sh [-j N] [NAME..]    N at a time (without it one for each processor); those of these names, or all
+#
+# The program is that of tests/lib.sh: SSIGN, or the one that was built here, or the recorded one. Each line says how a
+# script ended; of one that failed all that it said stands before. Then follows what was left out, and why. The last line
+# is `N passed, M failed`, and the status is 0 only where M is 0.
+# shellcheck source=tests/lib.sh
+. "$(dirname -- "$0")/lib.sh"
+cd -- "$root" || exit 1
+# a script that takes longer hangs, even beside much other work
+longest=1800
+# the scripts that take longest begin first, so that none of them is alone at the end
+first=(verify archive ssign keys cost refusals mistakes install nights completions)
+
+usage() {
+    echo 'usage: tests/all.sh [-j N] [NAME..]' >&2
+    exit 2
+}
+
+jobs=$(nproc 2>/dev/null) || jobs=1
+if [[ ${1-} == -j ]]; then
+    jobs=${2-}
+    shift 2 || usage
+elif [[ ${1-} == -j* ]]; then
+    jobs=${1#-j}
+    shift
+fi
+[[ $jobs =~ ^[1-9][0-9]{0,2}$ ]] || usage
+names=("$@")
+for it in "${names[@]}"; do
+    [[ $it =~ ^[a-z_-]+$ && -f tests/$it.sh ]] || usage
+done
+if ! find_program; then
+    echo '0 passed, 1 failed'
+    exit 1
+fi
+echo "all: the program is ${program#"$root/"}"
+unset SSIGN_GATE
+export SSIGN=$program scratch longest
+if [[ ${#names[@]} == 0 ]]; then
+    for it in "${first[@]}" $(cd tests && printf '%s\n' *.sh); do
+        it=${it%.sh}
+        case " lib all install-tools ${names[*]} " in *" $it "*) ;; *) [[ ! -f tests/$it.sh ]] || names+=("$it") ;; esac
+    done
+fi
+
+# run_one NAME: runs a script, keeps what it said and how it ended, and says so.
+run_one() {
+    local said=$scratch/$1.said status counts TIMEFORMAT='%0R s, %0U + %0S of a processor'
+    { time timeout -k 10 "$longest" bash "tests/$1.sh" >"$said" 2>&1 </dev/null; } 2>"$scratch/$1.time"
+    status=$?
+    counts=$(tail -n 1 -- "$said" | grep -Eo '[0-9]+ passed, [0-9]+ failed$')
+    if [[ $status == 77 ]]; then
+        echo "0 0" >"$scratch/$1.counts"
+        return
+    fi
+    if [[ ! $counts ]]; then
+        counts="0 passed, 1 failed"
+        echo "$1: it ended with status $status, and without its counts" >>"$said"
+    elif [[ $status != 0 && $counts == *' 0 failed' ]]; then
+        counts=${counts% 0 failed}" 1 failed"
+        echo "$1: it ended with status $status" >>"$said"
+    fi
+    [[ $counts == *' 0 failed' ]] || cat -- "$said"
+    echo "$1: $counts ($(<"$scratch/$1.time"))"
+    sed 's/ passed, / /; s/ failed//' <<<"$counts" >"$scratch/$1.counts"
+}
+export -f run_one
+# shellcheck disable=SC2016
+printf '%s\0' "${names[@]}" | xargs -0 -r -n 1 -P "$jobs" bash -c 'run_one "$1"' run_one
+
+# what scripts say of tools that aren't here
+for it in "${names[@]}"; do
+    sed -nE "s/^$it: /    &/; / passed, |: FAILED\$/d; /: (left out|skipped|no |there is no |warning: )/p" -- "$scratch/$it.said"
+done >"$scratch/left-out"
+if [[ -s $scratch/left-out ]]; then
+    echo 'all: left out:'
+    sort -u -- "$scratch/left-out"
+fi
+for it in "${names[@]}"; do
+    read -r one other <"$scratch/$it.counts" 2>"$scratch/fault" || { one=0 other=1; echo "$it: it never ended"; }
+    passed=$((passed + one)) failed=$((failed + other))
+done
+printf '%d passed, %d failed\n' "$passed" "$failed"
+[[ $failed == 0 && $passed != 0 ]]
