@@ -167,7 +167,8 @@ def main(tools: str, pem: str, folder: str) -> None:
         if has_gpg and all(it.bit_length() < 1 << 16 for it in weak.key):
             try_openpgp(weak, folder)
     taken = sum(map(library_takes, keys))
-    tell("forged signatures that the library takes", taken >= 8, f"{taken}: the attacks show too little")
+    # a y of 1 or p - 1 and a g of p - 1 are always among them; how many small orders there are is by chance
+    tell("forged signatures that the library takes", taken >= 3, f"{taken}: the attacks show too little")
     print(f"weak keys: {len(keys)}; forged signatures that the library alone takes: {taken}"
           + ("" if has_gpg else "; no gpg here, so none is given as an OpenPGP key"))
     print("cases: " + ", ".join(f"{way} {count}" for way, count in counts.items()))
