@@ -346,7 +346,7 @@ refuses 'a file that is too long for keys' 'zeros is no file of keys: it has mor
 
 # ---- What standard input and output can't do
 keys answer one/public-key.pem <&-
-expect 'no standard input' 2 '' "ssign-keys: standard input can't be read: Bad file descriptor"
+expect 'no standard input' 2 '' "ssign-keys: standard input is closed"
 if [[ -c /dev/full ]]; then
     "$python" "$root/tools/ssign-keys" seal one/private-key.pem <wants >/dev/full 2>err
     status=$?
