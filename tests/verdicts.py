@@ -150,9 +150,9 @@ def check_key(session: Dict[str, object], is_known: bool) -> None:
     """Takes out of a session what it says of its key, which is that of the test where it is known."""
     with open("keys/public-key.pem", "rb") as file:
         der = base64.b64decode(b"".join(file.read().split(b"\n")[1:-2]))
-    key, fingerprint, certificate, payload_time, why = (
-        session.pop(it) for it in ("key", "fingerprint", "certificate", "payload_time", "why"))
-    assert certificate is None, certificate
+    key, fingerprint, certificate, payload_time, why, weakness = (
+        session.pop(it) for it in ("key", "fingerprint", "certificate", "payload_time", "why", "weakness"))
+    assert certificate is None and weakness is None, (certificate, weakness)
     if is_known:
         assert (key, fingerprint, why) == ("keys/public-key.pem", hashlib.sha256(der).hexdigest(), None), session
         assert re.fullmatch(r"[0-9]{4}-[0-9]{2}-[0-9]{2}T[0-9:]{8}Z|-", str(payload_time)), payload_time

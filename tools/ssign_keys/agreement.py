@@ -7,6 +7,7 @@ from __future__ import annotations
 from array import array
 from typing import NamedTuple, Optional, Sequence
 
+from . import sha1
 from .blocks import Session
 from .kept import Counters
 from .reach import Reach
@@ -38,6 +39,8 @@ class Survey(Teller):
         self._notes = notes
         self._vouched: Optional[Vouched] = None
         self._groups = 0
+        # how many sessions rest on SHA-1
+        self.on_sha1 = 0
         self._walked = walked
         # for each place whether a line has it
         self._seen = bytearray(walked.messages)
@@ -87,6 +90,7 @@ class Survey(Teller):
     def session(self, session: Session, state: str) -> None:
         """Looks up what its blocks vouch for."""
         self._vouched = self._notes.of(session)
+        self.on_sha1 += sha1.weakness(self._vouched, state) is not None
         if state not in ("joined", "absent"):
             self.reach.pass_over(session)
 

@@ -4,6 +4,7 @@ from __future__ import annotations
 import json
 from typing import BinaryIO, Dict, Optional, Sequence, Union
 
+from . import sha1
 from .blocks import Session
 from .broken_blocks import Broken
 from .identity import UNKNOWN, identity_fields
@@ -45,6 +46,7 @@ class Machine(Teller):
         finding = vouched.finding if vouched else UNKNOWN
         fields: Dict[str, object] = {"line": "session", **names_of(session), "state": state}
         fields.update(identity_fields(finding))
+        fields["weakness"] = sha1.weakness(vouched, state)
         self._put(fields)
 
     def begin_group(self, group: Group) -> None:

@@ -6,6 +6,7 @@ from __future__ import annotations
 
 from typing import BinaryIO, Dict, List, NamedTuple, Optional, Sequence
 
+from . import sha1
 from .blocks import Session
 from .identity import identity_lines
 from .pairs import Neighbour, Stretch, Stretches
@@ -154,9 +155,12 @@ class Person(Teller):
         self._session_heading = [f"Session: {session_words(session)}", f"  state: {state}; {STATES[state]}"]
         if self._vouched is not None:
             self._session_heading += [f"  {it}" for it in identity_lines(self._vouched.finding)]
+        weakness = sha1.weakness(self._vouched, state)
+        if weakness is not None:
+            self._session_heading.append(f"  {weakness}")
         self._left = None
         if state == "joined":
-            is_shown = not self._only_findings
+            is_shown = not self._only_findings or weakness is not None
         else:
             states = self._states.setdefault(state, Few())
             is_shown = states.takes()

@@ -7,6 +7,7 @@ from __future__ import annotations
 from dataclasses import dataclass
 from typing import Dict, List, Optional
 
+from . import sha1
 from .broken_blocks import Broken
 from .reach import Coverage
 from .report import Totals
@@ -32,16 +33,23 @@ class Facts:
     """Messages that hold the mark of a block and are none."""
     manifest_findings: int = 0
     """In how much the logs differ from a manifest."""
+    on_sha1: int = 0
+    """How many sessions rest on SHA-1."""
+    is_sha1_allowed: bool = False
 
     @property
     def status(self) -> int:
         """The status of the verdict: never lower than that of the review, and 0 only where something is authentic."""
-        return self.review_status if self.totals.listed and not self.manifest_findings else max(self.review_status, 1)
+        is_shown = self.totals.listed and not self.manifest_findings and (self.is_sha1_allowed or not self.on_sha1)
+        return self.review_status if is_shown else max(self.review_status, 1)
 
 
 def sentence(facts: Facts) -> str:
     """What the report comes to, in sentences of one line."""
-    said = clean(facts.totals) if facts.status == 0 else findings(facts)
+    if facts.status == 0:
+        said = clean(facts.totals) + (f" But {sha1.finding(facts.on_sha1)}." if facts.on_sha1 else "")
+    else:
+        said = findings(facts)
     said += order(facts.totals) + facts.broken.sentences()
     if not facts.totals.listed:
         said += f" {NOTHING}"
@@ -104,6 +112,7 @@ def other_findings(facts: Facts) -> List[str]:
         several(totals.spoilt, "message is a spoilt block", "messages are spoilt blocks"),
         several(unjoined, "session isn't joined", "sessions aren't joined"),
         several(absent, "session that the counters name isn't here", "sessions that the counters name aren't here"),
+        sha1.finding(facts.on_sha1),
         several(facts.manifest_findings, "difference from the manifest", "differences from the manifest"),
         "the log breaks off" if totals.torn is not None and totals.messages else "",
     ]

@@ -10,6 +10,7 @@ from typing import Callable, Iterator, List, NamedTuple, Optional, Type, Union
 from . import expand as expand_options
 from . import form as forms
 from . import manifested
+from . import sha1
 from . import trust as trust_options
 from .agreement import Survey, Walked
 from .answer import answers
@@ -42,6 +43,7 @@ def add_arguments(parser: argparse.ArgumentParser) -> None:
     parser.add_argument("--key", dest="keys", action="append", default=[], metavar="PUBLIC.pem",
                         help="an originator's public key, which you got by another way than with the log")
     trust_options.add_arguments(parser)
+    sha1.add_arguments(parser)
     forms.add_arguments(parser)
     add_limit_arguments(parser)
     expand_options.add_arguments(parser)
@@ -94,7 +96,7 @@ def run(arguments: argparse.Namespace) -> int:
                 missing = add_counters(missing, listed.look(log), program, workplace, progress)
             verifier = Verifier(program, log_words(arguments, log.are_lines), missing, log, workplace, progress)
             verifier.answer(trust, arguments.jobs)
-            reviewed = verifier.review(listed)
+            reviewed = verifier.review(listed, arguments.allow_sha1)
             verifier.name_unused(trust)
             pieces = verifier.output(reviewed, arguments, listed)
             log.check_unchanged()
@@ -181,7 +183,7 @@ class Verifier:
             self._progress.show("looking for blocks", walk.offset, self._log.size, "octets")
         self._walked = Walked(walk.place, walk.offset, self._log.size, marked)
 
-    def review(self, listed: Optional[Listed]) -> Reviewed:
+    def review(self, listed: Optional[Listed], is_sha1_allowed: bool) -> Reviewed:
         """Has ssign review the log under the answers that were kept, and sees that all that is known of it agrees."""
         status = self._review([f"--answers={self.answers_path}", *self._missing.words])
         is_whole, counters = bool(self._missing.words), self._missing.counters
@@ -189,7 +191,7 @@ class Verifier:
         Reading(survey).read(self._report, self._progress)
         survey.check(status, self._valid)
         facts = Facts(status, survey.totals, survey.states, survey.missing or 0, survey.reach.coverage(),
-                      self._broken_blocks(survey), 0 if listed is None else listed.count(self._report))
+                      self._broken_blocks(survey), 0 if listed is None else listed.count(self._report), survey.on_sha1, is_sha1_allowed)
         finder = Finder(self._log, self._progress)
         return Reviewed(self._log, finder, Notes(self._notes), survey, facts, is_whole, counters)
 
@@ -229,6 +231,8 @@ class Verifier:
         if arguments.raw:
             if listed is not None:
                 listed.say()
+            if reviewed.facts.on_sha1 and not arguments.allow_sha1 and reviewed.facts.review_status == 0:
+                sha1.say_finding(reviewed.facts.on_sha1)
             pieces = file_pieces(self._report)
             return without_listed(pieces) if arguments.findings else pieces
         out = self._workplace.new_file("out")

@@ -9,7 +9,7 @@ import base64
 import json
 import re
 from dataclasses import dataclass, field
-from typing import BinaryIO, Dict, Iterable, Iterator, List, Optional, Tuple
+from typing import BinaryIO, Dict, Iterable, Iterator, List, Optional, Set, Tuple
 
 from .answer import Answered
 from .blocks import FIRST_ELEMENT, HEADER, LATER_ELEMENT, LONGEST_HEADER, Session
@@ -24,23 +24,26 @@ GroupName = Tuple[int, int]
 
 @dataclass
 class Vouched:
-    """Of one session: whose its key is, or why none is trusted, and the greatest GBC of each group."""
+    """Of one session: whose its key is, or why none is trusted, and what its signature blocks say that are validly signed."""
 
     finding: Finding
     greatest: Dict[GroupName, int] = field(default_factory=dict)
+    """The greatest GBC of each group."""
+    versions: Set[str] = field(default_factory=set)
+    """Each VER."""
 
 
-def counters_of(octets: bytes) -> Optional[Tuple[GroupName, int]]:
-    """The group and the GBC of a signature block, from the octets that its signature covers."""
+def counters_of(octets: bytes) -> Optional[Tuple[str, GroupName, int]]:
+    """VER, the group and the GBC of a signature block, from the octets that its signature covers."""
     header = HEADER.match(octets[:LONGEST_HEADER])
     if header is None:
         return None
     behind = header.end()
     element = FIRST_ELEMENT.match(octets, behind) or LATER_ELEMENT.search(octets, behind)
     counters = element and COUNTERS.match(octets, element.end())
-    if not counters:
+    if not element or not counters:
         return None
-    return (int(counters[1]), int(counters[2])), int(counters[3])
+    return element[1].decode("ascii"), (int(counters[1]), int(counters[2])), int(counters[3])
 
 
 def noted(answered: Iterable[Answered], notes: BinaryIO) -> Iterator[Answered]:
@@ -58,7 +61,8 @@ def noted(answered: Iterable[Answered], notes: BinaryIO) -> Iterator[Answered]:
         if it.line:
             counters = counters_of(base64.b64decode(it.line.split(b" ", 3)[2]))
             if counters is not None:
-                group, gbc = counters
+                version, group, gbc = counters
+                vouched.versions.add(version)
                 vouched.greatest[group] = max(gbc, vouched.greatest.get(group, 0))
         yield it
     if session is not None:
@@ -69,7 +73,7 @@ def put_note(notes: BinaryIO, session: Session, vouched: Vouched) -> None:
     """Keeps a line of JSON."""
     groups = [[*group, gbc] for group, gbc in vouched.greatest.items()]
     names = [it.decode("latin-1") for it in session]
-    put(notes, json.dumps([names, note_of(vouched.finding), groups]).encode("ascii") + b"\n")
+    put(notes, json.dumps([names, note_of(vouched.finding), groups, sorted(vouched.versions)]).encode("ascii") + b"\n")
 
 
 class Notes:
@@ -92,7 +96,8 @@ class Notes:
         line = self._notes.readline()
         if not line:
             return None
-        names, note, groups = json.loads(line)
+        names, note, groups, versions = json.loads(line)
         host, app, procid, rsid = (str(it).encode("latin-1") for it in names)
         rows: List[List[int]] = groups
-        return Session(host, app, procid, rsid), Vouched(finding_of(note), {(sg, spri): gbc for sg, spri, gbc in rows})
+        return Session(host, app, procid, rsid), Vouched(finding_of(note), {(sg, spri): gbc for sg, spri, gbc in rows},
+                                                   set(versions))
