@@ -6,6 +6,7 @@ and again, since what is wanted of it is that each rule can be read.
 """
 import base64
 import binascii
+import functools
 import hashlib
 import re
 
@@ -89,8 +90,9 @@ def causes(kinds):
         yield 9
 
 
-def reading(place, text):
-    """None for a message without a block element, the number of the cause for a spoilt one, else its block."""
+def parsed(text):
+    """None for a message without a block element, the number of the cause for a spoilt one, else its fields, the name of
+    its element and the parameters of that."""
     try:
         _, fields, elements = read(text)
     except NoMessage:
@@ -100,7 +102,18 @@ def reading(place, text):
         return None
     for cause in causes(kinds):
         return cause
-    return Block(place, text, fields[:3], *kinds[0])
+    return (fields[:3], *kinds[0])
+
+
+# the same short messages stand in many logs
+parsed_again = functools.lru_cache(maxsize=1 << 14)(parsed)
+SHORT = 2048
+
+
+def reading(place, text):
+    """None for a message without a block element, the number of the cause for a spoilt one, else its block."""
+    found = parsed_again(text) if len(text) <= SHORT else parsed(text)
+    return Block(place, text, *found) if isinstance(found, tuple) else found
 
 
 def is_payload(text):
