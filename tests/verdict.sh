@@ -71,7 +71,13 @@ holds 'a count of four digits has a comma' grep -qF \
 verify --key other/public-key.pem long
 holds 'a wrong key: status 1' test "$status" = 1
 holds 'a wrong key: a few lines' test "$(wc -l <out)" -le 40
-holds 'a wrong key: how many follow' grep -qFx '  and 10,990 more, at places 11 to 108, 110 to 208, 210 to 308, 310 to 408, 410 to 508, 510 to 608, 610 to 708, 710 to 808, 810 to 908, 910 to 1008 and 102 more runs up to 11112' out
+# so many certificate blocks stand in front, then 99 messages and a block in turn; ten messages are shown
+front=$("$program" inspect <long | grep -c '^certificate ')
+runs="$((front + 10)) to $((front + 98))"
+for run in 1 2 3 4 5 6 7 8 9; do
+    runs+=", $((front + 100 * run)) to $((front + 100 * run + 98))"
+done
+holds 'a wrong key: how many follow' grep -qFx "  and 10,990 more, at places $runs and 102 more runs up to $((front + 11110))" out
 verify --key other/public-key.pem --json long
 holds 'a wrong key: the JSON has each message' test "$(grep -c '^{"line":"unlisted",' out)" = 11000
 verify --key other/public-key.pem --raw --findings long
@@ -129,17 +135,20 @@ says 'a change at the end of a long message is seen' 1 \
     "  missing number 5 of gate signer - 1, SG 0, SPRI 0: after number 4 at place $((place - 1)), before number 6 at place $((place + 1))" \
     "    likely place $place: <13>1 - gate app - - - $text END"
 holds 'likely is called likely' grep -q '^Likely pairs ' out
+# the place of number 1, and those of 6 and 7, in front of which a signature block stands
+one=$("$program" inspect <made/signed | grep -c '^certificate ')
+six=$((one + 6)) seven=$((one + 7))
 # pairs WHAT EDIT LIKELY..: after an edit of the lines of the signed log, these numbers and places are likely pairs.
 pairs() {
     python3 -B "$root/tests/verdicts.py" lines made/signed | sed -n -e '/\[ssign/p' -e '/\[ssign/!{' -e "$2" -e 'p' -e '}' >stored.lines
     verify "${key[@]}" --lines stored.lines
     holds "$1" cmp <(grep -o '^  missing number[^:]*\|^    likely place [0-9]*' out | sed 's/ of gate.*//') <(printf '%s' "${@:3}")
 }
-pairs 'one message changed' 's/name=mallory/name=gregory/' $'  missing number 6\n' $'    likely place 8\n'
-pairs 'a message changed and the next taken out' 's/name=mallory/name=gregory/;/became root/d' $'  missing numbers 6 to 7 (2 messages)\n' $'    likely place 8\n'
-pairs 'two neighbours changed' 's/name=mallory/name=gregory/;s/became root/became toor/' $'  missing number 6\n' $'    likely place 8\n' $'  missing number 7\n' $'    likely place 9\n'
+pairs 'one message changed' 's/name=mallory/name=gregory/' $'  missing number 6\n' "    likely place $six"$'\n'
+pairs 'a message changed and the next taken out' 's/name=mallory/name=gregory/;/became root/d' $'  missing numbers 6 to 7 (2 messages)\n' "    likely place $six"$'\n'
+pairs 'two neighbours changed' 's/name=mallory/name=gregory/;s/became root/became toor/' $'  missing number 6\n' "    likely place $six"$'\n' $'  missing number 7\n' "    likely place $seven"$'\n'
 pairs 'a message taken out' '/name=mallory/d'
-pairs 'the first message changed' '/^<[0-9]*>1 2026-01-15T09:12:44/s/.$/_/' $'  missing number 1\n' $'    likely place 2\n'
+pairs 'the first message changed' '/^<[0-9]*>1 2026-01-15T09:12:44/s/.$/_/' $'  missing number 1\n' "    likely place $one"$'\n'
 { cat made/signed && frame '<13>1 - - - - - - behind'; } >stored
 verify "${key[@]}" stored
 holds 'an unlisted message alone is no pair' test "$(grep -c '^Likely' out)" = 0
