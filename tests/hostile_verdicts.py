@@ -123,7 +123,9 @@ UNREADABLE = {
     "a length in front": front(b"300 "),
     "a space too many": inside(b" [ssign", b"  [ssign", "M8", 1),
     "a tab before the element": inside(b" - [ssign", b" -\t[ssign", "M7", 1),
-    "a space in the element's front": inside(b"[ssign", b"[ssign ", "M8", 0),
+    # then `-cert` is no name of a parameter with its value, and a space alone is a name of no octet
+    "a space in the element's front": (lambda it: it.replace(b"[ssign", b"[ssign ", 1),
+                                       lambda it: Fault("M8" if b"-cert" in it else "M9", 0), False),
     "another version of syslog": inside(b">1 ", b">2 ", "M2", 1),
     "no version": inside(b">1 ", b"> ", "M2", 1),
     "a PRI of 192": inside(b"<110>", b"<192>", "M1", 0),
