@@ -108,7 +108,7 @@ wrong 'a log twice' 'the entry 2 of the manifest manifest has this log already' 
 wrong 'a session twice' 'the entry 2 of the manifest manifest has this session already' elsewhere.frames --counters counters-2
 wrong 'another last entry' "the manifest manifest ends with the entry $third, and not with the one that --last names: its end was cut, or entries were added" nights/night-4.frames --counters counters-4 --last "$second"
 wrong 'a last entry that is none' '--last 3: this is no number of an entry, a colon and 64 digits of a SHA-256, as `ssign-keys manifest add` prints them' nights/night-4.frames --counters counters-4 --last 3
-wrong 'a time that is none' '--signed 2026-02-30T00:00:00Z: this is no time in UTC as Y-m-dTH:M:SZ' nights/night-4.frames --counters counters-4 --signed 2026-02-30T00:00:00Z
+wrong 'a time that is none' '--signed 2026-02-30T00:00:00Z: this is no time in UTC as 2026-11-27T04:00:00Z' nights/night-4.frames --counters counters-4 --signed 2026-02-30T00:00:00Z
 wrong 'set aside: no frames' "messages isn't a file of whole frames: nothing is one at its octet 0" nights/night-4.frames --counters counters-4 --set-aside messages
 wrong 'an option of check' "--json doesn't go with \`manifest add\`" nights/night-4.frames --counters counters-4 --json
 rm $'nights/\xff'

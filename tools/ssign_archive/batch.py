@@ -8,7 +8,7 @@ from ssign_keys.faults import Fault
 from ssign_keys.words import shown_name
 from ssign_keys.workplace import Workplace, say
 
-from .part import review_part
+from .part import review_part, trust_of
 from .results import Results
 from .settings import Settings, number
 from .tree import files_of
@@ -23,7 +23,8 @@ ROUNDS = 4
 def add_arguments(parser: argparse.ArgumentParser) -> None:
     """Says which words the command takes."""
     parser.add_argument("results", metavar="DIR", help="the folder that `prepare` made")
-    parser.add_argument("batch", metavar="N", type=number(1, 9999999999), help="the batch: the line of the file `batches` in "
+    parser.add_argument("batch", metavar="N", type=number(1, 9999999999), help="the batch: the line of the file "
+                        "`batches` in "
                         "that folder, from 1")
 
 
@@ -33,6 +34,7 @@ def run(arguments: argparse.Namespace) -> int:
     settings, parts, batches = results.settings(), results.parts(), results.batches()
     if arguments.batch > len(batches):
         raise Fault(f"there is no batch {arguments.batch}: {shown_name(results.path)} has {len(batches)}")
+    trust = trust_of(settings)
     status = 0
     with Workplace() as workplace:
         for it in batches[arguments.batch - 1]:
@@ -43,7 +45,7 @@ def run(arguments: argparse.Namespace) -> int:
             if results.kept(part, settings).counts:
                 continue
             try:
-                review_part(results, settings, part, workplace)
+                review_part(results, settings, trust, part, workplace)
             except (Fault, OSError) as fault:
                 say(f"ssign-archive: {shown_name(part)}: {fault}")
                 status = 2

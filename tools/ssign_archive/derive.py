@@ -50,9 +50,12 @@ class Derived:
     reported: int
 
 
-def derive(part: str, settings: Settings, files: Sequence[Read], extra: Sequence[str], report: BinaryIO, emit: Emit,
-           sessions: Lines) -> Derived:
-    """Goes over a report, gives on each finding, and has a line for each session and group. Raises Fault where it is none."""
+def derive(part: str, settings: Settings, files: Sequence[Read], extra: Sequence[str], has_counters: bool, report: BinaryIO,
+           emit: Emit, sessions: Lines) -> Derived:
+    """Goes over a report, gives on each finding, and has a line for each session and group. Raises Fault where it is none.
+
+    A report that was made with counters has more lines.
+    """
     count = 0
 
     def emit_counted(finding: Finding) -> None:
@@ -62,7 +65,8 @@ def derive(part: str, settings: Settings, files: Sequence[Read], extra: Sequence
 
     for finding in [*file_findings(part, files), *empty_findings(part, files), *(Finding(part, it) for it in extra)]:
         emit_counted(finding)
-    locator = Locator(part, Places(part, files), emit_counted, sessions.put, settings.is_whole)
+    locator = Locator(part, Places(part, files), emit_counted, sessions.put, settings.is_whole,
+                      has_counters)
     try:
         Reading(locator).read(report, Progress())
     except (ValueError, IndexError, TypeError, UnicodeDecodeError) as fault:

@@ -23,7 +23,8 @@ from .tree import entries, find_parts, order
 def add_arguments(parser: argparse.ArgumentParser) -> None:
     """Says which words the command takes."""
     parser.add_argument("results", metavar="DIR", help="the folder that `review` or `prepare` made")
-    parser.add_argument("--jobs", type=number(1, 1024), default=1, metavar="N", help="read so many files at once (default: 1)")
+    parser.add_argument("--jobs", type=number(1, 1024), default=1, metavar="N",
+                        help="read so many files at once (default: 1)")
     parser.add_argument("--json", action="store_true", help="print a JSON object for each finding, and one for the total")
 
 
@@ -33,7 +34,8 @@ def run(arguments: argparse.Namespace) -> int:
     found = fixity.findings(arguments.jobs)
     if arguments.json:
         lines = [json.dumps(it.fields(), separators=(",", ":")) for it in found]
-        total = {"line": "total", "status": fixity.status, "parts": fixity.parts, "files": fixity.files, "findings": len(found)}
+        total = {"line": "total", "status": fixity.status, "parts": fixity.parts, "files": fixity.files,
+                 "findings": len(found)}
         print_lines([*lines, json.dumps(total, separators=(",", ":"))])
     else:
         print_lines([*(it.text() for it in found), fixity.verdict(len(found))])
@@ -78,7 +80,8 @@ class Fixity:
         folder = self._settings.path_of(part)
         recorded: Dict[str, Read] = {it.stored.name: it for it in kept.record.files}
         here = set(entries(folder, set())[1])
-        found = [self._finding(part, name, "gone, it was reviewed, and isn't there now") for name in recorded if name not in here]
+        found = [self._finding(part, name, "gone, it was reviewed, and isn't there now")
+                 for name in recorded if name not in here]
         names = sorted(here, key=order)
         looks = pool.map(lambda name: look_again(os.path.join(folder, name), recorded.get(name)), names)
         for name, what in zip(names, looks):

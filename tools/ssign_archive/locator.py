@@ -4,6 +4,7 @@ from __future__ import annotations
 from typing import Callable, List, Optional, Sequence
 
 from ssign_keys.blocks import Session
+from ssign_keys.kept import Counters
 from ssign_keys.report import Group, Teller
 
 from .findings import Emit, Finding, Places, Spot
@@ -15,8 +16,9 @@ WAITING = 1000
 class Locator(Teller):
     """Gives on each finding of a report, and writes a line for each session and group, with files and places."""
 
-    def __init__(self, part: str, places: Places, emit: Emit, sessions: Callable[[str], None], is_whole: bool) -> None:
-        super().__init__(is_whole)
+    def __init__(self, part: str, places: Places, emit: Emit, sessions: Callable[[str], None], is_whole: bool,
+                 has_counters: bool) -> None:
+        super().__init__(is_whole, Counters() if has_counters else None)
         self._part = part
         self._places = places
         self._emit = emit
@@ -80,6 +82,10 @@ class Locator(Teller):
         if self._first is not None and self._last is not None:
             line += f" from {self._places.at(self._first).text()} to {self._places.at(self._last).text()}"
         self._sessions(line)
+
+    def tail(self, session: Session, sg: int, spri: int, first: int, last: int) -> None:
+        """Finds numbers after the last announced one, up to a counter."""
+        self._find(f"tail {session} {sg} {spri} {first} {last}")
 
     def missing_blocks(self, session: Session, first: int, last: int) -> None:
         """Finds signature blocks missing, which can be anywhere in the part."""

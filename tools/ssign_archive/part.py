@@ -6,15 +6,15 @@ import hashlib
 import os
 import socket
 import time
-from typing import BinaryIO, List
+from typing import TYPE_CHECKING, BinaryIO, List, Optional
 
 from ssign_keys.faults import Fault
 from ssign_keys.words import shown_name
-from ssign_keys.workplace import Workplace
+from ssign_keys.workplace import Workplace, finish, put
 
 from . import record as record_form
 from . import settings as settings_form
-from .derive import Derived, Lines, derive
+from .derive import Lines, derive
 from .feeding import run_over
 from .record import SUMMED, Record
 from .results import Results, remove, write_text
@@ -22,13 +22,17 @@ from .settings import Settings
 from .sources import Read, Reader
 from .tree import files_of
 
+if TYPE_CHECKING:
+    from ssign_keys.trust import Trust
+
 PIECE = 1 << 20
 
 
 def add_arguments(parser: argparse.ArgumentParser) -> None:
     """Says which words the command takes."""
     parser.add_argument("results", metavar="DIR", help="the folder that `prepare` made")
-    parser.add_argument("part", metavar="PART", help="the part, as the file `parts` in that folder names it; write -- before "
+    parser.add_argument("part", metavar="PART", help="the part, as the file `parts` in that folder names it; "
+                        "write -- before "
                         "DIR where its name may begin with -")
 
 
@@ -39,17 +43,26 @@ def run(arguments: argparse.Namespace) -> int:
     # argparse makes nothing of a word `--`, also behind another one
     part = arguments.part or "--"
     with Workplace() as workplace:
-        review_part(results, settings, part, workplace)
+        review_part(results, settings, trust_of(settings), part, workplace)
     return 0
 
 
-def review_part(results: Results, settings: Settings, part: str, workplace: Workplace) -> None:
+def trust_of(settings: Settings) -> Optional[Trust]:
+    """The keys that were given, or None where answers were."""
+    if not settings.trust:
+        return None
+    # without keys nothing of cryptography is needed
+    from .keyed import read_trust
+    return read_trust(settings.trust)
+
+
+def review_part(results: Results, settings: Settings, trust: Optional[Trust], part: str, workplace: Workplace) -> None:
     """Reviews a part. Where that comes to no end, its results say why."""
     folder = results.folder_of(part)
     os.makedirs(folder, exist_ok=True)
     remove(os.path.join(folder, "record"), os.path.join(folder, "failed"))
     try:
-        PartReview(part, settings, folder, workplace).run()
+        PartReview(part, settings, trust, folder, workplace).run()
     except (Fault, OSError) as fault:
         write_text(os.path.join(folder, "failed"), f"{fault}\n")
         raise
@@ -58,13 +71,18 @@ def review_part(results: Results, settings: Settings, part: str, workplace: Work
 class PartReview:
     """A review of one part."""
 
-    def __init__(self, part: str, settings: Settings, folder: str, workplace: Workplace) -> None:
+    def __init__(self, part: str, settings: Settings, trust: Optional[Trust], folder: str, workplace: Workplace) -> None:
         self._part = part
         self._settings = settings
+        self._trust = trust
         self._folder = folder
         self._workplace = workplace
         self._began = time.time()
         self._given = settings.given_to(part)
+        # the files as they were when keys were asked about
+        self._asked: List[Read] = []
+        # what is found that stands in no report
+        self._extra: List[str] = []
 
     def run(self) -> None:
         """Writes what is kept of the part, and the record last."""
@@ -88,23 +106,50 @@ class PartReview:
 
     def _review(self, reader: Reader, report: BinaryIO) -> int:
         """Has ssign review the messages, and gives its status, 0 or 1."""
-        return run_over(reader, self._settings.program, self._words(), self._workplace, report)
+        settings = self._settings
+        words = ["review", *self._answers(reader), *self._counters(), *settings.words]
+        return run_over(reader, settings.program, words, self._workplace, report)
 
-    def _words(self) -> List[str]:
-        answers = self._settings.answers_of(self._part)
-        if answers is not None and not os.path.isfile(answers):
-            raise Fault(f"the answers file {shown_name(answers)} of this part isn't there")
-        return ["review", *([] if answers is None else [f"--answers={answers}"]), *self._settings.words]
+    def _answers(self, reader: Reader) -> List[str]:
+        """The word that names the answers: a file that was given, or what holds under the keys that were given."""
+        if self._trust is not None:
+            from .keyed import ask
+            asked = Reader(reader.folder, reader.files, self._settings.are_lines, self._settings.longest)
+            answers, found = ask(self._settings, self._trust, asked, self._workplace)
+            self._asked = asked.read
+            self._extra += found
+            return [f"--answers={answers}"]
+        given = self._settings.answers_of(self._part)
+        if given is not None and not os.path.isfile(given):
+            raise Fault(f"the answers file {shown_name(given)} of this part isn't there")
+        return [] if given is None else [f"--answers={given}"]
+
+    def _counters(self) -> List[str]:
+        """The word that names the counters, where there are some. That there are none is a finding where some were given."""
+        counters = self._settings.counters_given(self._part)
+        own = self._settings.counters_of(self._part)
+        if counters is None:
+            if own is not None:
+                self._extra.append(f"counters, there are none in {shown_name(own)}, so nobody can say whether "
+                                   "the end of this "
+                                   "part is missing")
+            return []
+        with self._workplace.new_file("counters") as file:
+            put(file, counters)
+            finish(file)
+        return [f"--counters={self._workplace.path('counters')}"]
 
     def _derive(self, files: List[Read], report: BinaryIO, findings: Lines, sessions: Lines, status: int) -> Record:
         """Goes over the report, and makes the record."""
-        extra: List[str] = []
-        derived = derive(self._part, self._settings, files, extra, report, findings.put_finding, sessions)
+        if self._trust is not None and [it.sha256 for it in self._asked] != [it.sha256 for it in files]:
+            raise Fault(f"a file of {shown_name(self._settings.path_of(self._part))} was changed while it was read")
+        derived = derive(self._part, self._settings, files, self._extra, bool(self._given["counters"]), report,
+                         findings.put_finding, sessions)
         if (status == 0) != (derived.reported == 0):
             raise Fault(f"ssign review ended with status {status}, which its report doesn't bear out")
         sums = {"report": sum_of(report), "findings": findings.sum, "sessions": sessions.sum}
-        return Record(settings_form.to_text(self._settings), self._given, files, sums, derived.totals, derived.states, status,
-                      derived.findings, extra, socket.gethostname(), self._began, time.time() - self._began)
+        return Record(settings_form.to_text(self._settings), self._given, files, sums, derived.totals, derived.states,
+                      status, derived.findings, self._extra, socket.gethostname(), self._began, time.time() - self._began)
 
 
 def sum_of(file: BinaryIO) -> str:

@@ -13,7 +13,7 @@ import hashlib
 import json
 import os
 import urllib.parse
-from typing import Dict, List, NamedTuple, Optional
+from typing import List, NamedTuple, Optional
 
 from ssign_keys.faults import Fault
 from ssign_keys.files import reason
@@ -22,6 +22,7 @@ from ssign_keys.words import shown_name
 from . import record as record_form
 from . import settings as settings_form
 from .derive import Derived, Lines, derive
+from .findings import Emit
 from .record import SUMMED, Record
 from .settings import Settings
 from .tree import Stored, files_of
@@ -126,7 +127,8 @@ class Results:
         findings, sessions = Lines(), Lines()
         try:
             with open(os.path.join(folder, "report"), "rb") as report:
-                derived = derive(part, settings, record.files, record.extra, report, findings.put_finding, sessions)
+                derived = derive(part, settings, record.files, record.extra, bool(record.given.get("counters")), report,
+                                 findings.put_finding, sessions)
         except (Fault, OSError) as fault:
             raise Changed("its report was changed") from fault
         if (findings.sum, sessions.sum) != (record.sums["findings"], record.sums["sessions"]):
@@ -134,6 +136,11 @@ class Results:
         if (derived.totals, derived.states, derived.findings) != (record.totals, record.states, record.findings):
             raise Changed("its record was changed")
         return derived
+
+    def emit_findings(self, part: str, settings: Settings, record: Record, emit: Emit) -> None:
+        """Gives on each finding of a part whose results count."""
+        with open(os.path.join(self.folder_of(part), "report"), "rb") as report:
+            derive(part, settings, record.files, record.extra, bool(record.given.get("counters")), report, emit, Lines())
 
     def failure(self, part: str) -> str:
         """Why the last review of a part came to no end."""
@@ -157,7 +164,7 @@ def stale(record: Record, part: str, settings: Settings) -> str:
         return "it was reviewed with other options, or another program or answers file"
     for name, seen in settings.given_to(part).items():
         if record.given.get(name) != seen:
-            return f"its {name} file was changed"
+            return f"its {name} {'file was' if name == 'answers' else 'were'} changed"
     if [it.stored for it in record.files] != stored_now(settings, part):
         return "its files were changed"
     return ""

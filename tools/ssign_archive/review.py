@@ -48,7 +48,7 @@ def run(arguments: argparse.Namespace) -> int:
         if prepared.batches:
             status = run_parallel(engine_words(parallel, arguments, prepared), len(prepared.batches), prepared.lock)
         table = Table(prepared.results, prepared.settings, prepared.done)
-        worst = table.print(arguments.findings, arguments.sessions)
+        worst = table.print(arguments)
         if status and worst != 2:
             raise Fault(f"GNU parallel ended with the status {status}, though each part was reviewed")
         return worst

@@ -7,15 +7,17 @@ import json
 import os
 import subprocess
 from dataclasses import asdict, dataclass
-from typing import Callable, Dict, List, Optional, Tuple
+from typing import Any, Callable, Dict, List, Optional, Tuple
 
 from ssign_keys.faults import Fault
 from ssign_keys.files import reason
 from ssign_keys.programs import add_log_arguments, add_program_argument, find_program, log_words
 from ssign_keys.words import shown_name
 
+from .given import counters_for, own_file
+from .given import sum_of as sum_of_octets
 from .messages import DEFAULT_LONGEST
-from .tree import look
+from .tree import files_of, look
 
 
 @dataclass(frozen=True)
@@ -26,13 +28,24 @@ class Settings:
     program: str
     answers: Optional[str]
     words: Tuple[str, ...]
-    # what tells another program, or another answers file, under the same name
+    # what tells another program, another answers file or another key under the same name
     seen: Tuple[str, ...]
+    # the options of ssign-keys that say which keys are trusted; none where answers are given
+    trust: Dict[str, Any]
+    allows_sha1: bool
+    # folders with a file for each part; of manifests also one file for all parts
+    counters: Optional[str]
+    manifest: Optional[str]
 
     @property
     def are_lines(self) -> bool:
         """Whether the logs are lines."""
         return "--lines" in self.words
+
+    @property
+    def log_words(self) -> List[str]:
+        """The words that say how a log is read."""
+        return [it for it in self.words if it != "--whole"]
 
     @property
     def is_whole(self) -> bool:
@@ -53,18 +66,44 @@ class Settings:
         """The answers file of a part. In a folder of answers it is named as the part, and ends with `.answers`."""
         if self.answers is None or not os.path.isdir(self.answers):
             return self.answers
-        name = os.path.basename(self.archive) if part == "." else part
-        return os.path.join(self.answers, f"{name}.answers")
+        return own_file(self.answers, self.archive, part, ".answers")
+
+    def counters_of(self, part: str) -> Optional[str]:
+        """The counters file of a part, or None where no folder of them was given."""
+        return None if self.counters is None else own_file(self.counters, self.archive, part, ".counters")
+
+    def manifest_of(self, part: str) -> Optional[str]:
+        """The manifest that names the logs of a part, or None where none was given."""
+        if self.manifest is None or not os.path.isdir(self.manifest):
+            return self.manifest
+        return own_file(self.manifest, self.archive, part, ".manifest")
+
+    def counters_given(self, part: str) -> Optional[bytes]:
+        """The counters that the review of a part gets, or None where it gets none."""
+        if self.counters is None and self.manifest is None:
+            return None
+        names = [it.name for it in files_of(self.path_of(part))]
+        return counters_for(self.counters_of(part), self.manifest_of(part), names)
 
     def given_to(self, part: str) -> Dict[str, str]:
-        """What tells another file of the part's own, by what it is; nothing of one that all parts have."""
+        """What tells other files of the part's own, by what they are; nothing of one that all parts have."""
+        return {"answers": self._answers_seen(part), "counters": self._counters_seen(part)}
+
+    def _answers_seen(self, part: str) -> str:
         path = self.answers_of(part)
         if path is None or path == self.answers:
-            return {"answers": ""}
+            return ""
         try:
-            return {"answers": look_of(path)}
+            return look_of(path)
         except Fault:
-            return {"answers": "it can't be read"}
+            return "it can't be read"
+
+    def _counters_seen(self, part: str) -> str:
+        try:
+            counters = self.counters_given(part)
+        except Fault:
+            return "they can't be read"
+        return "" if counters is None else sum_of_octets(counters)
 
 
 def add_arguments(parser: argparse.ArgumentParser) -> None:
@@ -76,6 +115,25 @@ def add_arguments(parser: argparse.ArgumentParser) -> None:
                         "taken over")
     parser.add_argument("--answers", metavar="FILE", help="the answers of a signature checker, for all parts; of a folder, "
                         "the file PART.answers in it is for the part PART (default: every answer is no)")
+    parser.add_argument("--key", dest="keys", action="append", default=[], metavar="PUBLIC.pem", help="an "
+                        "originator's public "
+                        "key: signatures are checked part by part, and no answers are needed")
+    parser.add_argument("--session-key", nargs=2, action="append", default=[], metavar=("SESSION", "PUBLIC.pem"),
+                        help="the key of a session, as of `ssign-keys verify`")
+    parser.add_argument("--ca", action="append", default=[], metavar="CA.pem", help="trust a payload with a "
+                        "certificate that "
+                        "one of these issued, as `ssign-keys verify` does")
+    parser.add_argument("--cert", action="append", default=[], metavar="CERT.pem",
+                        help="trust a payload with this certificate")
+    parser.add_argument("--at-signing-time", action="store_true", help="judge whether a certificate has expired at the "
+                        "payload's time, which its signer states, and not now")
+    parser.add_argument("--allow-sha1", action="store_true", help="that a session rests on SHA-1 is no finding")
+    parser.add_argument("--counters", metavar="DIR", help="a folder in which PART.counters are the counters of "
+                        "the part PART, "
+                        "as `ssign counters` wrote them: what is missing up to them is a finding, and so is a part without "
+                        "counters")
+    parser.add_argument("--manifest", metavar="FILE", help="compare the logs with this manifest, and use its counters; of a "
+                        "folder, PART.manifest in it is for the part PART")
     add_log_arguments(parser)
     parser.add_argument("--whole", action="store_true", help="also find signature blocks of each session that are missing, "
                         "by their counter GBC")
@@ -91,16 +149,51 @@ def number(least: int, most: int) -> Callable[[str], int]:
     return read
 
 
+# what ssign-keys is told of keys, and which of these options name files
+TRUST = ("keys", "session_key", "ca", "cert", "at_signing_time")
+
+
 def make(arguments: argparse.Namespace) -> Settings:
-    """The settings that the command line asks for. Raises Fault where ssign refuses its words or the answers."""
+    """The settings that the command line asks for. Raises Fault where ssign refuses its words, its answers or a key."""
     archive = os.path.realpath(arguments.archive)
     program = os.path.abspath(find_program(arguments))
     answers = os.path.realpath(arguments.answers) if arguments.answers is not None else None
     words = [*log_words(arguments), *(["--whole"] if arguments.whole else [])]
     asked = [f"--answers={answers}"] if answers is not None and not os.path.isdir(answers) else []
     try_words(program, [*asked, *words])
-    seen = [sum_of(program)] + [look_of(it.partition("=")[2]) for it in asked]
-    return Settings(archive, program, answers, tuple(words), tuple(seen))
+    trust, files = trust_of(arguments)
+    if trust and answers is not None:
+        raise Fault("--answers says which signatures are valid, and so do --key, --session-key, --ca and --cert: "
+                    "give one of "
+                    "the two")
+    counters, manifest = given_path(arguments.counters, "--counters"), given_path(arguments.manifest, "--manifest")
+    if counters is not None and not os.path.isdir(counters):
+        raise Fault(f"--counters {shown_name(arguments.counters)}: this is no folder with a file PART.counters for each "
+                    "part")
+    seen = [sum_of(program)] + [look_of(it.partition("=")[2]) for it in asked] + [sum_of(it) for it in files]
+    return Settings(archive, program, answers, tuple(words), tuple(seen), trust, arguments.allow_sha1, counters, manifest)
+
+
+def given_path(path: Optional[str], option: str) -> Optional[str]:
+    """The path of what an option names, which has to be there."""
+    if path is not None and not os.path.exists(path):
+        raise Fault(f"{option} {shown_name(path)}: nothing of this name is there")
+    return None if path is None else os.path.realpath(path)
+
+
+def trust_of(arguments: argparse.Namespace) -> Tuple[Dict[str, Any], List[str]]:
+    """The options about keys, with absolute paths, and the files that they name; nothing where no key is given."""
+    given: Dict[str, Any] = {name: getattr(arguments, name) for name in TRUST}
+    paths = {name: [os.path.abspath(it) for it in given[name]] for name in ("keys", "ca", "cert")}
+    sessions = [[session, os.path.abspath(path)] for session, path in given["session_key"]]
+    files = [*paths["keys"], *paths["ca"], *paths["cert"], *(path for _, path in sessions)]
+    if not files:
+        return {}, []
+    trust = {**given, **paths, "session_key": sessions}
+    # a wrong key is refused once, and not for each part; without keys nothing of cryptography is needed
+    from .keyed import read_trust
+    read_trust(trust)
+    return trust, files
 
 
 def try_words(program: str, words: List[str]) -> None:
@@ -143,6 +236,7 @@ def from_text(text: str, path: str) -> Settings:
     """The settings of a JSON text, which stands in the file of this path."""
     try:
         read = json.loads(text)
-        return Settings(read["archive"], read["program"], read["answers"], tuple(read["words"]), tuple(read["seen"]))
+        return Settings(read["archive"], read["program"], read["answers"], tuple(read["words"]), tuple(read["seen"]),
+                        read["trust"], read["allows_sha1"], read["counters"], read["manifest"])
     except (ValueError, KeyError, TypeError) as fault:
         raise Fault(f"{shown_name(path)} holds no settings of ssign-archive") from fault

@@ -37,7 +37,7 @@ class Reader:
     """Goes over the files of a folder, and keeps what was read of each."""
 
     def __init__(self, folder: str, files: List[Stored], are_lines: bool, longest: int) -> None:
-        self._folder = folder
+        self.folder = folder
         self.files = files
         self._are_lines = are_lines
         self._longest = longest
@@ -50,7 +50,7 @@ class Reader:
             yield from self._wholes_of(stored)
 
     def _wholes_of(self, stored: Stored) -> Iterator[Whole]:
-        path = os.path.join(self._folder, stored.name)
+        path = os.path.join(self.folder, stored.name)
         read = Read(stored, self.messages)
         cutter = Cutter(self._are_lines, self._longest)
         hasher, plain = hashlib.sha256(), hashlib.sha256()

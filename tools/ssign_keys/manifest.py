@@ -16,7 +16,7 @@ from .kept import copy_counters
 from .logs import Log, open_file, open_log
 from .manifest_file import Appending
 from .manifest_findings import Stored, bare, of_logs, of_manifest
-from .manifest_form import FIRST_SUM, STAMP, Entry, Extent, Mark, SetAside, file_of, read_manifest, read_mark, stamp_of
+from .manifest_form import FIRST_SUM, Entry, Extent, Mark, SetAside, file_of, read_manifest, read_mark, stamp_of
 from .payloads import present_stamp
 from .programs import Refused, Run, add_limit_arguments, add_program_argument, find_program, log_words
 from .progress import Progress
@@ -37,16 +37,19 @@ def add_arguments(parser: argparse.ArgumentParser) -> None:
                         "[possible values: add, check]")
     parser.add_argument("manifest", metavar="MANIFEST", help="the manifest; to begin one, make an empty file")
     parser.add_argument("place", metavar="LOG", help="add: the signed log; check: the folder of the logs")
-    parser.add_argument("--counters", metavar="FILE", help="add: the counters of the log, as `ssign counters` wrote them; has "
+    parser.add_argument("--counters", metavar="FILE", help="add: the counters of the log, as `ssign counters` "
+                        "wrote them; has "
                         "to be given")
-    parser.add_argument("--set-aside", metavar="FILE", help="add: the file of the messages that couldn't be signed, as frames")
+    parser.add_argument("--set-aside", metavar="FILE", help="add: the file of the messages that couldn't be "
+                        "signed, as frames")
     parser.add_argument("--signed", metavar="TIME", help="add: when the log was signed, in UTC as 2026-11-27T04:00:00Z "
                         "(default: now)")
     parser.add_argument("--last", metavar="N:SHA256", help="the last entry as `add` printed it, which was kept apart: add "
                         "refuses a manifest that ends with another one; check looks whether it is there")
     parser.add_argument("--logs", metavar="PATTERN", help="check: the names of signed logs in the folder, as *.frames; "
                         "names with a dot in front are skipped (default: *)")
-    parser.add_argument("--json", action="store_true", help="check: print a JSON object for each finding, and one for the total")
+    parser.add_argument("--json", action="store_true", help="check: print a JSON object for each finding, and one for "
+                        "the total")
     forms.add_arguments(parser)
     add_limit_arguments(parser)
     add_program_argument(parser)
@@ -55,7 +58,8 @@ def add_arguments(parser: argparse.ArgumentParser) -> None:
 def run(arguments: argparse.Namespace) -> int:
     """Does the action."""
     kept = None if arguments.last is None else read_mark(arguments.last)
-    with_other = {"add": ("logs", "json"), "check": ("counters", "set_aside", "signed", "lines", "frames", "max_len", "max_messages")}
+    with_other = {"add": ("logs", "json"),
+                  "check": ("counters", "set_aside", "signed", "lines", "frames", "max_len", "max_messages")}
     for name in with_other[arguments.action]:
         if getattr(arguments, name):
             raise Fault(f"--{name.replace('_', '-')} doesn't go with `manifest {arguments.action}`")
@@ -112,7 +116,8 @@ def name_for(path: str) -> str:
     try:
         return file_of(os.path.basename(path))
     except ValueError as fault:
-        raise Fault(f"{shown_name(path)} has a name that isn't UTF-8, which a manifest can't hold: give it another one") from fault
+        raise Fault(f"{shown_name(path)} has a name that isn't UTF-8, which a manifest can't hold: give it another "
+                    "one") from fault
 
 
 def make_entry(arguments: argparse.Namespace, program: str, log: Log, workplace: Workplace, progress: Progress) -> Entry:
@@ -120,7 +125,8 @@ def make_entry(arguments: argparse.Namespace, program: str, log: Log, workplace:
     try:
         signed = stamp_of(present_stamp() if arguments.signed is None else arguments.signed)
     except ValueError as fault:
-        raise Fault(f"--signed {shown_name(arguments.signed)}: this is no time in UTC as {STAMP.replace('%', '')}") from fault
+        raise Fault(f"--signed {shown_name(arguments.signed)}: this is no time in UTC as "
+                    "2026-11-27T04:00:00Z") from fault
     session, gbc, ends = read_lines(arguments.counters, workplace)
     groups = extents_of(program, log_words(arguments, log.are_lines), log, session, gbc, ends, workplace, progress)
     name = name_for(bare(arguments.place))
@@ -137,7 +143,8 @@ def read_lines(path: str, workplace: Workplace) -> Tuple[Session, int, Dict[Tupl
     with open(copy_counters(path, workplace), "rb") as file:
         for count, line in enumerate(file, 1):
             fields = line.rstrip(b"\n").split(b" ")
-            if len(fields) not in (6, 8) or fields[0] != b"count" or not all(it.isdigit() and len(it) < 12 for it in fields[4:]):
+            are_numbers = all(it.isdigit() and len(it) < 12 for it in fields[4:])
+            if len(fields) not in (6, 8) or fields[0] != b"count" or not are_numbers:
                 raise Fault(f"the line {count} of the counters file {name} isn't one that `ssign counters` writes")
             sessions.add(Session(*fields[1:5]))
             if len(fields) == 6:
@@ -145,7 +152,8 @@ def read_lines(path: str, workplace: Workplace) -> Tuple[Session, int, Dict[Tupl
             else:
                 ends[int(fields[5]), int(fields[6])] = int(fields[7]) - 1
     if len(sessions) != 1 or len(gbcs) != 1:
-        raise Fault(f"the counters file {name} has {counted(len(sessions), 'session')} and {counted(len(gbcs), 'line')} with a "
+        raise Fault(f"the counters file {name} has {counted(len(sessions), 'session')} and "
+                    f"{counted(len(gbcs), 'line')} with a "
                     "GBC: an entry is of one session, which has one")
     return sessions.pop(), gbcs[0], ends
 
@@ -233,7 +241,8 @@ def check(arguments: argparse.Namespace, kept: Optional[Mark]) -> int:
             lines.append(json.dumps(total, separators=(",", ":")))
         else:
             lines.append(f"{counted(len(found), 'finding') if found else 'Clean'}. "
-                         f"{counted(len(manifest.entries), 'entry', 'entries')}, {counted(len(logs), 'log')}; the last entry is "
+                         f"{counted(len(manifest.entries), 'entry', 'entries')}, {counted(len(logs), 'log')}; "
+                         "the last entry is "
                          f"{mark}")
         output.add("".join(f"{it}\n" for it in lines).encode("utf-8", "backslashreplace"))
         output.release()

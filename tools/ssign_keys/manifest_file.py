@@ -65,7 +65,8 @@ class Appending:
         """Refuses to go on after something that is wrong."""
         name = shown_name(self._path)
         if manifest.torn is not None:
-            raise Fault(f"the manifest {name} breaks off in its line {manifest.torn}, as where a run was ended while it wrote: "
+            raise Fault(f"the manifest {name} breaks off in its line {manifest.torn}, as where a run was ended "
+                        "while it wrote: "
                         f"look at that line, take it away (`head -n {manifest.torn - 1}`), and add its log again")
         if manifest.broken:
             raise Fault(f"the line {manifest.broken[0]} of the manifest {name} doesn't follow the line before: a line was "
@@ -87,7 +88,8 @@ class Appending:
                 return last
         if not self._is_kept():
             number, given = self.manifest.last
-            raise Fault(f"the manifest {shown_name(self._path)} ends with the entry {number}:{given}, and not with the one that "
+            raise Fault(f"the manifest {shown_name(self._path)} ends with the entry {number}:{given}, and not "
+                        "with the one that "
                         "--last names: its end was cut, or entries were added")
         self._refuse_twice(entry)
         entry = dataclasses.replace(entry, number=self.manifest.last.number + 1, previous=self.manifest.last.sum)
@@ -119,4 +121,5 @@ class Appending:
                 os.ftruncate(number, size)
                 raise
         except OSError as fault:
-            raise Fault(f"the manifest {shown_name(self._path)} can't be written: {reason(fault)}; it has no new entry") from fault
+            raise Fault(f"the manifest {shown_name(self._path)} can't be written: {reason(fault)}; it has no new "
+                        "entry") from fault

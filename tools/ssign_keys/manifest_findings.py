@@ -1,4 +1,4 @@
-"""What a manifest shows of logs: each that is gone, cut, changed, renamed or unknown, and what is wrong with the manifest."""
+"""What a manifest shows of logs: each that is missing, cut, changed, renamed or unknown, and what is wrong with itself."""
 from __future__ import annotations
 
 import json
@@ -56,7 +56,7 @@ def bare(name: str) -> str:
 
 
 def of_manifest(manifest: Manifest, kept: Optional[Mark]) -> List[Found]:
-    """What is wrong with the manifest itself: lines that were changed or cut, entries twice, and an RSID that was skipped."""
+    """What is wrong with the manifest itself: lines that were changed or cut, entries twice, and RSIDs that were skipped."""
     found = [Found(f"line {it}", "broken, it doesn't follow the line before; a line was changed, put in or taken out", it)
              for it in manifest.broken]
     if manifest.torn is not None:
@@ -72,7 +72,8 @@ def not_kept(manifest: Manifest, kept: Mark) -> List[Found]:
     if number == 0:
         return []
     if number > len(manifest.entries):
-        return [Found(f"entry {number}", f"cut, the manifest has {counted(len(manifest.entries), 'entry', 'entries')}, and this "
+        return [Found(f"entry {number}", f"cut, the manifest has "
+                      f"{counted(len(manifest.entries), 'entry', 'entries')}, and this "
                       "one was kept", number)]
     if manifest.entries[number - 1].sum != given:
         return [Found(f"entry {number}", "replaced, it isn't the one whose SHA-256 was kept", number)]
@@ -162,7 +163,8 @@ def of_logs(manifest: Manifest, logs: Sequence[Stored]) -> List[Found]:
     for entry in manifest.entries:
         for name in (entry.name, *(() if entry.set_aside is None else (entry.set_aside.name,))):
             if name not in here:
-                found.append(Found(shown_name(name), f"missing, entry {entry.number} names it, and it isn't here", entry.number))
+                found.append(Found(shown_name(name), f"missing, entry {entry.number} names it, and it isn't here",
+                                   entry.number))
     return found
 
 

@@ -1,4 +1,4 @@
-"""A manifest: a line of JSON for each signed log, which holds the hash of the line before (docs/FORMATS.md, "A manifest")."""
+"""A manifest: a line of JSON for each signed log, with the hash of the line before (docs/FORMATS.md, "A manifest")."""
 from __future__ import annotations
 
 import hashlib

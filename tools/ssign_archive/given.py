@@ -1,0 +1,58 @@
+"""What is given for the parts besides their logs: a file for all of them, or a folder with one for each."""
+from __future__ import annotations
+
+import hashlib
+import os
+from typing import Iterator, List, Optional, Set
+
+from ssign_keys.faults import Fault
+from ssign_keys.files import reason
+from ssign_keys.manifest_findings import bare
+from ssign_keys.manifest_form import read_manifest
+from ssign_keys.words import shown_name
+
+from .tree import look, order
+
+
+def own_file(given: str, archive: str, part: str, ending: str) -> str:
+    """The file of a part in a folder of such files: it is named as the part, with an ending."""
+    name = os.path.basename(archive) if part == "." else part
+    return os.path.join(given, f"{name}{ending}")
+
+
+def unused(given: str, archive: str, parts: List[str], ending: str) -> List[str]:
+    """The files of a folder that are named for a part which isn't one, sorted."""
+    known = {own_file(given, archive, it, ending) for it in parts}
+    found = []
+    for folder, _, names in os.walk(given):
+        found += [os.path.join(folder, it) for it in names if it.endswith(ending) and not it.startswith(".")]
+    return sorted((it for it in found if it not in known), key=order)
+
+
+def counters_for(own: Optional[str], manifest: Optional[str], names: List[str]) -> Optional[bytes]:
+    """The counters for a part: those of its own file, and those of the entries of its logs. None where there are none."""
+    held: List[bytes] = []
+    if own is not None and os.path.lexists(own):
+        look(own)
+        try:
+            with open(own, "rb") as file:
+                octets = file.read()
+        except OSError as fault:
+            raise Fault(f"the counters file {shown_name(own)} can't be read: {reason(fault)}") from fault
+        held.append(octets if octets.endswith(b"\n") or not octets else octets + b"\n")
+    if manifest is not None and os.path.lexists(manifest):
+        held += lines_of_entries(manifest, {bare(it) for it in names})
+    counters = b"".join(held)
+    return counters or None
+
+
+def lines_of_entries(manifest: str, names: Set[str]) -> Iterator[bytes]:
+    """The counters of those entries whose logs have these names."""
+    for it in read_manifest(manifest).entries:
+        if it.name in names:
+            yield "".join(f"{line}\n" for line in it.counters).encode("ascii")
+
+
+def sum_of(octets: bytes) -> str:
+    """The SHA-256 of what was given."""
+    return hashlib.sha256(octets).hexdigest()

@@ -1,0 +1,62 @@
+"""Checks the signatures of a part with the keys that were given, by the code of ssign-keys, in this process."""
+from __future__ import annotations
+
+import argparse
+import base64
+import subprocess
+from typing import Any, Dict, Iterator, List, Tuple
+
+from ssign_keys.answer import answers
+from ssign_keys.blocks import read_block
+from ssign_keys.faults import Fault
+from ssign_keys.programs import Refused, Run
+from ssign_keys.progress import Progress
+from ssign_keys.trust import Trust
+from ssign_keys.walk import MARK
+from ssign_keys.workplace import Workplace, finish, put
+
+from .messages import each_message
+from .settings import Settings
+from .sources import Reader
+
+SHA1 = b"0111"
+
+
+def read_trust(given: Dict[str, Any]) -> Trust:
+    """The keys that the options of ssign-keys name. Raises Fault where one is wrong."""
+    return Trust.from_arguments(argparse.Namespace(**given))
+
+
+def ask(settings: Settings, trust: Trust, reader: Reader, workplace: Workplace) -> Tuple[str, List[str]]:
+    """Has ssign ask about a part, and keeps what holds. Gives the path of the answers, and what is found of the keys."""
+    asking = Run(settings.program, ["questions", *settings.log_words], workplace, Progress(), subprocess.PIPE,
+                 subprocess.PIPE)
+    asking.feed(candidates(reader, settings.are_lines))
+    weak: Dict[str, None] = {}
+    try:
+        with workplace.new_file("answers") as file, answers(asking.lines(lambda: None), trust, 1) as answered:
+            for it in answered:
+                if not it.line:
+                    continue
+                put(file, it.line)
+                if it.line.startswith(b"yes "):
+                    block = read_block(base64.b64decode(it.line.split(b" ", 3)[2]))
+                    if block is not None and block.version == SHA1:
+                        weak[str(block.session)] = None
+            finish(file)
+    except Refused as refused:
+        where = "" if refused.where is None else f" {refused.where}"
+        raise Fault(f"ssign questions refuses it: {refused.code or 'see above'}{where}") from refused
+    found = []
+    if not settings.allows_sha1:
+        found = [f"sha1, the session {it} rests on SHA-1, for which two texts with one hash can be made" for it in weak]
+    return workplace.path("answers"), found
+
+
+def candidates(reader: Reader, are_lines: bool) -> Iterator[bytes]:
+    """The messages in which the octets of a block may stand: nothing is asked about the others."""
+    for whole in reader.wholes():
+        if MARK in whole.octets:
+            for begin, text, end in each_message(whole.octets, are_lines):
+                if whole.octets.find(MARK, text, end) >= 0:
+                    yield whole.octets[begin : end + are_lines]
