@@ -202,7 +202,7 @@ from archives import frames, unframed
 kept = [it for it in unframed(open(sys.argv[2], "rb").read()) if b"[ssign-cert " in it]
 open(sys.argv[2], "wb").write(frames(kept))' "$root/tests"
 harm 'a message changed' '' 1 'beta 2 10 5 1 0 1 0 0 joined 2 2 findings' -- sed -i 's/message two/message owt/' archive/beta/night-2
-harm 'a signature changed' '' 1 -- sed -i 's/ SIGN="M/ SIGN="N/' archive/beta/night-2
+harm 'a signature changed' '' 1 -- sed -i -E 's/(SIGN="[^"]{20})[^A]/\1A/' archive/beta/night-2
 harm 'another night in its place' '--manifest manifests' 1 "in beta: manifest, beta/night-2: renamed, it has the octets of night-1 in entry 1" -- cp archive/beta/night-1 archive/beta/night-2
 harm 'another name' '--manifest manifests' 1 "$two" 'in beta: manifest, beta/night-3: renamed, it has the octets of night-2 in entry 2' -- mv archive/beta/night-2 archive/beta/night-3
 harm 'a log without an entry' '--manifest manifests' 1 'in beta: manifest, beta/night-9: unknown, no entry names this log' -- cp archive/alpha/night-1 archive/beta/night-9
@@ -213,7 +213,7 @@ harm 'no counters for a part' '--counters counters' 1 "in beta: counters, there 
 harm 'empty counters for a part' '--counters counters' 1 "in beta: counters, there are none in $scratch/harmed/counters/beta.counters, so nobody can say whether the end of this part is missing" -- truncate -s 0 counters/beta.counters
 harm 'a bad counter' '--counters counters' 2 'beta - - - - - - - - - NOT REVIEWED: ssign review refuses it: ssign: C1 5' -- bash -c 'echo x >>counters/beta.counters'
 harm 'compressed logs' '--counters counters --manifest manifests' 0 "$(clean beta)" -- gzip archive/beta/night-1
-harm 'a torn log' '' 1 'beta 2 9 6 0 0 0 0 0 joined 2 1 finding' -- truncate -s -3 archive/beta/night-1
+harm 'a torn log' '' 1 'beta 2 9 3 0 0 3 0 0 joined 2 4 findings' -- truncate -s -3 archive/beta/night-1
 tell 'no part has a milder verdict than ssign-keys verify' "$([[ $softer == 0 ]] || echo "    $softer")"
 echo "$name: $cases archives were harmed"
 rm -rf harmed
@@ -239,7 +239,9 @@ archive table "$results" --json
 says 'a finding as JSON' 1 '{"line":"finding","part":".","kind":"manifest","what":"manifest, beta-1: missing, entry 2 names it, and it isn'"'"'t here"}'
 echo 'no entry' >all
 archive table "$results"
-expect 'a bad manifest' 2 '' 'ssign-archive: the line 1 of the manifest '"$scratch"'/all is no entry: it is no JSON in ASCII'
+says 'a bad manifest' 2 'a - - - - - - - - - NOT REVIEWED: its counters were changed since its review'
+review one --key "$key" --manifest all
+holds 'a bad manifest: status' test "$status" = 2
 holds 'nothing passing is left' test -z "$(ls passing)"
 
 finish
