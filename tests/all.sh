@@ -49,8 +49,11 @@ fi
 # run_one NAME: runs a script, keeps what it said and how it ended, and says so.
 run_one() {
     local said=$scratch/$1.said status counts TIMEFORMAT='%0R s, %0U + %0S of a processor'
-    { time timeout -k 10 "$longest" bash "tests/$1.sh" >"$said" 2>&1 </dev/null; } 2>"$scratch/$1.time"
+    # shellcheck disable=SC2016
+    { time timeout -k 10 "$longest" bash -c 'echo "$PPID" >"$2"; exec bash "tests/$1.sh"' one "$1" "$scratch/$1.running" \
+        >"$said" 2>&1 </dev/null; } 2>"$scratch/$1.time"
     status=$?
+    rm -f -- "$scratch/$1.running"
     counts=$(tail -n 1 -- "$said" | grep -Eo '[0-9]+ passed, [0-9]+ failed$')
     if [[ $status == 77 ]]; then
         echo "0 0" >"$scratch/$1.counts"
@@ -68,8 +71,18 @@ run_one() {
     sed 's/ passed, / /; s/ failed//' <<<"$counts" >"$scratch/$1.counts"
 }
 export -f run_one
+# Whoever ends this run ends its scripts, each of which has a process group of its own.
+end() {
+    trap '' INT TERM HUP
+    kill "$runner" 2>"$scratch/fault"
+    cat -- "$scratch"/*.running 2>"$scratch/fault" | xargs -r kill 2>"$scratch/fault"
+    exit 130
+}
+trap end INT TERM HUP
 # shellcheck disable=SC2016
-printf '%s\0' "${names[@]}" | xargs -0 -r -n 1 -P "$jobs" bash -c 'run_one "$1"' run_one
+xargs -0 -r -n 1 -P "$jobs" bash -c 'run_one "$1"' run_one < <(printf '%s\0' "${names[@]}") &
+runner=$!
+wait "$runner"
 
 # what scripts say of tools that aren't here
 for it in "${names[@]}"; do

@@ -110,6 +110,35 @@ all 'one that skips some' 0 '1 passed, 0 failed' some
 holds 'both of its lines are repeated' test "$(grep -c '^    some: ' "$scratch/out")" = 2
 rm -- tests/{bad,lying,silent,killed}.sh
 all 'all of them' 0 '9 passed, 0 failed'
+# are_gone FILE..: whether the processes whose numbers stand in the files have ended.
+# shellcheck disable=SC2317
+are_gone() {
+    local file
+    for file in "$@"; do
+        ! kill -0 "$(<"$file")" 2>/dev/null || return 1
+    done
+}
+# two scripts that wait are ended with the run, whoever asks it to end
+for signal in INT TERM HUP; do
+    for it in slow slower; do
+        printf 'echo $$ >"%s/%s"\nsleep 50\necho "%s: 1 passed, 0 failed"\n' "$scratch" "$it" "$it" >"tests/$it.sh"
+        rm -f -- "$scratch/$it"
+    done
+    # a shell that isn't interactive has its background children ignore SIGINT
+    python3 -c 'import os, signal, sys; signal.signal(signal.SIGINT, signal.SIG_DFL); os.execvp(sys.argv[1], sys.argv[1:])' \
+        tests/all.sh -j 2 slow slower >"$scratch/out" 2>&1 </dev/null &
+    run=$!
+    for ((tries = 0; tries < 300; tries++)); do
+        [[ -s $scratch/slow && -s $scratch/slower ]] && break
+        sleep 0.1
+    done
+    kill -s "$signal" "$run"
+    wait "$run"
+    holds "SIG$signal: it isn't taken for success" test "$?" != 0
+    sleep 0.5
+    holds "SIG$signal: no script is left" are_gone "$scratch/slow" "$scratch/slower"
+done
+rm -- tests/{slow,slower}.sh
 for words in '-j' '-j 0' '-j x' '-x' 'none' '../all' ''; do
     # shellcheck disable=SC2086
     [[ $words ]] && kept tests/all.sh $words
