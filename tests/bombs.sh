@@ -94,7 +94,7 @@ for it in 1K:1000 2M:2000000 1G:1000000000 7T:7000000000000 3:3; do
     holds "the size ${it%:*}" python3 -B - "$root/tools" "${it%:*}" "${it#*:}" <<'P'
 import sys
 sys.path.insert(0, sys.argv[1])
-from ssign_keys.expand import read_size
+from ssign_keys.sizes import read_size
 assert read_size(sys.argv[2]) == int(sys.argv[3])
 P
 done

@@ -241,7 +241,8 @@ behind() {
 }
 no_long 'a long MSG' 0 '' < <(long '][' | behind)
 no_long 'a MSG of octets 0' 0 '' < <(head -c 1000000 /dev/zero | behind)
-no_long 'a long payload' 1 "$none" < <(printf 'trust %s\n' "$(cat <(printf -- '- K ') <(head -c 999999 /dev/zero | base64 -w 0) | base64 -w 0)")
+no_long 'a long payload' 1 "ssign-keys: 1 payload has more than 65536 octets, the longest 1333336, and is not trusted: --max-payload looks at longer ones
+$none" < <(printf 'trust %s\n' "$(cat <(printf -- '- K ') <(head -c 999999 /dev/zero | base64 -w 0) | base64 -w 0)")
 
 # a payload of ten million octets, in each of twenty lines, in little memory
 "$python" - "$octets" "$signature" >long-lines <<'END'
@@ -251,7 +252,9 @@ sys.stdout.write(f"trust {payload}\n" + f"yes {payload} {sys.argv[1]} {sys.argv[
 END
 (ulimit -v 400000 && exec "$python" "$root/tools/ssign-keys" answer one/public-key.pem --jobs 1 <long-lines >out 2>err)
 status=$?
-expect 'a payload of ten million octets in twenty lines' 1 '' "$none"
+expect 'a payload of ten million octets in twenty lines' 1 '' "ssign-keys: 1 payload has more than 65536 octets, the longest 10000000, \
+and is not trusted: --max-payload looks at longer ones
+$none"
 
 # ---- Sessions: the types N and U, and keys that are tied to a session
 
@@ -374,7 +377,7 @@ from ssign_keys import answer, seal
 from ssign_keys.faults import Fault
 from ssign_keys.keys import read_private_key
 from ssign_keys.trust import Trust
-trust = Trust.from_arguments(argparse.Namespace(keys=["one/public-key.pem"], session_key=[], ca=[], cert=[], at_signing_time=False))
+trust = Trust.from_arguments(argparse.Namespace(keys=["one/public-key.pem"], session_key=[], ca=[], cert=[], at_signing_time=False, max_payload=65536))
 key = read_private_key("one/private-key.pem")
 for line in sys.argv[3:]:
     octets = line.encode() + b"\n"

@@ -74,7 +74,7 @@ def trust(**options: object) -> Any:
     """What ssign-keys makes of these options."""
     from ssign_keys.trust import Trust
     return Trust.from_arguments(argparse.Namespace(
-        **{"keys": [], "session_key": [], "ca": [], "cert": [], "at_signing_time": False, **options}))
+        **{"keys": [], "session_key": [], "ca": [], "cert": [], "at_signing_time": False, "max_payload": 65536, **options}))
 
 
 def why(given: Any, certificate: bytes, host: str = "gate", stamp: str = "-") -> str:

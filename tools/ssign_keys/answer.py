@@ -4,17 +4,19 @@ from __future__ import annotations
 import argparse
 from dataclasses import dataclass
 from types import TracebackType
-from typing import Generator, Iterable, Iterator, NamedTuple, Optional, Type
+from typing import Generator, Iterable, Iterator, List, NamedTuple, Optional, Type
 
 from . import trust as trusts
 from .blocks import Session
 from .checking import Held
+from .commands import PROCESSES, SECONDS
 from .faults import Fault
 from .identity import Finding
 from .processes import Workers
 from .questions import Line, Reader
 from .streams import Output, input_lines
 from .trust import Trust
+from .words import counted
 from .workplace import say
 
 MOST_JOBS = 1024
@@ -44,15 +46,33 @@ class Counts:
     trusted_payloads: int = 0
     blocks: int = 0
     valid_blocks: int = 0
+    # payloads that are too long to be looked at, with the greatest length of these and the greatest that is looked at
+    long_payloads: int = 0
+    longest: int = 0
+    most: int = 0
+    # how often no command was asked, since what commands may take was used up
+    unasked: int = 0
 
     def add(self, line: Line, holds: bool) -> None:
         """Counts a line."""
-        if line.is_block:
+        if line.asked.is_block:
             self.blocks += 1
             self.valid_blocks += holds
         else:
             self.payloads += 1
             self.trusted_payloads += holds
+
+    def sentences(self) -> List[str]:
+        """What is to be said of questions that weren't looked at."""
+        said = []
+        if self.long_payloads:
+            said.append(f"{counted(self.long_payloads, 'payload has', 'payloads have')} more than {self.most} octets, the "
+                        f"longest {self.longest}, and {'is' if self.long_payloads == 1 else 'are'} not trusted: "
+                        "--max-payload looks at longer ones")
+        if self.unasked:
+            said.append(f"{counted(self.unasked, 'certificate was', 'certificates were')} not checked, and no payload with "
+                        f"one is trusted: openssl may take {PROCESSES} processes and {SECONDS} seconds for one log")
+        return said
 
 
 class Answers(Iterator[Answered]):
@@ -89,9 +109,12 @@ class Answers(Iterator[Answered]):
 
     def _take(self, lines: Iterable[bytes], trust: Trust, jobs: int) -> Generator[Answered, None, None]:
         """The lines that hold. Raises Fault at the first that is no question."""
-        workers = Workers(trust, jobs)
+        workers, reader = Workers(trust, jobs), Reader(trust.longest)
+        self.counts.most = trust.longest
         try:
-            for asked, checked in workers.check(Reader().chunks(lines)):
+            for asked, checked in workers.check(reader.chunks(lines)):
+                self.counts.long_payloads, self.counts.longest = reader.long_payloads, reader.longest
+                self.counts.unasked += checked.unasked
                 for line in asked:
                     # lines behind the first wrong one have no answer
                     if line.question < len(checked.held):
@@ -106,8 +129,7 @@ class Answers(Iterator[Answered]):
         is_so = held is not None and held.is_so
         self.counts.add(line, is_so)
         if held:
-            text = line.text if line.text.endswith(b"\n") else line.text + b"\n"
-            yield Answered(text if is_so else b"", held.session, held.finding)
+            yield Answered(line.text if is_so else b"", held.session, held.finding)
 
 
 def answers(lines: Iterable[bytes], trust: Trust, jobs: int = 1) -> Answers:
@@ -145,8 +167,10 @@ def run(arguments: argparse.Namespace) -> int:
     with Output() as output, answers(input_lines(), trust, arguments.jobs) as held:
         for answered in held:
             output.add(answered.line)
-        output.release()
         counts = held.counts
+        for sentence in counts.sentences():
+            say(f"ssign-keys: {sentence}")
+        output.release()
     if not counts.payloads or counts.trusted_payloads:
         return 0
     what = "state this key" if trust.has_one_key else "are trusted"

@@ -7,7 +7,7 @@ from datetime import datetime
 from typing import Dict, List, NamedTuple, Optional, Sequence, Set, Tuple
 
 from .certificates import Certificate, key_of, loaded, read_certificates
-from .commands import ask
+from .commands import Spent, ask
 from .faults import Fault
 from .files import read_file, reason
 from .identity import shown_text
@@ -135,6 +135,8 @@ def chain_fault(leaf: Certificate, chain: Chain, moment: datetime) -> Optional[s
                         "-trusted", file.name], loaded(leaf.der).public_bytes(Encoding.PEM), "openssl")
     except OSError as fault:
         raise Fault(f"a passing file can't be written: {reason(fault)}; TMPDIR names the folder for it") from fault
+    except Spent as fault:
+        return f"its certificate wasn't checked: {fault}"
     text = said.stderr.decode(errors="replace").strip()
     if said.returncode not in (0, 2, -1):
         raise Fault(f"openssl checks no certificate with {chain.path}: {text}")

@@ -4,7 +4,9 @@ from __future__ import annotations
 from dataclasses import dataclass, field
 from typing import List, NamedTuple, Optional, Sequence, Tuple
 
+from .asked import no_question
 from .blocks import Block, Session, read_block
+from .commands import BUDGET
 from .encoding import decode, is_base64
 from .faults import Fault
 from .identity import Finding
@@ -57,6 +59,8 @@ class Checked(NamedTuple):
     """None for a question that doesn't hold, where nothing is to be said of that."""
     fault: Optional[str]
     """What is wrong with the question behind the last answer; None where all are answered."""
+    unasked: int
+    """How often no command was asked, since what commands may take was used up."""
 
 
 def is_block_part(rest: bytes) -> bool:
@@ -77,6 +81,7 @@ def block_of(question: Question) -> Tuple[bytes, Block]:
 def check_chunk(trust: Trust, chunk: Chunk) -> Checked:
     """Checks each question of a chunk."""
     held: List[Optional[Held]] = []
+    unasked = BUDGET.refused
     payloads = [text and decode(text) for text in chunk.payloads]
     try:
         for place, question in enumerate(chunk.questions):
@@ -86,8 +91,8 @@ def check_chunk(trust: Trust, chunk: Chunk) -> Checked:
             else:
                 held.append(check_payload(trust, question, payload, chunk.questions[place + 1:place + 2]))
     except Fault as fault:
-        return Checked(held, str(fault))
-    return Checked(held, chunk.fault)
+        return Checked(held, str(fault), BUDGET.refused - unasked)
+    return Checked(held, chunk.fault, BUDGET.refused - unasked)
 
 
 def check_block(trust: Trust, question: Question, payload: Optional[bytes]) -> Optional[Held]:
@@ -120,8 +125,3 @@ def check_payload(trust: Trust, question: Question, payload: Optional[bytes],
         return Held(session, trust.judge(payload, session).finding)
     except Fault as fault:
         raise Fault(f"line {question.line_number}: {fault}") from fault
-
-
-def no_question(line_number: int) -> str:
-    """The sentence for a line that is no question."""
-    return f"line {line_number} is no line `trust PAYLOAD` or `yes PAYLOAD OCTETS SIGNATURE` of ssign questions"

@@ -3,12 +3,12 @@ from __future__ import annotations
 
 import argparse
 import lzma
-import re
 import subprocess
 import zlib
 from typing import BinaryIO, Callable, Dict, Iterator, Optional, Protocol
 
 from .faults import Fault
+from .sizes import read_size
 from .words import shown, shown_name
 from .workplace import Workplace
 
@@ -24,22 +24,12 @@ XZ_MEMORY = 1 << 28
 # twenty times its size; zeros, to a thousand times in gzip, and to many thousand times in xz and zstd.
 TIMES = 100
 LEAST = 10 ** 9
-SIZE = re.compile(r"([0-9]{1,15})([KMGT]?)")
-UNITS = {"": 1, "K": 10 ** 3, "M": 10 ** 6, "G": 10 ** 9, "T": 10 ** 12}
 
 
 def add_arguments(parser: argparse.ArgumentParser) -> None:
     """Says how far a compressed log may grow; `max_expanded` of the parsed arguments."""
     parser.add_argument("--max-expanded", type=read_size, metavar="SIZE", help="refuse a compressed log that expands to "
                         "more octets than this, as 500M or 5G (default: 100 times its size, and at least 1G)")
-
-
-def read_size(word: str) -> int:
-    """A number of octets, which may end with K, M, G or T: thousands, millions and so on."""
-    parts = SIZE.fullmatch(word) if word.isascii() else None
-    if not parts or not int(parts[1]):
-        raise argparse.ArgumentTypeError(f"'{word}' is no size such as 500M or 5G")
-    return int(parts[1]) * UNITS[parts[2]]
 
 
 def most_expanded(size: int, given: Optional[int]) -> int:

@@ -9,8 +9,8 @@ from typing import NamedTuple, Optional
 from .encoding import decode, read_numbers, spell_numbers
 from .keys import Numbers, PublicKey
 
-# No longer payload is looked at: it isn't trusted. A DSA key has four numbers of at most 10,000 bits, which fit in a
-# tenth of that; a certificate or an OpenPGP key of this length is none of a signer of logs.
+# No longer payload is looked at, unless --max-payload says so: it isn't trusted. A DSA key has four numbers of at most
+# 10,000 bits, which fit in a tenth of that; a certificate or an OpenPGP key of this length is none of a signer of logs.
 LONGEST = 65536
 # RFC 5424, section 6.2.3, then the type, then the key blob, which the type N lacks.
 STAMP = rb"-|[0-9]{4}-[0-9]{2}-[0-9]{2}T[0-9]{2}:[0-9]{2}:[0-9]{2}(?:\.[0-9]{1,6})?(?:Z|[+-][0-9]{2}:[0-9]{2})"
@@ -28,9 +28,9 @@ class Payload(NamedTuple):
     """The octets of the key blob; none where the type is N."""
 
 
-def read_payload(octets: bytes) -> Optional[Payload]:
-    """The payload that has these octets, or None where they are none."""
-    if len(octets) > LONGEST:
+def read_payload(octets: bytes, longest: int = LONGEST) -> Optional[Payload]:
+    """The payload that has these octets, or None where they are none, or too many."""
+    if len(octets) > longest:
         return None
     parts = PAYLOAD.fullmatch(octets)
     if not parts:

@@ -10,6 +10,7 @@ from types import FrameType
 from typing import Deque, Iterable, Iterator, List, NamedTuple, Optional, Sequence, Tuple, TypeVar
 
 from .checking import Checked, Chunk, check_chunk
+from .commands import BUDGET
 from .faults import Fault
 from .trust import Trust
 
@@ -23,8 +24,8 @@ class Worker(NamedTuple):
     connection: Connection
 
 
-def work(trust: Trust, connection: Connection, foreign: Sequence[Connection]) -> None:
-    """What a process does until the other end is closed."""
+def work(trust: Trust, jobs: int, connection: Connection, foreign: Sequence[Connection]) -> None:
+    """What one of so many processes does until the other end is closed."""
     def stop(number: int, frame: Optional[FrameType]) -> None:
         raise SystemExit(0)
 
@@ -32,6 +33,7 @@ def work(trust: Trust, connection: Connection, foreign: Sequence[Connection]) ->
     signal.signal(signal.SIGINT, signal.SIG_IGN)
     signal.signal(signal.SIGTERM, stop)
     signal.signal(signal.SIGHUP, stop)
+    BUDGET.share(jobs)
     # A copy that stays open here would hide the end of the process that asks.
     for it in foreign:
         it.close()
@@ -73,7 +75,7 @@ class Workers:
         """One process more."""
         ours, theirs = multiprocessing.Pipe()
         foreign = [*(it.connection for it in self._workers), ours]
-        process = multiprocessing.Process(target=work, args=(self._trust, theirs, foreign), daemon=True)
+        process = multiprocessing.Process(target=work, args=(self._trust, self._jobs, theirs, foreign), daemon=True)
         process.start()
         theirs.close()
         worker = Worker(process, ours)

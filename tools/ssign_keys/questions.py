@@ -1,81 +1,72 @@
-"""Reads lines of `ssign questions` into chunks, in which each payload stands once and equal neighbours are one."""
+"""Reads the lines of `ssign questions` into chunks, in which each payload stands once and equal neighbours are one."""
 from __future__ import annotations
 
 from typing import Iterable, Iterator, List, NamedTuple, Optional, Tuple
 
-from . import payloads
-from .checking import Chunk, Question, no_question
-from .encoding import is_base64
+from .asked import Asked, Form, Once, PayloadText, Plain
+from .checking import Chunk, Question
 from .faults import Fault
 
 # A chunk takes no more than this, but for one line more.
 CHUNK_LINES = 64
 CHUNK_OCTETS = 256 * 1024
-# No longer text of base64 spells a payload that can be trusted.
-LONGEST_PAYLOAD = (payloads.LONGEST + 2) // 3 * 4
 
 
 class Line(NamedTuple):
     """A line of a chunk."""
 
-    text: bytes
-    """The line with its LF; empty where its payload is too long for it to hold."""
+    asked: Asked
     question: int
     """Which of the chunk's questions it asks."""
-    is_block: bool
-    """Whether it is a `yes` line."""
+
+    @property
+    def text(self) -> bytes:
+        """The line of an answers file for it, with its LF. It has a payload that is looked at."""
+        payload = self.asked.payload.text or b""
+        return b"yes %s %s\n" % (payload, self.asked.rest) if self.asked.is_block else b"trust %s\n" % payload
 
 
 class Reader:
-    """Takes lines one by one. What is remembered is the last line and the last payload."""
+    """Takes lines one by one. What is remembered is the last question, and each payload that is stated once."""
 
-    def __init__(self) -> None:
-        """No line yet."""
+    def __init__(self, most: int) -> None:
+        """No line yet. Payloads of so many octets at most are looked at."""
+        self._most = most
+        self._form: Optional[Form] = None
         self._line_number = 0
-        self._last = b""
-        # `PAYLOAD` of the last line, and whether it can be trusted
-        self._payload = b""
-        self._is_short = False
+        self._last: Optional[Asked] = None
         self._lines: List[Line] = []
         self._chunk = Chunk()
         self._octets = 0
+        # how many payloads are too long, and the greatest length of these
+        self.long_payloads = 0
+        self.longest = 0
 
     def chunks(self, lines: Iterable[bytes]) -> Iterator[Tuple[List[Line], Chunk]]:
-        """The lines in chunks. None ends with a `trust` line where the block behind it has the same payload.
+        """The lines in chunks. None ends with a `trust` line where the block after it has the same payload.
 
         At a line that is no question the chunk before it is given first, so that the first wrong line is the one told.
         """
         for line in lines:
             self._line_number += 1
             try:
-                word, payload, rest = self._split(line)
+                asked = self._read(line)
             except Fault as fault:
                 self._chunk.fault = str(fault)
                 break
-            if self._is_full() and not (self._ends_with_trust() and word == b"yes" and payload is None):
+            if asked is None:
+                continue
+            if self._is_full() and not (self._ends_with_trust() and asked.is_block and self._has_last(asked.payload)):
                 yield self._take()
-            self._add(line, word, payload, rest)
+            self._add(asked)
         if self._lines or self._chunk.fault:
             yield self._take()
 
-    def _split(self, line: bytes) -> Tuple[bytes, Optional[bytes], bytes]:
-        """The word of a line, its payload where that isn't the last one, and what stands behind it."""
-        end = len(line) - line.endswith(b"\n")
-        start = line.find(b" ", 0, 6) + 1
-        word = line[:max(start - 1, 0)]
-        if word not in (b"trust", b"yes"):
-            raise Fault(no_question(self._line_number))
-        behind = line.find(b" ", start, end)
-        if (behind >= 0) != (word == b"yes"):
-            raise Fault(no_question(self._line_number))
-        behind = end if behind < 0 else behind
-        rest = line[behind + 1:end]
-        if self._payload and behind - start == len(self._payload) and line.startswith(self._payload, start):
-            return word, None, rest
-        payload = line[start:behind]
-        if not is_base64(payload):
-            raise Fault(no_question(self._line_number))
-        return word, payload, rest
+    def _read(self, line: bytes) -> Optional[Asked]:
+        """The question of a line. The first line says in which form all are."""
+        if self._form is None:
+            self._form = Once(self._most) if line.startswith(b"payload ") else Plain(self._most)
+        return self._form.read(line, self._line_number)
 
     def _is_full(self) -> bool:
         """Whether another line belongs to the next chunk."""
@@ -83,25 +74,39 @@ class Reader:
 
     def _ends_with_trust(self) -> bool:
         """Whether the last line is a `trust` line."""
-        return not self._lines[-1].is_block
+        return not self._lines[-1].asked.is_block
 
-    def _add(self, line: bytes, word: bytes, payload: Optional[bytes], rest: bytes) -> None:
-        """Puts a line into the chunk."""
-        if payload is not None:
-            self._payload = payload
-            self._is_short = len(payload) <= LONGEST_PAYLOAD
-        if payload is not None or not self._chunk.payloads:
-            self._chunk.payloads.append(self._payload if self._is_short else None)
-        is_block = word == b"yes"
-        if payload is not None or not self._lines or line != self._last:
-            self._chunk.questions.append(Question(self._line_number, len(self._chunk.payloads) - 1, is_block, rest))
-        kept = line if self._is_short else b""
-        self._lines.append(Line(kept, len(self._chunk.questions) - 1, is_block))
-        self._octets += len(kept) + len(rest)
-        self._last = line
+    def _has_last(self, payload: PayloadText) -> bool:
+        """Whether a payload is that of the last question."""
+        return self._last is not None and self._last.payload is payload
+
+    def _add(self, asked: Asked) -> None:
+        """Puts a question into the chunk."""
+        payload = asked.payload
+        is_new = not self._has_last(payload)
+        if payload.text is None and not payload.is_counted:
+            payload.is_counted = True
+            self.long_payloads += 1
+            self.longest = max(self.longest, payload.length)
+        if is_new or not self._chunk.payloads:
+            self._chunk.payloads.append(payload.text)
+            self._octets += len(payload.text or b"")
+        if is_new or not self._lines or not is_same(asked, self._last):
+            self._chunk.questions.append(
+                Question(self._line_number, len(self._chunk.payloads) - 1, asked.is_block, asked.rest))
+        # what is asked about a payload that isn't looked at is no line of an answers file
+        kept = asked if payload.text is not None else asked._replace(rest=b"")
+        self._lines.append(Line(kept, len(self._chunk.questions) - 1))
+        self._octets += len(asked.rest)
+        self._last = asked
 
     def _take(self) -> Tuple[List[Line], Chunk]:
         """The chunk, in whose place there is an empty one."""
         taken = self._lines, self._chunk
         self._lines, self._chunk, self._octets = [], Chunk(), 0
         return taken
+
+
+def is_same(one: Asked, other: Optional[Asked]) -> bool:
+    """Whether two neighbours about one payload ask the same."""
+    return other is not None and one.is_block == other.is_block and one.rest == other.rest

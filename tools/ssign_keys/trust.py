@@ -11,7 +11,8 @@ from .faults import Fault
 from .files import read_file
 from .identity import UNKNOWN, Finding, Identity
 from .keys import NO_KEY, PUBLIC_KEY, Numbers, PublicKey, one_line, read_pem_keys, stated_fingerprint
-from .payloads import Payload, moment_of, read_payload, stated_numbers
+from .payloads import LONGEST, Payload, moment_of, read_payload, stated_numbers
+from .sizes import read_size
 
 if TYPE_CHECKING:
     from .authorities import Authority, Chain
@@ -83,6 +84,8 @@ def add_arguments(parser: argparse.ArgumentParser) -> None:
                         help="trust a payload with a certificate that one of these issued for the HOSTNAME of its session")
     parser.add_argument("--cert", action="append", default=[], metavar="CERT.pem",
                         help="trust a payload with this certificate")
+    parser.add_argument("--max-payload", type=read_size, default=LONGEST, metavar="SIZE", help="look at payloads of so many "
+                        "octets; a longer one isn't trusted (default: 65536)")
     parser.add_argument("--at-signing-time", action="store_true", help="judge whether a certificate has expired at the "
                         "payload's time, which its signer states, and not now")
 
@@ -135,13 +138,15 @@ class Trust:
     """The keys, sessions and certificates that the reviewer gave. It can be handed to another process."""
 
     def __init__(self, keys: Dict[Numbers, Trusted], session_keys: Sequence[SessionKey],
-                 authorities: Sequence[Authority], signers: Dict[bytes, Trusted], is_at_signing_time: bool) -> None:
-        """Keys by their numbers, and signers by their certificates."""
+                 authorities: Sequence[Authority], signers: Dict[bytes, Trusted], is_at_signing_time: bool,
+                 longest: int = LONGEST) -> None:
+        """Keys by their numbers, and signers by their certificates. Payloads of so many octets are looked at."""
         self._keys = keys
         self._session_keys = session_keys
         self._authorities = authorities
         self._signers = signers
         self._is_at_signing_time = is_at_signing_time
+        self.longest = longest
         self._now = datetime.now(timezone.utc).replace(microsecond=0)
         # what was asked last, since questions about one payload stand together
         self._last_payload: Optional[bytes] = None
@@ -166,7 +171,7 @@ class Trust:
         signers, authorities = read_certificates(arguments.cert, arguments.ca)
         if not (keys or session_keys or signers or authorities):
             raise Fault("nothing says which key is to be trusted: give a public key, --session-key, --ca or --cert")
-        return cls(keys, session_keys, authorities, signers, arguments.at_signing_time)
+        return cls(keys, session_keys, authorities, signers, arguments.at_signing_time, arguments.max_payload)
 
     @property
     def patterns(self) -> List[SessionKey]:
@@ -241,7 +246,7 @@ class Trust:
     def _stated(self, payload: bytes) -> Optional[Stated]:
         """What a payload states, or None where it is no payload."""
         if payload != self._last_payload:
-            read = read_payload(payload)
+            read = read_payload(payload, self.longest)
             self._last_stated = self._state(read) if read else None
             self._last_payload = payload
         return self._last_stated

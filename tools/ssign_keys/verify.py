@@ -163,6 +163,9 @@ class Verifier:
                 self._valid += it.line.startswith(b"yes ")
                 self._progress.show("checking signatures", count, 0, "valid blocks")
             finish(file)
+        for sentence in answered.counts.sentences():
+            self._progress.clear()
+            say(f"ssign-keys: {sentence}")
 
     def _refuse(self, refused: Refused) -> None:
         """Has the whole log refused that was refused already by the messages that may be blocks.
