@@ -14,11 +14,11 @@ from . import sha1
 from . import trust as trust_options
 from .agreement import Survey, Walked
 from .answer import answers
-from .answers_out import AnswersOut
 from .blocks import Session
 from .broken_blocks import Broken, Search
 from .faults import Fault
 from .kept import Counters, copy_counters, is_standard_pipe, read_counters
+from .kept_file import KeptFile
 from .logs import Log, open_log
 from .machine import Machine
 from .manifested import Listed
@@ -64,6 +64,8 @@ def add_arguments(parser: argparse.ArgumentParser) -> None:
                         "lines `ok`")
     parser.add_argument("--answers-out", metavar="FILE", help="keep the answers file, for `ssign review --answers`; FILE "
                         "may not be there yet")
+    parser.add_argument("--counters-out", metavar="FILE", help="keep the counters of the log, as `ssign counters` writes them; "
+                        "FILE may not be there yet")
     add_program_argument(parser)
     parser.add_argument("logs", nargs="+", metavar="LOG", help="the stored log, or several that follow one another; - is "
                         "standard input; each plain, or compressed by gzip, xz or zstd")
@@ -82,8 +84,10 @@ def run(arguments: argparse.Namespace) -> int:
     progress = Progress()
     log: Optional[Log] = None
     try:
-        with Workplace() as workplace, AnswersOut(arguments.answers_out) as answers_out:
+        with Workplace() as workplace, KeptFile("--answers-out", "the answers", arguments.answers_out) as answers_out, \
+                KeptFile("--counters-out", "the counters", arguments.counters_out) as counters_out:
             answers_out.check()
+            counters_out.check()
             refuse_two_counters(arguments.counters)
             refuse_one_pipe(arguments.counters, arguments.logs)
             trust = Trust.from_arguments(arguments)
@@ -99,6 +103,8 @@ def run(arguments: argparse.Namespace) -> int:
             reviewed = verifier.review(listed, arguments.allow_sha1)
             verifier.name_unused(trust)
             pieces = verifier.output(reviewed, arguments, listed)
+            if arguments.counters_out is not None:
+                counters_out.keep(verifier.count())
             log.check_unchanged()
             answers_out.keep(verifier.answers_path)
             progress.clear()
@@ -203,6 +209,15 @@ class Verifier:
         if self._walked.marked == survey.verified + survey.totals.refused + survey.totals.spoilt:
             return Broken()
         return Search(self._log, survey.unlisted, self._progress).run(self._program, self._words, self._workplace)
+
+    def count(self) -> str:
+        """Has ssign count how far each session went, which its blocks alone say. Gives the path of the counters file."""
+        with self._workplace.new_file("counted") as file:
+            counting = Run(self._program, ["counters", f"--answers={self.answers_path}", *self._words], self._workplace,
+                           self._progress, subprocess.PIPE, file)
+            counting.feed(self._candidates())
+            counting.end(lambda: None)
+        return self._workplace.path("counted")
 
     def _review(self, words: List[str]) -> int:
         """Has ssign review the log, with these words besides."""
