@@ -7,6 +7,7 @@ from typing import Iterator, List, Optional
 
 from . import expand as expand_options
 from . import form as forms
+from . import set_aside as set_aside_options
 from .defaults import fill
 from .keys import PrivateKey, read_private_key
 from .logs import Log, open_log
@@ -14,6 +15,7 @@ from .programs import Refused, Run, add_limit_arguments, add_program_argument, f
 from .progress import Progress
 from .refusals import fault_of, named, warn_of_form
 from .seal import seals
+from .set_aside import SetAside
 from .unsigned import warning
 from .workplace import Workplace, finish, put, say
 
@@ -40,6 +42,7 @@ def add_arguments(parser: argparse.ArgumentParser) -> None:
     parser.add_argument("--key", required=True, metavar="PRIVATE.pem", help="the private key to sign with")
     for name, (value, meaning) in OPTIONS.items():
         parser.add_argument(f"--{name}", action="append", required=name == "rsid", metavar=value, help=meaning)
+    set_aside_options.add_arguments(parser)
     forms.add_arguments(parser)
     add_limit_arguments(parser)
     expand_options.add_arguments(parser)
@@ -48,20 +51,26 @@ def add_arguments(parser: argparse.ArgumentParser) -> None:
 
 
 def run(arguments: argparse.Namespace) -> int:
-    """Writes the signed log to standard output, and gives the status of `ssign sign`."""
+    """Writes the signed log to standard output. Status 1 if a message was set aside, else that of `ssign sign`."""
     program = find_program(arguments)
     progress = Progress()
     log: Optional[Log] = None
     try:
-        with Workplace() as workplace:
+        with Workplace() as workplace, SetAside(arguments.set_aside) as aside:
+            aside.check()
             named_form = forms.named_form(arguments)
             key = read_private_key(arguments.key)
             fill(arguments, key.public)
             log = open_log([arguments.log], named_form, workplace, progress, arguments.max_expanded)
-            words = log_words(arguments, log.are_lines) + handed_on(arguments, list(OPTIONS))
+            words = log_words(arguments, log.are_lines)
             warn(arguments.log, log)
-            answers = seal(program, words, key, log, workplace, progress)
-            return write(program, words, answers, log, workplace, progress)
+            signable = aside.sort_out(program, words, log, workplace, progress)
+            words += handed_on(arguments, list(OPTIONS))
+            answers = seal(program, words, key, signable, workplace, progress)
+            status = write(program, words, answers, signable, workplace, progress)
+            progress.clear()
+            aside.say()
+            return max(status, 1) if aside.count else status
     except Refused as refused:
         progress.clear()
         fault = fault_of(refused, program, arguments, log)

@@ -1,0 +1,182 @@
+"""Messages that can't be signed: each is put apart with its place in the log, and the others are signed without it.
+
+`ssign inspect` says which messages these are: those that `ssign sign` refuses with O2 or O3.
+"""
+from __future__ import annotations
+
+import argparse
+import contextlib
+import subprocess
+from types import TracebackType
+from typing import BinaryIO, Dict, Iterator, List, NamedTuple, Optional, Type
+
+from .faults import Fault
+from .kept_file import KeptFile
+from .logs import Log, Part
+from .programs import Run
+from .progress import Progress
+from .walk import Walk, read_at
+from .words import counted, shown_name
+from .workplace import Workplace, finish, put, say
+
+COPIED = 1 << 20
+# how many messages are named by their place
+NAMED = 20
+# The parts of a message in which it fails to be one of RFC 5424, section 6, by the numbers that ssign prints.
+PARTS = {
+    "M1": "PRI", "M2": "VERSION", "M3": "TIMESTAMP", "M4": "HOSTNAME", "M5": "APP-NAME", "M6": "PROCID", "M7": "MSGID",
+    "M8": "the syntax of STRUCTURED-DATA", "M9": "a name in STRUCTURED-DATA", "M10": "a value that isn't UTF-8",
+    "M11": "an SD-ID that stands twice", "M12": "MSG that isn't UTF-8",
+}
+BLOCKS = {"signature": "it is a signature block", "certificate": "it is a certificate block",
+          "spoilt": "it has the element ssign or ssign-cert"}
+
+
+class Odd(NamedTuple):
+    """A message that can't be signed."""
+
+    place: int
+    what: str
+    """What it is, in the words of `ssign inspect`, as `unparsed M3 17`."""
+
+    @property
+    def why(self) -> str:
+        """Why it can't be signed, for a person."""
+        kind, *rest = self.what.split(" ")
+        if kind == "unparsed":
+            return f"{rest[0]} at octet {rest[1]}: {PARTS[rest[0]]}"
+        return BLOCKS[kind] + (f", {rest[0]}" if kind == "spoilt" else "")
+
+
+def add_arguments(parser: argparse.ArgumentParser) -> None:
+    """Says how messages that can't be signed are put apart; `set_aside` of the parsed arguments."""
+    parser.add_argument("--set-aside", metavar="FILE", help="write each message that can't be signed to FILE, as frames, and "
+                        "its place to FILE.places, and sign the others; the status is 1 then. FILE may not be there yet")
+
+
+class SetAside:
+    """The files of --set-aside. They stand there whole before the signed log is written, and go if the run fails."""
+
+    def __init__(self, path: Optional[str]) -> None:
+        """None where the option isn't given: then nothing is put apart."""
+        self._path = path
+        self._messages = KeptFile("--set-aside", "messages", path)
+        self._places = KeptFile("--set-aside", "the places of messages", None if path is None else path + ".places")
+        self._files = contextlib.ExitStack()
+        self.count = 0
+
+    def __enter__(self) -> SetAside:
+        """Itself."""
+        self._files.enter_context(self._messages)
+        self._files.enter_context(self._places)
+        return self
+
+    def __exit__(self, kind: Optional[Type[BaseException]], fault: Optional[BaseException],
+                 trace: Optional[TracebackType]) -> None:
+        """Removes the files of a run that failed."""
+        self._files.__exit__(kind, fault, trace)
+
+    def check(self) -> None:
+        """Refuses names that are taken, before anything is done."""
+        self._messages.check()
+        self._places.check()
+
+    def sort_out(self, program: str, words: List[str], log: Log, workplace: Workplace, progress: Progress) -> Log:
+        """The log without the messages that can't be signed; the same log where there are none, or without the option."""
+        if self._path is None:
+            return log
+        inspecting = Run(program, ["inspect", "--findings", *words], workplace, progress, log.rewind(), subprocess.PIPE)
+        with workplace.new_file("aside") as messages, workplace.new_file("aside.places") as places:
+            kept = workplace.new_file("signable")
+            sorting = Sorting(log, kept, messages, places, progress)
+            for it in odd_messages(inspecting.lines(lambda: progress.show("inspecting", log.position(), log.size, "octets")), log):
+                sorting.take(it)
+            log.check_unchanged()
+            self.count = sorting.count
+            if not sorting.count:
+                return log
+            sorting.end()
+            for file in (messages, places, kept):
+                finish(file)
+            self._messages.keep(workplace.path("aside"))
+            self._places.keep(workplace.path("aside.places"))
+        self._sorting = sorting
+        return Log(kept, [Part(log.parts[0].name, 0, 0)], log.are_lines, True)
+
+    def say(self) -> None:
+        """Says what was put apart, once the signed log is written."""
+        if not self.count:
+            return
+        said = counted(self.count, "message can't be signed, and was set aside", "messages can't be signed, and were set aside")
+        say(f"ssign-keys: {said} in {shown_name(self._path or '')}:")
+        for it in self._sorting.named:
+            say(f"  place {it.place}: {it.why}")
+        if self.count > len(self._sorting.named):
+            for kind, count in sorted(self._sorting.kinds.items()):
+                say(f"  in all: {kind}, {counted(count, 'message')}")
+            say(f"  {shown_name((self._path or '') + '.places')} has the place of each")
+
+
+def odd_messages(lines: Iterator[bytes], log: Log) -> Iterator[Odd]:
+    """The messages that can't be signed, by rising place, from the lines of `ssign inspect --findings`."""
+    for line in lines:
+        word, *fields = line.decode("ascii").rstrip("\n").split(" ")
+        if word == "torn":
+            raise Fault(f"the log {shown_name(log.parts[0].name)} breaks off in the message that begins at its octet "
+                        f"{fields[0]}, so it can't be signed")
+        if word == "end":
+            return
+        if word == "unparsed":
+            yield Odd(int(fields[0]), " ".join((word, *fields[1:])))
+        elif word in BLOCKS:
+            yield Odd(int(fields[0]), " ".join((word, *fields[1:])) if word == "spoilt" else word)
+        else:
+            raise Fault(f"ssign inspect wrote a line that isn't known here: {word}")
+
+
+class Sorting:
+    """Goes over a log, and copies each message to one of two files."""
+
+    def __init__(self, log: Log, kept: BinaryIO, messages: BinaryIO, places: BinaryIO, progress: Progress) -> None:
+        """Nothing is copied yet."""
+        self._log = log
+        self._walk = Walk(log.file, log.are_lines)
+        self._kept = kept
+        self._messages = messages
+        self._places = places
+        self._progress = progress
+        self.count = 0
+        self.named: List[Odd] = []
+        self.kinds: Dict[str, int] = {}
+
+    def take(self, odd: Odd) -> None:
+        """Puts a message apart, and keeps those before it."""
+        walk, start = self._walk, self._walk.offset
+        while walk.place < odd.place:
+            if not walk.step(odd.place - walk.place):
+                raise self._log.changed()
+        self._keep(start, walk.offset)
+        text = walk.message()
+        if text is None or not walk.step(1):
+            raise self._log.changed()
+        put(self._messages, b"%d %s" % (len(text), text))
+        put(self._places, f"{odd.place} {odd.what}\n".encode("ascii"))
+        self.count += 1
+        if len(self.named) < NAMED:
+            self.named.append(odd)
+        kind = odd.why.split(": ")[-1]
+        self.kinds[kind] = self.kinds.get(kind, 0) + 1
+
+    def end(self) -> None:
+        """Keeps the rest."""
+        self._keep(self._walk.offset, self._log.size)
+
+    def _keep(self, start: int, end: int) -> None:
+        """Copies octets of the log to what is signed."""
+        while start < end:
+            piece = read_at(self._log.file, start, min(COPIED, end - start))
+            if not piece:
+                raise self._log.changed()
+            put(self._kept, piece)
+            start += len(piece)
+            self._progress.show("setting messages aside", start, self._log.size, "octets")
