@@ -16,7 +16,8 @@ from .kept import copy_counters
 from .logs import Log, open_file, open_log
 from .manifest_file import Appending
 from .manifest_findings import Stored, bare, of_logs, of_manifest
-from .manifest_form import FIRST_SUM, Entry, Extent, Mark, SetAside, file_of, read_manifest, read_mark, stamp_of
+from .manifest_form import (FIRST_SUM, LONGEST_PLACE, Copied, Entry, Extent, Manifest, Mark, SetAside, file_of,
+                            read_manifest, read_mark, stamp_of)
 from .payloads import present_stamp
 from .programs import Refused, Run, add_limit_arguments, add_program_argument, find_program, log_words
 from .progress import Progress
@@ -26,19 +27,20 @@ from .walk import Walk, read_at
 from .words import counted, shown_name
 from .workplace import Workplace, say
 
-ACTIONS = ("add", "check")
+ACTIONS = ("add", "copied", "check")
 PIECE = 1 << 20
 
 
 def add_arguments(parser: argparse.ArgumentParser) -> None:
     """Says which words the command takes."""
     parser.add_argument("action", choices=ACTIONS, metavar="ACTION", help="add: append the entry of a signed log that was "
-                        "verified, and print its number and hash; check: compare a folder of logs with the manifest "
-                        "[possible values: add, check]")
+                        "verified, and print its number and hash; copied: append that a signed log was copied to "
+                        "another place, once the copy is compared; check: compare a folder of logs with the manifest "
+                        "[possible values: add, copied, check]")
     parser.add_argument("manifest", metavar="MANIFEST", help="the manifest; to begin one, make an empty file")
-    parser.add_argument("place", metavar="LOG", help="add: the signed log; check: the folder of the logs")
-    parser.add_argument("--counters", metavar="FILE", help="add: the counters of the log, as `ssign counters` "
-                        "wrote them; has "
+    parser.add_argument("place", metavar="LOG", help="add: the signed log; copied: the copy of it; check: the folder of "
+                        "the logs")
+    parser.add_argument("--counters", metavar="FILE", help="add: the counters of the log, as `ssign counters` wrote them; has "
                         "to be given")
     parser.add_argument("--set-aside", metavar="FILE", help="add: the file of the messages that couldn't be "
                         "signed, as frames")
@@ -48,8 +50,10 @@ def add_arguments(parser: argparse.ArgumentParser) -> None:
                         "refuses a manifest that ends with another one; check looks whether it is there")
     parser.add_argument("--logs", metavar="PATTERN", help="check: the names of signed logs in the folder, as *.frames; "
                         "names with a dot in front are skipped (default: *)")
-    parser.add_argument("--json", action="store_true", help="check: print a JSON object for each finding, and one for "
-                        "the total")
+    parser.add_argument("--to", metavar="PLACE", help="copied: where the copy is kept, as the name of a machine; has to be given")
+    parser.add_argument("--sizes", action="store_true", help="check: read no log: compare its name and its size alone, and of a "
+                        "compressed log its name")
+    parser.add_argument("--json", action="store_true", help="check: print a JSON object for each finding, and one for the total")
     forms.add_arguments(parser)
     add_limit_arguments(parser)
     add_program_argument(parser)
@@ -58,13 +62,16 @@ def add_arguments(parser: argparse.ArgumentParser) -> None:
 def run(arguments: argparse.Namespace) -> int:
     """Does the action."""
     kept = None if arguments.last is None else read_mark(arguments.last)
-    with_other = {"add": ("logs", "json"),
-                  "check": ("counters", "set_aside", "signed", "lines", "frames", "max_len", "max_messages")}
+    of_add = ("counters", "set_aside", "signed", "lines", "frames", "max_len", "max_messages")
+    of_check = ("logs", "sizes", "json")
+    with_other = {"add": (*of_check, "to"), "copied": (*of_add, *of_check), "check": (*of_add, "to")}
     for name in with_other[arguments.action]:
         if getattr(arguments, name):
             raise Fault(f"--{name.replace('_', '-')} doesn't go with `manifest {arguments.action}`")
     if arguments.action == "check":
         return check(arguments, kept)
+    if arguments.action == "copied":
+        return note_copy(arguments, kept)
     if arguments.counters is None:
         raise Fault("`manifest add` needs the counters of the log: --counters FILE")
     return add(arguments, kept)
@@ -224,13 +231,49 @@ def set_aside_of(path: Optional[str]) -> Optional[SetAside]:
     return SetAside(name_for(path), length, sha256, walk.place)
 
 
+# ---- copied
+
+def note_copy(arguments: argparse.Namespace, kept: Optional[Mark]) -> int:
+    """Appends that a log was copied, where the copy is what its entry says. Prints the number and hash of the line."""
+    if arguments.to is None:
+        raise Fault("`manifest copied` needs the place of the copy: --to PLACE")
+    if not 1 <= len(arguments.to) <= LONGEST_PLACE or not arguments.to.isprintable():
+        raise Fault(f"--to isn't 1 to {LONGEST_PLACE} printable characters")
+    with Workplace() as workplace:
+        copy = stored_at(arguments.place, name_for(arguments.place), workplace)
+        with Appending(arguments.manifest, kept) as appending:
+            wanted = file_named(appending.manifest, copy.name)
+            if wanted is None:
+                raise Fault(f"no entry of the manifest {shown_name(arguments.manifest)} names {shown_name(copy.name)}")
+            if wanted != (copy.size, copy.sha256):
+                raise Fault(f"{shown_name(arguments.place)} isn't the file that the manifest names: it has "
+                            f"{counted(copy.size or 0, 'octet')} and the SHA-256 {copy.sha256}")
+            assert copy.sha256 is not None
+            line = appending.append_copy(Copied(1, FIRST_SUM, present_stamp(), copy.name, copy.sha256, arguments.to))
+        with Output() as output:
+            output.add(f"{line.mark}\n".encode("ascii"))
+            output.release()
+    return 0
+
+
+def file_named(manifest: Manifest, name: str) -> Optional[Tuple[int, str]]:
+    """The size and the SHA-256 of the signed log of this name, or of the file of what was set aside."""
+    for entry in manifest.entries:
+        for it in (entry, entry.set_aside):
+            if it is not None and it.name == name:
+                return it.size, it.sha256
+    return None
+
+
 # ---- check
 
 def check(arguments: argparse.Namespace, kept: Optional[Mark]) -> int:
     """Prints what is wrong with the manifest, and with the logs in a folder."""
     with Workplace() as workplace, Output() as output:
         manifest = read_manifest(arguments.manifest)
-        logs = list(stored_in(arguments.place, arguments.logs or "*", arguments.manifest, workplace))
+        look = sized_at if arguments.sizes else stored_at
+        logs = [look(path, name, workplace) for path, name in
+                logs_in(arguments.place, arguments.logs or "*", arguments.manifest)]
         found = [*of_manifest(manifest, kept), *of_logs(manifest, logs)]
         status = 1 if found else 0
         lines = [it.line() if arguments.json else it.text() for it in found]
@@ -249,8 +292,8 @@ def check(arguments: argparse.Namespace, kept: Optional[Mark]) -> int:
     return status
 
 
-def stored_in(folder: str, pattern: str, manifest: str, workplace: Workplace) -> Iterator[Stored]:
-    """The logs in a folder, in the order of their names. The manifest itself is none."""
+def logs_in(folder: str, pattern: str, manifest: str) -> Iterator[Tuple[str, str]]:
+    """The paths and names of the logs in a folder, in the order of their names. The manifest itself is none."""
     try:
         names = sorted((it for it in os.listdir(folder) if not it.startswith(".")), key=os.fsencode)
     except OSError as fault:
@@ -260,7 +303,16 @@ def stored_in(folder: str, pattern: str, manifest: str, workplace: Workplace) ->
         if os.path.isdir(path) or (os.path.exists(path) and os.path.samefile(path, manifest)):
             continue
         if fnmatch.fnmatchcase(bare(name), pattern) or fnmatch.fnmatchcase(name, pattern):
-            yield stored_at(path, name, workplace)
+            yield path, name
+
+
+def sized_at(path: str, name: str, workplace: Workplace) -> Stored:
+    """A log of a folder, which isn't read. How long a compressed one is, isn't known then."""
+    try:
+        size: Optional[int] = os.stat(path).st_size
+    except OSError as fault:
+        raise Fault(f"{shown_name(path)} can't be looked at: {fault.strerror}") from fault
+    return Stored(shown_name(name), bare(name), None if bare(name) != name else size, None)
 
 
 def stored_at(path: str, name: str, workplace: Workplace) -> Stored:

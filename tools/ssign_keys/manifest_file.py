@@ -10,7 +10,7 @@ from typing import Optional, Type
 
 from .faults import Fault
 from .files import reason
-from .manifest_form import Entry, Manifest, Mark, open_manifest, read_entries
+from .manifest_form import Copied, Entry, Manifest, Mark, open_manifest, read_entries
 from .words import shown_name
 
 # how long another run may hold the manifest, in seconds
@@ -73,7 +73,14 @@ class Appending:
                         "changed, put in or taken out")
 
     def _is_kept(self) -> bool:
-        return self._kept is None or self.manifest.last == self._kept
+        """Whether the mark that was kept apart is that of the last line, or of one after which copies alone stand."""
+        if self._kept is None or self._kept == self.manifest.last:
+            return True
+        number, given = self._kept
+        lines = self.manifest.lines
+        if not 0 < number <= len(lines) or lines[number - 1].sum != given:
+            return False
+        return all(isinstance(it, Copied) for it in lines[number:])
 
     def append(self, entry: Entry) -> Entry:
         """Appends an entry, which gets its number and the hash of the line before, and gives it.
@@ -84,17 +91,30 @@ class Appending:
         if entries:
             last = entries[-1]
             again = dataclasses.replace(entry, number=last.number, previous=last.previous, signed=last.signed)
-            if again == last and self._kept in (None, self.manifest.last, Mark(last.number - 1, last.previous)):
+            if again == last and (self._is_kept() or self._kept == Mark(last.number - 1, last.previous)):
                 return last
-        if not self._is_kept():
-            number, given = self.manifest.last
-            raise Fault(f"the manifest {shown_name(self._path)} ends with the entry {number}:{given}, and not "
-                        "with the one that "
-                        "--last names: its end was cut, or entries were added")
+        self._refuse_other_end()
         self._refuse_twice(entry)
         entry = dataclasses.replace(entry, number=self.manifest.last.number + 1, previous=self.manifest.last.sum)
         self._write(entry.line())
         return entry
+
+    def append_copy(self, copy: Copied) -> Copied:
+        """Appends that a log was copied, and gives the line; where that stands there already, the line that says it."""
+        for it in self.manifest.copies:
+            if (it.name, it.sha256, it.to) == (copy.name, copy.sha256, copy.to):
+                return it
+        self._refuse_other_end()
+        copy = dataclasses.replace(copy, number=self.manifest.last.number + 1, previous=self.manifest.last.sum)
+        self._write(copy.line())
+        return copy
+
+    def _refuse_other_end(self) -> None:
+        """Refuses a manifest that doesn't end with the entry that was kept apart."""
+        if not self._is_kept():
+            number, given = self.manifest.last
+            raise Fault(f"the manifest {shown_name(self._path)} ends with the entry {number}:{given}, and not with the one that "
+                        "--last names: its end was cut, or entries were added")
 
     def _refuse_twice(self, entry: Entry) -> None:
         """Refuses a log, or a session, that has an entry."""

@@ -3,7 +3,7 @@ from __future__ import annotations
 
 import json
 from dataclasses import dataclass
-from typing import Dict, List, NamedTuple, Optional, Sequence, Tuple
+from typing import Dict, Iterator, List, NamedTuple, Optional, Sequence, Tuple
 
 from .blocks import Session
 from .manifest_form import Entry, Extent, Manifest, Mark
@@ -20,8 +20,10 @@ class Stored(NamedTuple):
     """What a person is shown."""
     name: str
     """Its name, without its folder and without what says how it is compressed; empty where it has none."""
-    size: int
-    sha256: str
+    size: Optional[int]
+    """None where it wasn't expanded to know it."""
+    sha256: Optional[str]
+    """None where it wasn't read."""
 
 
 @dataclass(frozen=True)
@@ -63,7 +65,7 @@ def of_manifest(manifest: Manifest, kept: Optional[Mark]) -> List[Found]:
         found.append(Found(f"line {manifest.torn}", "torn, the manifest breaks off in this line"))
     if kept is not None:
         found += not_kept(manifest, kept)
-    return found + twice(manifest.entries) + skipped(manifest.entries)
+    return found + twice(manifest) + skipped(manifest)
 
 
 def not_kept(manifest: Manifest, kept: Mark) -> List[Found]:
@@ -71,20 +73,24 @@ def not_kept(manifest: Manifest, kept: Mark) -> List[Found]:
     number, given = kept
     if number == 0:
         return []
-    if number > len(manifest.entries):
-        return [Found(f"entry {number}", f"cut, the manifest has "
-                      f"{counted(len(manifest.entries), 'entry', 'entries')}, and this "
+    if number > len(manifest.lines):
+        return [Found(f"entry {number}", f"cut, the manifest has {counted(len(manifest.lines), 'entry', 'entries')}, and this "
                       "one was kept", number)]
-    if manifest.entries[number - 1].sum != given:
+    if manifest.lines[number - 1].sum != given:
         return [Found(f"entry {number}", "replaced, it isn't the one whose SHA-256 was kept", number)]
     return []
 
 
-def twice(entries: Sequence[Entry]) -> List[Found]:
+def numbered(manifest: Manifest) -> Iterator[Tuple[int, Entry]]:
+    """The entries of logs, each with its line, from 1."""
+    return ((line, it) for line, it in enumerate(manifest.lines, 1) if isinstance(it, Entry))
+
+
+def twice(manifest: Manifest) -> List[Found]:
     """Entries of one log, one file or one session."""
     found: List[Found] = []
     seen: Dict[Tuple[str, object], int] = {}
-    for line, it in enumerate(entries, 1):
+    for line, it in numbered(manifest):
         for what, key in (("log", it.name), ("file", it.sha256), ("session", it.session)):
             first = seen.setdefault((what, key), line)
             if first != line:
@@ -93,11 +99,11 @@ def twice(entries: Sequence[Entry]) -> List[Found]:
     return found
 
 
-def skipped(entries: Sequence[Entry]) -> List[Found]:
+def skipped(manifest: Manifest) -> List[Found]:
     """RSIDs that no entry has, between those of two entries of one signer."""
     found: List[Found] = []
     last: Dict[Tuple[bytes, ...], int] = {}
-    for line, it in enumerate(entries, 1):
+    for line, it in numbered(manifest):
         signer, rsid = it.session[:3], int(it.session.rsid)
         before = last.get(signer)
         names = b" ".join(signer).decode("ascii")
@@ -120,12 +126,15 @@ class Names:
 
     def entry(self, stored: Stored) -> Optional[Entry]:
         """The entry of a log: the one that has its name, or else its octets."""
-        return self._by_name.get(stored.name) or self._by_sum.get(stored.sha256)
+        return self._by_name.get(stored.name) or self._with_octets(stored)
+
+    def _with_octets(self, stored: Stored) -> Optional[Entry]:
+        return None if stored.sha256 is None else self._by_sum.get(stored.sha256)
 
     def look(self, stored: Stored) -> Optional[Found]:
         """What is wrong with a log."""
         entry = self._by_name.get(stored.name)
-        other = self._by_sum.get(stored.sha256)
+        other = self._with_octets(stored)
         if entry is None:
             aside = self._aside.get(stored.name)
             if aside is not None and aside.set_aside is not None:
@@ -144,8 +153,8 @@ class Names:
 
 
 def differs(stored: Stored, number: int, size: int, sha256: str) -> Optional[Found]:
-    """How a file differs from the one of an entry."""
-    if stored.sha256 == sha256:
+    """How a file differs from the one of an entry, as far as it was looked at."""
+    if stored.sha256 == sha256 or stored.size is None or (stored.sha256 is None and stored.size == size):
         return None
     if stored.size == 0:
         return Found(stored.label, f"empty, entry {number} has {counted(size, 'octet')}", number)
@@ -156,10 +165,10 @@ def differs(stored: Stored, number: int, size: int, sha256: str) -> Optional[Fou
 
 
 def of_logs(manifest: Manifest, logs: Sequence[Stored]) -> List[Found]:
-    """What is wrong with all logs that are there, and which are missing."""
+    """What is wrong with all logs that are there, and which are missing. One that was copied away may be gone."""
     names = Names(manifest)
     found = [it for it in map(names.look, logs) if it is not None]
-    here = {it.name for it in logs}
+    here = {it.name for it in logs} | {it.name for it in manifest.copies}
     for entry in manifest.entries:
         for name in (entry.name, *(() if entry.set_aside is None else (entry.set_aside.name,))):
             if name not in here:

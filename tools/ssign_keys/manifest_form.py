@@ -1,4 +1,7 @@
-"""A manifest: a line of JSON for each signed log, with the hash of the line before (docs/FORMATS.md, "A manifest")."""
+"""A manifest: a line of JSON for each signed log, and for each copy of one (docs/FORMATS.md, "A manifest").
+
+Each line holds its number, and the hash of the line before.
+"""
 from __future__ import annotations
 
 import hashlib
@@ -8,7 +11,7 @@ import re
 import stat
 from dataclasses import dataclass, field
 from datetime import datetime
-from typing import BinaryIO, Dict, List, NamedTuple, Optional, Tuple, cast
+from typing import BinaryIO, Dict, List, NamedTuple, Optional, Tuple, Union, cast
 
 from .blocks import Session
 from .faults import Fault
@@ -22,9 +25,12 @@ SUM = re.compile(r"[0-9a-f]{64}")
 STAMP = "%Y-%m-%dT%H:%M:%SZ"
 KEYS = ("entry", "previous", "signed", "name", "size", "sha256", "host", "app", "procid", "rsid", "groups", "counters",
         "set_aside")
+COPIED_KEYS = ("entry", "previous", "copied", "name", "sha256", "to")
 # the most octets of HOSTNAME, APP-NAME and PROCID (RFC 5424, section 6)
 NAMES = {"host": 255, "app": 48, "procid": 128}
 MOST = 9999999999
+# how many characters the place of a copy has at most
+LONGEST_PLACE = 1000
 
 
 class Extent(NamedTuple):
@@ -89,6 +95,38 @@ class Entry:
         return f"{self.number}:{self.sum}"
 
 
+@dataclass(frozen=True)
+class Copied:
+    """A copy of a signed log, which was compared with its entry."""
+
+    number: int
+    previous: str
+    copied: str
+    name: str
+    sha256: str
+    to: str
+    """Where the copy is, in words of whoever made it."""
+
+    def line(self) -> bytes:
+        """The line of the copy, with its LF."""
+        fields = {"entry": self.number, "previous": self.previous, "copied": self.copied, "name": self.name,
+                  "sha256": self.sha256, "to": self.to}
+        return json.dumps(fields, separators=(",", ":")).encode("ascii") + b"\n"
+
+    @property
+    def sum(self) -> str:
+        """The SHA-256 of the line, which the next line repeats."""
+        return hashlib.sha256(self.line()).hexdigest()
+
+    @property
+    def mark(self) -> str:
+        """The number and the hash, as whoever keeps them apart writes them down."""
+        return f"{self.number}:{self.sum}"
+
+
+Line = Union[Entry, Copied]
+
+
 class Mark(NamedTuple):
     """The number and the hash of an entry, which somebody kept apart."""
 
@@ -112,16 +150,26 @@ class Manifest:
     """The entries of a manifest, with what is wrong with the file as a whole."""
 
     path: str
-    entries: List[Entry] = field(default_factory=list)
+    lines: List[Line] = field(default_factory=list)
     # the lines, from 1, that don't follow the line before
     broken: List[int] = field(default_factory=list)
     # the line, from 1, in which the file breaks off
     torn: Optional[int] = None
 
     @property
+    def entries(self) -> List[Entry]:
+        """The signed logs, in the order of their lines."""
+        return [it for it in self.lines if isinstance(it, Entry)]
+
+    @property
+    def copies(self) -> List[Copied]:
+        """The copies of logs, in the order of their lines."""
+        return [it for it in self.lines if isinstance(it, Copied)]
+
+    @property
     def last(self) -> Mark:
-        """The number and the hash of the last entry."""
-        return Mark(self.entries[-1].number, self.entries[-1].sum) if self.entries else Mark(0, FIRST_SUM)
+        """The number and the hash of the last line."""
+        return Mark(self.lines[-1].number, self.lines[-1].sum) if self.lines else Mark(0, FIRST_SUM)
 
 
 def open_manifest(path: str, flags: int) -> BinaryIO:
@@ -152,7 +200,7 @@ def read_entries(path: str, file: BinaryIO) -> Manifest:
             line = file.readline(LONGEST)
             if not line:
                 return manifest
-            number = len(manifest.entries) + 1
+            number = len(manifest.lines) + 1
             if not line.endswith(b"\n"):
                 if len(line) >= LONGEST:
                     raise bad(path, number, f"it has more than {LONGEST} octets")
@@ -166,12 +214,12 @@ def read_entries(path: str, file: BinaryIO) -> Manifest:
 def add_line(manifest: Manifest, number: int, line: bytes) -> None:
     """Takes a line of a manifest."""
     try:
-        entry = read_entry(line)
+        read = read_line(line)
     except ValueError as fault:
         raise bad(manifest.path, number, str(fault)) from fault
-    if (entry.number - 1, entry.previous) != manifest.last:
+    if (read.number - 1, read.previous) != manifest.last:
         manifest.broken.append(number)
-    manifest.entries.append(entry)
+    manifest.lines.append(read)
 
 
 def bad(path: str, number: int, why: str) -> Fault:
@@ -179,18 +227,18 @@ def bad(path: str, number: int, why: str) -> Fault:
     return Fault(f"the line {number} of the manifest {shown_name(path)} is no entry: {why}")
 
 
-def read_entry(line: bytes) -> Entry:
-    """The entry of a line. Raises ValueError, with a sentence, where it isn't spelled as one."""
+def read_line(line: bytes) -> Line:
+    """The entry or the copy that a line spells. Raises ValueError, with a sentence, where it isn't spelled as one."""
     try:
         fields = json.loads(line.decode("ascii"))
     except (ValueError, RecursionError) as fault:
         raise ValueError("it is no JSON in ASCII") from fault
-    if not isinstance(fields, dict) or tuple(fields) != KEYS:
+    if not isinstance(fields, dict) or tuple(fields) not in (KEYS, COPIED_KEYS):
         raise ValueError("it is no object with the keys of an entry in their order")
-    entry = make_entry(fields)
-    if entry.line() != line:
+    made: Line = make_entry(fields) if tuple(fields) == KEYS else make_copied(fields)
+    if made.line() != line:
         raise ValueError("it isn't spelled as an entry is, or its counters aren't those of its groups")
-    return entry
+    return made
 
 
 def make_entry(fields: Dict[str, object]) -> Entry:
@@ -206,6 +254,15 @@ def make_entry(fields: Dict[str, object]) -> Entry:
     return Entry(number_of(fields, "entry", 1, MOST), sum_of(fields, "previous"), stamp_of(fields["signed"]),
                  file_of(fields["name"]), number_of(fields, "size", 1, 1 << 62), sum_of(fields, "sha256"), session, int(gbc),
                  extents_of(fields["groups"]), None if aside is None else set_aside_of(aside))
+
+
+def make_copied(fields: Dict[str, object]) -> Copied:
+    """The copy that has these values."""
+    to = fields["to"]
+    if not isinstance(to, str) or not 1 <= len(to) <= LONGEST_PLACE or not to.isprintable():
+        raise ValueError(f"to isn't 1 to {LONGEST_PLACE} printable characters")
+    return Copied(number_of(fields, "entry", 1, MOST), sum_of(fields, "previous"), stamp_of(fields["copied"]),
+                  file_of(fields["name"]), sum_of(fields, "sha256"), to)
 
 
 def number_of(fields: Dict[str, object], key: str, least: int, most: int) -> int:
@@ -240,7 +297,7 @@ def stamp_of(value: object) -> str:
                 return value
         except ValueError:
             pass
-    raise ValueError("signed is no time in UTC as 2026-11-27T04:00:00Z")
+    raise ValueError("its time is no time in UTC as 2026-11-27T04:00:00Z")
 
 
 def file_of(value: object) -> str:
