@@ -25,16 +25,29 @@ log=$scratch/logs/messages.log
 signed=$log-$yesterday.frames
 
 # ---- signing a rotated log
-# rotated FILE: the script over it, without the wait.
+# rotated FILE: the script over it, which waits no longer than two seconds.
 rotated() {
-    KEYS=$scratch/keys STATE=$scratch/state WAIT=0 timeout "$patience" "$root/examples/logrotate/ssign-rotated" "$@" >out 2>err
+    KEYS=$scratch/keys STATE=$scratch/state WAIT=2 timeout "$patience" "$root/examples/logrotate/ssign-rotated" "$@" >out 2>err
     status=$?
 }
 # refuses WHAT SENTENCE: the last run did so, and nothing is left.
 refuses() {
-    expect "$1" 2 '' "ssign-rotated: $2"
+    expect "$1" 2 '' "ssign-keys: $2"
     holds "$1: nothing was signed" test -z "$(find logs -name '*.frames*')"
 }
+# waits WHAT FILE SENTENCE: the last run left this log unsigned for this reason, and says so again when it is asked.
+waits() {
+    expect "$1" 1 '' "ssign-keys: $scratch/$2 isn't signed: $3"
+    holds "$1: no signed log" test ! -e "$2.frames"
+    rotated --pending
+    holds "$1: it is named" grep -qFx "$scratch/$2: since $(sed -n 's/.*since \(.*Z\): .*/\1/p' out): $3" out
+    holds "$1: the status of the list" test "$status" = 1
+    rotated --forget "$2"
+    expect "$1: it is forgotten" 0 '' ''
+    rotated --pending
+    expect "$1: then nothing waits" 0 '' ''
+}
+manifest=state/kept/manifest.jsonl
 cp "$root/examples/signed/ten-messages.log" logs/one
 rotated logs/one
 refuses 'no number of the last session' "there is no file $scratch/state/rsid with the number of the last session"
@@ -45,39 +58,129 @@ for number in '' x 07 -1; do
 done
 echo 41 >state/rsid
 rotated logs/nothing
-refuses 'no such file' 'there is no file logs/nothing'
-rotated
-refuses 'no name' 'it takes the name of a file'
+waits 'no such file' logs/nothing 'it is gone'
+mkdir logs/folder
+rotated logs/folder
+waits 'a folder' logs/folder 'it is no regular file'
+ln -s one logs/link
+rotated logs/link
+waits 'a link' logs/link "it can't be read: it is a link"
+rm -r logs/link logs/folder
 mv keys/private-key.pem away
 rotated logs/one
-holds 'no key: a failure' test "$status" != 0
+holds 'no key: the log waits' grep -qF "$scratch/logs/one isn't signed: " err
+holds 'no key: the status' test "$status" = 1
 holds 'no key: nothing is left' test "$(ls logs)" = one
-holds 'no key: the number is used up' test "$(<state/rsid)" = 42
+holds "no key: the number isn't used up" test "$(<state/rsid)" = 41
 mv away keys/private-key.pem
 chmod 640 logs/one
-rotated logs/one
-expect 'a log is signed' 0 '' ''
-holds 'the next number' test "$(<state/rsid)" = 43
-holds 'the signed log has it' grep -qaF 'RSID="43"' logs/one.frames
-holds 'its report is kept' test "$(grep -c '^ok ' state/report-43)" = 10
+rotated
+expect 'a log that waits is signed in the next run' 0 '' ''
+holds 'the next number' test "$(<state/rsid)" = 42
+holds 'the signed log has it' grep -qaF 'RSID="42"' logs/one.frames
+holds 'its report is kept' test "$(grep -c '^ok ' state/kept/report-42)" = 10
+holds 'its counters are kept' cmp state/kept/counters-42 <(printf 'count %s\n' "$(uname -n) signer - 42 1" "$(uname -n) signer - 42 0 0 11")
+holds 'the manifest has its entry' test "$(sed 's/.*"name":"\([^"]*\)".*"rsid":\([0-9]*\),.*/\1 \2/' "$manifest")" = 'one.frames 42'
 holds 'the log stays' cmp logs/one "$root/examples/signed/ten-messages.log"
 holds 'its rights are those of the log' test "$(stat -c %a logs/one.frames)" = 640
 holds 'no passing file is left' test "$(ls logs)" = $'one\none.frames'
 rotated logs/one
-expect 'a log is signed once' 2 '' 'ssign-rotated: logs/one is signed already'
+expect 'a log is signed once' 0 '' ''
+holds 'no further number is used' test "$(<state/rsid)" = 42
+
+# lines that come late, a process that holds the log open, a log that is changed
+printf '<13>1 - h late - - - one line more\n' >>logs/one
+rotated
+holds 'late lines: the status' test "$status" = 1
+holds 'late lines: it says so' grep -qFx "ssign-keys: $scratch/logs/one: 35 octets came after it was signed, and are signed as a log of their own" err
+holds 'late lines: they are signed' test "$("$program" extract --place 3 --lines-out <logs/one.late-1.frames)" = '<13>1 - h late - - - one line more'
+sed 's/late/LATE/' logs/one >logs/other && cat logs/other >logs/one
+printf '<13>1 - h late - - - and another\n' >>logs/one
+rotated
+holds 'a log that was changed after it was signed' grep -qF "$scratch/logs/one isn't signed: its first 1049 octets were changed after they were signed" err
+rm logs/one
+rotated --forget logs/one
+cp "$root/examples/signed/ten-messages.log" logs/held
+exec 7>>logs/held
+rotated logs/held
+exec 7>&-
+holds 'a log that is held open' grep -qE "^ssign-keys: $scratch/logs/held isn't signed: it is still open for writing after 2 seconds, by the process [0-9]+ \(.+\)$" err
+holds 'a log that is held open: the status' test "$status" = 1
+exec 7<logs/held
+rotated
+exec 7<&-
+expect 'a log that is held open for reading is signed' 0 '' ''
+
+# what can't be signed
+{ head -n 4 logs/held; printf '<13>1 - h %060d - - - a long tag\n' 1; tail -n 6 logs/held; printf '<13>1 - h a - - [ssign x="1"] evil\n'; } >logs/odd
+rotated logs/odd
+holds 'odd messages: the status' test "$status" = 1
+holds 'odd messages: it says so' cmp err <(printf '%s\n' "ssign-keys: 2 messages can't be signed, and were set aside in $scratch/logs/odd.set-aside.frames:" \
+    '  place 4: M5 at octet 10: APP-NAME' '  place 11: it has the element ssign or ssign-cert, S2')
+holds 'odd messages: they are kept as they came' test "$("$program" extract --place 0 --place 1 --lines-out <logs/odd.set-aside.frames)" = \
+    "$(sed -n '5p;12p' logs/odd)"
+holds 'odd messages: their places are kept' cmp logs/odd.set-aside.frames.places <(printf '%s\n' '4 unparsed M5 10' '11 spoilt S2')
+holds 'odd messages: the others are signed' test "$("$root/tools/ssign-keys" verify --raw --key keys/public-key.pem logs/odd.frames | grep -c '^ok ')" = 10
+holds 'odd messages: the manifest names the file' grep -q '"name":"odd.frames".*"set_aside":{"name":"odd.set-aside.frames",.*"messages":2}' "$manifest"
+
+# an RSID that is less than one that was used, and a manifest that is gone
+cp state/rsid rsid
+echo 42 >state/rsid
+cp "$root/examples/signed/ten-messages.log" logs/next
+rotated logs/next
+expect 'an old number' 2 '' "ssign-keys: $scratch/state/rsid has the number 42, and the manifest has a session with the RSID 43: no RSID may be used twice"
+cp rsid state/rsid
+mv "$manifest" away
+rotated logs/next
+expect 'no manifest' 2 '' "ssign-keys: the manifest $scratch/$manifest is gone: put the last good copy in its place"
+head -n 3 away >"$manifest"
+rotated logs/next
+holds 'a manifest whose end was cut' grep -qF "the manifest $scratch/$manifest ends with the entry 3:" err
+mv away "$manifest"
+rotated
+expect 'the manifest is back' 0 '' ''
+
+# what is old is removed once it was copied
+mkdir copies
+cp logs/odd*.frames copies
+rm logs/odd
+rotated --remove logs/odd
+expect 'what was not copied stays' 1 '' "ssign-keys: $scratch/logs/odd.frames stays: the manifest doesn't say that it was copied
+ssign-keys: $scratch/logs/odd.set-aside.frames stays: the manifest doesn't say that it was copied"
+for copy in copies/*; do
+    "$root/tools/ssign-keys" manifest copied "$manifest" --to archive.example.org "$copy" >out 2>err
+    holds "a copy is noted: $copy" grep -qE '^[0-9]+:[0-9a-f]{64}$' out
+done
+rotated --remove logs/odd
+expect 'what was copied is removed' 0 '' ''
+holds 'its signed log is gone' test -z "$(find logs -name 'odd*')"
+rm -r logs copies
+mkdir logs
+cp "$root/examples/signed/ten-messages.log" logs/one
+rm -r state
+mkdir state
+echo 42 >state/rsid
+rotated logs/one
+expect 'a new state' 0 '' ''
 
 # the lines that logrotate runs behind a rotation, and its own words where it is here
 sed -n '/^ *postrotate/,/^ *endscript/p' "$root/examples/logrotate/ssign" | sed '1d;$d' >behind
 # shellcheck disable=SC2016 # for the script
 holds 'the script is run behind a rotation' grep -qx ' *"*/usr/local/sbin/ssign-rotated "$2"' behind
 rm logs/one.frames
-export KEYS=$scratch/keys STATE=$scratch/state WAIT=0
+rm -r state
+mkdir state
+echo 42 >state/rsid
+export KEYS=$scratch/keys STATE=$scratch/state WAIT=2
 sed "s:/usr/local/sbin/ssign-rotated:'$root/examples/logrotate/ssign-rotated':" behind >behind.sh
 sh -e behind.sh log logs/one >out 2>err
 status=$?
 expect 'what logrotate runs' 0 '' ''
 holds 'the log is signed' test -s logs/one.frames
-holds 'the daemon is told of it' test "$(<told)" = '-HUP -x rsyslogd'
+holds 'the daemon is told of it' test "$(<told)" = '-HUP -x rsyslogd|syslog-ng'
+rm -r state logs/one logs/one.frames
+mkdir state
+echo 42 >state/rsid
 if command -v logrotate >out; then
     sed -e "s:^/var/log/signed/messages.log:\"$log\":" -e "s:/usr/local/sbin/ssign-rotated:'$root/examples/logrotate/ssign-rotated':" \
         "$root/examples/logrotate/ssign" >rotate
@@ -92,7 +195,8 @@ if command -v logrotate >out; then
     holds 'it is signed' test -s "$signed"
 else
     echo "$name: skipped what needs logrotate, which is missing"
-    cp logs/one.frames "$signed"
+    cp "$root/examples/signed/ten-messages.log" "$log-$yesterday"
+    sh -e behind.sh log "$log-$yesterday" >out 2>err
 fi
 
 # ---- the review of yesterday's log
@@ -107,7 +211,7 @@ form=$(setting LOG)
 # reviewed [OPTION..]: the script as the service runs it, with the log and the key of this test.
 reviewed() {
     env -i PATH="$PATH" SSIGN="$program" KEY="$scratch/keys/public-key.pem" LOG="${form/#'/var/log/signed'/$scratch/logs}" OPTIONS="$*" \
-        timeout "$patience" "$units/${line##*/}" >out 2>err
+        MANIFEST="${with_manifest:-$scratch/$manifest}" STATE_DIRECTORY="$scratch/seen" timeout "$patience" "$units/${line##*/}" >out 2>err
     status=$?
 }
 # told WHAT STATUS LINE: the status, and the line for the journal, which is the last one.
@@ -116,8 +220,24 @@ told() {
     holds "$1: the line for the journal" test "$(tail -n 1 out)" = "$3"
     holds "$1: no complaint beside" test ! -s err
 }
+mkdir seen
 reviewed
-told 'a clean log' 0 "<6>ssign-review: $signed: clean. All 10 announced messages are present and unchanged, and each other stored message is a verified block."
+clean="<6>ssign-review: $signed: clean. All 10 announced messages are present and unchanged, and each other stored message is a verified block. Nothing is missing up to the counters."
+told 'a clean log' 0 "$clean"
+holds 'the last entry is remembered' test "$(<seen/last)" = "1:$(sha256sum "$manifest" | cut -d ' ' -f 1)"
+with_manifest=nowhere reviewed
+told 'no manifest: the status isn'"'"'t 0' 1 "<4>ssign-review: $signed: findings. All 10 announced messages are present and unchanged, and each other stored message is a verified block. Manifest: there is no manifest nowhere, so nobody can say whether all is there."
+cp "$manifest" away
+: >"$manifest"
+reviewed
+holds 'an emptied manifest: status 1' test "$status" = 1
+holds 'an emptied manifest: it was cut' grep -q '^ *entry 1: cut, ' out
+mv away "$manifest"
+cp "$signed" logs/other.frames
+reviewed
+holds 'a log without an entry: status 1' test "$status" = 1
+holds 'a log without an entry: it is named' grep -q '^other.frames: unknown, no entry names this log' out
+rm logs/other.frames
 holds 'the whole verdict stands in front' grep -q '^Session: ' out
 reviewed --max-len 10
 told 'an option that has the log refused' 2 "<3>ssign-review: $signed: no verdict, status 2"
@@ -125,9 +245,11 @@ sed -i 's/session opened/session 0pened/' "$signed"
 reviewed
 holds 'a changed log: status 1' test "$status" = 1
 holds 'a changed log: the line for the journal' grep -q "^<4>ssign-review: $signed: findings. FINDINGS: of 10 announced messages " <(tail -n 1 out)
+holds 'a changed log: it isn'"'"'t the one of its entry' grep -qF "$signed: changed, it has the size of entry 1, and another SHA-256" out
 rm "$signed"
 reviewed
 told 'no log of yesterday' 2 "<3>ssign-review: $signed: no verdict, status 2"
+holds 'no log of yesterday: the manifest names it' grep -q "^${signed##*/}: missing, entry 1 names it, and it isn't here" out
 
 # mailed STATUS: the mail about a run that ended so.
 mailed() {

@@ -1,0 +1,515 @@
+"""Signs rotated logs of lines, each as a session of its own, and keeps what a later review needs to know of each.
+
+A log is signed once nobody writes to it any more. What was signed is verified with the public key before it gets its name,
+its counters are kept, and an entry of the manifest names it. A log that couldn't be signed waits, and is tried again in
+the next run. Lines that came after a log was signed are signed as a log of their own.
+"""
+from __future__ import annotations
+
+import argparse
+import contextlib
+import errno
+import fcntl
+import hashlib
+import os
+import re
+import stat
+import subprocess
+import sys
+from datetime import datetime, timezone
+from typing import BinaryIO, Callable, List, Optional, Union
+
+from .faults import Fault
+from .files import reason
+from .manifest_form import Entry, Manifest, Mark, SetAside, read_manifest, read_mark
+from .open_files import wait_until_closed
+from .programs import add_program_argument, find_program
+from .rotation_state import NO_ENTRY, Current, Signed, read_state, replace, sync_folder, write_state
+from .streams import Output
+from .words import counted, shown_name
+from .workplace import Workplace, finish, put, say
+
+PIECE = 1 << 20
+GREATEST_RSID = 9999999999
+# how often in one run lines are signed that came while the log was signed
+TRIES = 3
+PRIVATE, PUBLIC = "private-key.pem", "public-key.pem"
+# how a name ends that a file has until all of its run is done
+NEW = ".new"
+
+
+def add_arguments(parser: argparse.ArgumentParser) -> None:
+    """Says which words the command takes."""
+    parser.add_argument("--keys", required=True, metavar="FOLDER", help=f"the folder of {PRIVATE} and {PUBLIC}")
+    parser.add_argument("--state", required=True, metavar="FOLDER", help="the folder of what is remembered from run to run; "
+                        "its file rsid has the number of the last session")
+    parser.add_argument("--kept", metavar="FOLDER", help="the folder for the manifest, the counters and the reports, of which "
+                        "a copy belongs on another machine (default: kept in the folder of --state)")
+    parser.add_argument("--host", metavar="TEXT", help="HOSTNAME of all blocks (default: the name of this machine)")
+    parser.add_argument("--app", default="signer", metavar="TEXT", help="APP-NAME of all blocks (default: signer)")
+    parser.add_argument("--wait", type=seconds, default=60.0, metavar="SECONDS", help="how long is waited at most until nobody "
+                        "writes to a log any more (default: 60)")
+    what = parser.add_mutually_exclusive_group()
+    what.add_argument("--pending", action="store_true", help="sign nothing: name each log that waits to be signed, with its reason")
+    what.add_argument("--remove", action="store_true", help="sign nothing: remove the signed logs of these logs, where the "
+                      "manifest says that they were copied")
+    what.add_argument("--forget", action="store_true", help="sign nothing: have these logs wait no longer, as where one is gone")
+    add_program_argument(parser)
+    parser.add_argument("logs", nargs="*", metavar="LOG", help="a rotated log, one message a line. The signed log is LOG.frames. "
+                        "Without a log those that wait are tried again")
+
+
+def seconds(text: str) -> float:
+    """A time to wait."""
+    if not (text.isascii() and text.isdigit() and len(text) <= 5):
+        raise argparse.ArgumentTypeError(f"{text!r} is no number of seconds from 0 to 99999")
+    return float(text)
+
+
+def run(arguments: argparse.Namespace) -> int:
+    """Signs what is to be signed. Status 0 if all of it was, 1 if something waits, came late or was set aside."""
+    rotation = Rotation(arguments)
+    with Lock(rotation.path("lock")), Workplace() as workplace:
+        rotation.begin(workplace)
+        if arguments.pending:
+            return rotation.name_pending()
+        if arguments.forget:
+            return rotation.forget()
+        if arguments.remove:
+            return rotation.remove()
+        return rotation.sign_all()
+
+
+class Lock:
+    """Has one run at a time work in a folder of state."""
+
+    def __init__(self, path: str) -> None:
+        """Not locked yet."""
+        self._path = path
+
+    def __enter__(self) -> Lock:
+        """Waits for its turn."""
+        try:
+            self._file = open(self._path, "ab")
+            fcntl.flock(self._file.fileno(), fcntl.LOCK_EX)
+        except OSError as fault:
+            raise Fault(f"{shown_name(self._path)} can't be locked: {reason(fault)}") from fault
+        return self
+
+    def __exit__(self, *why: object) -> None:
+        """Gives the turn on."""
+        self._file.close()
+
+
+class Rotation:
+    """A run over the logs that are given, and those that wait."""
+
+    def __init__(self, arguments: argparse.Namespace) -> None:
+        """Makes the folder of what is kept, if it isn't there. Raises Fault where the folders aren't as they have to be."""
+        self._arguments = arguments
+        self._keys = arguments.keys
+        self._state_folder = arguments.state
+        self._kept = arguments.kept or os.path.join(arguments.state, "kept")
+        for name, folder in (("--keys", self._keys), ("--state", self._state_folder)):
+            if not os.path.isdir(folder):
+                raise Fault(f"there is no folder {shown_name(folder)}, which {name} names")
+        try:
+            os.makedirs(self._kept, 0o750, exist_ok=True)
+        except OSError as fault:
+            raise Fault(f"the folder {shown_name(self._kept)} can't be made: {reason(fault)}") from fault
+        self._program = find_program(arguments)
+        self._logs = [os.path.abspath(it) for it in arguments.logs]
+        self._manifest = os.path.join(self._kept, "manifest.jsonl")
+        self._unusual = False
+
+    def path(self, name: str) -> str:
+        """The path of a file of state."""
+        return os.path.join(self._state_folder, name)
+
+    def begin(self, workplace: Workplace) -> None:
+        """Reads the state, and puts a signed log in its place that a run before had on its way."""
+        self._workplace = workplace
+        self._state = read_state(self.path("state"))
+        self._rsid = self._read_rsid()
+        self._begin_manifest()
+        if self._state.current is not None:
+            self._publish(self._state.current)
+        self._check_rsid()
+
+    # ---- the whole of a run
+
+    def name_pending(self) -> int:
+        """Names the logs that wait. Status 1 if there is one."""
+        with Output() as output:
+            for it in self._state.pending:
+                output.add(f"{shown_name(it.log)}: since {it.since}: {it.why}\n".encode("utf-8", "backslashreplace"))
+            output.release()
+        return 1 if self._state.pending else 0
+
+    def forget(self) -> int:
+        """Has the given logs wait no longer."""
+        for it in self._logs:
+            if self._state.pending_of(it) is None:
+                raise Fault(f"the log {shown_name(it)} doesn't wait to be signed")
+        for it in self._logs:
+            self._state.done(it)
+        self._save()
+        return 0
+
+    def remove(self) -> int:
+        """Removes the signed logs of the given logs that were copied. Status 1 if one stays."""
+        read = read_manifest(self._manifest)
+        copied = {it.name for it in read.copies}
+        stays = False
+        for log in self._logs:
+            folder, name = os.path.split(log)
+            for file in files_of(read, name):
+                path = os.path.join(folder, file.name)
+                if not os.path.lexists(path):
+                    continue
+                why = "the manifest doesn't say that it was copied" if file.name not in copied else fault_of(path, file)
+                if why:
+                    say(f"ssign-keys: {shown_name(path)} stays: {why}")
+                    stays = True
+                    continue
+                os.unlink(path)
+                with contextlib.suppress(FileNotFoundError):
+                    os.unlink(path + ".places")
+        return 1 if stays else 0
+
+    def sign_all(self) -> int:
+        """Signs each log that is given, that waits, or to which lines came. One that fails keeps no other from it."""
+        for it in self._logs:
+            self._state.wait(it, now(), "it was not tried to its end")
+        self._save()
+        for log in self._to_sign():
+            try:
+                self._sign(log)
+            except (Fault, OSError) as fault:
+                why = str(fault) if isinstance(fault, Fault) else f"a file can't be read or written: {reason(fault)}"
+                self._state.wait(log, now(), why)
+                self._save()
+                say(f"ssign-keys: {shown_name(log)} isn't signed: {why}")
+        self._prune()
+        return 1 if self._unusual or self._state.pending else 0
+
+    def _to_sign(self) -> List[str]:
+        """The logs that wait, in the order in which they came, and those to which lines came since they were signed."""
+        late = [it.log for it in self._state.signed if size_of(it.log) > it.size]
+        waiting = [it.log for it in self._state.pending]
+        return waiting + [it for it in late if it not in waiting]
+
+    def _prune(self) -> None:
+        """Forgets what was signed of logs that are gone, and do no more than grow the state."""
+        kept = [it for it in self._state.signed if os.path.lexists(it.log)]
+        if len(kept) != len(self._state.signed):
+            self._state.signed = kept
+            self._save()
+
+    def _save(self) -> None:
+        write_state(self.path("state"), self._state)
+
+    # ---- one log
+
+    def _sign(self, log: str) -> None:
+        """Signs a log, and then what came to it meanwhile."""
+        for _ in range(TRIES):
+            wait_until_closed(log, self._arguments.wait)
+            with open_log(log) as source:
+                size = os.fstat(source.fileno()).st_size
+                found = self._state.signed_of(log)
+                start = 0 if found is None else found.size
+                if found is not None:
+                    check_front(source, found)
+                    if size == start:
+                        self._state.done(log)
+                        self._save()
+                        return
+                    say(f"ssign-keys: {shown_name(log)}: {counted(size - start, 'octet')} came after it was signed, and "
+                        "are signed as a log of their own")
+                    self._unusual = True
+                self._sign_part(log, source, start, size, found)
+        # what comes still is for the next run
+
+    def _sign_part(self, log: str, source: BinaryIO, start: int, size: int, found: Optional[Signed]) -> None:
+        """Signs the octets of a log from one to another."""
+        name = log if found is None else f"{log}.late-{found.late + 1}"
+        frames = name + ".frames"
+        if os.path.lexists(frames):
+            raise Fault(f"{shown_name(frames)} is there already, and isn't overwritten")
+        before = digest(source, size)
+        passing = Passing(name, self._kept, self._rsid + 1)
+        passing.clear()
+        try:
+            self._run_sign(log, source, start, size, passing)
+            self._verify(passing)
+            if digest(source, size) != before or os.fstat(source.fileno()).st_size < size:
+                raise Fault("it was changed while it was signed")
+            current = self._current(log, size, before, passing)
+        except BaseException:
+            passing.clear()
+            raise
+        self._state.current = current
+        self._save()
+        self._publish(current)
+
+    def _run_sign(self, log: str, source: BinaryIO, start: int, size: int, passing: Passing) -> None:
+        """Has the signed log written under a passing name."""
+        what = log
+        if start:
+            # a log of late lines has no file of its own
+            what = self._workplace.path("late")
+            with self._workplace.new_file("late") as part:
+                copy(source, start, size, lambda piece: put(part, piece))
+                finish(part)
+        try:
+            with open(passing.frames, "xb") as out:
+                os.chmod(passing.frames, 0o600)
+                status = self._keys_command(
+                    ["sign", f"--key={os.path.join(self._keys, PRIVATE)}", f"--rsid={self._rsid + 1}",
+                     f"--host={self._arguments.host or os.uname().nodename}", f"--app={self._arguments.app}", "--lines",
+                     f"--set-aside={passing.aside}", "--", what], out)
+                os.fsync(out.fileno())
+        except OSError as fault:
+            raise Fault(f"{shown_name(passing.frames)} can't be written: {reason(fault)}") from fault
+        if status == 1:
+            self._unusual = True
+
+    def _verify(self, passing: Passing) -> None:
+        """Verifies the signed log with the public key, and keeps the report and the counters."""
+        with open(passing.report, "xb") as out:
+            self._keys_command(
+                ["verify", f"--key={os.path.join(self._keys, PUBLIC)}", "--raw", "--allow-sha1",
+                 f"--counters-out={passing.counters}", "--", passing.frames], out)
+            os.fsync(out.fileno())
+        with open(passing.report, "rb") as report:
+            for line in report:
+                if not (line.startswith((b"ok ", b"end ")) or line.startswith(b"session ") and line.endswith(b" joined\n")):
+                    raise Fault("what was signed isn't clean when it is verified with the public key: "
+                                f"{line.decode('ascii', 'replace').rstrip()}")
+
+    def _keys_command(self, words: List[str], out: BinaryIO) -> int:
+        """Runs a command of ssign-keys. Gives its status, 0 or 1; raises Fault with its last words where it failed."""
+        environment = {**os.environ, "PYTHONPATH": os.path.dirname(os.path.dirname(os.path.realpath(__file__)))}
+        said = self._workplace.new_file("said")
+        try:
+            child = subprocess.Popen([sys.executable, "-B", "-m", "ssign_keys", words[0], f"--ssign={self._program}", *words[1:]],
+                                     stdin=subprocess.DEVNULL, stdout=out, stderr=said, env=environment)
+        except OSError as fault:
+            raise Fault(f"ssign-keys {words[0]} can't be run: {reason(fault)}") from fault
+        self._workplace.adopt(child)
+        status = child.wait()
+        said.seek(0)
+        lines = said.read().decode("utf-8", "backslashreplace").splitlines()
+        said.close()
+        if status in (0, 1):
+            for line in lines:
+                say(line.replace(NEW, ""))
+            return status
+        last = lines[-1] if lines else f"ssign-keys {words[0]} ended with the status {status}"
+        raise Fault(last[len("ssign-keys: "):] if last.startswith("ssign-keys: ") else last)
+
+    def _current(self, log: str, size: int, sha256: str, passing: Passing) -> Current:
+        """What is put in its place next. All of it is on the disk before this is said."""
+        files = {passing.report: passing.final_report, passing.counters: passing.final_counters}
+        set_aside = None
+        if os.path.lexists(passing.aside):
+            files.update({passing.aside: passing.final_aside, passing.places: passing.final_places})
+            set_aside = passing.final_aside
+        files[passing.frames] = passing.final_frames
+        like = os.stat(log)
+        for it in files:
+            if it not in (passing.report, passing.counters):
+                # whoever may read the log may read what was made of it
+                if os.geteuid() == 0:
+                    os.chown(it, like.st_uid, like.st_gid)
+                os.chmod(it, stat.S_IMODE(like.st_mode))
+            sync_file(it)
+        for folder in sorted({os.path.dirname(it) for it in files}):
+            sync_folder(folder)
+        return Current(log, size, sha256, self._rsid + 1, passing.final_frames, passing.final_counters, set_aside, files)
+
+    def _publish(self, current: Current) -> None:
+        """Gives each file its name, uses up the RSID, and writes the entry. What was done before isn't done again."""
+        try:
+            for passing, final in current.files.items():
+                give_name(passing, final)
+            for folder in sorted({os.path.dirname(it) for it in current.files.values()}):
+                sync_folder(folder)
+        except OSError as fault:
+            raise Fault(f"{shown_name(current.frames)} can't get its name: {reason(fault)}") from fault
+        if self._rsid < current.rsid:
+            replace(self.path("rsid"), b"%d\n" % current.rsid)
+            self._rsid = current.rsid
+        self._add_entry(current)
+        found = self._state.signed_of(current.log)
+        if found is None:
+            self._state.signed.append(Signed(current.log, current.size, current.sha256))
+        elif found.size < current.size:
+            found.size, found.sha256, found.late = current.size, current.sha256, found.late + 1
+        self._state.done(current.log)
+        self._state.current = None
+        self._save()
+
+    # ---- the number of the session
+
+    def _read_rsid(self) -> int:
+        """The number of the last session. Raises Fault where it isn't known, because no RSID may be used twice."""
+        path = self.path("rsid")
+        try:
+            with open(path, "rb") as file:
+                text = file.read(100)
+        except FileNotFoundError as fault:
+            raise Fault(f"there is no file {shown_name(path)} with the number of the last session") from fault
+        except OSError as fault:
+            raise Fault(f"{shown_name(path)} can't be read: {reason(fault)}") from fault
+        word = text.rstrip(b"\n")
+        if not word.isdigit() or word != b"%d" % int(word) or int(word) > GREATEST_RSID:
+            raise Fault(f"{shown_name(path)} isn't a number")
+        return int(word)
+
+    def _check_rsid(self) -> None:
+        """Refuses a number below one that the manifest has, as where an old copy of the file was put back."""
+        for it in read_manifest(self._manifest).entries:
+            if int(it.session.rsid) > self._rsid:
+                raise Fault(f"{shown_name(self.path('rsid'))} has the number {self._rsid}, and the manifest has a session "
+                            f"with the RSID {int(it.session.rsid)}: no RSID may be used twice")
+        if self._rsid >= GREATEST_RSID:
+            raise Fault(f"{shown_name(self.path('rsid'))} has the greatest RSID that there is: begin with other names, by --app")
+
+    # ---- the manifest
+
+    def _begin_manifest(self) -> None:
+        """Makes an empty manifest, if none was begun here. Raises Fault where the one that was is gone."""
+        if os.path.lexists(self._manifest):
+            return
+        if self._state.manifest != NO_ENTRY:
+            raise Fault(f"the manifest {shown_name(self._manifest)} is gone: put the last good copy in its place")
+        replace(self._manifest, b"")
+
+    def _add_entry(self, current: Current) -> None:
+        """Adds the entry of a signed log, unless a run before did, and remembers which entry is the last."""
+        words = ["manifest", "add", self._manifest, current.frames, f"--counters={current.counters}", f"--last={self._state.manifest}"]
+        if current.set_aside is not None:
+            words.append(f"--set-aside={current.set_aside}")
+        with self._workplace.new_file("mark") as out:
+            self._keys_command(words, out)
+            out.seek(0)
+            self._state.manifest = str_mark(read_mark(out.read().decode("ascii").rstrip("\n")))
+
+
+# ---- files
+
+class Passing:
+    """The files of a log that is being signed: the names that they have until all is done, and their own."""
+
+    def __init__(self, name: str, kept: str, rsid: int) -> None:
+        """`name` is that of the log, or of its late lines."""
+        self.final_frames = name + ".frames"
+        self.final_aside = name + ".set-aside.frames"
+        self.final_report = os.path.join(kept, f"report-{rsid}")
+        self.final_counters = os.path.join(kept, f"counters-{rsid}")
+        self.frames, self.aside, self.report, self.counters = (
+            it + NEW for it in (self.final_frames, self.final_aside, self.final_report, self.final_counters))
+        # sign names the places of what it sets aside after the file of the messages
+        self.places, self.final_places = self.aside + ".places", self.final_aside + ".places"
+
+    def clear(self) -> None:
+        """Removes what has a passing name."""
+        for it in (self.frames, self.aside, self.places, self.report, self.counters):
+            with contextlib.suppress(FileNotFoundError):
+                os.unlink(it)
+
+
+def files_of(read: Manifest, name: str) -> List[Union[Entry, SetAside]]:
+    """The signed logs of a log of this name, and of its late lines, and what was set aside of them."""
+    names = re.compile(re.escape(name) + r"(\.late-[1-9][0-9]*)?\.frames")
+    found: List[Union[Entry, SetAside]] = []
+    for entry in read.entries:
+        if names.fullmatch(entry.name):
+            found += [entry] if entry.set_aside is None else [entry, entry.set_aside]
+    return found
+
+
+def fault_of(path: str, file: Union[Entry, SetAside]) -> str:
+    """Why a file isn't the one that the manifest names; nothing where it is."""
+    with open(path, "rb") as source:
+        if os.fstat(source.fileno()).st_size != file.size or digest(source, file.size) != file.sha256:
+            return "it isn't what the manifest says"
+    return ""
+
+
+def open_log(log: str) -> BinaryIO:
+    """Opens a log, which has to be a regular file that is no link."""
+    try:
+        number = os.open(log, os.O_RDONLY | os.O_NOFOLLOW | os.O_NONBLOCK)
+    except OSError as fault:
+        why = "it is gone" if isinstance(fault, FileNotFoundError) else "it is a link" if fault.errno == errno.ELOOP else reason(fault)
+        raise Fault(f"it can't be read: {why}") from fault
+    if not stat.S_ISREG(os.fstat(number).st_mode):
+        os.close(number)
+        raise Fault("it is no regular file")
+    return os.fdopen(number, "rb")
+
+
+def check_front(source: BinaryIO, found: Signed) -> None:
+    """Refuses a log whose signed octets aren't what they were."""
+    if os.fstat(source.fileno()).st_size < found.size or digest(source, found.size) != found.sha256:
+        raise Fault(f"its first {counted(found.size, 'octet')} were changed after they were signed")
+
+
+def size_of(path: str) -> int:
+    """The size of a file, or 0 where it is gone."""
+    try:
+        return os.lstat(path).st_size
+    except OSError:
+        return 0
+
+
+def digest(source: BinaryIO, size: int) -> str:
+    """The SHA-256 of so many first octets of a file. Raises Fault where it has fewer."""
+    hashed = hashlib.sha256()
+    copy(source, 0, size, hashed.update)
+    return hashed.hexdigest()
+
+
+def copy(source: BinaryIO, start: int, end: int, take: Callable[[bytes], object]) -> None:
+    """Hands on the octets of a file from one to another. Raises Fault where it ends before."""
+    while start < end:
+        piece = os.pread(source.fileno(), min(PIECE, end - start), start)
+        if not piece:
+            raise Fault("it was cut while it was read")
+        take(piece)
+        start += len(piece)
+
+
+def give_name(passing: str, final: str) -> None:
+    """Gives a file its own name, which may be taken by itself alone."""
+    if os.path.lexists(passing):
+        # rename(2) would replace a file that came meanwhile
+        with contextlib.suppress(FileExistsError):
+            os.link(passing, final)
+        if not os.path.samefile(passing, final):
+            raise FileExistsError(errno.EEXIST, os.strerror(errno.EEXIST), final)
+        os.unlink(passing)
+    elif not os.path.lexists(final):
+        raise FileNotFoundError(errno.ENOENT, os.strerror(errno.ENOENT), passing)
+
+
+def sync_file(path: str) -> None:
+    """Has a file stand on the disk."""
+    number = os.open(path, os.O_RDONLY)
+    try:
+        os.fsync(number)
+    finally:
+        os.close(number)
+
+
+def now() -> str:
+    """The present time in UTC."""
+    return datetime.now(timezone.utc).strftime("%Y-%m-%dT%H:%M:%SZ")
+
+
+def str_mark(mark: Mark) -> str:
+    """A mark as `manifest add` takes it."""
+    return f"{mark.number}:{mark.sum}"
