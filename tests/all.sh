@@ -1,7 +1,8 @@
 #!/usr/bin/env bash
-# Runs the tests that need no more than the program, several at a time: what `make test` does.
+# Runs the tests of this folder, several at a time: what `make test` does, and ./check.
 #
-#     tests/all.sh [-j N] [NAME..]    N at a time (without it one for each processor); those of these names, or all
+#     tests/all.sh [--gate] [-j N] [NAME..]    N at a time (without it one for each processor); those of these names, or
+#                                              all. With --gate a script that lacks what the gate makes has failed
 #
 # The program is that of tests/lib.sh: SSIGN, or the one that was built here, or the recorded one. Each line says how a
 # script ended; of one that failed all that it said stands before. Then follows what was left out, and why. The last line
@@ -15,9 +16,15 @@ longest=1800
 first=(verify archive ssign keys cost refusals mistakes install nights completions)
 
 usage() {
-    echo 'usage: tests/all.sh [-j N] [NAME..]' >&2
+    echo 'usage: tests/all.sh [--gate] [-j N] [NAME..]' >&2
     exit 2
 }
+
+unset SSIGN_GATE
+if [[ ${1-} == --gate ]]; then
+    export SSIGN_GATE=1
+    shift
+fi
 
 jobs=$(nproc 2>/dev/null) || jobs=1
 if [[ ${1-} == -j ]]; then
@@ -37,7 +44,6 @@ if ! find_program; then
     exit 1
 fi
 echo "all: the program is ${program#"$root/"}"
-unset SSIGN_GATE
 export SSIGN=$program scratch longest
 if [[ ${#names[@]} == 0 ]]; then
     for it in "${first[@]}" $(cd tests && printf '%s\n' *.sh); do
@@ -55,7 +61,8 @@ run_one() {
     status=$?
     rm -f -- "$scratch/$1.running"
     counts=$(tail -n 1 -- "$said" | grep -Eo '[0-9]+ passed, [0-9]+ failed$')
-    if [[ $status == 77 ]]; then
+    # in the gate nothing may be left out that it makes itself
+    if [[ $status == 77 && ! ${SSIGN_GATE-} ]]; then
         echo "0 0" >"$scratch/$1.counts"
         return
     fi

@@ -105,6 +105,8 @@ all 'one that is left out' 0 '3 passed, 0 failed' good made
 holds 'it is named, with why' grep -qx "    made: left out: crates/tool/out/tool isn't here, which ./check makes" "$scratch/out"
 all 'all that there is is left out' 1 '0 passed, 0 failed' made
 SSIGN_GATE=1 all 'nor does a variable of the gate count' 0 '3 passed, 0 failed' good made
+kept tests/all.sh --gate -j 2 good made
+tell 'in the gate it has failed' "$([[ $status == 1 && $(tail -n 1 "$scratch/out") == '3 passed, 1 failed' ]] || cat "$scratch/out" "$scratch/err")"
 printf 'echo "some: skipped what needs it, which is missing"\necho "some: no it here, so nothing is run"\necho "some: 1 passed, 0 failed"\n' >tests/some.sh
 all 'one that skips some' 0 '1 passed, 0 failed' some
 holds 'both of its lines are repeated' test "$(grep -c '^    some: ' "$scratch/out")" = 2
