@@ -8,6 +8,7 @@ from typing import Any, Dict, Iterator, List, Tuple
 
 from ssign_keys.answer import answers
 from ssign_keys.blocks import read_block
+from ssign_keys.commands import BUDGET
 from ssign_keys.faults import Fault
 from ssign_keys.programs import Refused, Run
 from ssign_keys.progress import Progress
@@ -29,6 +30,7 @@ def read_trust(given: Dict[str, Any]) -> Trust:
 
 def ask(settings: Settings, trust: Trust, reader: Reader, workplace: Workplace) -> Tuple[str, List[str]]:
     """Has ssign ask about a part, and keeps what holds. Gives the path of the answers, and what is found of the keys."""
+    BUDGET.renew()
     asking = Run(settings.program, ["questions", *settings.log_words], workplace, Progress(), subprocess.PIPE,
                  subprocess.PIPE)
     asking.feed(candidates(reader, settings.are_lines))
@@ -47,9 +49,9 @@ def ask(settings: Settings, trust: Trust, reader: Reader, workplace: Workplace) 
     except Refused as refused:
         where = "" if refused.where is None else f" {refused.where}"
         raise Fault(f"ssign questions refuses it: {refused.code or 'see above'}{where}") from refused
-    found = []
+    found = [f"keys, {answered.counts.unasked_sentence()}"] if answered.counts.unasked else []
     if not settings.allows_sha1:
-        found = [f"sha1, the session {it} rests on SHA-1, for which two texts with one hash can be made" for it in weak]
+        found += [f"sha1, the session {it} rests on SHA-1, for which two texts with one hash can be made" for it in weak]
     return workplace.path("answers"), found
 
 

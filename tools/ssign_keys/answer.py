@@ -70,9 +70,13 @@ class Counts:
                         f"longest {self.longest}, and {'is' if self.long_payloads == 1 else 'are'} not trusted: "
                         "--max-payload looks at longer ones")
         if self.unasked:
-            said.append(f"{counted(self.unasked, 'certificate was', 'certificates were')} not checked, and no payload with "
-                        f"one is trusted: openssl may take {PROCESSES} processes and {SECONDS} seconds for one log")
+            said.append(self.unasked_sentence())
         return said
+
+    def unasked_sentence(self) -> str:
+        """What is to be said where what commands may take was used up."""
+        return (f"{counted(self.unasked, 'certificate was', 'certificates were')} not checked, and no payload with one is "
+                f"trusted: openssl may take {PROCESSES} processes and {SECONDS} seconds for one log")
 
 
 class Answers(Iterator[Answered]):

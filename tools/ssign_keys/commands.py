@@ -30,6 +30,10 @@ class Budget:
 
     def __init__(self) -> None:
         """All of it."""
+        self.renew()
+
+    def renew(self) -> None:
+        """Gives all of it again, where a process goes on to another log."""
         self._processes = PROCESSES
         self._seconds = float(SECONDS)
         # how many questions weren't asked

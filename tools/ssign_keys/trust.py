@@ -157,7 +157,10 @@ class Trust:
 
     @classmethod
     def from_arguments(cls, arguments: argparse.Namespace) -> Trust:
-        """What the options `keys`, `session_key`, `ca`, `cert` and `at_signing_time` give. Raises Fault where one is wrong."""
+        """What the options `keys`, `session_key`, `ca`, `cert` and `at_signing_time` give. Raises Fault where one is wrong.
+
+        A caller without --max-payload looks at payloads of the usual length.
+        """
         keys: Dict[Numbers, Trusted] = {}
         for path in arguments.keys:
             for key in read_public_keys(path):
@@ -171,7 +174,8 @@ class Trust:
         signers, authorities = read_certificates(arguments.cert, arguments.ca)
         if not (keys or session_keys or signers or authorities):
             raise Fault("nothing says which key is to be trusted: give a public key, --session-key, --ca or --cert")
-        return cls(keys, session_keys, authorities, signers, arguments.at_signing_time, arguments.max_payload)
+        return cls(keys, session_keys, authorities, signers, arguments.at_signing_time,
+                   getattr(arguments, "max_payload", LONGEST))
 
     @property
     def patterns(self) -> List[SessionKey]:
