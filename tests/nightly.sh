@@ -163,6 +163,10 @@ echo 42 >state/rsid
 rotated logs/one
 expect 'a new state' 0 '' ''
 
+# a kill and a full disk at each step
+holds 'a run that is stopped at any step is made good by the next' python3 -B "$root/tests/rotation_faults.py" \
+    "$root/tools/ssign-keys" "$program" "$scratch/keys"
+
 # the lines that logrotate runs behind a rotation, and its own words where it is here
 sed -n '/^ *postrotate/,/^ *endscript/p' "$root/examples/logrotate/ssign" | sed '1d;$d' >behind
 # shellcheck disable=SC2016 # for the script

@@ -1,0 +1,144 @@
+"""Stops `ssign-keys rotated` at each step in turn, by a kill or by a full disk, and lets the next run go on.
+
+    rotation_faults.py SSIGN-KEYS SSIGN KEYS [all]      with `all` each step by both, else by one after the other in turn
+
+A step is a call that writes, names or removes a file, or has it stand on the disk. After each stop the next run has to
+leave what a run without a stop leaves: each log signed once, no RSID twice, a manifest that is clean, nothing that waits.
+"""
+from __future__ import annotations
+
+import concurrent.futures
+import json
+import os
+import subprocess
+import sys
+import tempfile
+from typing import List, Tuple
+
+# Runs ssign-keys with the calls counted. At the step STOP it is killed, or the call fails for want of room.
+STOPPED = r"""
+import errno, os, signal, sys
+stop, kind = int(sys.argv[1]), sys.argv[2]
+sys.argv[1:3] = []
+count = 0
+def counted(name):
+    real = getattr(os, name)
+    def call(*words, **more):
+        global count
+        count += 1
+        if count == stop:
+            if kind == "kill":
+                os.kill(os.getpid(), signal.SIGKILL)
+            raise OSError(errno.ENOSPC, os.strerror(errno.ENOSPC))
+        return real(*words, **more)
+    setattr(os, name, call)
+for it in ("fsync", "link", "unlink", "replace", "chmod"):
+    counted(it)
+sys.path.insert(0, os.path.dirname(os.path.realpath(sys.argv[1])))
+sys.argv[0:1] = []
+from ssign_keys.cli import main
+status = main(sys.argv[1:])
+sys.stdout.flush()
+if kind == "count":
+    print(count)
+os._exit(status)
+"""
+LOGS = {"night.log": ["<13>1 - h a p m - one", "no message of RFC 5424"]}
+
+
+class Trial:
+    """A folder with a state and two logs."""
+
+    def __init__(self, keys_program: str, ssign: str, keys: str, folder: str) -> None:
+        """Makes the logs."""
+        self._program, self._ssign, self._keys, self.folder = keys_program, ssign, keys, folder
+        os.makedirs(self.path("state"))
+        os.makedirs(self.path("logs"))
+        with open(self.path("state", "rsid"), "w", encoding="ascii") as file:
+            file.write("0\n")
+        for name, lines in LOGS.items():
+            with open(self.path("logs", name), "w", encoding="ascii") as file:
+                file.write("".join(f"{it}\n" for it in lines))
+
+    def path(self, *names: str) -> str:
+        """A path below the folder."""
+        return os.path.join(self.folder, *names)
+
+    def run(self, stop: int, kind: str) -> Tuple[int, str, str]:
+        """Signs the logs, and stops at a step."""
+        words = ["rotated", "--ssign", self._ssign, "--keys", self._keys, "--state", self.path("state"), "--host", "h",
+                 "--wait", "0", *(self.path("logs", it) for it in LOGS)]
+        done = subprocess.run([sys.executable, "-B", "-c", STOPPED, str(stop), kind, self._program, *words],
+                              stdin=subprocess.DEVNULL, capture_output=True, text=True, timeout=300)
+        return done.returncode, done.stdout, done.stderr
+
+    def faults(self) -> List[str]:
+        """What isn't as it has to be after the last run."""
+        found = []
+        entries = []
+        with open(self.path("state", "kept", "manifest.jsonl"), encoding="ascii") as file:
+            entries = [json.loads(it) for it in file]
+        names = sorted(it["name"] for it in entries)
+        if names != sorted(f"{it}.frames" for it in LOGS):
+            found.append(f"the manifest has {names}")
+        rsids = [it["rsid"] for it in entries]
+        if rsids != sorted(set(rsids)):
+            found.append(f"the RSIDs are {rsids}")
+        with open(self.path("state", "rsid"), encoding="ascii") as file:
+            if int(file.read()) != rsids[-1]:
+                found.append("the last RSID isn't the one of the last entry")
+        here = sorted(it for it in os.listdir(self.path("logs")))
+        wanted = sorted([*LOGS, *(f"{it}{end}" for it in LOGS for end in (".frames", ".set-aside.frames",
+                                                                           ".set-aside.frames.places"))])
+        if here != wanted:
+            found.append(f"in the folder of the logs are {here}")
+        kept = sorted(os.listdir(self.path("state", "kept")))
+        if kept != sorted(["manifest.jsonl", *(f"{what}-{it}" for what in ("report", "counters") for it in rsids)]):
+            found.append(f"in the folder of what is kept are {kept}")
+        check = subprocess.run([self._program, "manifest", "check", self.path("state", "kept", "manifest.jsonl"),
+                                self.path("logs"), "--logs", "*.frames"], capture_output=True, text=True, timeout=300)
+        if check.returncode:
+            found.append(check.stdout)
+        return found
+
+
+def stopped(keys_program: str, ssign: str, keys: str, stop: int, kind: str) -> List[str]:
+    """What is wrong where a run is stopped at a step."""
+    with tempfile.TemporaryDirectory() as folder:
+        trial = Trial(keys_program, ssign, keys, folder)
+        status, _, said = trial.run(stop, kind)
+        found = []
+        if kind == "kill" and status != -9:
+            found.append(f"the run ended with {status}: {said}")
+        if kind == "full" and status not in (1, 2):
+            found.append(f"the run ended with {status}, though a call failed: {said}")
+        status, _, said = trial.run(0, "none")
+        # a message is set aside, in this run or in the one before
+        if status not in (0, 1):
+            found.append(f"the next run ended with {status}: {said}")
+        found += trial.faults()
+        return [f"{kind} at step {stop}: {it}" for it in found]
+
+
+def main(keys_program: str, ssign: str, keys: str, which: str = "") -> int:
+    """Tries each step."""
+    with tempfile.TemporaryDirectory() as folder:
+        trial = Trial(keys_program, ssign, keys, folder)
+        status, out, said = trial.run(0, "count")
+        faults = trial.faults() if status == 1 else [f"a run without a stop ended with {status}: {said}"]
+        steps = int(out.split()[-1]) if status == 1 else 0
+    tried = 0
+    with concurrent.futures.ThreadPoolExecutor(os.cpu_count() or 1) as pool:
+        trials = [pool.submit(stopped, keys_program, ssign, keys, stop, kind)
+                  for stop in range(1, steps + 1) for kind in ("kill", "full") if which or (kind == "kill") == (stop % 2 == 0)]
+        for it in trials:
+            faults += it.result()
+            tried += 1
+    for fault in faults[:20]:
+        print(f"    {fault}")
+    print(f"{steps} steps, {tried} stops, {len(faults)} faults")
+    return 1 if faults or steps < 20 else 0
+
+
+if __name__ == "__main__":
+    sys.exit(main(*sys.argv[1:]))
