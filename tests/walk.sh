@@ -77,7 +77,9 @@ for number in "${!commands[@]}"; do
         continue
     fi
     status=$(<"$scratch/status.$number")
-    cp -- "$scratch/out.$number" "$scratch/out"
+    # the page has words in place of what each new key has anew
+    sed -E 's/, SHA-256 [0-9a-f]{64}$/, SHA-256 FINGERPRINT/; s/ of [0-9-]{10}T[0-9:]{8}Z, as its/ of TIME, as its/' \
+        "$scratch/out.$number" >"$scratch/out"
     cp -- "$scratch/err.$number" "$scratch/err"
     # what is shown may lack the LF at its end, as a decoded block does
     [[ -s $scratch/out && $(tail -c 1 -- "$scratch/out") ]] && echo >>"$scratch/out"
