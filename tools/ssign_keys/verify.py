@@ -224,11 +224,14 @@ class Verifier:
         reviewing = Run(self._program, ["review", *words, *self._words], self._workplace, self._progress,
                         self._log.rewind(), self._report)
         try:
-            return reviewing.end(self._reading("reviewing"))
+            status = reviewing.end(self._reading("reviewing"))
         except Refused:
             # a log that was cut meanwhile may be refused for that alone
             self._log.check_unchanged()
             raise
+        # and the report of one that was written on is of another log
+        self._log.check_unchanged()
+        return status
 
     def name_unused(self, trust: Trust) -> None:
         """Says which --session-key names no session of the log, since a name that was mistyped restricts nothing."""
