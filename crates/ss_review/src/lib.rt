@@ -25,6 +25,7 @@ pub use fault::ReviewFault;
 pub use keep::reviewer::Reviewer;
 pub use keep::spoilt::{SpoiltPlace, SpoiltPlaces};
 pub use questions::asked::{AskedBlock, AskedSession, AskedSessions};
+pub use questions::parameters::AskedParameters;
 pub use questions::question::{Question, Questions};
 pub use questions::questioner::Questioner;
 pub use report::entry::{Entries, Entry, Why};

@@ -2,5 +2,6 @@
 pub(crate) mod asked;
 pub(crate) mod asking;
 pub(crate) mod needed;
+pub(crate) mod parameters;
 pub(crate) mod question;
 pub(crate) mod questioner;

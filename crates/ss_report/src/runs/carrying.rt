@@ -131,6 +131,7 @@ fn carry_signature(
     ensures { (before : List BlockMessage) (octets : List ℕ)
         → OnOk result (places.new.items ≡ places.old.items ++ carried_with report.now before (record {
           place = place;
+          count = length block.now.hashes;
           session = session.now;
           said = Hashes block.now;
           signed = octets;
@@ -173,6 +174,7 @@ fn carry_certificate<'a>(
         → KnowsExtents report.now before carried.old.known
         → OnOk result (carried.new.places.items ≡ carried.old.places.items ++ carried_with report.now before (record {
           place = place;
+          count = 0;
           session = session.now;
           said = Fragment block.now;
           signed = octets;
@@ -181,6 +183,7 @@ fn carry_certificate<'a>(
         → KnowsExtents report.now before carried.old.known
         → OnOk result (KnowsExtents report.now (before ++ record {
           place = place;
+          count = 0;
           session = session.now;
           said = Fragment block.now;
           signed = octets;

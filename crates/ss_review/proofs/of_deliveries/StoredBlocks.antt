@@ -14,6 +14,7 @@ use Rattle.ss_review.specs.declared.keep.message.BlockMessage.{BlockMessage}
 use Rattle.ss_review.specs.declared.keep.message.Said.{Said}
 use Rattle.ss_review.specs.keep.Notes.{Note, Block, noted, note, notes}
 use Rattle.ss_review.specs.keep.Contents.{said_in, block_with, block_in, blocks}
+use Rattle.ss_review.specs.questions.Shortened.{hash_count}
 use Rattle.ss_review.specs.sessions.Verified.{signature_of, is_valid}
 use Rattle.ss_review.specs.deliveries.Delivery.{own_session, is_normal, is_spoilt, IsDelivered, sent, normal, spoilt, other, Delivers}
 use Rattle.ss_review.specs.deliveries.DeliveryLaws.{Case, AcceptsSent, says}
@@ -62,7 +63,7 @@ block_not_normal m said e = ap is_normal (noted_block m (reading m) said e)
 
 -- such a block as a message of a log
 abbrev own_message : (s : Setting) (m : List ℕ) → IsOwnBlock s m → ℕ → BlockMessage
-own_message s m is place = record { place = place; session = own_session s; said = is.said; signed = is.octets }
+own_message s m is place = record { place = place; count = hash_count is.said; session = own_session s; said = is.said; signed = is.octets }
 
 pub own_block : (s : Setting) (m : List ℕ) (is : IsOwnBlock s m) (place : ℕ) → block_in place m ≡ Some (own_message s m is place)
 unfolding block_in
@@ -93,7 +94,9 @@ none_spoilt s chain m are c =
 module _ (x : Case) (b : BlockMessage) (text : List ℕ) (told : IsBlockOf b.place text b) where
   read_of : block_in b.place text ≡ Some b
   unfolding block_in
-  read_of = λ i. block_with b.place (told.said_is i) (told.session_is i) (told.signed_is i)
+  read_of =
+      (λ i. block_with b.place (told.said_is i) (told.session_is i) (told.signed_is i))
+      ∙ ap (λ count. Some (record b { count = count })) (sym told.count_is)
 
   valid_of : AcceptsSent x → Contains x.log text → Contains (emitted_by x.chain) text → IsOwnBlock x.s text → is_valid (says x) (payload_text x.s.payload) b ≡ true
   valid_of accepts stored c is =

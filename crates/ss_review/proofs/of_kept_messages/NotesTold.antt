@@ -12,6 +12,7 @@ use Rattle.ss_review.specs.declared.keep.message.BlockMessage.{BlockMessage}
 use Rattle.ss_review.specs.declared.keep.message.Said.{Said}
 use Rattle.ss_review.specs.declared.keep.spoilt.SpoiltPlace.{SpoiltPlace}
 use Rattle.ss_review.specs.keep.Notes.{Note, Normal, Block, Spoilt}
+use Rattle.ss_review.specs.questions.Shortened.{hash_count}
 use Rattle.ss_review.specs.keep.Contents.{said_in, block_with, block_in, normal_at, block_at, spoilt_at, normals, blocks, spoilts}
 use Rattle.ss_review.proofs.of_numbers.Announcements.{numbered_from, has-numbered}
 use Rattle.ss_origin.proofs.Members.{Has}
@@ -46,15 +47,17 @@ spoilt_place place n s e = (spoilt_told place n s e).1
 -- the block of a text, with what the text says, its session and its signed octets
 pub record IsBlockOf (place : ℕ) (text : List ℕ) (b : BlockMessage) : Type 0 where
   pub place_is : b.place ≡ place
+  pub count_is : b.count ≡ hash_count b.said
   pub said_is : said_in (reading text) ≡ Some b.said
   pub session_is : session text ≡ Some b.session
   pub signed_is : signed text ≡ Some b.signed
 
 block_parts : (place : ℕ) (said : Option Said) (s : Option Session) (octets : Option (List ℕ)) (b : BlockMessage) → block_with place said s octets ≡ Some b
-    → (b.place ≡ place) × (said ≡ Some b.said) × (s ≡ Some b.session) × (octets ≡ Some b.signed)
+    → (b.place ≡ place) × (b.count ≡ hash_count b.said) × (said ≡ Some b.said) × (s ≡ Some b.session) × (octets ≡ Some b.signed)
 block_parts place (Some said) (Some s) (Some octets) b e =
-    let it : record { place = place; session = s; said = said; signed = octets } ≡ b = same_Some _ _ e in (
+    let it : record { place = place; count = hash_count said; session = s; said = said; signed = octets } ≡ b = same_Some _ _ e in (
       sym (ap (λ (x : BlockMessage). x.place) it),
+      sym (ap (λ (x : BlockMessage). x.count) it) ∙ ap (λ (x : BlockMessage). hash_count x.said) it,
       ap (λ (x : BlockMessage). Some x.said) it,
       ap (λ (x : BlockMessage). Some x.session) it,
       ap (λ (x : BlockMessage). Some x.signed) it,
@@ -67,7 +70,7 @@ pub block_read : (place : ℕ) (text : List ℕ) (b : BlockMessage) → block_in
 unfolding block_in
 block_read place text b e =
     let parts = block_parts place (said_in (reading text)) (session text) (signed text) b e in
-    record { place_is = parts.0; said_is = parts.1; session_is = parts.2; signed_is = parts.3 }
+    record { place_is = parts.0; count_is = parts.1; said_is = parts.2; session_is = parts.3; signed_is = parts.4 }
 
 pub block_told : (place : ℕ) (n : Note) (b : BlockMessage) → block_at place n ≡ Some b → (text : List ℕ) × (n ≡ Block text) × IsBlockOf place text b
 block_told place (Normal pair) b e = absurd (cc)

@@ -18,7 +18,7 @@ use Rattle.ss_review.proofs.of_lists.Mapped.{map-map, filter-map, filter_map-map
 
 module _ (f : ℕ → ℕ) where
   abbrev pub moved_block : BlockMessage → BlockMessage
-  moved_block b = record { place = f b.place; session = b.session; said = b.said; signed = b.signed }
+  moved_block b = record { place = f b.place; count = b.count; session = b.session; said = b.said; signed = b.signed }
 
   pub sessions_moved : (bs : List BlockMessage) → sessions (map moved_block bs) ≡ sessions bs
   sessions_moved bs = ap (in_order session_cmp) (map-map (λ (b : BlockMessage). b.session) moved_block bs)

@@ -22,6 +22,7 @@ use Rattle.ss_review.specs.declared.keep.message.Said.TheVariants.{Hashes, Fragm
 use Rattle.ss_review.specs.declared.keep.spoilt.SpoiltPlace.{SpoiltPlace}
 use Rattle.ss_review.specs.keep.Notes.{Note, Normal, Block, Spoilt, noted, note, notes}
 use Rattle.ss_review.specs.keep.Contents.{said_in, block_with, block_in, normals, blocks, spoilts, contents}
+use Rattle.ss_review.specs.questions.Shortened.{hash_count}
 use Rattle.ss_review.specs.sessions.Verified.{Answers, is_verified}
 use Rattle.ss_review.specs.announced.Announced.{Row, rows}
 use Rattle.ss_review.specs.assign.Assigned.{is_taken}
@@ -60,7 +61,7 @@ block_there are_signed place text e =
     let said = noted_said text (reading text) text e in
     let s : (s : Session) × (session text ≡ Some s) = some_of (session text) ((are_signed text).1 ∙ said.0) in
     let o : (o : List ℕ) × (signed text ≡ Some o) = some_of (signed text) ((are_signed text).0 ∙ said.0) in
-    (record { place = place; session = s.0; said = said.1.0; signed = o.0 }, λ i. block_with place (said.1.1 i) (s.1 i) (o.1 i))
+    (record { place = place; count = hash_count said.1.0; session = s.0; said = said.1.0; signed = o.0 }, λ i. block_with place (said.1.1 i) (s.1 i) (o.1 i))
 
 stored_there : BlocksAreSigned → (log : List (List ℕ)) (place : ℕ) (text : List ℕ) → slice_get (notes log) place ≡ Some (Block text) → (b : BlockMessage) × (block_in place text ≡ Some b)
 stored_there are_signed log place text e =

@@ -1,5 +1,5 @@
 -- What is made of each section of the blocks of a log, one after the other.
-use Rattle.std.proofs.Common.{◌≡◌, ℕ, ◌<◌, ◌≤◌, List, [], ◌∷◌, ◌++◌, length, drop, map, Bor, sym, ap, ◌∙◌, arith}
+use Rattle.std.proofs.Common.{◌≡◌, ℕ, ◌≤◌, List, [], ◌∷◌, ◌++◌, length, drop, map, Bor, sym, ap, ◌∙◌}
 use Rattle.std.specs.Prelude.{Result}
 use Rattle.std.specs.List.{flat_map}
 use Rattle.std.proofs.lemmas.List.{at_drop_all, append_assoc, map-append}
@@ -7,6 +7,7 @@ use Rattle.std.proofs.lemmas.List.Folds.{flat_map-map}
 use Rattle.std.proofs.lemmas.Simd.{map-map}
 use Rattle.ss_block.specs.declared.session.Session.{Session}
 use Rattle.ss_review.specs.declared.report.session_report.SessionState.{SessionState}
+use Rattle.ss_review.specs.declared.questions.asked.AskedSession.{AskedSession}
 use Rattle.ss_review.specs.declared.questions.question.Question.{Question}
 use Rattle.ss_review.specs.declared.keep.message.BlockMessage.{BlockMessage}
 use Rattle.ss_review.specs.Ordered.{in_order}
@@ -15,14 +16,9 @@ use Rattle.ss_review.specs.sessions.Sectioned.{sections, referred}
 use Rattle.ss_review.specs.sessions.Payloads.{certificates, stated_payload}
 use Rattle.ss_review.specs.sessions.Verified.{Answers, joined}
 use Rattle.ss_review.specs.announced.Numbered.{sessions_joined}
-use Rattle.ss_review.specs.questions.Questions.{asked, questions}
+use Rattle.ss_review.specs.questions.Questions.{asked, questions, asked_session, asked_sessions}
 
 -- ---- the sections that are left
-
--- one of the blocks
-pub some_of : (bs : List (Bor BlockMessage)) (start : ℕ) → start < length bs → Bor BlockMessage
-some_of [] start below = absurd (omega (arith, below))
-some_of (b ∷ bs) start below = b
 
 pub no_sections : (bs : List (Bor BlockMessage)) (start : ℕ) → length bs ≤ start → sections (referred (drop start bs)) ≡ []
 unfolding in_order
@@ -50,3 +46,10 @@ section_asked section = asked section.1 (stated_payload (certificates section.1)
 pub questions_asked : (bs : List BlockMessage) → flat_map section_asked (sections bs) ≡ questions bs
 unfolding questions
 questions_asked bs = flat_map-map section_asked (λ s. (s, of_session bs s)) (sessions bs)
+
+abbrev pub section_told : Session × List BlockMessage → List AskedSession
+section_told section = asked_session section.0 section.1 (stated_payload (certificates section.1))
+
+pub sessions_told : (bs : List BlockMessage) → flat_map section_told (sections bs) ≡ asked_sessions bs
+unfolding asked_sessions
+sessions_told bs = flat_map-map section_told (λ s. (s, of_session bs s)) (sessions bs)

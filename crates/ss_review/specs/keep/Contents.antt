@@ -13,6 +13,7 @@ use Rattle.ss_review.specs.declared.keep.message.BlockMessage.{BlockMessage}
 use Rattle.ss_review.specs.declared.keep.message.Said.{Said}
 use Rattle.ss_review.specs.declared.keep.message.Said.TheVariants.{Hashes, Fragment}
 use Rattle.ss_review.specs.keep.Notes.{Note, Normal, Block, Spoilt}
+use Rattle.ss_review.specs.questions.Shortened.{hash_count}
 
 -- each list by rising place, and how many messages there are
 pub record Contents : Type 0 where
@@ -30,7 +31,7 @@ said_in (readings.Spoilt cause) = None
 
 abbrev pub block_with : ℕ → Option Said → Option Session → Option (List ℕ) → Option BlockMessage
 block_with place (Some said) (Some session) (Some signed) =
-    Some (record { place = place; session = session; said = said; signed = signed })
+    Some (record { place = place; count = hash_count said; session = session; said = said; signed = signed })
 block_with place (Some said) (Some session) None = None
 block_with place (Some said) None signed = None
 block_with place None session signed = None

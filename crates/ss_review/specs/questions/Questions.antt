@@ -1,13 +1,17 @@
 -- What a review asks of a scheme, as often as a block stands in its log.
-use Rattle.std.specs.Prelude.{◌≡◌, ℕ, Bool, List, [], ◌∷◌, Contains, map, flat_map, Option, Result, Ok, Err}
+use Rattle.std.specs.Prelude.{◌≡◌, ℕ, Bool, List, [], ◌∷◌, length, Contains, map, flat_map, Option, Result, Ok, Err}
 use Rattle.ss_block.specs.Block as block
 use Rattle.ss_block.specs.declared.session.Session.{Session}
 use Rattle.ss_review.specs.declared.report.session_report.SessionState.{SessionState}
 use Rattle.ss_review.specs.declared.questions.asked.AskedBlock.{AskedBlock}
 use Rattle.ss_review.specs.declared.questions.asked.AskedSession.{AskedSession}
+use Rattle.ss_review.specs.declared.questions.parameters.AskedParameters.{AskedParameters}
+use Rattle.ss_review.specs.declared.questions.parameters.AskedParameters.TheVariants as parameters
 use Rattle.ss_review.specs.declared.questions.question.Question.{Question}
 use Rattle.ss_review.specs.declared.questions.question.Question.TheVariants as question
 use Rattle.ss_review.specs.declared.keep.message.BlockMessage.{BlockMessage}
+use Rattle.ss_review.specs.declared.keep.message.Said.{Said}
+use Rattle.ss_review.specs.declared.keep.message.Said.TheVariants.{Hashes, Fragment}
 use Rattle.ss_review.specs.declared.sessions.joined_session.JoinedSession.{JoinedSession}
 use Rattle.ss_review.specs.sessions.Sessions.{sessions, of_session}
 use Rattle.ss_review.specs.sessions.Payloads.{certificate_of, certificates, stated_payload}
@@ -44,10 +48,30 @@ IsAskableIn askable judge ss b =
     (s : JoinedSession) (payload : List ℕ) → Contains ss s → s.session ≡ b.session → s.joined ≡ Ok payload
     → askable judge (question_about payload b)
 
--- ---- the same session by session, with each payload once
+-- ---- the same session by session, with each payload once, and with what each block says of itself
+
+-- what a block says of itself, which announces this many hashes (RFC 5848, sections 4.2 and 5.3.2)
+abbrev pub parameters_of : (count : ℕ) → Said → AskedParameters
+parameters_of count (Hashes b) = parameters.Signature b.alg b.group b.gbc b.first count
+parameters_of count (Fragment c) = parameters.Certificate c.alg c.group c.total c.index (length c.fragment)
 
 abbrev pub asked_block : BlockMessage → AskedBlock
-asked_block b = record { octets = b.signed; signature = signature_of b.said }
+asked_block b = record {
+  place = b.place;
+  parameters = parameters_of b.count b.said;
+  octets = b.signed;
+  signature = signature_of b.said;
+}
+
+-- a session that states a payload, with what is asked about its blocks, which are these
+abbrev pub asked_session : Session → List BlockMessage → Result (List ℕ) SessionState → List AskedSession
+asked_session s bs (Err state) = []
+asked_session s bs (Ok payload) = record { session = s; payload = payload; blocks = map asked_block bs } ∷ []
+
+-- each session that states a payload, in their order, with each of its blocks, in order of place
+unfoldable pub asked_sessions : List BlockMessage → List AskedSession
+asked_sessions bs =
+    flat_map (λ s. asked_session s (of_session bs s) (stated_payload (certificates (of_session bs s)))) (sessions bs)
 
 -- all that the questions need of a block
 pub record Needed : Type 0 where

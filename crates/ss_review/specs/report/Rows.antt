@@ -1,5 +1,5 @@
 -- Small logs and their reports. Hashes are shortened to one octet, and payloads to `- N` and the like.
-use Rattle.std.specs.Prelude.{◌≡◌, ℕ, true, false, List, [], ◌∷◌}
+use Rattle.std.specs.Prelude.{◌≡◌, ℕ, true, false, List, [], ◌∷◌, length}
 use Rattle.std.specs.Str.{bytes_eq}
 use Rattle.ss_message.specs.declared.draft.Field.TheVariants as fields
 use Rattle.ss_block.specs.declared.hash.Alg.{Alg}
@@ -45,6 +45,7 @@ sent_by host rsid = record { host = fields.Text host; app = fields.Text (115 ∷
 abbrev pub certificate : ℕ → Session → ℕ → ℕ → List ℕ → BlockMessage
 certificate place s total index fragment = record {
   place = place;
+  count = 0;
   session = s;
   said = Fragment (record {
     alg = algs.Sha1;
@@ -62,6 +63,7 @@ certificate place s total index fragment = record {
 abbrev pub hashes_of : ℕ → Session → Alg → ℕ → List Hash → BlockMessage
 hashes_of place s alg number hs = record {
   place = place;
+  count = length hs;
   session = s;
   said = Hashes (record {
     alg = alg;

@@ -1,5 +1,6 @@
 //! What is kept of the messages of a log in a review.
-ghost use Rattle.std.specs.Prelude.{◌≡◌};
+ghost use Rattle.std.specs.Prelude.{◌≡◌, length};
+ghost use Rattle.ss_review.specs.questions.Shortened.{hash_count};
 ghost use Rattle.ss_review.specs.sessions.Verified.{signature_of};
 
 use ss_block::{CertBlock, HashPair, Session, SigBlock};
@@ -28,12 +29,32 @@ pub enum Said {
 pub struct BlockMessage {
     /// Its place in the log, from 0.
     pub place: u32,
+    /// CNT, 1 to 99: how many hashes its signature block announces (RFC 5848, section 4.2.6); 0 for a certificate block.
+    pub count: u8,
     /// Who sent it.
     pub session: Session,
     /// What its block says.
     pub said: Said,
     /// What is signed of it.
     pub signed: Bytes,
+}
+
+/// How many hashes a signature block announces.
+fn hashes_len(block: &SigBlock) -> u8
+    ensures { result ≡ length block.now.hashes }
+{
+    block.assure_in_range();
+    block.hashes().as_slice().len() as u8
+}
+
+/// How many hashes a block announces: none, if it is a certificate block.
+pub(crate) fn hash_count(said: &Said) -> u8
+    ensures { result ≡ hash_count said.now }
+{
+    match said {
+        Said::Hashes(block) => hashes_len(block),
+        Said::Fragment(_) => 0,
+    }
 }
 
 /// The signature of a block.

@@ -3,7 +3,7 @@ ghost use Rattle.std.specs.Prelude.{◌≡◌, IfOk};
 ghost use Rattle.ss_review.specs.keep.Notes.{noted, note};
 ghost use Rattle.ss_review.specs.keep.Contents.{block_in};
 
-use crate::keep::message::{BlockMessage, Said};
+use crate::keep::message::{BlockMessage, Said, hash_count};
 use ss_block::{FullReading, Reading, classify, may_hold_block, read_fully};
 use ss_octets::NoMemory;
 use std::alloc::Global;
@@ -48,6 +48,7 @@ pub(crate) fn block_in(
     };
     Ok(Some(BlockMessage {
         place,
+        count: hash_count(&said),
         session,
         said,
         signed,

@@ -1,15 +1,17 @@
 //! What a review asks of a signature scheme (RFC 5848, section 7).
 ghost use Rattle.std.specs.Prelude.{◌≡◌, ◌++◌, map, IfOk, OnOk};
 ghost use Rattle.ss_review.specs.sessions.Payloads.{certificates, stated_payload};
-ghost use Rattle.ss_review.specs.questions.Questions.{asked, asked_block, question_under, session_questions, questions};
-ghost use Rattle.ss_review.specs.questions.Questions.{questions_shared};
+ghost use Rattle.ss_review.specs.questions.Questions.{asked_block, asked_session, asked_sessions, question_under};
+ghost use Rattle.ss_review.specs.questions.Questions.{session_questions, questions, questions_shared};
 ghost use Rattle.ss_review.specs.sessions.Sectioned.{referred, SessionsRise};
 
 use crate::keep::message::{BlockMessage, signature_of};
 use crate::questions::asked::{AskedBlock, AskedSession, AskedSessions};
+use crate::questions::parameters::parameters_of;
 use crate::questions::question::{Question, Questions};
 use crate::sessions::joining::stated_payload;
 use crate::sessions::sectioning::{by_session, section_end};
+use ss_block::Session;
 use ss_octets::{Bytes, List, NoMemory};
 use std::alloc::Global;
 
@@ -25,6 +27,8 @@ fn asked_block(alloc: Global, block: &BlockMessage) -> Result<AskedBlock, NoMemo
     ensures { IfOk result (λ b. b ≡ asked_block block.now) }
 {
     Ok(AskedBlock {
+        place: block.place,
+        parameters: parameters_of(block),
         octets: copy_of(alloc, &block.signed)?,
         signature: copy_of(alloc, signature_of(&block.said))?,
     })
@@ -41,20 +45,25 @@ fn asked_blocks(alloc: Global, blocks: &[&BlockMessage]) -> Result<Vec<AskedBloc
     Ok(asked)
 }
 
-/// Adds a session, whose blocks these are, if they state a payload.
-#[tactic(auto, unfolding(crate::specs::questions::Questions::questions_shared))]
+/// Adds the session, whose blocks these are, if they state a payload.
 fn add_session(
     alloc: Global,
     sessions: &mut Vec<AskedSession>,
+    session: &Session,
     blocks: &[&BlockMessage],
 ) -> Result<(), NoMemory>
-    ensures { OnOk result (questions_shared sessions.new.items ≡ questions_shared sessions.old.items
-        ++ asked (referred blocks.now) (stated_payload (certificates (referred blocks.now)))) }
+    ensures { OnOk result (sessions.new.items ≡ sessions.old.items
+        ++ asked_session session.now (referred blocks.now) (stated_payload (certificates (referred blocks.now)))) }
 {
     match stated_payload(alloc, blocks)? {
         Ok(payload) => {
             let blocks = List::from_vec(asked_blocks(alloc, blocks)?);
-            sessions.push(AskedSession { payload, blocks })?;
+            let session = session.try_clone(alloc)?;
+            sessions.push(AskedSession {
+                session,
+                payload,
+                blocks,
+            })?;
             Ok(())
         }
         Err(_) => Ok(()),
@@ -64,13 +73,18 @@ fn add_session(
 /// What is asked about blocks in the order of their sessions.
 fn asked_in_turn(alloc: Global, blocks: &[&BlockMessage]) -> Result<Vec<AskedSession>, NoMemory>
     requires { SessionsRise (referred blocks.now) }
-    ensures { IfOk result (λ v. questions_shared v.items ≡ questions (referred blocks.now)) }
+    ensures { IfOk result (λ v. v.items ≡ asked_sessions (referred blocks.now)) }
 {
     let mut sessions = Vec::new(alloc);
     let mut start = 0;
     while start < blocks.len() {
         let end = section_end(blocks, start);
-        add_session(alloc, &mut sessions, &blocks[start..end])?;
+        add_session(
+            alloc,
+            &mut sessions,
+            &blocks[start].session,
+            &blocks[start..end],
+        )?;
         start = end;
     }
     Ok(sessions)
@@ -81,7 +95,7 @@ pub(crate) fn asked_sessions(
     alloc: Global,
     blocks: &[BlockMessage],
 ) -> Result<AskedSessions, NoMemory>
-    ensures { IfOk result (λ ss. questions_shared ss ≡ questions blocks.now) }
+    ensures { IfOk result (λ ss. ss ≡ asked_sessions blocks.now) }
 {
     let sorted = by_session(alloc, blocks)?;
     Ok(AskedSessions::from_vec(asked_in_turn(alloc, sorted.as_slice())?))
@@ -126,6 +140,7 @@ fn questions_of(alloc: Global, sessions: &[AskedSession]) -> Result<Vec<Question
 }
 
 /// What a review of these blocks asks of a scheme, a question each, in the order of their sessions.
+#[tactic(auto, using(crate::proofs::of_questions::AskedShared::sessions_shared))]
 pub(crate) fn questions(alloc: Global, blocks: &[BlockMessage]) -> Result<Questions, NoMemory>
     ensures { IfOk result (λ qs. qs ≡ questions blocks.now) }
 {

@@ -1,7 +1,7 @@
 //! What of a block the questions about it need.
-ghost use Rattle.std.specs.Prelude.{◌≡◌, ◌≤◌, length, IfOk};
+ghost use Rattle.std.specs.Prelude.{◌≡◌, ◌≤◌, ℕ, length, IfOk};
 ghost use Rattle.ss_review.specs.sessions.Payloads.{certificate_of};
-ghost use Rattle.ss_review.specs.questions.Questions.{needed};
+ghost use Rattle.ss_review.specs.questions.Questions.{needed, parameters_of};
 ghost use Rattle.ss_review.specs.questions.Shortened.{hash_count};
 ghost use Rattle.ss_review.specs.sessions.Verified.{signature_of};
 
@@ -14,7 +14,7 @@ use std::alloc::Global;
 /// The block without its hashes but the first. A signature block has one at least, and no signature scheme is asked
 /// about a hash.
 fn with_one_hash(alloc: Global, block: SigBlock) -> Result<SigBlock, NoMemory>
-    ensures signature { IfOk result (λ b. b.signature ≡ block.signature) }
+    ensures same { IfOk result (λ b. b ≡ record block { hashes = b.hashes }) }
     ensures one { IfOk result (λ b. length b.hashes ≡ 1) }
 {
     block.assure_in_range();
@@ -37,6 +37,7 @@ fn with_one_hash(alloc: Global, block: SigBlock) -> Result<SigBlock, NoMemory>
 
 /// What the block says, without what no signature scheme is asked about.
 fn needed_of(alloc: Global, said: Said) -> Result<Said, NoMemory>
+    ensures parameters { (count : ℕ) → IfOk result (λ s. parameters_of count s ≡ parameters_of count said) }
     ensures signature { IfOk result (λ s. signature_of s ≡ signature_of said) }
     ensures certificate { IfOk result (λ s. certificate_of s ≡ certificate_of said) }
     ensures few { IfOk result (λ s. hash_count s ≤ 1) }
@@ -47,13 +48,14 @@ fn needed_of(alloc: Global, said: Said) -> Result<Said, NoMemory>
     }
 }
 
-/// The block, without what no signature scheme is asked about.
+/// The block, without what no signature scheme is asked about. It still says how many hashes it announced.
 pub(crate) fn needed_block(alloc: Global, block: BlockMessage) -> Result<BlockMessage, NoMemory>
     ensures same { IfOk result (λ b. needed b ≡ needed block) }
     ensures few { IfOk result (λ b. hash_count b.said ≤ 1) }
 {
     let BlockMessage {
         place,
+        count,
         session,
         said,
         signed,
@@ -61,6 +63,7 @@ pub(crate) fn needed_block(alloc: Global, block: BlockMessage) -> Result<BlockMe
     let said = needed_of(alloc, said)?;
     Ok(BlockMessage {
         place,
+        count,
         session,
         said,
         signed,

@@ -9,14 +9,14 @@ use Rattle.ss_report.proofs.runs.carrying.carry_certificate.Goals as goal
 pub returns-in_default-clause-known : goal.returns-in_default-clause-known
 returns-in_default-clause-known c = λ before octets knows.
     let r = c.args.report.now in
-    let b : BlockMessage = record { place = c.args.place; session = c.args.session.now; said = Fragment c.args.block.now; signed = octets } in
+    let b : BlockMessage = record { place = c.args.place; count = 0; session = c.args.session.now; said = Fragment c.args.block.now; signed = octets } in
     knows_unverified r before c.args.carried.now.known knows b (ap (λ j. j && not (is_refused_in r b)) c.in_default.ensures)
 
 pub returns-then-is_refused-clause-known : goal.returns-then-is_refused-clause-known
 returns-then-is_refused-clause-known c = λ before octets knows.
     let r = c.args.report.now in
     let s = c.args.session.now in
-    let b : BlockMessage = record { place = c.args.place; session = s; said = Fragment c.args.block.now; signed = octets } in
+    let b : BlockMessage = record { place = c.args.place; count = 0; session = s; said = Fragment c.args.block.now; signed = octets } in
     let joined = is_joined_there r s c.in-Some.told.now (rw c.in-Some.told-is at c.in-Some.ensures) in
     let refused = sym c.is_refused.ensures ∙ c.if-is_refused.true in
     knows_unverified r before c.args.carried.now.known knows b (λ i. joined i && not (refused i))
@@ -25,7 +25,7 @@ pub returns-clause-carried : goal.returns-clause-carried
 returns-clause-carried c = λ before octets knows.
     let r = c.args.report.now in
     let s = c.args.session.now in
-    let b : BlockMessage = record { place = c.args.place; session = s; said = Fragment c.args.block.now; signed = octets } in
+    let b : BlockMessage = record { place = c.args.place; count = 0; session = s; said = Fragment c.args.block.now; signed = octets } in
     let told = rw c.in-Some.told-is at c.in-Some.ensures in
     let joined = is_joined_there r s c.in-Some.told.now told in
     let kept = sym c.is_refused.ensures ∙ c.if-is_refused.false in
@@ -37,7 +37,7 @@ pub returns-clause-known : goal.returns-clause-known
 returns-clause-known c = λ before octets knows.
     let r = c.args.report.now in
     let s = c.args.session.now in
-    let b : BlockMessage = record { place = c.args.place; session = s; said = Fragment c.args.block.now; signed = octets } in
+    let b : BlockMessage = record { place = c.args.place; count = 0; session = s; said = Fragment c.args.block.now; signed = octets } in
     let told = rw c.in-Some.told-is at c.in-Some.ensures in
     let joined = is_joined_there r s c.in-Some.told.now told in
     let kept = sym c.is_refused.ensures ∙ c.if-is_refused.false in
