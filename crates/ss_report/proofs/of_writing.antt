@@ -6,3 +6,9 @@ pub mod QuestionLines
 pub mod EscapedText
 pub mod UnitsAt
 pub mod Gathered
+pub mod PayloadIndexes
+pub mod SessionsOnce
+pub mod OnceRead
+pub mod KnownSoFar
+pub mod MarksSoFar
+pub mod OnceTexts

@@ -1,4 +1,10 @@
 pub mod Words
 pub mod Ending
 pub mod Inspection
+pub mod Asked
 pub mod QuestionText
+pub mod Payloads
+pub mod KnownPayloads
+pub mod QuestionsOnce
+pub mod QuestionForms
+pub mod OnceLaws

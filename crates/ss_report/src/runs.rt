@@ -7,6 +7,7 @@ pub(crate) mod inspect;
 pub(crate) mod outcome;
 pub(crate) mod places;
 pub(crate) mod questions;
+pub(crate) mod questions_as;
 pub(crate) mod review;
 pub(crate) mod review_as;
 pub(crate) mod review_whole;

@@ -1,42 +1,91 @@
--- The lines of the questions about sessions, one session after the other.
+-- The lines of what is asked about sessions, one session after the other.
 use Rattle.std.proofs.Common.{◌≡◌, ℕ, List, [], ◌∷◌, ◌++◌, map, refl, sym, ap, ◌∙◌}
 use Rattle.std.specs.List.{flat_map}
+use Rattle.std.proofs.lemmas.List.{map-append}
 use Rattle.std.proofs.lemmas.List.Concat.{flat_map-append}
+use Rattle.ss_review.specs.declared.keep.message.BlockMessage.{BlockMessage}
 use Rattle.ss_review.specs.declared.questions.asked.AskedBlock.{AskedBlock}
 use Rattle.ss_review.specs.declared.questions.asked.AskedSession.{AskedSession}
-use Rattle.ss_review.specs.declared.questions.question.Question.TheVariants.{Trust, Yes}
-use Rattle.ss_review.specs.questions.Questions.{question_under, session_questions, questions_shared}
+use Rattle.ss_review.specs.declared.questions.question.Question.{Question}
+use Rattle.ss_review.specs.declared.questions.question.Question.TheVariants.{Trust}
+use Rattle.ss_review.specs.questions.Questions.{asked_sessions, question_under, questions, session_questions, questions_shared}
+use Rattle.ss_review.proofs.of_questions.AskedShared.{sessions_shared}
 use Rattle.ss_report.specs.declared.notation.Notation.{Notation}
-use Rattle.ss_report.specs.texts.QuestionText.{question_line, question_lines}
+use Rattle.ss_report.specs.declared.notation.Notation.TheVariants.{Plain, Json}
+use Rattle.ss_report.specs.declared.payloads.Payloads.{Payloads}
+use Rattle.ss_report.specs.declared.payloads.Payloads.TheVariants.{InEach, Once}
+use Rattle.ss_report.specs.texts.Asked.{AskTrust, AskYes, Asking, askings, question_of, session_askings}
+use Rattle.ss_report.specs.texts.QuestionForms.{asking_lines_as, questions_as}
+use Rattle.ss_report.specs.texts.QuestionText.{asking_lines, asking_text, question_lines, question_text}
+use Rattle.ss_report.specs.texts.QuestionsOnce.{once_text_of}
 
+-- ---- the questions of what is asked
+
+blocks_asked : (s : AskedSession) (bs : List AskedBlock) → map question_of (map (AskYes s) bs) ≡ map (question_under s.payload) bs
+blocks_asked s [] = refl
+blocks_asked s (b ∷ bs) = ap (λ qs. question_under s.payload b ∷ qs) (blocks_asked s bs)
+
+session_asked : (s : AskedSession) → map question_of (session_askings s) ≡ session_questions s
+session_asked s = ap (λ qs. Trust s.payload ∷ qs) (blocks_asked s s.blocks)
+
+sessions_asked : (ss : List AskedSession) → map question_of (flat_map session_askings ss) ≡ flat_map session_questions ss
+sessions_asked [] = refl
+sessions_asked (s ∷ ss) =
+    map-append question_of (session_askings s) (flat_map session_askings ss)
+    ∙ ap (λ qs. qs ++ map question_of (flat_map session_askings ss)) (session_asked s)
+    ∙ ap (λ qs. session_questions s ++ qs) (sessions_asked ss)
+
+pub all_asked : (ss : List AskedSession) → map question_of (askings ss) ≡ questions_shared ss
+unfolding askings questions_shared
+all_asked ss = sessions_asked ss
+
+plain_lines : (xs : List Asking) → flat_map (asking_text Plain) xs ≡ flat_map question_text (map question_of xs)
+plain_lines [] = refl
+plain_lines (x ∷ xs) = ap (λ ls. question_text (question_of x) ++ ls) (plain_lines xs)
+
+-- in plain text the lines are those of the questions
+pub plain_is : (ss : List AskedSession) (qs : List Question) → questions_shared ss ≡ qs → asking_lines Plain ss ≡ question_lines qs
+unfolding asking_lines question_lines
+plain_is ss qs are = plain_lines (askings ss) ∙ ap (flat_map question_text) (all_asked ss ∙ are)
+
+-- what is written of the sessions that a log asks about is what the run writes of its blocks
+pub lines_as : (notation : Notation) (payloads : Payloads) (bs : List BlockMessage) (ss : List AskedSession) → ss ≡ asked_sessions bs → asking_lines_as notation payloads ss ≡ questions_as notation payloads bs
+lines_as Plain InEach bs ss are = plain_is ss (questions bs) (ap questions_shared are ∙ sessions_shared bs)
+lines_as Json InEach bs ss are = ap (asking_lines Json) are
+lines_as Plain Once bs ss are = ap (once_text_of Plain) are
+lines_as Json Once bs ss are = ap (once_text_of Json) are
+
+-- where each payload is written in each question, and where it is written once
+pub each_lines : (notation : Notation) (payloads : Payloads) (ts ss : List AskedSession) → payloads ≡ InEach → ts ≡ ss → asking_lines notation ts ≡ asking_lines_as notation payloads ss
+each_lines notation payloads ts ss is same =
+    ap (asking_lines notation) same ∙ ap (λ (p : Payloads). asking_lines_as notation p ss) (sym is)
+
+pub once_lines : (notation : Notation) (payloads : Payloads) (ts ss : List AskedSession) → payloads ≡ Once → ts ≡ ss → once_text_of notation ts ≡ asking_lines_as notation payloads ss
+once_lines notation payloads ts ss is same =
+    ap (once_text_of notation) same ∙ ap (λ (p : Payloads). asking_lines_as notation p ss) (sym is)
+
+-- ---- how they are written
+
+-- the line about a block of a session
+abbrev pub yes_line : Notation → AskedSession → AskedBlock → List ℕ
+yes_line notation s b = asking_text notation (AskYes s b)
+
+-- the lines about a session
 abbrev pub asked_lines : Notation → AskedSession → List ℕ
-asked_lines notation s = question_lines notation (session_questions s)
-
--- the line about a block under a payload
-abbrev pub yes_line : Notation → List ℕ → AskedBlock → List ℕ
-yes_line notation payload b = question_line notation (question_under payload b)
+asked_lines notation s = flat_map (asking_text notation) (session_askings s)
 
 module _ (notation : Notation) where
-  pub yes_lines : (payload : List ℕ) (bs : List AskedBlock) → flat_map (yes_line notation payload) bs ≡ flat_map (question_line notation) (map (question_under payload) bs)
-  yes_lines payload [] = refl
-  yes_lines payload (b ∷ bs) = ap (λ ls. yes_line notation payload b ++ ls) (yes_lines payload bs)
+  yes_lines : (s : AskedSession) (bs : List AskedBlock) → flat_map (yes_line notation s) bs ≡ flat_map (asking_text notation) (map (AskYes s) bs)
+  yes_lines s [] = refl
+  yes_lines s (b ∷ bs) = ap (λ ls. yes_line notation s b ++ ls) (yes_lines s bs)
 
-  pub lines_asked : (s : AskedSession) → question_line notation (Trust s.payload) ++ flat_map (yes_line notation s.payload) s.blocks ≡ asked_lines notation s
-  unfolding question_lines
-  lines_asked s = ap (λ ls. question_line notation (Trust s.payload) ++ ls) (yes_lines s.payload s.blocks)
+  pub lines_asked : (s : AskedSession) → asking_text notation (AskTrust s) ++ flat_map (yes_line notation s) s.blocks ≡ asked_lines notation s
+  lines_asked s = ap (λ ls. asking_text notation (AskTrust s) ++ ls) (yes_lines s s.blocks)
 
-  -- the same of what equals the payload and the blocks of the session
-  pub lines_of : (s : AskedSession) (payload : List ℕ) (bs : List AskedBlock) → payload ≡ s.payload → bs ≡ s.blocks
-      → question_line notation (Trust payload) ++ flat_map (yes_line notation payload) bs ≡ asked_lines notation s
-  lines_of s payload bs p b =
-      ap (λ x. question_line notation (Trust x) ++ flat_map (yes_line notation x) bs) p ∙ ap (λ x. question_line notation (Trust s.payload) ++ flat_map (yes_line notation s.payload) x) b ∙ lines_asked s
+  lines_of : (ss : List AskedSession) → flat_map (asked_lines notation) ss ≡ flat_map (asking_text notation) (flat_map session_askings ss)
+  lines_of [] = refl
+  lines_of (s ∷ ss) = ap (λ ls. asked_lines notation s ++ ls) (lines_of ss) ∙ sym (flat_map-append (asking_text notation) (session_askings s) (flat_map session_askings ss))
 
-  pub yes_of : (payload octets signature : List ℕ) (b : AskedBlock) → octets ≡ b.octets → signature ≡ b.signature
-      → question_line notation (Yes payload octets signature) ≡ yes_line notation payload b
-  yes_of payload octets signature b o s =
-      ap (λ x. question_line notation (Yes payload x signature)) o ∙ ap (λ x. question_line notation (Yes payload b.octets x)) s
-
-  pub lines_shared : (ss : List AskedSession) → flat_map (asked_lines notation) ss ≡ question_lines notation (questions_shared ss)
-  unfolding question_lines questions_shared
-  lines_shared [] = refl
-  lines_shared (s ∷ ss) = ap (λ ls. asked_lines notation s ++ ls) (lines_shared ss) ∙ sym (flat_map-append (question_line notation) (session_questions s) (flat_map session_questions ss))
+  pub lines_shared : (ss : List AskedSession) → flat_map (asked_lines notation) ss ≡ asking_lines notation ss
+  unfolding asking_lines askings
+  lines_shared ss = lines_of ss

@@ -7,7 +7,6 @@ use Rattle.ss_review.specs.keep.Notes.{notes}
 use Rattle.ss_review.specs.keep.Contents.{blocks}
 use Rattle.ss_review.specs.sessions.Verified.{Answers}
 use Rattle.ss_review.specs.report.Report.{report}
-use Rattle.ss_review.specs.questions.Questions.{questions}
 use Rattle.ss_review.specs.report.Extract.{extract}
 use Rattle.ss_review.specs.Laws.{ListsWhatIsAnnounced}
 use Rattle.ss_review.specs.announced.Announced.{Key}
@@ -18,7 +17,7 @@ use Rattle.ss_report.specs.forms.Forms.{line_as, report_as}
 use Rattle.ss_block.specs.declared.session.Session.{Session}
 use Rattle.ss_report.specs.lines.Whole.{TellsMissing, whole_lines, whole_verdict}
 use Rattle.ss_review.specs.declared.counted.counter.Counter.{Counter}
-use Rattle.ss_report.specs.texts.QuestionText.{question_lines}
+use Rattle.ss_report.specs.texts.QuestionForms.{questions_as}
 use Rattle.ss_report.specs.runs.Counters.{counter_lines}
 use Rattle.ss_report.specs.Verdict.{end_verdict, report_verdict}
 use Rattle.ss_report.specs.runs.Extraction.{is_reviewed, messages_at, refusal, selected, selected_verdict}
@@ -27,6 +26,8 @@ use Rattle.ss_report.specs.declared.runs.extraction.Extraction.{Extraction}
 use Rattle.ss_report.specs.declared.forms.report_form.ReportForm.{ReportForm}
 use Rattle.ss_report.specs.declared.lines.detail.Detail.{Detail}
 use Rattle.ss_report.specs.declared.notation.Notation.{Notation}
+use Rattle.ss_report.specs.declared.payloads.Payloads.{Payloads}
+use Rattle.ss_report.specs.declared.payloads.Payloads.TheVariants as payloads
 use Rattle.ss_report.specs.declared.verdict.verdict.Verdict.{Verdict}
 
 -- a line a message, in a form
@@ -65,14 +66,18 @@ reviewing_whole form detail counters says = record {
   refusal = nothing;
 }
 
--- what a review asks of a signature scheme
-abbrev pub asking : Notation → Job
-asking notation = record {
-  output = λ messages tail. question_lines notation (questions (blocks (notes messages)));
+-- what a review asks of a signature scheme, with each payload in each question about it, or once
+abbrev pub asking_as : Notation → Payloads → Job
+asking_as notation payloads = record {
+  output = λ messages tail. questions_as notation payloads (blocks (notes messages));
   verdict = λ messages tail. end_verdict tail;
   reviews = true;
   refusal = nothing;
 }
+
+-- the same with each payload in each question about it
+abbrev pub asking : Notation → Job
+asking notation = asking_as notation payloads.InEach
 
 -- the counters of the joined sessions
 abbrev pub counting : Notation → Answers → Job

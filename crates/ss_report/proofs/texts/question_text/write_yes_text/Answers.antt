@@ -5,6 +5,7 @@ use Rattle.ss_report.proofs.texts.question_text.write_yes_text.Goals as goal
 pub returns : goal.returns
 unfolding question_text
 returns g c =
-    let asked = writes_then _ _ _ _ _ (writes_then _ _ _ _ _ c.write_text.ensures c.write_base64.ensures) c.write_text-2.ensures in
-    let signed = writes_then _ _ _ _ _ (writes_then _ _ _ _ _ asked c.write_base64-2.ensures) c.write_text-3.ensures in
-    writes_then _ _ _ _ _ (writes_then _ _ _ _ _ signed c.write_base64-3.ensures) c.write_text-4.ensures
+    let payload = writes_then _ _ _ _ _ c.write_text.ensures (rw c.as_slice.ensures at c.write_base64.ensures) in
+    let octets = writes_then _ _ _ _ _ (writes_then _ _ _ _ _ payload c.write_text-2.ensures) (rw c.as_slice-2.ensures at c.write_base64-2.ensures) in
+    let signed = writes_then _ _ _ _ _ (writes_then _ _ _ _ _ octets c.write_text-3.ensures) (rw c.as_slice-3.ensures at c.write_base64-3.ensures) in
+    writes_then _ _ _ _ _ signed c.write_text-4.ensures

@@ -1,6 +1,6 @@
 use Rattle.ss_report.specs.forms.Json.{word_member}
 use Rattle.ss_report.proofs.of_writing.Writings.{writes_then}
-use Rattle.ss_report.proofs.texts.question_text.write_base64_member.Goals as goal
+use Rattle.ss_report.proofs.texts.question_members.write_base64_member.Goals as goal
 
 pub returns : goal.returns
 unfolding word_member
