@@ -34,6 +34,7 @@ use Rattle.ssign.specs.declared.options.counters.TheConstants as counters_option
 use Rattle.ssign.specs.declared.options.findings.TheConstants as findings
 use Rattle.ssign.specs.declared.options.json.TheConstants as json
 use Rattle.ssign.specs.declared.options.lines_out.TheConstants as lines_out
+use Rattle.ssign.specs.declared.options.once.TheConstants as once
 use Rattle.ssign.specs.declared.options.tally.TheConstants as tally
 use Rattle.ssign.specs.declared.options.unlisted.TheConstants as unlisted
 use Rattle.ssign.specs.declared.options.whole.TheConstants as whole
@@ -44,6 +45,8 @@ use Rattle.ss_report.specs.declared.forms.report_form.ReportForm.{ReportForm}
 use Rattle.ss_report.specs.declared.forms.report_form.ReportForm.TheVariants as forms
 use Rattle.ss_report.specs.declared.lines.detail.Detail.{Detail}
 use Rattle.ss_report.specs.declared.lines.detail.Detail.TheVariants as details
+use Rattle.ss_report.specs.declared.payloads.Payloads.{Payloads}
+use Rattle.ss_report.specs.declared.payloads.Payloads.TheVariants as payloads
 use Rattle.ss_report.specs.declared.verdict.verdict.Verdict.{Verdict}
 use Rattle.ss_report.specs.declared.verdict.verdict.Verdict.TheVariants.{Clean, Findings}
 
@@ -82,10 +85,19 @@ abbrev pub detail_of : Bool → Detail
 detail_of true = details.Tally
 detail_of false = details.Each
 
--- how a log is reported, with or without these flags, `--whole`, which counters ask for too, and `--tally`
-abbrev pub reporting : (findings json whole tally : Bool) → Reporting
-reporting findings json whole tally =
-    record { form = report_form findings json; whole = whole; detail = detail_of tally }
+-- how often a payload is written, with or without `--once`
+abbrev pub payloads_of : Bool → Payloads
+payloads_of true = payloads.Once
+payloads_of false = payloads.InEach
+
+-- how a log is reported, with or without these flags, `--whole`, which counters ask for too, `--tally` and `--once`
+abbrev pub reporting : (findings json whole tally once : Bool) → Reporting
+reporting findings json whole tally once = record {
+  form = report_form findings json;
+  whole = whole;
+  detail = detail_of tally;
+  payloads = payloads_of once;
+}
 
 -- the limits of a command with these numbers, and with or without `--lines`
 abbrev pub limits_with : (max_len max_messages : ℕ) (lines : Bool) → Allowance
@@ -115,7 +127,7 @@ abbrev pub task_rules : Task → List Rule
 task_rules Review =
     text_rule answers.NAME.now ∷ flag_rule findings.NAME.now ∷ flag_rule json.NAME.now ∷ flag_rule whole.NAME.now
     ∷ flag_rule tally.NAME.now ∷ text_rule counters_option.NAME.now ∷ []
-task_rules Questions = flag_rule json.NAME.now ∷ []
+task_rules Questions = flag_rule json.NAME.now ∷ flag_rule once.NAME.now ∷ []
 task_rules Extract =
     text_rule answers.NAME.now ∷ flag_rule unlisted.NAME.now ∷ place_rule ∷ flag_rule lines_out.NAME.now ∷ []
 task_rules Inspect = flag_rule findings.NAME.now ∷ flag_rule json.NAME.now ∷ []

@@ -4,7 +4,7 @@ use Rattle.ss_review.specs.sessions.Verified.{Answers}
 use Rattle.ss_review.specs.declared.counted.counter.Counter.{Counter}
 use Rattle.ss_report.specs.forms.Forms.{notation_of}
 use Rattle.ss_report.specs.runs.Run.{Job}
-use Rattle.ss_report.specs.runs.Jobs.{asking, counting, extracting_as, inspecting, reviewing_as, reviewing_whole}
+use Rattle.ss_report.specs.runs.Jobs.{asking_as, counting, extracting_as, inspecting, reviewing_as, reviewing_whole}
 use Rattle.ss_frame.specs.declared.limits.Form.TheVariants.{Frames}
 use Rattle.ss_report.specs.declared.runs.extraction.Extraction.{Extraction}
 use Rattle.ss_report.specs.declared.runs.extraction.Selection.TheVariants.{Carried}
@@ -25,7 +25,7 @@ carrying = record { selection = Carried; form = Frames }
 -- be whole, up to these counters, and of an extract what is to be written
 abbrev pub job_of : Answers → Reporting → List Counter → Extraction → Task → Job
 job_of says r counters e Review = review_of says r counters
-job_of says r counters e Questions = asking (notation_of r.form)
+job_of says r counters e Questions = asking_as (notation_of r.form) r.payloads
 job_of says r counters e Extract = extracting_as e says
 job_of says r counters e Inspect = inspecting r.form
 job_of says r counters e Counters = counting (notation_of r.form) says

@@ -8,7 +8,7 @@ ghost use Rattle.ssign.specs.CommandLine.{bare_app, explain_app, order_app, sign
 ghost use Rattle.ssign.specs.Explanation.{asked_of};
 ghost use Rattle.ssign.specs.SigningOptions.{AreVersions, Kept};
 ghost use Rattle.ssign.specs.CommandLine.{FlagIs, HasNumber, IsLocalApp, detail_of, limits_with, name_of, order_in};
-ghost use Rattle.ssign.specs.CommandLine.{report_form, reporting, text_of, with_commands, with_limits};
+ghost use Rattle.ssign.specs.CommandLine.{payloads_of, report_form, reporting, text_of, with_commands, with_limits};
 ghost use Rattle.ssign.specs.declared.options.answers.TheConstants as answers;
 ghost use Rattle.ssign.specs.declared.options.code.TheConstants as code;
 ghost use Rattle.ssign.specs.declared.options.counters.TheConstants as counters;
@@ -17,6 +17,7 @@ ghost use Rattle.ssign.specs.declared.options.json.TheConstants as json;
 ghost use Rattle.ssign.specs.declared.options.lines.TheConstants as lines;
 ghost use Rattle.ssign.specs.declared.options.max_len.TheConstants as max_len;
 ghost use Rattle.ssign.specs.declared.options.max_messages.TheConstants as max_messages;
+ghost use Rattle.ssign.specs.declared.options.once.TheConstants as once;
 ghost use Rattle.ssign.specs.declared.options.tally.TheConstants as tally;
 ghost use Rattle.ssign.specs.declared.options.whole.TheConstants as whole;
 
@@ -30,7 +31,7 @@ use clap::error::ErrorKind;
 use clap::{ArgMatches, Command, Error};
 use ss_block::versions;
 use ss_frame::Limits;
-use ss_report::{Detail, ReportForm};
+use ss_report::{Detail, Payloads, ReportForm};
 use std::alloc::{AllocError, Global};
 
 /// The version of the program.
@@ -198,10 +199,11 @@ fn questions<'a>(alloc: Global) -> Result<Command<'a>, AllocError>
         commands::questions::NAME,
         commands::questions::ABOUT,
         commands::questions::USAGE,
-    );
+    )
+    .arg(flag(alloc, options::json::NAME, options::json::HELP))?;
     limited(
         alloc,
-        questions.arg(flag(alloc, options::json::NAME, options::json::HELP))?,
+        questions.arg(flag(alloc, options::once::NAME, options::once::HELP))?,
     )
 }
 
@@ -384,19 +386,32 @@ fn detail_of_report(matches: &ArgMatches<'_>) -> Detail
     }
 }
 
+/// Whether the flag asks for each payload once. A command without it has each payload in each question.
+fn payloads_of_questions(matches: &ArgMatches<'_>) -> Payloads
+    ensures { (once_given : Bool) → FlagIs matches.now once.NAME.now once_given → result ≡ payloads_of once_given }
+{
+    if matches.get_flag(options::once::NAME) {
+        Payloads::Once
+    } else {
+        Payloads::InEach
+    }
+}
+
 /// How a log is to be reported: a review with what is missing beside it where `--whole` or `--counters` is given. A
 /// command without these flags has plain text alone.
 pub fn reporting_of(matches: &ArgMatches<'_>) -> Reporting
-    ensures { (findings_given json_given whole_given tally_given : Bool)
+    ensures { (findings_given json_given whole_given tally_given once_given : Bool)
         → FlagIs matches.now findings.NAME.now findings_given → FlagIs matches.now json.NAME.now json_given
         → FlagIs matches.now whole.NAME.now whole_given → FlagIs matches.now tally.NAME.now tally_given
+        → FlagIs matches.now once.NAME.now once_given
         → result ≡ reporting findings_given json_given (whole_given
-        || is_some (first_value (found_of matches.now) counters.NAME.now)) tally_given }
+        || is_some (first_value (found_of matches.now) counters.NAME.now)) tally_given once_given }
 {
     Reporting {
         form: form_of_report(matches),
         whole: matches.get_flag(options::whole::NAME) || counters_file(matches).is_some(),
         detail: detail_of_report(matches),
+        payloads: payloads_of_questions(matches),
     }
 }
 

@@ -15,6 +15,7 @@ pub mod lines_out;
 pub mod max_len;
 pub mod max_messages;
 pub mod msgid;
+pub mod once;
 pub mod payload;
 pub mod place;
 pub mod pri;

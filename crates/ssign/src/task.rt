@@ -8,8 +8,8 @@ ghost use Rattle.ssign.specs.Task.{carrying, review_of, job_of};
 
 use ss_frame::{Form, Limits, Watched};
 use ss_report::{
-    Detail, Extraction, ReportForm, Run, RunFault, Selection, Verdict, run_counters,
-    run_extract_as, run_inspect, run_questions, run_review_as, run_review_whole,
+    Detail, Extraction, Payloads, ReportForm, Run, RunFault, Selection, Verdict, run_counters,
+    run_extract_as, run_inspect, run_questions_as, run_review_as, run_review_whole,
 };
 use ss_review::{Counter, Judge};
 use std::alloc::Global;
@@ -42,6 +42,8 @@ pub struct Reporting {
     pub whole: bool,
     /// Whether a review says each thing, or tallies.
     pub detail: Detail,
+    /// Whether questions have each payload in each question about it, or once.
+    pub payloads: Payloads,
 }
 
 /// What is wanted of a log.
@@ -106,15 +108,7 @@ pub fn run_task<R: Read, W: Write, J: Judge + Drop>(
     let notation = reporting.form.notation();
     match task {
         Task::Review => run_reported(run, reporting, counters, judge),
-        Task::Questions => {
-            let Run {
-                reader,
-                writer,
-                limits,
-                alloc,
-            } = run;
-            run_questions(alloc, reader, writer, limits, notation)
-        }
+        Task::Questions => run_questions_as(run, notation, reporting.payloads),
         Task::Extract => run_extract_as(run, judge, extraction),
         Task::Inspect => run_inspect(run, reporting.form),
         Task::Counters => run_counters(run, judge, notation),
@@ -157,6 +151,7 @@ fn run_reported<R: Read, W: Write, J: Judge + Drop>(
         form,
         whole,
         detail,
+        ..
     } = reporting;
     if whole {
         run_review_whole(run, judge, form, detail, counters)

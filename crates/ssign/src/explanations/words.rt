@@ -4,7 +4,7 @@ use super::Explanation;
 
 /// Words of a verdict, lines of a report, states of a session, lines of an inspection, and lines of answers, plans and
 /// questions.
-pub static WORDS: [Explanation; 36] = [
+pub static WORDS: [Explanation; 37] = [
     Explanation {
         code: "verified",
         text: "Of a block: its session is joined, and its own signature is valid under the session's payload. Only \
@@ -216,6 +216,12 @@ pub static WORDS: [Explanation; 36] = [
         text: "A line of an answers file for ssign sign: the signature for these octets, both in base64. Each \
             signature fits its own block alone; after any change, plan and seal again. A review doesn't use these \
             lines.",
+    },
+    Explanation {
+        code: "payload",
+        text: "Only ssign questions --once writes this line: a number, and a payload in base64. In the trust and yes \
+            lines below it this number stands for the payload. An answers file has the payload itself, so these lines \
+            are no answers.",
     },
     Explanation {
         code: "trust",

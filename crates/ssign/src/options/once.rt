@@ -1,0 +1,6 @@
+//! `--once`: each payload is written once.
+/// Its name, behind two hyphens.
+pub const NAME: &str = "once";
+/// What the help says of it.
+pub const HELP: &str =
+    "Writes each payload once, in a payload line with an index, which stands for it in the questions";
