@@ -7,8 +7,8 @@ use crate::texts::{Text, signed_of};
 use ss_block::Scheme;
 use ss_frame::Form;
 use ss_report::{
-    Extraction, Notation, Run, RunFault, Selection, Verdict, run_extract, run_extract_as,
-    run_questions, run_review,
+    Extraction, Notation, Payloads, Run, RunFault, Selection, Verdict, run_extract, run_extract_as,
+    run_questions, run_questions_as, run_review,
 };
 use ss_review::{Judge, Verifier};
 use std::alloc::{AllocError, Global};
@@ -75,6 +75,9 @@ impl<'b> Book<'b> {
 pub enum Job {
     Review,
     Questions,
+    QuestionsJson,
+    QuestionsOnce,
+    QuestionsOnceJson,
     Extract,
     Carry,
 }
@@ -108,6 +111,16 @@ pub(crate) fn run_by<R: Read, W: Write>(
     match job {
         Job::Review => run_review(alloc, reader, writer, &verifier, limits),
         Job::Questions => run_questions(alloc, reader, writer, limits, Notation::Plain),
+        Job::QuestionsJson => run_questions(alloc, reader, writer, limits, Notation::Json),
+        Job::QuestionsOnce | Job::QuestionsOnceJson => {
+            let run = Run {
+                reader,
+                writer,
+                limits,
+                alloc,
+            };
+            run_questions_as(run, notation_of(job), Payloads::Once)
+        }
         Job::Extract => run_extract(alloc, reader, writer, &verifier, limits),
         Job::Carry => {
             let run = Run {
@@ -118,6 +131,14 @@ pub(crate) fn run_by<R: Read, W: Write>(
             };
             run_extract_as(run, verifier, carrying())
         }
+    }
+}
+
+/// In which notation the questions of a run are written.
+fn notation_of(job: Job) -> Notation {
+    match job {
+        Job::QuestionsJson | Job::QuestionsOnceJson => Notation::Json,
+        _ => Notation::Plain,
     }
 }
 

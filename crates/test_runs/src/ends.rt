@@ -1,6 +1,6 @@
 //! Logs that break off.
 use crate::book::{Job, Who};
-use crate::rows::{EXTRACT, QUESTIONS, REPORT};
+use crate::rows::{EXTRACT, QUESTIONS, QUESTIONS_ONCE, REPORT};
 use crate::run::{Task, limits_of, run};
 use crate::texts::{Text, log_of};
 use ss_frame::Form;
@@ -102,6 +102,13 @@ fn sees_torn_frames(rt: &(impl Abort + AllocGlobal)) -> Result<(), AllocError> {
         b"session h s - 1 joined\nok h s - 1 0 0 1 0\nok h s - 1 0 0 2 1\ntorn 373\nend 4\n";
     writes(rt, Job::Review, log, report, Verdict::Findings)?;
     writes(rt, Job::Questions, log, QUESTIONS, Verdict::Findings)?;
+    writes(
+        rt,
+        Job::QuestionsOnce,
+        log,
+        QUESTIONS_ONCE,
+        Verdict::Findings,
+    )?;
     writes(rt, Job::Extract, log, EXTRACT, Verdict::Findings)
 }
 

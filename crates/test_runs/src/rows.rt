@@ -23,6 +23,52 @@ pub const QUESTIONS: &[u8] =
         0iMCIgR0JDPSIwIiBGTU49IjEiIENOVD0iMiIgSEI9InFaaytOa2NHZ1dxNlBpVnhlRkRDYkp6UTJKMD0gaEpnK1JCdzcwbTY2cmtxaCtWRXA1Z\
         VZHY1BFPSJd AAAA\n";
 
+/// The same with the payload once.
+pub const QUESTIONS_ONCE: &[u8] =
+    b"payload 0 MjAwOS0wNS0wM1QxNDowMDozOVogSyBTMFZa\ntrust 0\nyes 0 PDExMD4xIC0gaCBzIC0gLSBbc3NpZ24tY2VydCBWRVI9IjAxM\
+        TEiIFJTSUQ9IjEiIFNHPSIwIiBTUFJJPSIwIiBUUEJMPSIyNyIgSU5ERVg9IjEiIEZMRU49IjI3IiBGUkFHPSIyMDA5LTA1LTAzVDE0OjAwOjM\
+        5WiBLIFMwVloiXQ== AAAA\nyes 0 PDExMD4xIC0gaCBzIC0gLSBbc3NpZ24gVkVSPSIwMTExIiBSU0lEPSIxIiBTRz0iMCIgU1BSST0iMCIg\
+        R0JDPSIwIiBGTU49IjEiIENOVD0iMiIgSEI9InFaaytOa2NHZ1dxNlBpVnhlRkRDYkp6UTJKMD0gaEpnK1JCdzcwbTY2cmtxaCtWRXA1ZVZHY1\
+        BFPSJd AAAA\n";
+
+/// The same as JSON.
+const QUESTIONS_ONCE_JSON: &[u8] =
+    b"{\"line\":\"payload\",\"payload_index\":0,\"payload\":\"MjAwOS0wNS0wM1QxNDowMDozOVogSyBTMFZa\"}\n\
+        {\"line\":\"trust\",\"payload_index\":0,\"host\":\"h\",\"app\":\"s\",\"procid\":\"-\",\"rsid\":1}\n\
+        {\"line\":\"yes\",\"payload_index\":0,\"octets\":\"PDExMD4xIC0gaCBzIC0gLSBbc3NpZ24tY2VydCBWRVI9IjAxMTEiIFJTSUQ\
+        9IjEiIFNHPSIwIiBTUFJJPSIwIiBUUEJMPSIyNyIgSU5ERVg9IjEiIEZMRU49IjI3IiBGUkFHPSIyMDA5LTA1LTAzVDE0OjAwOjM5WiBLIFMwV\
+        loiXQ==\",\"signature\":\"AAAA\",\"place\":2,\"host\":\"h\",\"app\":\"s\",\"procid\":\"-\",\"rsid\":1,\
+        \"ver\":\"0111\",\"sg\":0,\"spri\":0,\"total\":27,\"index\":1,\"length\":27}\n{\"line\":\"yes\",\
+        \"payload_index\":0,\"octets\":\"PDExMD4xIC0gaCBzIC0gLSBbc3NpZ24gVkVSPSIwMTExIiBSU0lEPSIxIiBTRz0iMCIgU1BSST0iM\
+        CIgR0JDPSIwIiBGTU49IjEiIENOVD0iMiIgSEI9InFaaytOa2NHZ1dxNlBpVnhlRkRDYkp6UTJKMD0gaEpnK1JCdzcwbTY2cmtxaCtWRXA1ZVZ\
+        HY1BFPSJd\",\"signature\":\"AAAA\",\"place\":3,\"host\":\"h\",\"app\":\"s\",\"procid\":\"-\",\"rsid\":1,\
+        \"ver\":\"0111\",\"sg\":0,\"spri\":0,\"gbc\":0,\"first\":1,\"count\":2}\n";
+
+/// What is asked about a certificate block alone, as JSON.
+const QUESTIONS_JSON: &[u8] =
+    b"{\"line\":\"trust\",\"payload\":\"MjAwOS0wNS0wM1QxNDowMDozOVogSyBTMFZa\",\"host\":\"h\",\"app\":\"s\",\
+        \"procid\":\"-\",\"rsid\":1}\n{\"line\":\"yes\",\"payload\":\"MjAwOS0wNS0wM1QxNDowMDozOVogSyBTMFZa\",\"octets\
+        \":\"PDExMD4xIC0gaCBzIC0gLSBbc3NpZ24tY2VydCBWRVI9IjAxMTEiIFJTSUQ9IjEiIFNHPSIwIiBTUFJJPSIwIiBUUEJMPSIyNyIgSU5ER\
+        Vg9IjEiIEZMRU49IjI3IiBGUkFHPSIyMDA5LTA1LTAzVDE0OjAwOjM5WiBLIFMwVloiXQ==\",\"signature\":\"AAAA\",\"place\":0,\
+        \"host\":\"h\",\"app\":\"s\",\"procid\":\"-\",\"rsid\":1,\"ver\":\"0111\",\"sg\":0,\"spri\":0,\"total\":27,\
+        \"index\":1,\"length\":27}\n";
+
+/// What is asked about two sessions with one payload, which is written once.
+const ONE_PAYLOAD: &[u8] =
+    b"payload 0 MjAwOS0wNS0wM1QxNDowMDozOVogSyBTMFZa\ntrust 0\nyes 0 PDExMD4xIC0gaCBzIC0gLSBbc3NpZ24tY2VydCBWRVI9IjAxM\
+        TEiIFJTSUQ9IjEiIFNHPSIwIiBTUFJJPSIwIiBUUEJMPSIyNyIgSU5ERVg9IjEiIEZMRU49IjI3IiBGUkFHPSIyMDA5LTA1LTAzVDE0OjAwOjM\
+        5WiBLIFMwVloiXQ== AAAA\ntrust 0\nyes 0 PDExMD4xIC0gaCBzIC0gLSBbc3NpZ24tY2VydCBWRVI9IjAxMTEiIFJTSUQ9IjIiIFNHPSI\
+        wIiBTUFJJPSIwIiBUUEJMPSIyNyIgSU5ERVg9IjEiIEZMRU49IjI3IiBGUkFHPSIyMDA5LTA1LTAzVDE0OjAwOjM5WiBLIFMwVloiXQ== AAAA\
+        \n";
+
+/// What is asked about two sessions with two payloads, each of which is written once.
+const TWO_PAYLOADS: &[u8] =
+    b"payload 0 MjAwOS0wNS0wM1QxNDowMDozOVogSyBTMFZa\ntrust 0\nyes 0 PDExMD4xIC0gaCBzIC0gLSBbc3NpZ24tY2VydCBWRVI9IjAxM\
+        TEiIFJTSUQ9IjEiIFNHPSIwIiBTUFJJPSIwIiBUUEJMPSIyNyIgSU5ERVg9IjEiIEZMRU49IjI3IiBGUkFHPSIyMDA5LTA1LTAzVDE0OjAwOjM\
+        5WiBLIFMwVloiXQ== AAAA\npayload 1 MjAwOS0wNS0wM1QxNDowMDo0MFogSyBTMFZa\ntrust 1\nyes 1 PDExMD4xIC0gaSBzIC0gLSB\
+        bc3NpZ24tY2VydCBWRVI9IjAxMTEiIFJTSUQ9IjEiIFNHPSIwIiBTUFJJPSIwIiBUUEJMPSIyNyIgSU5ERVg9IjEiIEZMRU49IjI3IiBGUkFHP\
+        SIyMDA5LTA1LTAzVDE0OjAwOjQwWiBLIFMwVloiXQ== AAAA\n";
+
 /// What is extracted of it, 64 octets.
 pub const EXTRACT: &[u8] = b"3 abc56 abcdbcdecdefdefgefghfghighijhijkijkljklmklmnlmnomnopnopq";
 
@@ -49,7 +95,7 @@ struct Row {
     verdict: Verdict,
 }
 
-const ROWS: [Row; 34] = [
+const ROWS: [Row; 40] = [
     Row {
         name: "an empty log",
         job: Job::Review,
@@ -322,6 +368,54 @@ const ROWS: [Row; 34] = [
     Row {
         name: "no question of a session without a payload",
         job: Job::Questions,
+        log: &[Text::Short, Text::Back, Text::ShortAlone],
+        who: Who::All,
+        text: b"",
+        verdict: Verdict::Clean,
+    },
+    Row {
+        name: "the questions of two blocks, with the payload once",
+        job: Job::QuestionsOnce,
+        log: &[Text::Short, Text::Long, Text::Certificate, Text::Both],
+        who: Who::All,
+        text: QUESTIONS_ONCE,
+        verdict: Verdict::Clean,
+    },
+    Row {
+        name: "the same questions as JSON",
+        job: Job::QuestionsOnceJson,
+        log: &[Text::Short, Text::Long, Text::Certificate, Text::Both],
+        who: Who::All,
+        text: QUESTIONS_ONCE_JSON,
+        verdict: Verdict::Clean,
+    },
+    Row {
+        name: "the questions of a certificate block as JSON",
+        job: Job::QuestionsJson,
+        log: &[Text::Certificate],
+        who: Who::All,
+        text: QUESTIONS_JSON,
+        verdict: Verdict::Clean,
+    },
+    Row {
+        name: "one payload of two sessions, once",
+        job: Job::QuestionsOnce,
+        log: &[Text::SecondSession, Text::Certificate],
+        who: Who::All,
+        text: ONE_PAYLOAD,
+        verdict: Verdict::Clean,
+    },
+    Row {
+        name: "two payloads, each once",
+        job: Job::QuestionsOnce,
+        log: &[Text::OtherPayloadOfHostI, Text::Certificate],
+        who: Who::All,
+        text: TWO_PAYLOADS,
+        verdict: Verdict::Clean,
+    },
+    Row {
+        name: "no payload to be written once",
+        job: Job::QuestionsOnce,
         log: &[Text::Short, Text::Back, Text::ShortAlone],
         who: Who::All,
         text: b"",

@@ -1,7 +1,7 @@
 //! Runs that stop for their limits, for a device or for memory: nothing is written then but by a write that failed.
 use crate::book::{Job, Who};
 use crate::inspections::STOPS;
-use crate::rows::{CARRIED, EXTRACT, QUESTIONS, REPORT};
+use crate::rows::{CARRIED, EXTRACT, QUESTIONS, QUESTIONS_ONCE, REPORT};
 use crate::run::{Done, Task, limits_of, run};
 use crate::texts::{Text, log_of};
 use ss_frame::{Buffered, Form, FrameFault, Limits};
@@ -18,9 +18,10 @@ use test_devices::{Paper, Pieces, Refusal};
 const TEXTS: [Text; 4] = [Text::Short, Text::Long, Text::Certificate, Text::Both];
 
 /// Each run, and what it writes of that log.
-const JOBS: [(Job, &[u8]); 4] = [
+const JOBS: [(Job, &[u8]); 5] = [
     (Job::Review, REPORT),
     (Job::Questions, QUESTIONS),
+    (Job::QuestionsOnce, QUESTIONS_ONCE),
     (Job::Extract, EXTRACT),
     (Job::Carry, CARRIED),
 ];
