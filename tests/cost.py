@@ -42,9 +42,9 @@ TUNED = {"GLIBC_TUNABLES": "glibc.cpu.x86_rep_movsb_threshold=1000000000:glibc.c
 ROOM, ROOM_FOR_EACH = 1 << 19, 32
 # a run that takes more seconds hangs, however busy the machine is
 PATIENCE = 300
-COMMANDS = REVIEW, WHOLE, KEPT, TALLY, EXTRACT, UNLISTED, QUESTIONS, INSPECT, PLAN, SIGN, COUNTERS, CARRY = (
-    "review", "review --whole", "review --counters", "review --tally", "extract", "extract --unlisted", "questions", "inspect", "plan",
-    "sign", "counters", "carry")
+COMMANDS = REVIEW, WHOLE, KEPT, TALLY, EXTRACT, UNLISTED, QUESTIONS, ONCE, OBJECTS, INSPECT, PLAN, SIGN, COUNTERS, CARRY = (
+    "review", "review --whole", "review --counters", "review --tally", "extract", "extract --unlisted", "questions",
+    "questions --once", "questions --once --json", "inspect", "plan", "sign", "counters", "carry")
 
 # each shape, how large its smaller input is, the commands whose steps are counted, and those of which the rest is
 SHAPES = [
@@ -55,8 +55,9 @@ SHAPES = [
     (logs.equal, 900, [REVIEW], [EXTRACT]),
     (logs.one_hash, 900, [REVIEW], [EXTRACT, CARRY]),
     (logs.hashes_alike, 450, [REVIEW], []),
-    (logs.sessions, 900, [COUNTERS, QUESTIONS], [REVIEW, EXTRACT, CARRY]),
-    (logs.hosts_alike, 900, [REVIEW], [QUESTIONS]),
+    (logs.sessions, 900, [COUNTERS, QUESTIONS, ONCE], [REVIEW, EXTRACT, CARRY, OBJECTS]),
+    (logs.hosts_alike, 900, [REVIEW], [QUESTIONS, ONCE]),
+    (logs.payloads_apart, 900, [ONCE], [QUESTIONS, OBJECTS]),
     (logs.groups, 768, [REVIEW, COUNTERS, CARRY], [TALLY]),
     (logs.kept_sessions, 900, [KEPT], []),
     (logs.kept_groups, 768, [KEPT], []),
@@ -71,7 +72,8 @@ SHAPES = [
     (logs.lost_often, 900, [CARRY], []),
     (logs.lost_in_each, 1980, [CARRY], []),
     (logs.signatures, 900, [WHOLE], []),
-    (logs.fragments_rising, 900, [], [REVIEW, QUESTIONS, EXTRACT]),
+    (logs.fragments_rising, 900, [ONCE, OBJECTS], [REVIEW, QUESTIONS, EXTRACT]),
+    (logs.large_payload, 24, [ONCE], [OBJECTS, QUESTIONS]),
     (logs.fragments_falling, 1800, [REVIEW], []),
     (logs.fragments_shuffled, 900, [REVIEW], []),
     (logs.copies, 900, [REVIEW], []),
@@ -116,8 +118,9 @@ SHAPES = [
 ]
 # those that are read as lines too
 IN_LINES = {logs.signed, logs.sent}
-# each line repeats the payload: by its format this output grows with the square, and the rest may grow as it does
-AS_WRITTEN = {(logs.fragments_rising, QUESTIONS)}
+# each line repeats the payload: by its format this output grows with the square, and the rest may grow as it does. With
+# `--once` it doesn't
+AS_WRITTEN = {(logs.fragments_rising, QUESTIONS), (logs.large_payload, QUESTIONS)}
 
 # what each slow stand-in has to be found out by, and on which shape
 SLOW = [
@@ -215,10 +218,15 @@ def count_frames(octets):
     return count
 
 
+def word_of(line):
+    """The first word of a line, or that of a JSON object."""
+    return line.split(b'"', 4)[3] if line.startswith(b"{") else line.split(maxsplit=1)[0]
+
+
 def fault_of(said, wanted, of_frames):
     """Whether a run says what the maker of its input says."""
     status, out, err, _ = said
-    words = collections.Counter(line.split()[0].decode() for line in out.splitlines() if not of_frames)
+    words = collections.Counter(word_of(line).decode() for line in out.splitlines() if not of_frames)
     told = count_frames(out) if of_frames else dict(words)
     if (status, told) == wanted:
         return ""

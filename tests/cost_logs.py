@@ -61,6 +61,13 @@ class Input:
         return self.say("review --tally", status, {**words, **{"%s-count" % it: 1 for it in ("unlisted", "refused", "spoilt")}, "end": 1})
 
 
+    def asked(self, trust, yes, payload):
+        """The lines of questions, and of those with each payload once."""
+        self.say("questions", 0, {"trust": trust, "yes": yes})
+        for command in ("questions --once", "questions --once --json"):
+            self.say(command, 0, {"payload": payload, "trust": trust, "yes": yes})
+
+
 def announcing(*hashes, first=1, gbc=0, rsid=7, group=(0, 0)):
     """A signature block of hashes that are given as texts."""
     return signature(first, [sha1_of(text) for text in hashes], gbc, rsid, group)
@@ -73,7 +80,8 @@ def number(i):
 def nothing(n=0):
     """The empty log."""
     made = Input(answered=False)
-    made.say("questions", 0, {})
+    for command in ("questions", "questions --once", "questions --once --json"):
+        made.say(command, 0, {})
     made.say("extract", 0, 0)
     made.say("inspect", 0, {"end": 1})
     made.say("extract --unlisted", 0, 0)
@@ -182,7 +190,7 @@ def sessions(n):
     for i in range(n):
         made.put_block(certificate(rsid=i * 7919 % n))
         made.put_block(announcing(number(i), rsid=i))
-    made.say("questions", 0, {"trust": n, "yes": 2 * n})
+    made.asked(trust=n, yes=2 * n, payload=1)
     made.say("extract", 1, 0)
     made.say("counters", 0, {"count": 2 * n})
     made.say("carry", 0, 2 * n)
@@ -195,8 +203,29 @@ def hosts_alike(n):
     for i in range(n):
         front, back = certificate()
         made.put_block((front.replace(b"gate", b"h" * 248 + b"%07d" % (i * 7919 % n)), back))
-    made.say("questions", 0, {"trust": n, "yes": n})
+    made.asked(trust=n, yes=n, payload=1)
     return made.review(0, session=n)
+
+
+def payloads_apart(n):
+    """Sessions, each with a payload of its own, which differs from the others at its end alone."""
+    made = Input(answered=False)
+    for i in range(n):
+        text = b"- U " + b64(b"x" * 297 + (i * 7919 % n).to_bytes(3, "big"))
+        made.put_block(certificate(1, text, len(text), i), False)
+    made.asked(trust=n, yes=n, payload=n)
+    return made
+
+
+def large_payload(n):
+    """A large payload in fragments, and as many signature blocks. With the payload in each question this is quadratic."""
+    text = b"- U " + b64(b"x" * (3 * 1250 * n - 3))
+    made = Input(answered=False)
+    for first in range(0, len(text), 5000):
+        made.put_block(certificate(first + 1, text[first:first + 5000], len(text)), False)
+        made.put_block(announcing(number(first), gbc=first // 5000), False)
+    made.asked(trust=1, yes=2 * n, payload=1)
+    return made
 
 
 def groups(n):
@@ -351,7 +380,7 @@ def fragments(n, order):
     for i in order(range(len(text))):
         made.put_block(certificate(i + 1, text[i:i + 1], len(text)), i == 0)
     made.say("extract", 1, 0)
-    made.say("questions", 0, {"trust": 1, "yes": len(text)})
+    made.asked(trust=1, yes=len(text), payload=1)
     return made.review(1, session=1, refused=len(text))
 
 

@@ -8,15 +8,17 @@ status is the same in every form.
 The logs are the shapes of cost_logs.py, sessions whose names have every character that a header may have, and logs that
 break off. The last line is `forms: N passed, M failed`.
 """
+import base64
 import inspect
 import itertools
+import json
 import os
 import subprocess
 import sys
 import tempfile
 
 import cost_logs as logs
-from report_objects import KEYS, OTHER_KEYS, fault_of, words_seen
+from report_objects import ABOUT, KEYS, OTHER_KEYS, fault_of, words_seen
 from review_runs import frame
 
 PROGRAM = sys.argv[1]
@@ -41,7 +43,7 @@ def tell(what, fault=""):
 
 def run(command, log, *options):
     """The status of a command over a log, and what it wrote."""
-    ran = subprocess.run([PROGRAM, command, *options], input=log, capture_output=True, check=False, timeout=60)
+    ran = subprocess.run([PROGRAM, *command.split(" "), *options], input=log, capture_output=True, check=False, timeout=60)
     if ran.stderr:
         return ran.returncode, ran.stderr
     return ran.returncode, ran.stdout
@@ -77,8 +79,47 @@ def check(what, log, *options):
     of_log = options[:options.index("--answers")] if "--answers" in options else options
     for command in ("review", "counters"):
         check_command(command, what, log, *options)
-    for command in ("inspect", "questions"):
+    for command in ("inspect", "questions", "questions --once"):
         check_command(command, what, log, *of_log)
+    check_once(what, log, *of_log)
+    check_details(what, log, *of_log)
+
+
+def resolved(once):
+    """The plain questions that lines of `--once` ask, each index by the payload line in front of it."""
+    payloads, lines = [], []
+    for word, index, *fields in (line.split(b" ") for line in once.splitlines()):
+        if word == b"payload":
+            if int(index) != len(payloads) or fields[0] in payloads:
+                raise ValueError(f"payload {index!r} behind {len(payloads)} others")
+            payloads += fields
+        else:
+            lines.append(b" ".join([word, payloads[int(index)], *fields]) + b"\n")
+    return b"".join(lines)
+
+
+def check_once(what, log, *options):
+    """With each payload once, and the payload put for each index, the questions are the same."""
+    wanted, (status, made) = run("questions", log, *options), run("questions --once", log, *options)
+    try:
+        said = (status, resolved(made))
+    except (IndexError, ValueError) as fault:
+        said = fault
+    tell(f"{what}: questions --once, resolved", "" if said == wanted else f"{said!r:.300}, and not {wanted!r:.300}")
+
+
+def check_details(what, log, *options):
+    """What the objects of questions say of a block is what the object of an inspection says of its message."""
+    inspected = map(json.loads, run("inspect", log, "--json", *options)[1].splitlines())
+    places = {it["place"]: it for it in inspected if "place" in it}
+    for words in (["--json"], ["--json", "--once"]):
+        for asked in map(json.loads, run("questions", log, *words, *options)[1].splitlines()):
+            if asked["line"] == "yes":
+                told = {key: value for key, value in asked.items() if key not in (*ABOUT, "octets", "signature", "ver")}
+                block = base64.b64decode(asked["octets"])
+                fits = (places[asked["place"]] == {**told, "line": places[asked["place"]]["line"]}
+                        and b' VER="%s" ' % asked["ver"].encode() in block)
+                tell(f"{what}: questions {' '.join(words)}, place {asked['place']}", "" if fits else f"{asked}")
 
 
 def answered(folder, answers):
@@ -126,10 +167,20 @@ def objects_by_hand():
         log = file.read()
     status, made = run("questions", log, "--json")
     payload = b"MjAwOS0wNS0wM1QxNDowMDozOVogSyBTMFZa"
-    wanted = [b'{"line":"trust","payload":"%s"}' % payload] + 2 * [b'{"line":"yes","payload":"%s","octets":"' % payload]
-    fits = len(made.splitlines()) == 3 and all(map(bytes.startswith, made.splitlines(), wanted))
-    tell("by hand: questions", "" if status == 0 and fits else repr(made))
     names = b'"host":"h","app":"s","procid":"-","rsid":1'
+    asked = [line.split(b" ") for line in run("questions", log)[1].splitlines()]
+    _, certificate, signature = ([] if len(it) < 4 else it[2:] for it in asked)
+    block = b'"octets":"%s","signature":"%s","place":%d,' + names + b',"ver":"0111","sg":0,"spri":0,'
+    blocks = [block % (*certificate, 2) + b'"total":27,"index":1,"length":27}\n',
+              block % (*signature, 3) + b'"gbc":0,"first":1,"count":2}\n']
+    front = b'{"line":"yes","payload":"%s",' % payload
+    wanted = b'{"line":"trust","payload":"%s",%s}\n' % (payload, names) + b"".join(front + it for it in blocks)
+    tell("by hand: questions", "" if (status, made) == (0, wanted) else repr(made))
+    status, made = run("questions", log, "--json", "--once")
+    front = b'{"line":"yes","payload_index":0,'
+    wanted = (b'{"line":"payload","payload_index":0,"payload":"%s"}\n' % payload
+              + b'{"line":"trust","payload_index":0,%s}\n' % names + b"".join(front + it for it in blocks))
+    tell("by hand: questions --once", "" if (status, made) == (0, wanted) else repr(made))
     wanted = b'{"line":"count",%s,"gbc":1}\n{"line":"count",%s,"sg":0,"spri":0,"number":3}\n' % (names, names)
     said = run("counters", log, "--json", "--answers", os.path.join(ROOT, "examples", "four-messages.answers"))
     tell("by hand: counters", "" if said == (0, wanted) else repr(said))
@@ -178,6 +229,8 @@ def main():
             ran = subprocess.run([PROGRAM, "review", f"{word}={value}"], input=log, capture_output=True, check=False)
             tell(f"{word} with a value", "" if ran.returncode == 2 and ran.stderr and not ran.stdout else repr(ran))
         for words in (["extract", "--json"], ["extract", "--findings"], ["questions", "--findings"], ["counters", "--findings"],
+                      ["review", "--once"], ["extract", "--once"], ["inspect", "--once"], ["counters", "--once"],
+                      ["questions", "--once=x"], ["questions", "--once", "--once"],
                       ["carry", "--json"], ["carry", "--findings"], ["explain", "--json"], ["inspect", "--json", "--json"]):
             ran = subprocess.run([PROGRAM, *words], input=log, capture_output=True, check=False)
             tell(" ".join(words), "" if ran.returncode == 2 and ran.stderr and not ran.stdout else repr(ran))
@@ -189,7 +242,7 @@ def main():
         for command, words in itertools.product(("review", "inspect"), (["--json"], ["--findings"], ["--json", "--findings"])):
             said = run(command, b"x" + log, *words)
             tell(f"a refusal of {command} {' '.join(words)}", "" if said == (2, b"ssign: F1 0\n") else repr(said))
-        for command in ("questions", "counters"):
+        for command in ("questions", "questions --once", "counters"):
             said = run(command, b"x" + log, "--json")
             tell(f"a refusal of {command}", "" if said == (2, b"ssign: F1 0\n") else repr(said))
         # the lines `blocks` are those of `--whole`, and counts those of `--tally`: tests/whole.py and tally.py

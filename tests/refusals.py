@@ -142,8 +142,8 @@ def reviewed(name, command, octets, answers, *words, of_lines=False, **limits):
         wanted = with_missing_blocks(octets, answers, of_lines)
     else:
         wanted = Said(*run(command, octets, of_lines, trusted=trusted, valid=valid, **limits))
-    text = None if command == "questions" else answers_text(trusted, valid)
-    words = [command, *(["--lines"] if of_lines else []), *words]
+    text = None if command.startswith("questions") else answers_text(trusted, valid)
+    words = [*command.split(" "), *(["--lines"] if of_lines else []), *words]
     for option, value in limits.items():
         words += ["--" + option.replace("_", "-"), str(value)]
     return Case("%s of %s" % (command, name), words, octets, wanted, text)
@@ -154,12 +154,13 @@ def reviews():
     example, nobody = answers_of(EXAMPLE, ALL), (frozenset(), frozenset())
     for unit, of_lines in ((frame, False), (line, True)):
         log = b"".join(map(unit, EVERYTHING))
-        for command in ("review", "extract", "questions", "counters", "carry"):
+        for command in ("review", "extract", "questions", "questions --once", "questions --once --json", "counters",
+                        "carry"):
             words = ["--whole"] if command == "review" and not of_lines else []
             yield reviewed("everything" + ", as lines" * of_lines, command, log + unit(M1)[:-1], everything, *words,
                            of_lines=of_lines)
     log = b"".join(map(frame, EXAMPLE))
-    for command in ("review", "extract", "questions", "carry"):
+    for command in ("review", "extract", "questions", "questions --once", "questions --json", "carry"):
         yield reviewed("a clean log", command, log, example, max_len=1048576, max_messages=10000000)
         yield reviewed("an empty log", command, b"", nobody)
         yield reviewed("a log with no digit behind it", command, log + b"x", example)
@@ -348,7 +349,8 @@ def long_outputs():
     """Runs whose output is longer than a buffer, and begins to be written before its end is known."""
     made = logs.signed(5000)
     log, text = b"".join(map(frame, made.messages)), b"".join(it + b"\n" for it in made.answers)
-    for words in (["review", "--whole"], ["extract"], ["carry"], ["questions"], ["inspect"], ["questions", "--json"], ["inspect", "--json"]):
+    for words in (["review", "--whole"], ["extract"], ["carry"], ["questions"], ["inspect"], ["questions", "--json"],
+                  ["questions", "--once"], ["questions", "--once", "--json"], ["inspect", "--json"]):
         asks = words[0] in ("review", "extract")
         yield Case("%s of a long log" % " ".join(words), words, log, 0, text if asks else None, True)
     log = b"".join(map(frame, logs.sent(800).messages))

@@ -7,6 +7,8 @@ import json
 
 SESSION = ["host", "app", "procid", "rsid"]
 GROUP = [*SESSION, "sg", "spri"]
+# what a question is about: the payload, or with `--once` its index
+ABOUT = ["payload", "payload_index"]
 # the keys of each line of a report, in their order, as docs/FORMATS.md has them
 KEYS = {
     "session": [*SESSION, "state"],
@@ -27,15 +29,19 @@ OTHER_KEYS = {
     "unlisted-count": [["count"]],
     "refused-count": [["count"]],
     "spoilt-count": [["count"]],
-    "trust": [["payload"]],
-    "yes": [["payload", "octets", "signature"]],
+    "payload": [["payload_index", "payload"]],
+    "trust": [[about, *SESSION] for about in ABOUT],
+    "yes": [[about, "octets", "signature", "place", *SESSION, "ver", "sg", "spri", *rest] for about in ABOUT
+            for rest in (["gbc", "first", "count"], ["total", "index", "length"])],
     "count": [[*SESSION, "gbc"], [*GROUP, "number"]],
     "plain": [["place"]],
     "unparsed": [["place", "part", "offset"]],
     "signature": [["place", *GROUP, "gbc", "first", "count"]],
     "certificate": [["place", *GROUP, "total", "index", "length"]],
 }
-TEXTS = {"line", "host", "app", "procid", "state", "why", "cause", "part", "payload", "octets", "signature"}
+TEXTS = {"line", "host", "app", "procid", "state", "why", "cause", "part", "payload", "octets", "signature", "ver"}
+# how many of its values a plain question has, the word among them
+PLAIN = {"trust": 2, "yes": 4}
 
 # the words of the lines that were read
 words_seen = set()
@@ -60,7 +66,7 @@ def plain_of(line):
             return b"", f"{key} is {value!r}"
     if json.dumps(dict(pairs), separators=(",", ":")).encode() != line:
         return b"", "an escape or a space that isn't needed"
-    return " ".join(str(value) for _, value in pairs).encode(), ""
+    return " ".join(str(value) for _, value in pairs[:PLAIN.get(word)]).encode(), ""
 
 
 def fault_of(plain, made):

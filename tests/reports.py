@@ -1,5 +1,5 @@
 #!/usr/bin/env python3
-"""Compares what `ssign review`, `questions` and `extract` write, and how they end, with `review_runs.py`.
+"""Compares what `ssign review`, `extract`, and `questions` in each form write, and how they end, with `review_runs.py`.
 
     reports.py PROGRAM
 
@@ -19,7 +19,7 @@ from review_logs import make
 from review_model import Log
 from review_runs import MAX_LEN, MAX_MESSAGES, answers_text, answers_to, frame, joined, line, run
 
-COMMANDS = ("review", "questions", "extract")
+COMMANDS = ("review", "questions", "questions --once", "questions --json", "questions --once --json", "extract")
 SEEDS = 500
 # how many differences are shown
 SHOWN = 5
@@ -49,9 +49,9 @@ class Program:
 
     def say(self, command, octets, of_lines=False, max_len=MAX_LEN, max_messages=MAX_MESSAGES, answers=b""):
         """Its status, standard output and standard error."""
-        words = [self.path, command, "--max-len", str(max_len), "--max-messages", str(max_messages)]
+        words = [self.path, *command.split(" "), "--max-len", str(max_len), "--max-messages", str(max_messages)]
         words += ["--lines"] if of_lines else []
-        if command != "questions":
+        if not command.startswith("questions"):
             with open(self.answers, "wb") as file:
                 file.write(answers)
             words += ["--answers", self.answers]

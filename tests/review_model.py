@@ -44,16 +44,17 @@ class Block:
         self.place = place
         self.session = (*fields, number[b"RSID"])
         self.group = (number[b"SG"], number[b"SPRI"])
+        self.version = value[b"VER"].decode()
         self.signed = text[:sign.start] + text[sign.end:]
         self.sign = base64_of(value[b"SIGN"])
         self.is_certificate = sd_id == b"ssign-cert"
         if self.is_certificate:
             self.total, self.index, self.fragment = number[b"TPBL"], number[b"INDEX"], value[b"FRAG"]
         else:
-            self.gbc = number[b"GBC"]
+            self.gbc, self.first, self.count = number[b"GBC"], number[b"FMN"], number[b"CNT"]
             algorithm, _ = HASHES[value[b"VER"]]
             hashes = [base64_of(piece) for piece in value[b"HB"].split(b" ")]
-            self.rows = [(number[b"FMN"] + i, algorithm, octets) for i, octets in enumerate(hashes)]
+            self.rows = [(self.first + i, algorithm, octets) for i, octets in enumerate(hashes)]
 
 
 def causes(kinds):
@@ -231,15 +232,20 @@ def review(log, trusted, valid):
     return lines
 
 
-def questions(log):
-    """The lines of the questions: of each session whose octets join to a payload, whether it is trusted, and each block."""
-    lines = []
+def asked(log):
+    """What is asked of each session whose octets join to a payload: the session and the payload, with None for whether
+    it is trusted, and then with each block."""
     for session in log.sessions:
         found, payload = log.payload(session)
         if found == "whole":
-            lines.append("trust %s" % payload.hex())
-            lines += ["yes %s %s %s" % (payload.hex(), block.signed.hex(), block.sign.hex()) for block in log.of(session)]
-    return lines
+            for block in [None, *log.of(session)]:
+                yield session, payload, block
+
+
+def questions(log):
+    """The lines of the questions."""
+    return ["trust %s" % payload.hex() if block is None
+            else "yes %s %s %s" % (payload.hex(), block.signed.hex(), block.sign.hex()) for _, payload, block in asked(log)]
 
 
 def shown(field):
