@@ -336,7 +336,7 @@ keys verify --key keys/public-key.pem --raw stored
 cp out with
 keys verify --key keys/public-key.pem --raw --ssign ./older stored
 holds 'an older ssign without --whole: the report' cmp out with
-holds 'an older ssign without --whole: its words' cmp <(sed 's|=.*/answers$|=answers|' called) <(printf '%s\n' questions 'review --answers=answers')
+holds 'an older ssign without --whole: its words' cmp <(sed 's|=.*/answers$|=answers|' called) <(printf '%s\n' 'questions --once --json' 'review --answers=answers')
 rm called
 for form in '' --json --raw; do
     keys verify --key keys/public-key.pem --whole ${form:+"$form"} --answers-out unkept --ssign ./older stored
@@ -351,7 +351,7 @@ chmod +x recording
 rm called
 keys verify --key keys/public-key.pem --whole --max-len 9999 --ssign ./recording stored
 holds 'a newer ssign: its words' cmp <(sed 's|=/.*/answers |=answers |' called) \
-    <(printf '%s\n' 'review --whole' 'questions --max-len=9999' 'review --answers=answers --whole --max-len=9999')
+    <(printf '%s\n' 'review --whole' 'questions --once --json --max-len=9999' 'review --answers=answers --whole --max-len=9999')
 printf '#!/bin/sh\necho "ssign: F4" >&2\nexit 2\n' >older
 keys verify --key keys/public-key.pem --whole --ssign ./older stored
 refuses 'a refusal is no want of --whole' "ssign-keys: stored: there isn't enough memory for a message: give the program more memory (F4)"
@@ -627,7 +627,7 @@ rm called
 keys verify --key keys/public-key.pem --counters counters.1 --max-len 9999 --ssign ./recording signed
 says 'a newer ssign with --counters' 0 "$all_there Nothing is missing up to the counters."
 holds 'a newer ssign with --counters: its words' cmp <(sed 's#=/[^ ]*/\(answers\|counters\)#=\1#g' called) \
-    <(printf '%s\n' 'review --counters=counters' 'questions --max-len=9999' 'review --answers=answers --counters=counters --max-len=9999')
+    <(printf '%s\n' 'review --counters=counters' 'questions --once --json --max-len=9999' 'review --answers=answers --counters=counters --max-len=9999')
 
 # ---- what no block signed, and hostile texts
 for it in logger rsyslog syslog-ng; do

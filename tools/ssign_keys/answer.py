@@ -7,7 +7,8 @@ from types import TracebackType
 from typing import Generator, Iterable, Iterator, List, NamedTuple, Optional, Type
 
 from . import trust as trusts
-from .blocks import Session
+from .asked import Form, Told
+from .blocks import Block, Session
 from .checking import Held
 from .commands import PROCESSES, SECONDS
 from .faults import Fault
@@ -31,6 +32,8 @@ class Answered(NamedTuple):
     """The session that it is asked for; None for a `trust` line after which no block of that payload is asked about."""
     finding: Finding
     """Whose key it is, or why none is trusted."""
+    block: Optional[Block]
+    """What the octets of a `yes` line say, where ssign said it."""
 
     @property
     def is_payload(self) -> bool:
@@ -85,10 +88,10 @@ class Answers(Iterator[Answered]):
     Used with `with`, or ended by `close`, it leaves no process behind, wherever the taking stopped.
     """
 
-    def __init__(self, lines: Iterable[bytes], trust: Trust, jobs: int) -> None:
+    def __init__(self, lines: Iterable[bytes], trust: Trust, jobs: int, form: Optional[Form]) -> None:
         """Takes no line yet."""
         self.counts = Counts()
-        self._taken = self._take(lines, trust, jobs)
+        self._taken = self._take(lines, trust, jobs, form)
 
     def __iter__(self) -> Answers:
         """Itself."""
@@ -111,9 +114,10 @@ class Answers(Iterator[Answered]):
         """Ends the processes that check signatures."""
         self._taken.close()
 
-    def _take(self, lines: Iterable[bytes], trust: Trust, jobs: int) -> Generator[Answered, None, None]:
+    def _take(self, lines: Iterable[bytes], trust: Trust, jobs: int, form: Optional[Form],
+              ) -> Generator[Answered, None, None]:
         """The lines that hold. Raises Fault at the first that is no question."""
-        workers, reader = Workers(trust, jobs), Reader(trust.longest)
+        workers, reader = Workers(trust, jobs), Reader(trust.longest, form)
         self.counts.most = trust.longest
         try:
             for asked, checked in workers.check(reader.chunks(lines)):
@@ -133,7 +137,7 @@ class Answers(Iterator[Answered]):
         is_so = held is not None and held.is_so
         self.counts.add(line, is_so)
         if held:
-            yield Answered(line.text if is_so else b"", held.session, held.finding)
+            yield Answered(line.text if is_so else b"", held.session, held.finding, line.asked.block)
 
 
 def answers(lines: Iterable[bytes], trust: Trust, jobs: int = 1) -> Answers:
@@ -141,7 +145,12 @@ def answers(lines: Iterable[bytes], trust: Trust, jobs: int = 1) -> Answers:
 
     No more lines are held at once than a few chunks. Raises Fault, while lines are taken, at one that is no question.
     """
-    return Answers(lines, trust, jobs)
+    return Answers(lines, trust, jobs, None)
+
+
+def told_answers(lines: Iterable[bytes], trust: Trust, jobs: int) -> Answers:
+    """The same for lines of `ssign questions --once --json`, which say what ssign read in each block."""
+    return Answers(lines, trust, jobs, Told(trust.longest))
 
 
 def read_jobs(word: str) -> int:

@@ -1,13 +1,19 @@
 """Reads single lines of questions, in each form in which `ssign questions` writes them (docs/FORMATS.md, "Questions")."""
 from __future__ import annotations
 
-from typing import List, NamedTuple, Optional, Protocol, Tuple
+import json
+import re
+from typing import Any, Dict, List, NamedTuple, Optional, Protocol, Tuple
 
+from .blocks import Block, Counters, Session
 from .encoding import is_base64
 from .faults import Fault
 
 # no log has so many sessions
 MOST_DIGITS = 10
+# The line of a payload, which may have 133 MB, is cut and not decoded. Its other octets are as ssign writes them.
+STATED = re.compile(rb'\{"line":"payload","payload_index":([0-9]{1,10}),"payload":"')
+STATED_END = b'"}\n'
 
 
 class PayloadText:
@@ -28,6 +34,10 @@ class Asked(NamedTuple):
     payload: PayloadText
     rest: bytes
     """Of a `yes` line OCTETS SIGNATURE; else empty."""
+    session: Optional[Session] = None
+    """The session that it is about, where the line says it."""
+    block: Optional[Block] = None
+    """What the octets of a `yes` line say, where the line says it."""
 
 
 class Form(Protocol):
@@ -102,6 +112,39 @@ class Once:
         if index >= len(self._payloads):
             raise Fault(f"line {number}: no payload with the index {index} stands before it")
         return Asked(word == b"yes", self._payloads[index], rest)
+
+
+class Told:
+    """The objects of `--once --json`: each payload stands once, and each question says what ssign read in its block."""
+
+    def __init__(self, most: int) -> None:
+        """Looks at payloads of so many octets at most."""
+        self._most = most
+        self._payloads: List[PayloadText] = []
+
+    def read(self, line: bytes, number: int) -> Optional[Asked]:
+        """The question of a line, or None where it states a payload."""
+        try:
+            stated = STATED.match(line)
+            if stated and int(stated[1]) == len(self._payloads) and line.endswith(STATED_END):
+                self._payloads.append(payload_of(line[stated.end():-len(STATED_END)], self._most, number))
+                return None
+            return self._question(json.loads(line))
+        except (ValueError, LookupError, TypeError, AttributeError, RecursionError) as fault:
+            raise Fault(f"line {number} is no line of ssign questions --once --json, as it is known here") from fault
+
+    def _question(self, told: Dict[str, Any]) -> Asked:
+        """The question of an object."""
+        payload = self._payloads[told["payload_index"]]
+        session = Session(told["host"].encode("ascii"), told["app"].encode("ascii"), told["procid"].encode("ascii"),
+                          b"%d" % told["rsid"])
+        if told["line"] == "trust":
+            return Asked(False, payload, b"", session)
+        if told["line"] != "yes":
+            raise ValueError("another line")
+        counters = Counters(told["sg"], told["spri"], told["gbc"]) if "gbc" in told else None
+        block = Block(told["ver"].encode("ascii"), session, counters)
+        return Asked(True, payload, f"{told['octets']} {told['signature']}".encode("ascii"), session, block)
 
 
 def split(line: bytes, number: int) -> Tuple[bytes, int, bytes]:

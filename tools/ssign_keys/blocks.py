@@ -1,4 +1,7 @@
-"""Blocks: what a checker needs to know of the octets that a block's signature covers (RFC 5848, sections 4 and 5)."""
+"""Blocks: what a checker needs to know of the octets that a block's signature covers (RFC 5848, sections 4 and 5).
+
+`ssign questions --json` says it of each block. Where plain questions are answered, it is read from the octets here.
+"""
 from __future__ import annotations
 
 import re
@@ -28,11 +31,21 @@ class Session(NamedTuple):
         return b" ".join(self).decode("ascii", "backslashreplace")
 
 
+class Counters(NamedTuple):
+    """The group of a signature block, and its number among the signature blocks of its session."""
+
+    sg: int
+    spri: int
+    gbc: int
+
+
 class Block(NamedTuple):
     """What the octets of a block say of their signature."""
 
     version: bytes
     session: Session
+    counters: Optional[Counters] = None
+    """Of a signature block that ssign has read."""
 
 
 def read_block(octets: bytes) -> Optional[Block]:

@@ -12,6 +12,7 @@ from .faults import Fault
 from .identity import Finding
 from .trust import Trust
 
+TOO_LONG = Finding(None, "its payload is longer than --max-payload allows")
 # The longest text of a signature of DSA: two numbers of 256 bits, each with its count.
 LONGEST_SIGNATURE = 92
 
@@ -26,6 +27,10 @@ class Question(NamedTuple):
     """Whether it is a `yes` line."""
     rest: bytes
     """What stands behind the payload of a `yes` line: OCTETS SIGNATURE."""
+    session: Optional[Session] = None
+    """The session that it is about, where ssign said it."""
+    block: Optional[Block] = None
+    """What the octets of a `yes` line say, where ssign said it."""
 
 
 @dataclass
@@ -72,7 +77,7 @@ def is_block_part(rest: bytes) -> bool:
 def block_of(question: Question) -> Tuple[bytes, Block]:
     """The octets of the block that a `yes` line asks about, and what they say."""
     octets = decode(question.rest.partition(b" ")[0])
-    block = read_block(octets) if octets else None
+    block = question.block or (read_block(octets) if octets else None)
     if not octets or not block:
         raise Fault(f"line {question.line_number}: the octets are no block of VER 0111 or 0121")
     return octets, block
@@ -114,10 +119,10 @@ def check_block(trust: Trust, question: Question, payload: Optional[bytes]) -> O
 def check_payload(trust: Trust, question: Question, payload: Optional[bytes],
                   following: Sequence[Question]) -> Optional[Held]:
     """Whether a `trust` line holds: for the session of the block that is asked about after it."""
+    session = question.session
     if not payload:
-        return None
-    session = None
-    if following and following[0].is_block and following[0].payload == question.payload:
+        return Held(session, TOO_LONG) if session else None
+    if session is None and following and following[0].is_block and following[0].payload == question.payload:
         if not is_block_part(following[0].rest):
             raise Fault(no_question(following[0].line_number))
         session = block_of(following[0])[1].session

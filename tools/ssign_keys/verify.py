@@ -13,7 +13,7 @@ from . import manifested
 from . import sha1
 from . import trust as trust_options
 from .agreement import Survey, Walked
-from .answer import answers
+from .answer import told_answers
 from .blocks import Session
 from .broken_blocks import Broken, Search
 from .faults import Fault
@@ -36,6 +36,9 @@ from .vouched import Notes, noted
 from .walk import Walk
 from .words import shown_name
 from .workplace import Workplace, finish, put, say
+
+# how ssign is asked for its questions: each payload once, with what it read in each block
+ONCE = ("--once", "--json")
 
 
 def add_arguments(parser: argparse.ArgumentParser) -> None:
@@ -150,12 +153,14 @@ class Verifier:
 
     def answer(self, trust: Trust, jobs: int) -> None:
         """Has ssign ask, and keeps what holds as the answers file, and what valid blocks vouch for as notes."""
-        asking = Run(self._program, ["questions", *self._words], self._workplace, self._progress, subprocess.PIPE,
+        asking = Run(self._program, ["questions", *ONCE, *self._words], self._workplace, self._progress, subprocess.PIPE,
                      subprocess.PIPE)
         asking.feed(self._candidates())
         try:
             self._keep(asking, trust, jobs)
         except Refused as refused:
+            if refused.code is None:
+                self._refuse_older()
             self._refuse(refused)
             raise
         self._log.check_unchanged()
@@ -163,7 +168,7 @@ class Verifier:
     def _keep(self, asking: Run, trust: Trust, jobs: int) -> None:
         """Answers the questions of a run, and keeps the answers, and what they vouch for."""
         with self._workplace.new_file("answers") as file, \
-                answers(asking.lines(lambda: None), trust, jobs) as answered:
+                told_answers(asking.lines(lambda: None), trust, jobs) as answered:
             for count, it in enumerate(noted(answered, self._notes), 1):
                 put(file, it.line)
                 self._valid += it.line.startswith(b"yes ")
@@ -172,6 +177,17 @@ class Verifier:
         for sentence in answered.counts.sentences():
             self._progress.clear()
             say(f"ssign-keys: {sentence}")
+
+    def _refuse_older(self) -> None:
+        """Refuses an ssign that can't ask about each payload once. An empty log shows whether it is that."""
+        asking = Run(self._program, ["questions", *ONCE], self._workplace, self._progress, subprocess.DEVNULL,
+                     subprocess.DEVNULL)
+        try:
+            asking.end(lambda: None)
+        except Refused as refused:
+            if refused.code is None:
+                raise Fault(f"the program {shown_name(self._program)} has no `questions --once`, without which a payload may "
+                            "be repeated without end: name a newer one with --ssign") from refused
 
     def _refuse(self, refused: Refused) -> None:
         """Has the whole log refused that was refused already by the messages that may be blocks.

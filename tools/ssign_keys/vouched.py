@@ -5,19 +5,14 @@ read again beside the report, in which the sessions stand in the same order.
 """
 from __future__ import annotations
 
-import base64
 import json
-import re
 from dataclasses import dataclass, field
 from typing import BinaryIO, Dict, Iterable, Iterator, List, Optional, Set, Tuple
 
 from .answer import Answered
-from .blocks import FIRST_ELEMENT, HEADER, LATER_ELEMENT, LONGEST_HEADER, Session
+from .blocks import Session
 from .identity import UNKNOWN, Finding, finding_of, note_of
 from .workplace import put
-
-# what follows RSID in a signature block (RFC 5848, section 4.2); a certificate block has no GBC
-COUNTERS = re.compile(rb'SG="([0-3])" SPRI="([0-9]{1,3})" GBC="([0-9]{1,10})" ')
 
 GroupName = Tuple[int, int]
 
@@ -33,19 +28,6 @@ class Vouched:
     """Each VER."""
 
 
-def counters_of(octets: bytes) -> Optional[Tuple[str, GroupName, int]]:
-    """VER, the group and the GBC of a signature block, from the octets that its signature covers."""
-    header = HEADER.match(octets[:LONGEST_HEADER])
-    if header is None:
-        return None
-    behind = header.end()
-    element = FIRST_ELEMENT.match(octets, behind) or LATER_ELEMENT.search(octets, behind)
-    counters = element and COUNTERS.match(octets, element.end())
-    if not element or not counters:
-        return None
-    return element[1].decode("ascii"), (int(counters[1]), int(counters[2])), int(counters[3])
-
-
 def noted(answered: Iterable[Answered], notes: BinaryIO) -> Iterator[Answered]:
     """Gives on what was answered, and keeps what its blocks vouch for."""
     session: Optional[Session] = None
@@ -58,12 +40,10 @@ def noted(answered: Iterable[Answered], notes: BinaryIO) -> Iterator[Answered]:
             if session is not None:
                 put_note(notes, session, vouched)
             session, vouched = it.session, Vouched(it.finding)
-        if it.line:
-            counters = counters_of(base64.b64decode(it.line.split(b" ", 3)[2]))
-            if counters is not None:
-                version, group, gbc = counters
-                vouched.versions.add(version)
-                vouched.greatest[group] = max(gbc, vouched.greatest.get(group, 0))
+        if it.line and it.block is not None and it.block.counters is not None:
+            sg, spri, gbc = it.block.counters
+            vouched.versions.add(it.block.version.decode("ascii"))
+            vouched.greatest[sg, spri] = max(gbc, vouched.greatest.get((sg, spri), 0))
         yield it
     if session is not None:
         put_note(notes, session, vouched)

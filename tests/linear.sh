@@ -1,0 +1,104 @@
+#!/usr/bin/env bash
+# `ssign-keys verify` of a stranger's log takes steps by the length of the log. Counted are the octets of the questions
+# and the answers, and the programs that are run; twice the log takes at most three times the time.
+# shellcheck source=tests/lib.sh
+. "$(dirname -- "$0")/lib.sh"
+need_program
+keys_program=$root/tools/ssign-keys
+if ! python3 -c 'import cryptography' 2>/dev/null; then
+    echo "$name: no cryptography for python3 here (apt-get install python3-cryptography), so nothing of ssign-keys is run"
+    holds 'ssign-keys is there' test -x "$keys_program"
+    finish
+fi
+mkdir -- "$scratch/passing"
+export TMPDIR=$scratch/passing
+cd -- "$scratch" || exit 1
+
+# keys ARG..: runs ssign-keys as `run` does the program.
+keys() {
+    timeout "$patience" "$keys_program" "$@" >"$scratch/out" 2>"$scratch/err"
+    status=$?
+}
+
+# ---- an older program is refused
+# shellcheck disable=SC2016
+printf '#!/bin/sh\nfor it in "$@"; do\n    [ "$it" != --once ] || { printf "error: unexpected argument\\n\\nFor more information, try --help.\\n" >&2; exit 2; }\ndone\nexec %q "$@"\n' "$program" >older
+chmod +x older
+for form in '' --json --raw; do
+    keys verify --key "$root/examples/signed/public-key.pem" ${form:+"$form"} --answers-out kept --ssign ./older \
+        "$root/examples/signed/signed.frames"
+    expect "an older ssign $form" 2 '' "ssign-keys: the program ./older has no \`questions --once\`, without which a payload may be repeated without end: name a newer one with --ssign"
+    holds "an older ssign $form: no answers" test ! -e kept
+done
+run questions --once --json </dev/null
+if [[ $status != 0 ]]; then
+    echo "$name: this ssign has no \`questions --once\`, so no log is verified"
+    finish
+fi
+
+# a program that counts: the octets of its questions, and the answers that it is given
+# shellcheck disable=SC2016
+printf '#!/usr/bin/env bash\nset -o pipefail\ncase $1 in\n    questions) %q "$@" | tee counted.questions ;;\n    *)\n        for it in "$@"; do\n            [[ $it != --answers=* ]] || cp -- "${it#--answers=}" counted.answers\n        done\n        exec %q "$@"\n        ;;\nesac\n' "$program" "$program" >counting
+chmod +x counting
+mkdir one bin
+keys make --ver 0121 one
+for it in gpg openssl zstd; do
+    printf '#!/bin/sh\necho %s >>%q\nexit 1\n' "$it" "$scratch/called" >"bin/$it"
+    chmod +x "bin/$it"
+done
+python3 -B "$root/tests/asked_once.py" authority one/public-key.pem .
+# milliseconds COMMAND..: how long a command takes, of the processors.
+milliseconds() {
+    python3 -c 'import os, subprocess, sys
+subprocess.run(sys.argv[1:], stdout=subprocess.DEVNULL, stderr=subprocess.DEVNULL)
+spent = os.times()
+print(int(1000 * (spent.children_user + spent.children_system)))' "$@"
+}
+# try KIND COUNT OPTION..: a log, and one of twice as many. FILE is that of the certificate.
+try() {
+    local kind=$1 count=$2 at size took=() sizes=()
+    shift 2
+    for at in "$count" $((2 * count)); do
+        python3 -B "$root/tests/linear_logs.py" "$kind" "$at" leaf.der >log
+        size=$(stat -c %s log)
+        sizes+=("$size")
+        rm -f called counted.*
+        PATH=$scratch/bin:$PATH keys verify "$@" --ssign ./counting log
+        holds "$kind, $at: status 1" test "$status" = 1
+        # a block has its octets and its signature in base64, and its names beside that
+        holds "$kind, $at: octets of the questions" test "$(stat -c %s counted.questions)" -lt $((5 * size + 1000))
+        holds "$kind, $at: octets of the answers" test "$(stat -c %s counted.answers)" -lt $((2 * size + 1000))
+        holds "$kind, $at: no other program" test ! -e called
+        took+=("$(milliseconds timeout 100 "$keys_program" verify "$@" --ssign "$program" log)")
+    done
+    holds "$kind: ${took[*]} ms for ${sizes[*]} octets" test "${took[1]}" -lt $((3 * took[0] + 500))
+}
+try long 1000 --key one/public-key.pem
+try trusted 2000 --session-key 'h s - 1' one/public-key.pem
+try sessions 2000 --key one/public-key.pem
+try sessions 2000 --session-key 'h s - *' one/public-key.pem
+try kinds 1000 --key one/public-key.pem --ca ca.pem
+try kinds 1000 --ca ca.pem --at-signing-time
+# a payload as long as one can be
+python3 -B "$root/tests/linear_logs.py" long 4000 >log
+keys verify --key one/public-key.pem --json log
+holds 'a payload of 4,000,004 octets: it is said' cmp err <(echo 'ssign-keys: 1 payload has more than 65536 octets, the longest 4000004, and is not trusted: --max-payload looks at longer ones')
+holds 'a payload of 4,000,004 octets: why its session is untrusted' \
+    grep -q '"state":"untrusted".*"why":"its payload is longer than --max-payload allows"' out
+keys verify --session-key 'h s - 1' one/public-key.pem --max-payload 5M log
+holds 'a payload that may be so long: nothing is said' test ! -s err
+holds 'a payload that may be so long: it is trusted' grep -q '^  state: unaccepted' out
+
+# ---- what ssign says of a block counts, and nothing that is only spelled like it: VER, RSID and GBC stand in a header
+# or in another element besides
+keys sign --key one/private-key.pem --ver 0121 --host 'h[ssign' --app 'VER="0111"' --procid 'GBC="99"' --rsid 7 --count 4 \
+    --lines "$root/examples/signed/ten-messages.log"
+cp out signed
+keys verify --session-key 'h[ssign VER="0111" GBC="99" 7' one/public-key.pem --json signed
+holds 'names that look like blocks: all is listed' test "$status" = 0
+holds 'names that look like blocks: GBC' grep -q '"last":10,"gbc":2,' out
+keys verify --session-key '* * * 8' one/public-key.pem --json signed
+holds 'a key of another session: nothing is listed' test "$status" = 1
+holds 'no passing file is left' test -z "$(ls -A -- "$TMPDIR")"
+
+finish
