@@ -27,36 +27,56 @@ _ssign_archive() {
         return
     fi
     if ((COMP_CWORD == 1)); then
-        _ssign_archive_offer words 'review prepare part table join split --help'
+        _ssign_archive_offer words 'split join review prepare part batch table fixity --help --version'
         return
     fi
     ((COMP_CWORD > 3)) && second=${COMP_WORDS[COMP_CWORD - 2]}
     # --option=value is three words here
     [[ $before == = ]] && before=$second second=
     case "$command $second" in
-    *) ;;
+    'review --session-key')
+        _ssign_archive_offer files
+        return
+        ;;
+    'prepare --session-key')
+        _ssign_archive_offer files
+        return
+        ;;
     esac
     case "$command $before" in
-    'review --results') _ssign_archive_offer folders ;;
-    'review --answers') _ssign_archive_offer files ;;
-    'review --max-len') _ssign_archive_offer text ;;
-    'review --max-messages') _ssign_archive_offer text ;;
-    'review --ssign') _ssign_archive_offer files ;;
-    'review --jobs') _ssign_archive_offer text ;;
-    'review --sshlogin') _ssign_archive_offer text ;;
-    'review --findings') _ssign_archive_offer text ;;
-    'prepare --results') _ssign_archive_offer folders ;;
-    'prepare --answers') _ssign_archive_offer files ;;
-    'prepare --max-len') _ssign_archive_offer text ;;
-    'prepare --max-messages') _ssign_archive_offer text ;;
-    'prepare --ssign') _ssign_archive_offer files ;;
-    'table --findings') _ssign_archive_offer text ;;
-    'join --max-len') _ssign_archive_offer text ;;
-    'join --max-messages') _ssign_archive_offer text ;;
     'split --by') _ssign_archive_offer words 'host session' ;;
     'split --max-len') _ssign_archive_offer text ;;
     'split --max-messages') _ssign_archive_offer text ;;
     'split --ssign') _ssign_archive_offer files ;;
+    'join --max-len') _ssign_archive_offer text ;;
+    'join --max-messages') _ssign_archive_offer text ;;
+    'review --results') _ssign_archive_offer folders ;;
+    'review --answers') _ssign_archive_offer files ;;
+    'review --sshlogin') _ssign_archive_offer text ;;
+    'review --key') _ssign_archive_offer files ;;
+    'review --session-key') ;;
+    'review --ca') _ssign_archive_offer files ;;
+    'review --cert') _ssign_archive_offer files ;;
+    'review --max-len') _ssign_archive_offer text ;;
+    'review --max-messages') _ssign_archive_offer text ;;
+    'review --counters') _ssign_archive_offer folders ;;
+    'review --manifest') _ssign_archive_offer files ;;
+    'review --findings') _ssign_archive_offer text ;;
+    'review --jobs') _ssign_archive_offer text ;;
+    'review --ssign') _ssign_archive_offer files ;;
+    'prepare --results') _ssign_archive_offer folders ;;
+    'prepare --answers') _ssign_archive_offer files ;;
+    'prepare --key') _ssign_archive_offer files ;;
+    'prepare --session-key') ;;
+    'prepare --ca') _ssign_archive_offer files ;;
+    'prepare --cert') _ssign_archive_offer files ;;
+    'prepare --max-len') _ssign_archive_offer text ;;
+    'prepare --max-messages') _ssign_archive_offer text ;;
+    'prepare --counters') _ssign_archive_offer folders ;;
+    'prepare --manifest') _ssign_archive_offer files ;;
+    'prepare --ssign') _ssign_archive_offer files ;;
+    'table --findings') _ssign_archive_offer text ;;
+    'fixity --jobs') _ssign_archive_offer text ;;
     *) _ssign_archive_words "$command" "$current" ;;
     esac
 }
@@ -64,16 +84,30 @@ _ssign_archive() {
 # _ssign_archive_words COMMAND CURRENT: a word that is no value of an option.
 _ssign_archive_words() {
     case $1 in
+    split)
+        if [[ $2 == -* ]]; then
+            _ssign_archive_offer words '--help --by --lines --max-len --max-messages --ssign'
+        else
+            _ssign_archive_offer files
+        fi
+        ;;
+    join)
+        if [[ $2 == -* ]]; then
+            _ssign_archive_offer words '--help --lines --max-len --max-messages'
+        else
+            _ssign_archive_offer folders
+        fi
+        ;;
     review)
         if [[ $2 == -* ]]; then
-            _ssign_archive_offer words '--help --results --answers --lines --max-len --max-messages --whole --ssign --jobs --sshlogin --findings --sessions'
+            _ssign_archive_offer words '--help --results --answers --sshlogin --sessions --key --session-key --ca --cert --at-signing-time --allow-sha1 --lines --max-len --max-messages --whole --counters --manifest --findings --json --jobs --ssign'
         else
             _ssign_archive_offer folders
         fi
         ;;
     prepare)
         if [[ $2 == -* ]]; then
-            _ssign_archive_offer words '--help --results --answers --lines --max-len --max-messages --whole --ssign'
+            _ssign_archive_offer words '--help --results --answers --key --session-key --ca --cert --at-signing-time --allow-sha1 --lines --max-len --max-messages --whole --counters --manifest --ssign'
         else
             _ssign_archive_offer folders
         fi
@@ -85,25 +119,25 @@ _ssign_archive_words() {
             _ssign_archive_offer folders
         fi
         ;;
+    batch)
+        if [[ $2 == -* ]]; then
+            _ssign_archive_offer words '--help'
+        else
+            _ssign_archive_offer folders
+        fi
+        ;;
     table)
         if [[ $2 == -* ]]; then
-            _ssign_archive_offer words '--help --findings --sessions'
+            _ssign_archive_offer words '--help --sessions --findings --json'
         else
             _ssign_archive_offer folders
         fi
         ;;
-    join)
+    fixity)
         if [[ $2 == -* ]]; then
-            _ssign_archive_offer words '--help --lines --max-len --max-messages'
+            _ssign_archive_offer words '--help --json --jobs'
         else
             _ssign_archive_offer folders
-        fi
-        ;;
-    split)
-        if [[ $2 == -* ]]; then
-            _ssign_archive_offer words '--help --by --lines --max-len --max-messages --ssign'
-        else
-            _ssign_archive_offer files
         fi
         ;;
     esac

@@ -27,7 +27,7 @@ _ssign_keys() {
         return
     fi
     if ((COMP_CWORD == 1)); then
-        _ssign_keys_offer words 'verify sign make seal answer --help'
+        _ssign_keys_offer words 'make sign verify manifest rotated seal answer --help --version'
         return
     fi
     ((COMP_CWORD > 3)) && second=${COMP_WORDS[COMP_CWORD - 2]}
@@ -44,37 +44,66 @@ _ssign_keys() {
         ;;
     esac
     case "$command $before" in
+    'make --ver') _ssign_keys_offer words '0111 0121' ;;
+    'sign --set-aside') _ssign_keys_offer files ;;
+    'sign --key') _ssign_keys_offer files ;;
+    'sign --max-len') _ssign_keys_offer text ;;
+    'sign --max-messages') _ssign_keys_offer text ;;
+    'sign --max-expanded') _ssign_keys_offer text ;;
+    'sign --rsid') _ssign_keys_offer text ;;
+    'sign --host') _ssign_keys_offer text ;;
+    'sign --app') _ssign_keys_offer text ;;
+    'sign --procid') _ssign_keys_offer text ;;
+    'sign --msgid') _ssign_keys_offer text ;;
+    'sign --pri') _ssign_keys_offer text ;;
+    'sign --stamp') _ssign_keys_offer text ;;
+    'sign --payload') _ssign_keys_offer text ;;
+    'sign --ver') _ssign_keys_offer words '0111 0121' ;;
+    'sign --groups') _ssign_keys_offer words 'one pri' ;;
+    'sign --count') _ssign_keys_offer text ;;
+    'sign --frag') _ssign_keys_offer text ;;
+    'sign --copies') _ssign_keys_offer text ;;
+    'sign --ssign') _ssign_keys_offer files ;;
     'verify --key') _ssign_keys_offer files ;;
     'verify --session-key') ;;
     'verify --ca') _ssign_keys_offer files ;;
     'verify --cert') _ssign_keys_offer files ;;
     'verify --max-len') _ssign_keys_offer text ;;
     'verify --max-messages') _ssign_keys_offer text ;;
+    'verify --max-expanded') _ssign_keys_offer text ;;
+    'verify --max-payload') _ssign_keys_offer text ;;
     'verify --counters') _ssign_keys_offer files ;;
-    'verify --jobs') _ssign_keys_offer text ;;
+    'verify --manifest') _ssign_keys_offer files ;;
+    'verify --manifest-last') _ssign_keys_offer text ;;
     'verify --answers-out') _ssign_keys_offer files ;;
+    'verify --counters-out') _ssign_keys_offer files ;;
+    'verify --jobs') _ssign_keys_offer text ;;
     'verify --ssign') _ssign_keys_offer files ;;
-    'sign --key') _ssign_keys_offer files ;;
-    'sign --rsid') _ssign_keys_offer text ;;
-    'sign --payload') _ssign_keys_offer text ;;
-    'sign --stamp') _ssign_keys_offer text ;;
-    'sign --pri') _ssign_keys_offer text ;;
-    'sign --host') _ssign_keys_offer text ;;
-    'sign --app') _ssign_keys_offer text ;;
-    'sign --procid') _ssign_keys_offer text ;;
-    'sign --msgid') _ssign_keys_offer text ;;
-    'sign --ver') _ssign_keys_offer words '0111 0121' ;;
-    'sign --groups') _ssign_keys_offer words 'one pri' ;;
-    'sign --count') _ssign_keys_offer text ;;
-    'sign --frag') _ssign_keys_offer text ;;
-    'sign --copies') _ssign_keys_offer text ;;
-    'sign --max-len') _ssign_keys_offer text ;;
-    'sign --max-messages') _ssign_keys_offer text ;;
-    'sign --ssign') _ssign_keys_offer files ;;
-    'make --ver') _ssign_keys_offer words '0111 0121' ;;
+    'manifest --set-aside') _ssign_keys_offer files ;;
+    'manifest --signed') _ssign_keys_offer text ;;
+    'manifest --last') _ssign_keys_offer text ;;
+    'manifest --logs') _ssign_keys_offer text ;;
+    'manifest --to') _ssign_keys_offer text ;;
+    'manifest --max-len') _ssign_keys_offer text ;;
+    'manifest --max-messages') _ssign_keys_offer text ;;
+    'manifest --counters') _ssign_keys_offer files ;;
+    'manifest --ssign') _ssign_keys_offer files ;;
+    'rotated --keys') _ssign_keys_offer folders ;;
+    'rotated --state') _ssign_keys_offer folders ;;
+    'rotated --kept') _ssign_keys_offer folders ;;
+    'rotated --wait') _ssign_keys_offer text ;;
+    'rotated --host') _ssign_keys_offer text ;;
+    'rotated --app') _ssign_keys_offer text ;;
+    'rotated --ssign') _ssign_keys_offer files ;;
+    'seal --state') _ssign_keys_offer files ;;
+    'seal --rsid') _ssign_keys_offer text ;;
+    'seal --host') _ssign_keys_offer text ;;
+    'seal --app') _ssign_keys_offer text ;;
+    'seal --procid') _ssign_keys_offer text ;;
     'answer --session-key') ;;
     'answer --ca') _ssign_keys_offer files ;;
     'answer --cert') _ssign_keys_offer files ;;
+    'answer --max-payload') _ssign_keys_offer text ;;
     'answer --jobs') _ssign_keys_offer text ;;
     *) _ssign_keys_words "$command" "$current" ;;
     esac
@@ -83,20 +112,6 @@ _ssign_keys() {
 # _ssign_keys_words COMMAND CURRENT: a word that is no value of an option.
 _ssign_keys_words() {
     case $1 in
-    verify)
-        if [[ $2 == -* ]]; then
-            _ssign_keys_offer words '--help --key --session-key --ca --cert --lines --max-len --max-messages --whole --counters --jobs --raw --json --answers-out --ssign'
-        else
-            _ssign_keys_offer files
-        fi
-        ;;
-    sign)
-        if [[ $2 == -* ]]; then
-            _ssign_keys_offer words '--help --key --rsid --payload --stamp --pri --host --app --procid --msgid --ver --groups --count --frag --copies --lines --max-len --max-messages --ssign'
-        else
-            _ssign_keys_offer files
-        fi
-        ;;
     make)
         if [[ $2 == -* ]]; then
             _ssign_keys_offer words '--help --ver'
@@ -104,16 +119,44 @@ _ssign_keys_words() {
             _ssign_keys_offer folders
         fi
         ;;
+    sign)
+        if [[ $2 == -* ]]; then
+            _ssign_keys_offer words '--help --set-aside --key --lines --frames --max-len --max-messages --max-expanded --rsid --host --app --procid --msgid --pri --stamp --payload --ver --groups --count --frag --copies --ssign'
+        else
+            _ssign_keys_offer files
+        fi
+        ;;
+    verify)
+        if [[ $2 == -* ]]; then
+            _ssign_keys_offer words '--help --key --session-key --ca --cert --at-signing-time --allow-sha1 --lines --frames --max-len --max-messages --max-expanded --max-payload --whole --counters --manifest --manifest-last --findings --raw --json --answers-out --counters-out --jobs --ssign'
+        else
+            _ssign_keys_offer files
+        fi
+        ;;
+    manifest)
+        if [[ $2 == -* ]]; then
+            _ssign_keys_offer words '--help --set-aside --signed --last --logs --to --sizes --lines --frames --max-len --max-messages --counters --json --ssign'
+        else
+            _ssign_keys_offer text
+        fi
+        ;;
+    rotated)
+        if [[ $2 == -* ]]; then
+            _ssign_keys_offer words '--help --keys --state --kept --wait --pending --remove --forget --host --app --ssign'
+        else
+            _ssign_keys_offer files
+        fi
+        ;;
     seal)
         if [[ $2 == -* ]]; then
-            _ssign_keys_offer words '--help'
+            _ssign_keys_offer words '--help --state --new-state --rsid --host --app --procid'
         else
             _ssign_keys_offer files
         fi
         ;;
     answer)
         if [[ $2 == -* ]]; then
-            _ssign_keys_offer words '--help --session-key --ca --cert --jobs'
+            _ssign_keys_offer words '--help --session-key --ca --cert --at-signing-time --max-payload --jobs'
         else
             _ssign_keys_offer files
         fi

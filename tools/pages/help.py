@@ -7,7 +7,7 @@ import subprocess
 from dataclasses import dataclass, field
 from typing import Dict, List, Optional, Sequence, Tuple
 
-OPTION = re.compile(r" +(?:(-\w), )?(--[a-z][a-z-]*)((?: [<{]?[\w.,]+[>}]?)*)(?:  +(\S.*))?")
+OPTION = re.compile(r" +(?:(-\w), )?(--[a-z][a-z0-9-]*)((?: [<{]?[\w.,:]+[>}]?)*)(?:  +(\S.*))?")
 NAMED = re.compile(r" +(\S+)(?:  +(\S.*))?")
 HEADING = re.compile(r"[A-Za-z][a-z ]*:")
 POSSIBLE = re.compile(r"\[possible values: ([^]]+)\]")
