@@ -295,8 +295,9 @@ as_program() {
     shift 2
     run "$@" </dev/null
     local wanted=$status output complained
-    output=$(<"$scratch/out")
-    complained=$(<"$scratch/err")
+    # the program calls itself by the name of its file
+    output=$(sed "s/${program##*/}/ssign/g" "$scratch/out")
+    complained=$(sed "s/${program##*/}/ssign/g" "$scratch/err")
     [[ $complaint == +* ]] && first=${complaint#+} || last=$complaint
     ssign "$with_rt" "$@" </dev/null
     expect "$what" "$wanted" "$output" "$first${first:+${complained:+$'\n'}}$complained${last:+${complained:+$'\n'}}$last"
