@@ -27,7 +27,7 @@ _ssign_archive() {
         return
     fi
     if ((COMP_CWORD == 1)); then
-        _ssign_archive_offer words 'split join review prepare part batch table fixity --help --version'
+        _ssign_archive_offer words 'split join review prepare part batch table fixity help --help --version'
         return
     fi
     ((COMP_CWORD > 3)) && second=${COMP_WORDS[COMP_CWORD - 2]}
@@ -140,6 +140,7 @@ _ssign_archive_words() {
             _ssign_archive_offer folders
         fi
         ;;
+    help) _ssign_archive_offer words 'split join review prepare part batch table fixity' ;;
     esac
 }
 

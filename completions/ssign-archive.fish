@@ -85,3 +85,5 @@ complete -c ssign-archive -n '__ssign_archive_command fixity' -l help -s h -d 's
 complete -c ssign-archive -n '__ssign_archive_command fixity' -l json -d 'print a JSON object for each finding, and one for the total'
 complete -c ssign-archive -n '__ssign_archive_command fixity' -l jobs -x -d 'read so many files at once (default'
 complete -c ssign-archive -n '__ssign_archive_command fixity' -a '(__fish_complete_directories)'
+complete -c ssign-archive -n __ssign_archive_command -a help -d 'Prints the help of a command'
+complete -c ssign-archive -n '__ssign_archive_command help' -a 'split join review prepare part batch table fixity'

@@ -27,7 +27,7 @@ _ssign_keys() {
         return
     fi
     if ((COMP_CWORD == 1)); then
-        _ssign_keys_offer words 'make sign verify manifest rotated seal answer --help --version'
+        _ssign_keys_offer words 'make sign verify manifest rotated seal answer help --help --version'
         return
     fi
     ((COMP_CWORD > 3)) && second=${COMP_WORDS[COMP_CWORD - 2]}
@@ -161,6 +161,7 @@ _ssign_keys_words() {
             _ssign_keys_offer files
         fi
         ;;
+    help) _ssign_keys_offer words 'make sign verify manifest rotated seal answer' ;;
     esac
 }
 

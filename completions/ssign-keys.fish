@@ -113,3 +113,5 @@ complete -c ssign-keys -n '__ssign_keys_command answer' -l at-signing-time -d 'j
 complete -c ssign-keys -n '__ssign_keys_command answer' -l max-payload -x -d 'look at payloads of so many octets'
 complete -c ssign-keys -n '__ssign_keys_command answer' -l jobs -x -d 'check signatures by so many processes (default'
 complete -c ssign-keys -n '__ssign_keys_command answer' -F
+complete -c ssign-keys -n __ssign_keys_command -a help -d 'Prints the help of a command'
+complete -c ssign-keys -n '__ssign_keys_command help' -a 'make sign verify manifest rotated seal answer'

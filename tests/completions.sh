@@ -41,7 +41,7 @@ help() {
 }
 # options PROGRAM COMMAND: a line for each option, with the names of its values behind it.
 options() {
-    sed -nE 's/^ +(-[a-zA-Z], )?(--[a-z][a-z-]*(( [^ ]+)*))(  .*)?$/\2/p' <<<"${asked[$1 $2]}" | sed -e 's/[<>]//g' -e 's/{[0-9,]*}/VER/'
+    sed -nE 's/^ +(-[a-zA-Z], )?(--[a-z][a-z0-9-]*(( [^ ]+)*))(  .*)?$/\2/p' <<<"${asked[$1 $2]}" | sed -e 's/[<>]//g' -e 's/{[0-9,]*}/VER/'
 }
 # commands PROGRAM: a line for each.
 commands() {
@@ -61,7 +61,7 @@ values() {
     case ${!#} in
     VER) printf '0111\n0121\n' ;;
     HOW) printf 'host\nsession\n' ;;
-    DIR) echo sub ;;
+    DIR | FOLDER) echo sub ;;
     *.pem | FILE | PROGRAM | LOG) lines "$here" ;;
     *) [[ $1 != --groups ]] || printf 'one\npri\n' ;;
     esac
@@ -71,7 +71,9 @@ values() {
 behind() {
     case "$1 $2" in
     'ssign explain') tr ' ' '\n' <<<"$codes" ;;
-    'ssign help') commands ssign | grep -vx help ;;
+    *' help') commands "$1" | grep -vx help ;;
+    # what it does is no file
+    'ssign-keys manifest') echo ;;
     'ssign-keys make') echo sub ;;
     'ssign-keys '* | 'ssign-archive split') lines "$here" ;;
     'ssign-archive '*) echo sub ;;

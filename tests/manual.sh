@@ -29,14 +29,14 @@ holds 'two folders are refused' test "$?" = 2
 
 # help COMMAND..: what a command says of itself, an option with its values a line, sorted.
 help() {
-    COLUMNS=10000 "$@" --help </dev/null | sed -nE 's/^ +((-[a-zA-Z], )?--[a-z][a-z-]*(( [^ ]+)*))(  .*)?$/\1/p' |
+    COLUMNS=10000 "$@" --help </dev/null | sed -nE 's/^ +((-[a-zA-Z], )?--[a-z][a-z0-9-]*(( [^ ]+)*))(  .*)?$/\1/p' |
         sed -e 's/[<>]//g' -e 's/{0111,0121}/VER/' | sort
 }
 
 # shown PAGE SECTION: the tags that begin with a hyphen in a part of a rendered page, sorted.
 shown() {
     awk -v part="$2" '/^ ? ? ?[^ ]/ { on = ($0 ~ "^ *" part "$") } on' "$scratch/$1.txt" |
-        sed -nE 's/^ {7}(-.*)$/\1/p' | sed -E 's/^((-[a-zA-Z], )?--[a-z-]+( [A-Z][A-Za-z.]*)*)  +.*/\1/; s/^(--[a-z-]+) [A-Z][a-z].*/\1/' | sort
+        sed -nE 's/^ {7}(-.*)$/\1/p' | sed -E 's/^((-[a-zA-Z], )?--[a-z0-9-]+( [A-Z][A-Za-z.]*)*)  +.*/\1/; s/^(--[a-z0-9-]+) [A-Z][a-z].*/\1/' | sort
 }
 
 # lacks TEXT: reads lines, and says which of them TEXT hasn't. Blanks are alike.
@@ -50,7 +50,7 @@ lacks() {
 # texts COMMAND..: the texts of the options of a command, a line each, up to their defaults. The first letter may be
 # another one in the page.
 texts() {
-    COLUMNS=10000 "$@" --help </dev/null | sed -nE 's/^ +(-[a-zA-Z], )?(--[a-z][a-z-]*( [^ ]+)*)?  +//p' | sed -e 's/^.//' -e 's/`//g' -e 's/ *[([]default.*//'
+    COLUMNS=10000 "$@" --help </dev/null | sed -nE 's/^ +(-[a-zA-Z], )?(--[a-z][a-z0-9-]*( [^ ]+)*)?  +//p' | sed -e 's/^.//' -e 's/`//g' -e 's/ *[([]default.*//'
 }
 
 if ! command -v man >"$scratch/out"; then

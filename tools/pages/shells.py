@@ -132,8 +132,7 @@ def bash(program: Program) -> str:
     """The completion for bash."""
     name = program.name.replace("-", "_")
     words = [bash_words(name, program, it) for it in program.commands]
-    if program.codes:
-        words.append(f"    help) _{name}_offer words {quoted(' '.join(it.name for it in program.commands))} ;;")
+    words.append(f"    help) _{name}_offer words {quoted(' '.join(it.name for it in program.commands))} ;;")
     seconds = [line for it in program.commands for line in bash_second(name, it)]
     return BASH.format(
         note=NOTE, program=program.name, name=name, codes=quoted(" ".join(program.codes)),
@@ -143,8 +142,8 @@ def bash(program: Program) -> str:
 
 
 def first_words(program: Program) -> List[str]:
-    """The commands; one that explains codes has `help` too."""
-    return [it.name for it in program.commands] + (["help"] if program.codes else [])
+    """The commands, and `help`."""
+    return [*(it.name for it in program.commands), "help"]
 
 
 # ---- zsh
@@ -189,8 +188,7 @@ def zsh(program: Program) -> str:
     """The completion for zsh."""
     name = program.name
     commands = [quoted(f"{it.name}:{brief(it.purpose)}") for it in program.commands]
-    if program.codes:
-        commands.append(quoted("help:Prints the help of a command"))
+    commands.append(quoted("help:Prints the help of a command"))
     made = [f"#compdef {name}", f"# {NOTE} Completion of {name} for zsh.", "", f"_{name}() {{",
             '    local curcontext="$curcontext" state line ret=1', "    local -a commands",
             "    typeset -A opt_args", "    commands=("]
@@ -201,9 +199,8 @@ def zsh(program: Program) -> str:
              "    command) _describe command commands && ret=0 ;;", "    argument)", "        case $line[1] in"]
     for command in program.commands:
         made += zsh_command(program, command)
-    if program.codes:
-        made += ["            help)", "                commands=(${commands:#help:*})",
-                 "                _describe command commands && ret=0", "                ;;"]
+    made += ["            help)", "                commands=(${commands:#help:*})",
+             "                _describe command commands && ret=0", "                ;;"]
     made += ["        esac", "        ;;", "    esac", "    return ret", "}", "", f'_{name} "$@"']
     return "\n".join(made) + "\n"
 
@@ -272,8 +269,7 @@ def fish(program: Program) -> str:
     lines = [fish_option(program.name, function, it) for it in program.options]
     for command in program.commands:
         lines += fish_command(program, command)
-    if program.codes:
-        names = " ".join(it.name for it in program.commands)
-        lines.append(f"complete -c {program.name} -n {function} -a help -d 'Prints the help of a command'")
-        lines.append(f"complete -c {program.name} -n {fish_quoted(function + ' help')} -a {fish_quoted(names)}")
+    names = " ".join(it.name for it in program.commands)
+    lines.append(f"complete -c {program.name} -n {function} -a help -d 'Prints the help of a command'")
+    lines.append(f"complete -c {program.name} -n {fish_quoted(function + ' help')} -a {fish_quoted(names)}")
     return FISH.format(note=NOTE, program=program.name, function=function, lines="\n".join(lines))
