@@ -48,8 +48,8 @@ def add_arguments(parser: argparse.ArgumentParser) -> None:
                         "(default: now)")
     parser.add_argument("--last", metavar="N:SHA256", help="the last entry as `add` printed it, which was kept apart: add "
                         "refuses a manifest that ends with another one; check looks whether it is there")
-    parser.add_argument("--logs", metavar="PATTERN", help="check: the names of signed logs in the folder, as *.frames; "
-                        "names with a dot in front are skipped (default: *)")
+    parser.add_argument("--logs", metavar="PATTERN", help="check: the names of signed logs in the folder, as a pattern of "
+                        "the shell; names with a dot in front are skipped (default: all names)")
     parser.add_argument("--to", metavar="PLACE", help="copied: where the copy is kept, as the name of a machine; has to be given")
     parser.add_argument("--sizes", action="store_true", help="check: read no log: compare its name and its size alone, and of a "
                         "compressed log its name")
