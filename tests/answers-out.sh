@@ -265,7 +265,7 @@ for it in INT TERM HUP; do
     holds "SIG$it while ssign reviews" cmp out <(echo "SIG$it")
     no_answers "SIG$it while ssign reviews"
 done
-# a log with so many unlisted messages that its verdict is longer than a pipe
+# a log with so many unlisted messages that its objects are longer than a pipe
 {
     cat signed
     for ((count = 0; count < 3000; count++)); do
@@ -275,7 +275,7 @@ done
 # blocked HOW SIGNAL: such a run.
 blocked() {
     tried=$((tried + 1))
-    timeout "$patience" python3 -B blocked.py "$1" "$2" "$keys_program" "${verify[@]}" --answers-out there/kept long >out 2>err
+    timeout "$patience" python3 -B blocked.py "$1" "$2" "$keys_program" "${verify[@]}" --json --answers-out there/kept long >out 2>err
     holds "SIG$2 while the verdict is written, $1" cmp out <(echo "SIG$2")
 }
 for it in INT TERM HUP; do
