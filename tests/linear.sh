@@ -85,6 +85,7 @@ keys verify --key one/public-key.pem --json log
 holds 'a payload of 4,000,004 octets: it is said' cmp err <(echo 'ssign-keys: 1 payload has more than 65536 octets, the longest 4000004, and is not trusted: --max-payload looks at longer ones')
 holds 'a payload of 4,000,004 octets: why its session is untrusted' \
     grep -q '"state":"untrusted".*"why":"its payload is longer than --max-payload allows"' out
+python3 -B "$root/tests/linear_logs.py" long 400 >log
 keys verify --session-key 'h s - 1' one/public-key.pem --max-payload 5M log
 holds 'a payload that may be so long: nothing is said' test ! -s err
 holds 'a payload that may be so long: it is trusted' grep -q '^  state: unaccepted' out
