@@ -67,7 +67,7 @@ for words in '--ver 0112' '--ver 0121 --ver 0121' '--count 0' '--count 9 --count
     # shellcheck disable=SC2086 # options and their values
     keys sign --key long/private-key.pem --rsid 1 $words log
     expect "$words" 2 '' 'SOME TEXT'
-    holds "$words: ssign refuses it" grep -q '^error: ' err
+    holds "$words: it is refused in a sentence" grep -q '^ssign-keys: --' err
 done
 
 # ---- no block is longer than --max-len where it has room for one; a hash takes 45 octets of it with SHA-256, 29 with SHA-1

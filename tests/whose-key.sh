@@ -100,7 +100,7 @@ for each in ec rsa ed dsa; do
     keys verify --json --ca "$each.crt" log
     holds "$each: as JSON" grep -Fq "\"key\":\"$each.crt\",\"fingerprint\":\"$spki\",\"certificate\":{\"subject\":\"$subject\",\
 \"serial\":\"$serial\",\"fingerprint\":\"$print\",\"not_before\":\"2020-01-01T00:00:00Z\",\"not_after\":\"2090-01-01T00:00:00Z\"},\
-\"payload_time\":\"2026-01-15T09:16:30.25+02:00\",\"why\":null}" out
+\"payload_time\":\"2026-01-15T09:16:30.25+02:00\",\"why\":null,\"weakness\":null}" out
 done
 
 # ---- why a certificate isn't trusted
