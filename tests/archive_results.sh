@@ -131,7 +131,7 @@ it = eval(sys.argv[2])
 open(path, "wb").write(it)' $place/report "$1"
     edit $place/record 'it["sums"]["report"] = hashlib.sha256(open(sys.argv[1][:-6] + "report", "rb").read()).hexdigest(); resum()'
 }
-harmed 'an ok line less, with all hashes' 'its report was changed since its review' resummed 'it[it.index(b"ok"):]'
+harmed 'an ok line less, with all hashes' 'its report was changed since its review' resummed 'it[:it.index(b"\nok ") + 1] + it[it.index(b"\n", it.index(b"\nok ") + 1) + 1:]'
 harmed 'another count, with all hashes' 'its report was changed since its review' resummed 'it.replace(b"end 24", b"end 25")'
 harmed 'no report at all, with all hashes' 'its report was changed since its review' resummed 'b"what is this\n"'
 harmed 'numbers that are none, with all hashes' 'its report was changed since its review' resummed 'it.replace(b"end 24", b"end x")'
