@@ -13,7 +13,7 @@ work=$(mktemp -d)
 trap 'rm -rf "$work"' EXIT
 
 if [ ! -x "$program" ]; then
-    echo "bench/inspect.sh: there is no program $program; ./ssign builds it" >&2
+    echo "bench/inspect.sh: there is no program $program; ./ssign --build builds one" >&2
     exit 2
 fi
 

@@ -11,7 +11,7 @@ work=$(mktemp -d)
 trap 'rm -rf "$work"' EXIT
 
 if [ ! -x "$program" ]; then
-    echo "bench/memory.sh: there is no program $program; ./ssign builds it" >&2
+    echo "bench/memory.sh: there is no program $program; ./ssign --build builds one" >&2
     exit 2
 fi
 

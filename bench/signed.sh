@@ -15,7 +15,7 @@ work=$(mktemp -d)
 trap 'rm -rf "$work"' EXIT
 
 if [ ! -x "$program" ]; then
-    echo "bench/signed.sh: there is no program $program; ./ssign --build builds it" >&2
+    echo "bench/signed.sh: there is no program $program; ./ssign --build builds one" >&2
     exit 2
 fi
 count=1000000

@@ -14,7 +14,7 @@ work=$(mktemp -d)
 trap 'rm -rf "$work"' EXIT
 
 if [ ! -x "$program" ]; then
-    echo "bench/signing.sh: there is no program $program; ./ssign builds it" >&2
+    echo "bench/signing.sh: there is no program $program; ./ssign --build builds one" >&2
     exit 2
 fi
 

@@ -4,7 +4,7 @@
 # and BLOCKS signature blocks (100,000), signed by `ssign-keys sign` with a key of 1024 bits. How long signing and
 # answering alone took is told too. The last line is the ratio of a verify, less the answering, to a review.
 #
-#   ./ssign --version             builds the program, if it isn't there
+#   ./ssign --build               leaves the program behind
 #   bench/verify.sh [COUNT [BLOCKS [JOBS]]]
 set -eu
 here=$(cd "$(dirname "$0")/.." && pwd)
@@ -13,7 +13,7 @@ work=$(mktemp -d)
 trap 'rm -rf "$work"' EXIT
 
 if [ ! -x "$program" ]; then
-    echo "bench/verify.sh: there is no program $program; ./ssign builds it" >&2
+    echo "bench/verify.sh: there is no program $program; ./ssign --build builds one" >&2
     exit 2
 fi
 

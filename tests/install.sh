@@ -285,7 +285,7 @@ if cmp -s "$root/release/ssign-x86_64-linux" "$program"; then
     cp "$root/release/ssign-x86_64-linux" "$recorded"
     sed -i '/^sources /d' "$recorded.txt"
     made install DESTDIR="$scratch/two"
-    fails 'a text without its sources' "isn't as release/renew.sh writes it"
+    fails 'a text without its sources' "isn't as release/describe.sh writes it"
     holds 'what it speaks of is not installed' test ! -e two
     cp "$root/release/ssign-x86_64-linux.txt" "$recorded.txt"
     # with what stands in the text, and other sources
@@ -297,11 +297,13 @@ if cmp -s "$root/release/ssign-x86_64-linux" "$program"; then
 else
     echo "$name: the recorded program isn't the one that is tested, so what is done with it isn't tried"
 fi
-# a program that was built here, newer than its sources
+# a program that was built here of these sources
 rm -rf "$source/crates/ssign/out" rt-ran
 mkdir -p "$source/crates/ssign/out"
 cp "$program" "$source/crates/ssign/out/ssign"
 printf '\0' >>"$source/crates/ssign/out/ssign"
+printf 'program %s\ntoolchain one\nsources %s\n' "$(sum_of "$source/crates/ssign/out/ssign")" "$("$source/release/sources.sh")" \
+    >"$source/crates/ssign/out/ssign.txt"
 rm -f "$recorded"
 made install DESTDIR="$scratch/two"
 succeeds 'the program that was built here' 'the program is the one that was built here'

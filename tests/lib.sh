@@ -23,22 +23,17 @@ trap 'rm -rf -- "$scratch"' EXIT
 
 # find_program: has `program` name a program that is there, or says why there is none.
 find_program() {
-    local recorded=$root/release/ssign-x86_64-linux sources why
+    local recorded=$root/release/ssign-x86_64-linux fault
     [[ -f $program && -x $program ]] && return
     if [[ ${SSIGN-} ]]; then
-        echo "$name: there is no program $program; ./ssign builds it"
+        echo "$name: there is no program $program; ./ssign --build builds one"
         return 1
     fi
-    sources=$("$root/release/sources.sh")
-    if [[ ! $sources || $sources != "$(sed -n 's/^sources //p' "$recorded.txt" 2>"$scratch/fault")" ]]; then
-        why="isn't of these sources"
-    elif ! "$recorded" --version </dev/null >"$scratch/fault" 2>&1; then
-        why="doesn't run here"
-    else
+    if fault=$("$root/release/fault.sh" "$recorded"); then
         program=$recorded
         return
     fi
-    echo "$name: there is no program $program, and the recorded one $why; ./ssign --build builds one"
+    echo "$name: there is no program $program, and the recorded one $fault; ./ssign --build builds one"
     return 1
 }
 

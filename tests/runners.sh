@@ -48,12 +48,12 @@ if "$recorded" --version </dev/null >out 2>&1; then
     expect 'a build' 0 "$built"$'\n'"$shows" ''
     rm -- "$built"
     SSIGN=none kept bash tests/shows.sh
-    expect 'SSIGN that names nothing' 1 "shows: there is no program $copy/none; ./ssign builds it"$'\n''shows: 0 passed, 1 failed' ''
+    expect 'SSIGN that names nothing' 1 "shows: there is no program $copy/none; ./ssign --build builds one"$'\n''shows: 0 passed, 1 failed' ''
     echo >>crates.txt
     kept bash tests/shows.sh
-    expect 'the recorded program of other sources' 1 "shows: there is no program $built, and the recorded one isn't of these sources; ./ssign --build builds one"$'\n''shows: 0 passed, 1 failed' ''
+    expect 'the recorded program of other sources' 1 "shows: there is no program $built, and the recorded one is of other sources; ./ssign --build builds one"$'\n''shows: 0 passed, 1 failed' ''
     kept tests/all.sh shows
-    expect 'all.sh with no program' 1 "all: there is no program $built, and the recorded one isn't of these sources; ./ssign --build builds one"$'\n''0 passed, 1 failed' ''
+    expect 'all.sh with no program' 1 "all: there is no program $built, and the recorded one is of other sources; ./ssign --build builds one"$'\n''0 passed, 1 failed' ''
     cp -- "$root/crates.txt" crates.txt
 else
     echo "$name: skipped the recorded program, since it doesn't run here"
@@ -61,7 +61,7 @@ fi
 printf 'no program' >"$scratch/other"
 cp -- "$recorded" "$scratch/recorded" && cp -- "$scratch/other" "$recorded"
 kept bash tests/shows.sh
-expect 'a recorded program that does not run' 1 "shows: there is no program $built, and the recorded one doesn't run here; ./ssign --build builds one"$'\n''shows: 0 passed, 1 failed' ''
+expect 'a recorded program that does not run' 1 "shows: there is no program $built, and the recorded one hasn't the SHA-256 that its text gives; ./ssign --build builds one"$'\n''shows: 0 passed, 1 failed' ''
 cp -- "$scratch/recorded" "$recorded"
 
 # ---- what only the gate makes

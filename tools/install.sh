@@ -32,37 +32,16 @@ sum_of() {
     line=$(sha256sum <"$1" 2>/dev/null) && printf '%s' "${line%% *}"
 }
 
-# fact NAME: what the text beside the recorded program says of it.
-fact() {
-    sed -n "s/^$1 //p" "$recorded.txt" 2>/dev/null
-}
-
 runs_here() {
     [[ -f $1 && -x $1 ]] && "$1" --version </dev/null >/dev/null 2>&1
 }
 
-# judge_recorded: says why the recorded program isn't installed, or nothing where it is.
-judge_recorded() {
-    if [[ ! -f $recorded || ! -f $recorded.txt ]]; then
-        echo 'there is none'
-    elif ! [[ "$(fact program) $(fact sources)" =~ ^[0-9a-f]{64}\ [0-9a-f]{64}$ ]]; then
-        echo "$recorded.txt isn't as release/renew.sh writes it"
-    elif [[ $(sum_of "$recorded") != "$(fact program)" ]]; then
-        echo "it hasn't the SHA-256 that $recorded.txt gives"
-    elif [[ $(bash "$root/release/sources.sh" </dev/null) != "$(fact sources)" ]]; then
-        echo 'it is of other sources'
-    elif ! runs_here "$recorded"; then
-        echo "it doesn't run on this machine"
-    fi
-}
-
 # choose_program: sets `program` and `sum`, and says which program it is.
 choose_program() {
-    local fault
-    fault=$(judge_recorded)
+    local fault=
     program=$recorded
-    if [[ $fault ]]; then
-        say "the recorded program isn't installed: $fault"
+    if ! fault=$(bash "$root/release/fault.sh" "$recorded" </dev/null); then
+        say "the recorded program isn't installed: it $fault"
         "$root/ssign" --build </dev/null >&2 || refuse "there is no program of these sources: ./ssign --build has to make one first"
         program=$built
         runs_here "$program" || refuse "$program doesn't run"
