@@ -21,9 +21,9 @@ seq -f '<13>1 - gate app - - - message %.0f' 300 >made/messages
 cp made/long made/archive/gate/log
 holds 'the questions are longer than a pipe' test "$(wc -c <made/questions)" -gt 4096
 if python3 -B "$root/tests/full_outputs.py" made "$root/tools" >said 2>&1; then
-    tell 'no output is cut unseen' ''
+    tell 'no output is cut without a word' ''
 else
-    tell 'no output is cut unseen' "$(sed 's/^/    /' said)"
+    tell 'no output is cut without a word' "$(sed 's/^/    /' said)"
 fi
 echo "$name: $(tail -n 1 said)"
 holds 'no passing file is left' test -z "$(ls -A -- "$TMPDIR")"
