@@ -76,6 +76,7 @@ wanted=(bin/ssign bin/ssign-keys share/suhvatek/ssign-keys share/suhvatek/ssign_
     share/zsh/site-functions/_ssign share/zsh/site-functions/_ssign-keys
     share/fish/vendor_completions.d/ssign.fish share/fish/vendor_completions.d/ssign-keys.fish
     share/doc/suhvatek/{README,SECURITY,CHANGELOG}.md share/doc/suhvatek/docs/{guide,FORMATS,PROOFS,messages,scale}.md
+    share/doc/suhvatek/docs/{DECISIONS,decisions/formats}.md
     share/doc/suhvatek/examples/signed/signed.frames share/doc/suhvatek/examples/systemd/ssign-review.service
     share/doc/suhvatek/examples/logrotate/ssign-rotated)
 for file in "${wanted[@]}"; do

@@ -94,6 +94,7 @@ list_files() {
     done
     put_all "$documents" "$root"/{README,CHANGELOG,SECURITY}.md
     put_all "$documents/docs" "$root"/docs/*.md
+    put_all "$documents/docs/decisions" "$root"/docs/decisions/*.md
     put_all "$documents/examples" "$root"/examples/*.{md,frames,answers,log,seals}
     put_all "$documents/examples/signed" "$root"/examples/signed/*
     put_all "$documents/examples/systemd" "$root"/examples/systemd/*
