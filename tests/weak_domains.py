@@ -1,13 +1,13 @@
 """Public keys of DSA with which anybody can sign, or whose numbers are none of DSA, by arithmetic (FIPS 186-4, section 4.1).
 
 Each has the sizes that a library looks at, but for those whose fault is a size. The number `CARMICHAEL` was searched for
-once; `check_constants` says what it is.
+once, and so were those of `PSEUDOPRIMES` but the first, which was published; `check_constants` says what they are.
 """
 from __future__ import annotations
 
 import math
 import secrets
-from typing import Iterator, List, NamedTuple, Optional
+from typing import Iterator, List, NamedTuple, Optional, Tuple
 
 from dsa_model import HASHES, Key, Pair, spell
 
@@ -15,6 +15,44 @@ from dsa_model import HASHES, Key, Pair, spell
 Q = (1 << 159) + 299
 # (6 m + 1)(12 m + 1)(18 m + 1) is a number of Carmichael: Fermat's test takes it for a prime by nearly every base.
 CARMICHAEL = 0x38974e200bc6eec468d67e3b9ab2f360297669d49da49edb82b1becce50adf3b5e0482a0da9a01dcc1c2c
+# A prime of 223 bits more, for a q of 224 bits.
+Q_224 = (1 << 223) + 189
+
+
+class Pseudoprime(NamedTuple):
+    """A product of three primes that passes Miller-Rabin by each base up to a limit, by the way of F. Arnault, "Rabin-Miller
+    primality test: composite numbers which pass it" (1995): the second and the third prime are 1 more than multiples of the
+    first one less 1."""
+
+    what: str
+    first: int
+    multipliers: Tuple[int, int]
+    limit: int
+    """The greatest base that is tried."""
+    q: int = 0
+    """The prime that divides the number less 1, where it is to be p of a domain."""
+
+    @property
+    def factors(self) -> Tuple[int, int, int]:
+        """The three primes."""
+        second, third = (it * (self.first - 1) + 1 for it in self.multipliers)
+        return self.first, second, third
+
+    @property
+    def number(self) -> int:
+        """The number, which isn't prime."""
+        return math.prod(self.factors)
+
+
+PSEUDOPRIMES = (
+    Pseudoprime("the number of 397 digits that Arnault published", int(
+        "29674495668685510550154174642905332730771991799853043350995075531276838753171770199594238596428121188033664754218345562493"
+        "168782883"), (313, 353), 306),
+    Pseudoprime("of 1024 bits", 0x179aff0ede822d67c467003f2c621694b7f35a2df6817cbbc4161064c89a9391ad20bf65b274268f95913, (101, 137),
+                112, Q),
+    Pseudoprime("of 160 bits", 0x29f2dbd0de5c3, (41, 61), 28),
+    Pseudoprime("of 256 bits", 0x21bff77cb3611d5b4c743, (73, 89), 52),
+)
 SMALL = [it for it in range(3, 2000) if all(it % other for other in range(2, int(it ** 0.5) + 1))]
 
 
@@ -65,6 +103,31 @@ def check_constants() -> None:
     p = factors[0] * factors[1] * factors[2]
     assert all(map(is_prime, factors)) and CARMICHAEL % Q == 0
     assert all((p - 1) % (it - 1) == 0 for it in factors) and pow(2, p - 1, p) == 1 and p.bit_length() == 1024
+    assert is_prime(Q_224) and Q_224.bit_length() == 224
+    for it in PSEUDOPRIMES:
+        assert all(map(is_prime, it.factors)) and not is_prime(it.number)
+        assert all(passes(it.number, base) for base in range(2, it.limit + 1))
+        assert not it.q or (it.number - 1) % it.q == 0
+
+
+def pseudoprime_of_base_2(bits: int) -> int:
+    """A product of so many bits of two primes k + 1 and 2 k + 1, which passes Miller-Rabin by the base 2, and not by 3."""
+    while True:
+        first = ((1 << bits // 2 - 1) + secrets.randbits(bits // 2 - 2)) // 2 * 2 + 1
+        second = 2 * first - 1
+        if any(first % it == 0 or second % it == 0 for it in SMALL) or not (passes(first, 2) and passes(second, 2)):
+            continue
+        number = first * second
+        if number.bit_length() == bits and passes(number, 2) and not passes(number, 3) and is_prime(first) and is_prime(second):
+            return number
+
+
+def common_order(*factors: int) -> int:
+    """A number to whose power each number without a common divisor is 1 modulo the product of primes that differ."""
+    order = 1
+    for it in factors:
+        order *= (it - 1) // math.gcd(order, it - 1)
+    return order
 
 
 def weak_keys(good: Pair) -> Iterator[Weak]:
@@ -113,6 +176,7 @@ def composite_numbers(good: Pair) -> Iterator[Weak]:
         if q_bad.bit_length() == 160:
             p_bad = prime(1024, q_bad)
             yield Weak(what, Key(p_bad, q_bad, *(element(p_bad, q_bad, p_bad - 1) for _ in range(2))), "its number q isn't prime")
+    yield from pseudoprimes()
     r, s = prime(512, Q), prime(512, Q)
     m = CARMICHAEL
     for what, factors in (
@@ -125,6 +189,25 @@ def composite_numbers(good: Pair) -> Iterator[Weak]:
             product *= it
         g_bad, y_bad = element(product, Q, order), element(product, Q, order)
         yield Weak(what, Key(product, Q, g_bad, y_bad), "its number p isn't prime")
+
+
+def pseudoprimes() -> Iterator[Weak]:
+    """Keys whose p or q isn't prime, and passes Miller-Rabin by bases that are the same each time."""
+    not_q, not_p = "its number q isn't prime", "its number p isn't prime"
+    for bits in (160, 256):
+        q = pseudoprime_of_base_2(bits)
+        p = prime(1024, q)
+        yield Weak(f"q of {bits} bits passes by the base 2", Key(p, q, *(element(p, q, p - 1) for _ in range(2))), not_q)
+    for it in PSEUDOPRIMES:
+        what, number = f"{{}} is a pseudoprime, {it.what}, and passes by each base up to {it.limit}", it.number
+        if number.bit_length() in (160, 256):
+            p = prime(1024, number)
+            yield Weak(what.format("q"), Key(p, number, *(element(p, number, p - 1) for _ in range(2))), not_q)
+            continue
+        # what was published has a size that no key has, and its p - 1 has no prime of 160 bits that is known
+        g, y = (element(number, it.q, common_order(*it.factors)) if it.q else number - 2 for _ in range(2))
+        yield Weak(what.format("p"), Key(number, it.q or Q, g, y), not_p if it.q else
+                   f"its number p has {number.bit_length()} bits, and not 1024, 2048, 3072 or 4096")
 
 
 def wrong_sizes(good: Pair) -> Iterator[Weak]:

@@ -16,9 +16,11 @@ P_BITS = (1024, 2048, 3072, 4096)
 Q_BITS = (160, 224, 256)
 # A number that isn't prime passes with a chance of at most 4 to the power of -64, whoever chose it (FIPS 186-4, C.3.1).
 ROUNDS = 64
-# Numbers that would make a domain, but that p is the product of two primes: `_r` and `_s`, each 1 more than a multiple of q.
+# Numbers that would make a domain, but that p is the product of three primes. By each base up to 112 it passes Miller-Rabin
+# (the way of F. Arnault, "Rabin-Miller primality test: composite numbers which pass it", 1995).
 _Q = (1 << 159) + 299
-_R, _S = (2 * ((7 << 349) + more) * _Q + 1 for more in (84, 160))
+_FIRST = 0x179aff0ede822d67c467003f2c621694b7f35a2df6817cbbc4161064c89a9391ad20bf65b274268f95913
+_OTHERS = (101, 137)
 
 
 def key_fault(p: int, q: int, g: int, y: int) -> Optional[str]:
@@ -74,9 +76,10 @@ def is_prime_by_library(p: int, q: int, g: int) -> bool:
 
 @lru_cache(maxsize=1)
 def is_library_strict() -> bool:
-    """Whether the library refuses a p that isn't prime, as another version of it may not."""
-    p = _R * _S
-    return not is_library_content(p, _Q, pow(2, (_R - 1) // _Q * ((_S - 1) // _Q), p))
+    """Whether the library refuses a p that isn't prime, as another version of it may not, or not by bases by chance."""
+    second, third = (it * (_FIRST - 1) + 1 for it in _OTHERS)
+    p = _FIRST * second * third
+    return not is_library_content(p, _Q, pow(2, (_FIRST - 1) // _Q * _OTHERS[0] * _OTHERS[1], p))
 
 
 def is_library_content(p: int, q: int, g: int) -> bool:
