@@ -63,12 +63,24 @@ refuses '--ver 0111 and a q of 256 bits' \
 keys sign --key long/private-key.pem --rsid 1 --ver 0111 none
 refuses 'the log is not read before that' \
     '--ver 0111 has a hash of 160 bits, and the number q of the key has 256: leave --ver out, or use another key'
-for words in '--ver 0112' '--ver 0121 --ver 0121' '--count 0' '--count 9 --count 9' '--max-len x' '--max-len 1048577'; do
+# What is said of an option: one line, which names the option and, where it can't take the value, the value and what it can
+# take: VER of RFC 5848, section 4.2.1, CNT of its section 4.2.6, and the lengths of README.md.
+while IFS='|' read -r words wanted; do
     # shellcheck disable=SC2086 # options and their values
     keys sign --key long/private-key.pem --rsid 1 $words log
     expect "$words" 2 '' 'SOME TEXT'
-    holds "$words: it is refused in a sentence" grep -q '^ssign-keys: --' err
-done
+    holds "$words: in one line" test "$(wc -l <err)" = 1
+    for text in ${words%% *} $wanted; do
+        holds "$words: $text is named" grep -Ewq -e "$text" err
+    done
+done <<'END'
+--ver 0112|0112 0111 0121
+--ver 0121 --ver 0121|once|twice
+--count 0|0 1 99
+--count 9 --count 9|once|twice
+--max-len x|x 1 1048576
+--max-len 1048577|1048577 1 1048576
+END
 
 # ---- no block is longer than --max-len where it has room for one; a hash takes 45 octets of it with SHA-256, 29 with SHA-1
 # lengths FILE: the length of each signature block of frames.
