@@ -1,0 +1,172 @@
+#!/usr/bin/env python3
+"""The pages of a repository, against what is there.
+
+    pages.py KIND FOLDER
+
+Prints what is wrong with the pages in FOLDER, a line each. The status is then 1. KIND is one of
+
+    links      each relative link leads to a file and to a heading that are there, and so does `FILE.md`, "HEADING"
+    paths      each path of the repository between backquotes is there
+    rows       each script and helper of tests/ has one row of a table in tests/README.md, and each row its file
+    words      words that the glossary gives up stand nowhere but in its own column of them
+    crates     each crate of crates.txt has its README, and is named in docs/ARCHITECTURE.md
+
+Blocks of code, which are indented by four spaces, are no text. A heading is found by the name that GitHub gives it.
+"""
+import glob
+import os
+import re
+import sys
+from collections import Counter
+
+PAGES = ("README.md", "CONTRIBUTING.md", "SECURITY.md", "docs/*.md", "docs/decisions/*.md", "tests/README.md",
+         "examples/README.md", "crates/*/README.md")
+GLOSSARY = "docs/glossary.md"
+# the glossary's words for these: out of memory, reports, is refused or reported as, because
+GIVEN_UP = ("want of memory", "says of", "is told as", "has it that")
+# pages that are written anew at present
+UNWRITTEN = {"docs/DECISIONS.md", "docs/decisions/surface.md", "docs/PROOFS.md", "crates/ss_review/README.md",
+             "crates/ss_report/README.md", "crates/ss_nights/README.md", "crates/ssign/README.md"}
+LINK = re.compile(r"\[[^\]]*\]\(([^()\s]*)\)")
+NAMED_HEADING = re.compile(r"`([\w./-]+\.md)`, \"([^\"]+)\"")
+PATH = re.compile(r"`([\w.*-]+(?:/[\w.*-]+)+\.[a-z]\w*)`(?: \(?of `(ss_?\w+)`)?")
+# words that stand for any name, and letters
+ANY_NAME = re.compile(r"\b(?:NAME|FUNCTION|COMMAND)\b|(?<=/)[a-z](?=[./])")
+# what a build makes
+MADE = re.compile(r"crates/\w+/out/")
+# folders of a crate, in which a path may begin
+PARTS = ("", "src/", "specs/", "proofs/")
+
+
+def text_of(path):
+    with open(path, encoding="utf-8") as file:
+        return file.read()
+
+
+def without_code(line):
+    """The line with nothing between its backquotes."""
+    return re.sub("`[^`]*`", "``", line)
+
+
+def prose(path):
+    """The lines of a page that are no blocks of code, with their numbers."""
+    for number, line in enumerate(text_of(path).split("\n"), 1):
+        if not line.startswith("    "):
+            yield number, line
+
+
+def anchors_in(path):
+    """The names by which links find the headings of a page."""
+    seen = Counter()
+    for _, line in prose(path):
+        heading = re.fullmatch(r"#+ +(.*?)[ #]*", line)
+        if heading:
+            words = LINK.sub(lambda link: link.group(0)[1:].split("]")[0], heading.group(1))
+            name = re.sub(r"[^\w\- ]", "", words.lower()).replace(" ", "-")
+            seen[name] += 1
+            yield name if seen[name] == 1 else f"{name}-{seen[name] - 1}"
+
+
+def headings_in(path):
+    return {line.lstrip("#").strip() for _, line in prose(path) if line.startswith("#")}
+
+
+class Repository:
+    def __init__(self, folder):
+        self.folder = folder
+        self.pages = sorted(it for pattern in PAGES for it in self.names(pattern))
+        self.crates = [line.split(":")[0].split()[0] for line in text_of(self.at("crates.txt")).split("\n")
+                       if line.strip() and not line.startswith("#")]
+
+    def at(self, *parts):
+        return os.path.join(self.folder, *parts)
+
+    def names(self, pattern):
+        """The files and folders whose path fits a pattern."""
+        return [os.path.relpath(it, self.folder) for it in glob.glob(self.at(pattern))]
+
+    def is_there(self, *parts):
+        return os.path.exists(self.at(*parts))
+
+    def links(self):
+        for page in self.pages:
+            for number, line in prose(self.at(page)):
+                for target in LINK.findall(without_code(line)):
+                    if not re.match("[a-z]+:", target):
+                        fault = self.link_fault(page, *(target.split("#", 1) + [""])[:2])
+                        if fault:
+                            yield f"{page}:{number}: {target}: {fault}"
+                for file, heading in NAMED_HEADING.findall(line):
+                    if not self.is_there(file) or heading not in headings_in(self.at(file)):
+                        yield f"{page}:{number}: {file} has no heading \"{heading}\""
+
+    def link_fault(self, page, target, anchor):
+        path = os.path.normpath(os.path.join(os.path.dirname(page), target)) if target else page
+        if path.startswith("..") or not self.is_there(path):
+            return "no such file"
+        if anchor and anchor not in anchors_in(self.at(path)):
+            return "no such heading"
+        return None
+
+    def paths(self):
+        for page in self.pages:
+            for number, line in prose(self.at(page)):
+                for path, crate in PATH.findall(line):
+                    pattern = ANY_NAME.sub("*", path)
+                    if not MADE.match(path) and not any(self.names(it + pattern) for it in self.starts(page, crate)):
+                        yield f"{page}:{number}: there is no {path}"
+
+    def starts(self, page, crate):
+        """Where a path may begin that a page names, if it says of which crate, or doesn't."""
+        own = crate or (page.split("/")[1] if page.startswith("crates/") else "*")
+        folder = os.path.dirname(page)
+        return ["", f"{folder}/" if folder else ""] + [f"crates/{it}{part}" for it in ("", f"{own}/") for part in PARTS]
+
+    def rows(self):
+        rows = Counter()
+        for _, line in prose(self.at("tests/README.md")):
+            if line.startswith("|"):
+                rows.update(re.findall(r"`([\w-]+\.(?:sh|py|c))`", line.split("|")[1]))
+        there = {os.path.basename(it) for kind in ("sh", "py", "c") for it in self.names(f"tests/*.{kind}")}
+        for name in sorted(there | set(rows)):
+            if name not in there:
+                yield f"tests/README.md has a row of {name}, which isn't there"
+            elif rows[name] != 1:
+                yield f"tests/README.md has {rows[name]} rows of tests/{name}"
+
+    def words(self):
+        for page in self.pages:
+            for number, line in prose(self.at(page)):
+                if page == GLOSSARY and line.startswith("|"):
+                    line = line.rstrip("| ").rpartition("|")[0]
+                for word in GIVEN_UP:
+                    if page not in UNWRITTEN and word in without_code(line).lower():
+                        yield f"{page}:{number}: \"{word}\""
+
+    def crates_named(self):
+        named = set(re.findall("`(\\w+)`", text_of(self.at("docs/ARCHITECTURE.md"))))
+        for crate in self.crates:
+            if not self.is_there("crates", crate, "README.md"):
+                yield f"crates/{crate} has no README.md"
+            if crate not in named:
+                yield f"docs/ARCHITECTURE.md doesn't name `{crate}`"
+        for folder in self.names("crates/*"):
+            if os.path.basename(folder) not in self.crates:
+                yield f"crates.txt doesn't name {folder}"
+
+
+def main(kind, folder):
+    repository = Repository(folder)
+    if not repository.pages or not repository.crates:
+        print("    there are no pages or no crates")
+        return 1
+    found = {"links": repository.links, "paths": repository.paths, "rows": repository.rows, "words": repository.words,
+             "crates": repository.crates_named}[kind]
+    faults = list(found())
+    for fault in faults:
+        print(f"    {fault}")
+    return 1 if faults else 0
+
+
+if __name__ == "__main__":
+    sys.exit(main(*sys.argv[1:]))

@@ -1,0 +1,93 @@
+#!/usr/bin/env bash
+# The pages, against what is there: links and headings, paths of the repository, the rows of tests/README.md, words that
+# the glossary gives up, and the crates. pages.py does it. Each kind of fault is planted in a small repository, and found.
+# shellcheck source=tests/lib.sh disable=SC2016
+. "$(dirname -- "$0")/lib.sh"
+
+# faults KIND FOLDER: what pages.py finds of this kind, or that it failed without a finding.
+faults() {
+    local found
+    found=$(python3 -B "$root/tests/pages.py" "$1" "$2" 2>&1) || printf '%s\n' "${found:-    pages.py failed}"
+}
+kinds=(links paths rows words crates)
+for kind in "${kinds[@]}"; do
+    tell "the $kind of the pages" "$(faults "$kind" "$root")"
+done
+
+# begin: a small repository, in which nothing is wrong
+small=$scratch/small
+begin() {
+    rm -rf -- "$small"
+    mkdir -p -- "$small"/{docs,tests,crates/ss_a/src}
+    cat >"$small/README.md" <<'S'
+# It `is` so
+
+See [the guide](docs/guide.md), [its end](docs/guide.md#its-end), [another end](docs/guide.md#its-end-1),
+[this page](#it-is-so) and [a site](https://example.org/none#none). `docs/guide.md`, "Its end", says it too.
+Code is in `crates/ss_a/src/one.rt`, `crates/NAME/src/one.rt`, `src/one.rt` and `docs/*.md`. `want of memory` is code.
+
+    [no link](none.md), `docs/none.md`, want of memory
+S
+    printf '# Guide\n\n## Its end\n\n## Its end\n\n[back](../README.md) to `docs/guide.md`\n' >"$small/docs/guide.md"
+    printf '# Words\n\n| Word | Not |\n|---|---|\n| out of memory | want of memory |\n' >"$small/docs/glossary.md"
+    printf '# Parts\n\n`ss_a` is one.\n' >"$small/docs/ARCHITECTURE.md"
+    printf '# Tests\n\n| `a.sh`, `b.py` | tests |\n' >"$small/tests/README.md"
+    printf '# a\n\nIts `src/one.rt`.\n' >"$small/crates/ss_a/README.md"
+    printf '# Each crate\nss_a: itoa\n' >"$small/crates.txt"
+    touch -- "$small"/tests/{a.sh,b.py} "$small/crates/ss_a/src/one.rt"
+}
+begin
+for kind in "${kinds[@]}"; do
+    tell "a small repository: $kind" "$(faults "$kind" "$small")"
+done
+
+# finds WHAT KIND FAULT: with what was planted, pages.py finds this fault of the kind and no other. Then all is mended.
+finds() {
+    local found
+    found=$(faults "$2" "$small")
+    [[ $found == "    $3" ]] && found='' || found=${found:-    it finds nothing}
+    tell "$1" "$found"
+    begin
+}
+echo '[x](docs/none.md)' >>"$small/README.md"
+finds 'a link to no file' links 'README.md:8: docs/none.md: no such file'
+echo '[x](../small/README.md)' >>"$small/README.md"
+finds 'a link out of the repository' links 'README.md:8: ../small/README.md: no such file'
+echo '[x](guide.md#its-ends)' >>"$small/docs/guide.md"
+finds 'a link to no heading' links 'docs/guide.md:8: guide.md#its-ends: no such heading'
+echo '[x](#its-end-2)' >>"$small/docs/guide.md"
+finds 'a heading that is there twice, and not three times' links 'docs/guide.md:8: #its-end-2: no such heading'
+sed -i 's/^## Its end/## Its ends/' "$small/docs/guide.md"
+sed -i '3,4s/guide.md#its-end/guide.md#its-ends/g' "$small/README.md"
+finds 'a heading that is named, and has another name' links 'README.md:4: docs/guide.md has no heading "Its end"'
+rm -- "$small/docs/guide.md"
+holds 'a page that is gone' grep -q 'README.md:3: docs/guide.md: no such file' <(faults links "$small")
+begin
+echo '`src/two.rt`' >>"$small/crates/ss_a/README.md"
+finds 'a path that is not there' paths 'crates/ss_a/README.md:4: there is no src/two.rt'
+echo '`crates/NAME/specs/one.rt`' >>"$small/README.md"
+finds 'a path of any crate that no crate has' paths 'README.md:8: there is no crates/NAME/specs/one.rt'
+touch -- "$small/tests/c.sh"
+finds 'a script without a row' rows 'tests/README.md has 0 rows of tests/c.sh'
+touch -- "$small/tests/c.py"
+finds 'a helper without a row' rows 'tests/README.md has 0 rows of tests/c.py'
+rm -- "$small/tests/b.py"
+finds 'a row without its file' rows 'tests/README.md has a row of b.py, which isn'\''t there'
+echo '| `a.sh` | tests |' >>"$small/tests/README.md"
+finds 'a script with two rows' rows 'tests/README.md has 2 rows of tests/a.sh'
+for word in 'want of memory' 'Says of' 'is told as' 'has it that'; do
+    echo "It $word it." >>"$small/crates/ss_a/README.md"
+    finds "the words $word" words "crates/ss_a/README.md:4: \"${word,,}\""
+done
+echo '| want of memory | memory |' >>"$small/docs/glossary.md"
+finds 'a word that the glossary gives up, in another column' words 'docs/glossary.md:6: "want of memory"'
+rm -- "$small/crates/ss_a/README.md"
+finds 'a crate without a README' crates 'crates/ss_a has no README.md'
+echo 'ss_b: ss_a' >>"$small/crates.txt"
+mkdir -- "$small/crates/ss_b" && touch -- "$small/crates/ss_b/README.md"
+finds 'a crate that the architecture does not name' crates "docs/ARCHITECTURE.md doesn't name \`ss_b\`"
+mkdir -- "$small/crates/ss_b"
+finds 'a folder that is no crate' crates "crates.txt doesn't name crates/ss_b"
+echo '# nothing' >"$small/crates.txt"
+finds 'no crates at all' crates 'there are no pages or no crates'
+finish
