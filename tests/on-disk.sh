@@ -1,0 +1,17 @@
+#!/usr/bin/env bash
+# What has to stand on the disk before a run of `ssign-keys seal`, `rotated` or `manifest` goes on: on_disk.py notes the calls of
+# the system. A power cut can't be made here.
+# shellcheck source=tests/lib.sh
+. "$(dirname -- "$0")/lib.sh"
+need_program
+if ! python3 -c 'import cryptography' 2>"$scratch/err"; then
+    echo "$name: skipped, since the Python module cryptography is missing"
+    holds 'ssign-keys is there' test -x "$root/tools/ssign-keys"
+    finish
+fi
+mkdir -- "$scratch/keys"
+holds 'a key pair' "$root/tools/ssign-keys" make "$scratch/keys"
+said=$(python3 -B "$root/tests/on_disk.py" "$root/tools/ssign-keys" "$program" "$scratch/keys" 2>&1) && fault='' || fault=$said
+tell 'each file is on the disk before its name is, and before anything is printed' "$fault"
+echo "$name: $(tail -n 1 <<<"$said")"
+finish

@@ -1,0 +1,157 @@
+#!/usr/bin/env python3
+"""What has to stand on the disk before a run goes on: a power cut loses what fsync(2) wasn't called for.
+
+    on_disk.py SSIGN-KEYS SSIGN KEYS    KEYS has a key pair of `ssign-keys make`. The last line says how many calls were seen.
+
+Each run is one of ssign-keys whose calls of the system are noted, in their order. A file is on the disk when it is given a
+name that others read, the folder of the name is so afterwards, and nothing is printed before either.
+"""
+from __future__ import annotations
+
+import json
+import os
+import subprocess
+import sys
+import tempfile
+from typing import Dict, List, Sequence, Tuple
+
+from review_runs import frame
+
+# Runs ssign-keys, and notes the calls in a file: [what, path, second path].
+NOTED = r"""
+import json, os, sys
+notes = open(sys.argv[1], "w")
+sys.argv[1:2] = []
+here = os.getpid()
+def path_of(it):
+    return os.readlink(f"/proc/self/fd/{it}") if isinstance(it, int) else os.path.abspath(os.fsdecode(it))
+def noted(name, take):
+    real = getattr(os, name)
+    def call(*words, **more):
+        if os.getpid() == here:
+            notes.write(json.dumps([name, *take(*words)]) + "\n")
+            notes.flush()
+        return real(*words, **more)
+    setattr(os, name, call)
+for it in ("fsync", "fdatasync"):
+    noted(it, lambda file: [path_of(file if isinstance(file, int) else file.fileno())])
+for it in ("rename", "replace", "link"):
+    noted(it, lambda old, new, **more: [path_of(old), path_of(new)])
+noted("write", lambda number, octets: [path_of(number) if number != 1 else "standard output"])
+sys.path.insert(0, os.path.dirname(os.path.realpath(sys.argv[1])))
+sys.argv[0:1] = []
+from ssign_keys.cli import main
+status = main(sys.argv[1:])
+sys.stdout.flush()
+os._exit(status)
+"""
+Call = Sequence[str]
+faults: List[str] = []
+seen = 0
+
+
+def calls(tool: str, words: Sequence[str], wanted: str, given: bytes = b"") -> List[Call]:
+    """The calls of a run that ends with a status."""
+    global seen
+    with tempfile.NamedTemporaryFile("r", encoding="ascii") as notes:
+        done = subprocess.run([sys.executable, "-B", "-c", NOTED, notes.name, tool, *words], input=given, capture_output=True,
+                              timeout=300, check=False)
+        found = [json.loads(line) for line in notes]
+    if str(done.returncode) not in wanted:
+        faults.append(f"{words[:2]} ended with {done.returncode}: {done.stderr.decode()[-300:]}")
+    seen += len(found)
+    return found
+
+
+def look(what: str, found: Sequence[Call], names: Sequence[str]) -> None:
+    """Sees that each of these files gets its name, and that it and its folder are on the disk in time."""
+    named: Dict[str, int] = {}
+    for place, (kind, *paths) in enumerate(found):
+        if kind not in ("rename", "replace", "link"):
+            continue
+        old, new = paths
+        named[new] = place
+        if not is_synced(found[:place], old):
+            faults.append(f"{what}: {new} got its name before it was on the disk")
+        after = next((at for at, it in enumerate(found) if at > place and it[0] == "fsync" and it[1] == os.path.dirname(new)), None)
+        printed = next((at for at, it in enumerate(found) if it[0] == "write" and it[1] == "standard output"), len(found))
+        if after is None or after > printed:
+            faults.append(f"{what}: the name {new} isn't on the disk when the run goes on")
+    for it in names:
+        if it not in named:
+            faults.append(f"{what}: {it} never got its name")
+
+
+def is_synced(before: Sequence[Call], path: str) -> bool:
+    """Whether a file was put on the disk since it last got this name."""
+    for kind, *paths in reversed(before):
+        if kind in ("fsync", "fdatasync") and paths[0] == path:
+            return True
+        if kind in ("rename", "replace", "link") and path in paths[1:]:
+            return False
+    return False
+
+
+def try_seal(tool: str, ssign: str, keys: str, folder: str) -> None:
+    """A state file of `seal`: it is new, and then it is there."""
+    log = frame(b"<13>1 - - - - - - one")
+    state = os.path.join(folder, "sealed")
+    for rsid, option in ((1, ["--new-state"]), (2, [])):
+        wants = subprocess.run([ssign, "plan", f"--rsid={rsid}", "--ver=0121", "--payload=- N"], input=log, capture_output=True, check=True)
+        found = calls(tool, ["seal", os.path.join(keys, "private-key.pem"), "--state", state, *option], "0", wants.stdout)
+        look(f"seal, RSID {rsid}", found, [state])
+        if not any(it == ["write", "standard output"] for it in found):
+            faults.append("seal printed no seals")
+
+
+def try_rotated(tool: str, ssign: str, keys: str, folder: str) -> Tuple[str, str]:
+    """A log that is signed, with a message that is set aside. Gives the signed log and its counters."""
+    log = os.path.join(folder, "night.log")
+    with open(log, "w", encoding="ascii") as file:
+        file.write("<13>1 - h a p m - one\nno message of RFC 5424\n")
+    state = os.path.join(folder, "state")
+    os.mkdir(state)
+    with open(os.path.join(state, "rsid"), "w", encoding="ascii") as file:
+        file.write("0\n")
+    found = calls(tool, ["rotated", "--ssign", ssign, "--keys", keys, "--state", state, "--host", "h", "--wait", "0", log], "1")
+    kept = os.path.join(state, "kept")
+    names = [f"{log}.frames", f"{log}.set-aside.frames", f"{log}.set-aside.frames.places", os.path.join(kept, "report-1"),
+             os.path.join(kept, "counters-1"), os.path.join(state, "rsid"), os.path.join(state, "state"),
+             os.path.join(kept, "manifest.jsonl")]
+    look("rotated", found, names)
+    # the number of the session is used up once there is something that has it, and not before
+    order = [it[2] for it in found if it[0] in ("rename", "replace", "link")]
+    if names[0] not in order or names[5] not in order[order.index(names[0]):]:
+        faults.append("rotated: the RSID is used up before the signed log has its name")
+    return names[0], names[4]
+
+
+def try_manifest(tool: str, ssign: str, log: str, counters: str, folder: str) -> None:
+    """An entry of a manifest is on the disk before its number is printed."""
+    manifest = os.path.join(folder, "manifest")
+    with open(manifest, "wb"):
+        pass
+    for words in (["add", manifest, log, "--counters", counters, "--ssign", ssign], ["copied", manifest, log, "--to", "elsewhere"]):
+        found = calls(tool, ["manifest", *words], "0")
+        kinds = [it[:2] for it in found]
+        written, synced, printed = (kinds.index(it) if it in kinds else -1 for it in (
+            ["write", manifest], ["fsync", manifest], ["write", "standard output"]))
+        if not -1 < written < synced < printed:
+            faults.append(f"manifest {words[0]}: the line is written at {written}, on the disk at {synced}, printed at {printed}")
+
+
+def main(tool: str, ssign: str, keys: str) -> int:
+    """Tries all."""
+    with tempfile.TemporaryDirectory() as folder:
+        folder = os.path.realpath(folder)
+        try_seal(tool, ssign, keys, folder)
+        log, counters = try_rotated(tool, ssign, keys, folder)
+        try_manifest(tool, ssign, log, counters, folder)
+    for fault in faults:
+        print(f"    {fault}")
+    print(f"{seen} calls, {len(faults)} faults")
+    return 1 if faults or seen < 30 else 0
+
+
+if __name__ == "__main__":
+    sys.exit(main(*sys.argv[1:]))
