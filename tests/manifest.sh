@@ -231,6 +231,113 @@ tool manifest check manifest nights
 refuses 'check: a pipe among the logs' 'nights/pipe is no regular file'
 rm nights/pipe
 
+# manifests whose lines follow each other, as whoever can write the file makes them: chain CODE has Python change the objects
+# `it` of a manifest, and gives each line the SHA-256 of the line before
+chain() {
+    python3 -B -c 'import hashlib, json, sys
+it = [json.loads(line) for line in open("whole")]
+exec(sys.argv[1])
+before = "0" * 64
+with open("manifest", "wb") as file:
+    for number, fields in enumerate(it, 1):
+        fields.update(entry=number, previous=before)
+        line = json.dumps(fields, separators=(",", ":")).encode() + b"\n"
+        before = hashlib.sha256(line).hexdigest()
+        file.write(line)' "$1"
+}
+# kinds: the word of each finding, with the lines or entries that it names
+kinds() {
+    python3 -B -c 'import json
+found = [json.loads(line) for line in open("out")]
+print(*(it["kind"] + ":" + it["where"].split()[-1] for it in found if it["line"] == "manifest"))'
+}
+# chained WHAT KINDS CODE: such a manifest has these findings and no other, by text and by JSON
+chained() {
+    chain "$3"
+    tool manifest check manifest nights --json
+    holds "check: $1" test "$status.$(kinds)" = "${4-1}.$2"
+}
+mkdir later
+mv nights/night-4.frames nights/night-5.frames later
+chained 'the same, made by hand' '' '' 0
+chained 'a session that goes back' 'skipped:2 order:3' 'it[1], it[2] = it[2], it[1]'
+chained 'all sessions go back' 'order:2 order:3' 'it.reverse()'
+chained 'a log twice, of two sessions' 'twice:4' 'it.append(json.loads(json.dumps(it[2]).replace("- 3", "- 4"))); it[3].update(rsid=4, name="night-3.frames")'
+chained 'a session twice, with another log' 'twice:4 missing:night-9.frames' 'it.append({**it[2], "name": "night-9.frames", "sha256": "ab" * 32})'
+chained 'one file in two entries' 'twice:4 missing:night-9.frames' 'it.append(json.loads(json.dumps(it[2]).replace("- 3", "- 4"))); it[3].update(rsid=4, name="night-9.frames")'
+chained 'the first entry taken out' 'unknown:night-1.frames' 'del it[0]'
+chained 'another hash' 'changed:night-1.frames' 'it[0]["sha256"] = "ab" * 32'
+# with the last entry that was kept, a manifest that was made anew is told, whichever line was changed
+for code in 'it[0]["signed"] = "2025-01-01T00:00:00Z"' 'it[1]["signed"] = "2025-01-01T00:00:00Z"' 'it[2]["signed"] = "2025-01-01T00:00:00Z"'; do
+    chain "$code"
+    tool manifest check manifest nights --last "$third" --json
+    holds "check: a manifest made anew, $code" test "$status.$(kinds)" = 1.replaced:3
+done
+# with --sizes no log is read: what has the size of its entry isn't told, and all else is
+cp whole manifest
+cp -r nights sized
+sed -i 's/of the night/at the night/' sized/night-1.frames
+tool manifest check manifest sized --sizes --json
+holds 'check: sizes alone: other octets' test "$status.$(kinds)" = 0.
+truncate -s -1 sized/night-2.frames
+: >sized/night-3.frames
+rm sized/aside.frames
+cp sized/night-1.frames sized/other
+tool manifest check manifest sized --sizes --json
+holds 'check: sizes alone: all else' test "$status.$(kinds)" = '1.shorter:night-2.frames empty:night-3.frames unknown:other missing:aside.frames'
+rm -r sized
+
+# ---- copies: a line for each that was compared; what was copied may be gone
+mkdir copies
+cp nights/night-2.frames nights/aside.frames copies
+copied() {
+    tool manifest copied manifest "$@"
+}
+copied copies/night-2.frames --to archive.example.org
+holds 'copied: its number and hash' cmp out <(printf '4:%s\n' "$(tail -n 1 manifest | sha256sum | cut -c 1-64)")
+fourth_line=$(cat out)
+holds 'copied: the line' python3 -c 'import hashlib, json
+lines = open("manifest", "rb").readlines()
+it = json.loads(lines[3])
+assert it["previous"] == hashlib.sha256(lines[2]).hexdigest() and it["entry"] == 4
+assert it["sha256"] == hashlib.sha256(open("nights/night-2.frames", "rb").read()).hexdigest()
+assert (it["name"], it["to"]) == ("night-2.frames", "archive.example.org")'
+cp manifest with-copy
+copied copies/night-2.frames --to archive.example.org
+holds 'copied again: no line more' cmp manifest with-copy
+holds 'copied again: the same number' test "$(cat out)" = "$fourth_line"
+# uncopied WHAT ARG..: it is refused, and the manifest stays
+uncopied() {
+    copied "${@:2}"
+    holds "copied: $1: refused" test "$status" = 2 -a ! -s out -a "$(wc -l <err)" = 1
+    holds "copied: $1: the manifest stays" cmp manifest with-copy
+}
+sed 's/of the night/at the night/' nights/night-1.frames >copies/night-1.frames
+uncopied 'other octets of the same size' copies/night-1.frames --to x
+head -c -1 nights/night-1.frames >copies/night-1.frames
+uncopied 'an octet less' copies/night-1.frames --to x
+cp nights/night-3.frames copies/night-1.frames
+uncopied 'another night' copies/night-1.frames --to x
+cp nights/night-1.frames copies/unknown
+uncopied 'a name that no entry has' copies/unknown --to x
+cp nights/night-1.frames copies
+uncopied 'no place' copies/night-1.frames
+uncopied 'an empty place' copies/night-1.frames --to ''
+uncopied 'a place of two lines' copies/night-1.frames --to $'a\nb'
+uncopied 'another last entry' copies/night-1.frames --to x --last "$second"
+copied copies/aside.frames --to archive.example.org --last "$fourth_line"
+holds 'copied: what was set aside' test "$status" = 0
+rm nights/night-2.frames nights/aside.frames
+tool manifest check manifest nights
+holds 'check: what was copied may be gone' test "$status" = 0
+rm nights/night-1.frames
+tool manifest check manifest nights --json
+holds 'check: what was not copied may not' test "$status.$(kinds)" = 1.missing:night-1.frames
+sed -i 4d manifest
+tool manifest check manifest nights --json
+holds 'check: the line of a copy taken out' test "$status.$(kinds)" = '1.broken:4 missing:night-1.frames missing:night-2.frames'
+cp copies/night-2.frames copies/aside.frames copies/night-1.frames later/* nights
+
 # ---- lines that are no entry: each is refused with its number
 cat >bad-lines.py <<'END'
 """Reads manifests whose second line is made by each word of the command line, and sees that each is refused."""
@@ -331,6 +438,10 @@ verify - <nights/night-2.frames
 timeout "$patience" "$keys" verify --key key/public-key.pem --manifest manifest - <nights/night-2.frames >out 2>err
 status=$?
 finds 'verify: standard input is known by its octets' 0 'Manifest manifest: each log, its session and its numbers are those of its entry.'
+mkdir stranger
+"$keys" make stranger
+tool verify --key stranger/public-key.pem --manifest manifest nights/night-2.frames --json
+holds 'verify: the session of an entry, under another key' test "$status.$(kinds)" = 1.session:nights/night-2.frames
 verify --json nights/night-4.frames
 finds 'verify: as JSON' 1 '{"line":"manifest","kind":"unknown","where":"nights/night-4.frames","entry":null,"what":"unknown, no entry names this log"}'
 verify --raw other
