@@ -121,7 +121,7 @@ def try_rotated(tool: str, ssign: str, keys: str, folder: str) -> Tuple[str, str
     look("rotated", found, names)
     # the number of the session is used up once there is something that has it, and not before
     order = [it[2] for it in found if it[0] in ("rename", "replace", "link")]
-    if names[0] not in order or names[5] not in order[order.index(names[0]):]:
+    if names[5] not in order or names[0] not in order[:order.index(names[5])]:
         faults.append("rotated: the RSID is used up before the signed log has its name")
     return names[0], names[4]
 

@@ -144,6 +144,15 @@ cp rsa.pem old-ca.pem
 issue old-ca '/O=Authority/CN=ca of rsa' old-ca rsa.pem "$is_ca" 20200101000000Z 20210101000000Z
 signed leaf-rsa gate
 not_taken 'an authority that has expired' 'openssl refuses a certificate above its own: ' --ca old-ca.crt
+# what is signed over SHA-1, no openssl can make good: this one finds everything right
+mkdir content
+printf '#!/bin/sh\nexit 0\n' >content/openssl
+chmod 755 content/openssl
+issue short /CN=gate rsa one/private-key.pem 'keyUsage = digitalSignature' 20200101000000Z 20900101000000Z sha1
+if [[ -s short.crt ]]; then
+    signed short gate
+    PATH=$scratch/content:$PATH not_taken 'a certificate that is signed over SHA-1' 'its certificate is signed over sha1' --ca rsa.crt
+fi
 said=$(python3 -B "$root/tests/whose_key.py" "$root/tools" one/private-key.pem 2>&1) && fault='' || fault=$said
 tell 'certificates and OpenPGP keys that are taken, and others' "$fault"
 echo "$name: $(tail -n 1 <<<"$said")"

@@ -11,6 +11,7 @@ import base64
 import datetime
 import ipaddress
 import os
+import subprocess
 import sys
 import tempfile
 from typing import Any, Dict, List, Optional, Sequence, Tuple
@@ -122,6 +123,8 @@ def try_names(key: Any, ca: Authority) -> None:
     hostile = der(ca.issue(key, named("a\x1b[31m\u202eb\\"), []))
     tell("a name that sends commands", why(given, hostile), "the certificate isn't for this HOSTNAME: it names a\\x1b[31m\\xe2\\x80\\xaeb\\x5c")
     many = der(ca.issue(key, named("other"), [(x509.SubjectAlternativeName([dns(f"n{it}") for it in range(2000)]), False)]))
+    # a payload after which no block is asked about has no session, so no certificate is for it
+    tell("no session", given.judge(b"- C " + base64.b64encode(der(ca.issue(key, named("gate"), []))), None).trusted, None)
     tell("two thousand names", why(given, many), "the certificate isn't for this HOSTNAME: it names other, n0, n1 and 1998 more")
 
 
@@ -215,6 +218,47 @@ def try_issuers(key: Any, public: str, folder: str, ca: Authority) -> None:
          "the certificate isn't for this HOSTNAME: it n")
 
 
+def try_chains(key: Any, folder: str) -> None:
+    """Authorities above one another, ones that have expired, and an openssl that says nothing."""
+    from ssign_keys import authorities
+    is_ca = [(x509.BasicConstraints(True, None), True)]
+    root, middle, other = (Authority(it, folder, f"{it}.crt") for it in ("root", "middle", "other"))
+    middle.made = root.issue(middle.key.public_key(), middle.name, is_ca)
+    leaf = der(middle.issue(key, named("gate"), []))
+    both, apart = Authority("both", folder, "above.crt"), "no certificate of --ca has the name of its certificate's issuer"
+    for order in ((root, middle), (middle, root)):
+        both.write(*order)
+        tell("an authority, and the one above it", why(trust(ca=[both.path]), leaf), "taken")
+    middle.write(middle)
+    tell("an authority that is no root", why(trust(ca=[middle.path]), leaf), "taken")
+    tell("the one above it alone", why(trust(ca=[root.path]), leaf), apart)
+    # an intermediate authority that may issue nothing, as its own certificate says
+    end = Authority("end", folder, "end.crt")
+    end.made = root.issue(end.key.public_key(), end.name, [(x509.BasicConstraints(False, None), True)])
+    end.write(end, root)
+    tell("an issuer that is no authority", why(trust(ca=[end.path]), der(end.issue(key, named("gate"), []))) != "taken", True)
+    # one key in two certificates, of which one has expired: whichever is looked at first
+    old = Authority("other", folder, "old.crt")
+    old.key, old.made = other.key, other.issue(other.key.public_key(), other.name, is_ca, (FROM, datetime.datetime(2021, 1, 1)))
+    old.write(old)
+    leaf = der(other.issue(key, named("gate"), []))
+    tell("an authority that has expired", why(trust(ca=[old.path]), leaf) != "taken", True)
+    for paths in ((old.path, other.path), (other.path, old.path)):
+        tell("an authority that has expired, and its successor", why(trust(ca=list(paths)), leaf), "taken")
+    # at the time that each payload states: what was found at another one doesn't count
+    stamps = ("2020-06-01T00:00:00Z", True), ("2026-01-01T00:00:00Z", False)
+    for order in (stamps, stamps[::-1], stamps + stamps):
+        given = trust(ca=[old.path], at_signing_time=True)
+        for stamp, is_taken in order:
+            tell(f"an authority at {stamp}", why(given, leaf, "gate", stamp) == "taken", is_taken)
+    kept = authorities.ask
+    for status, said in ((-1, b""), (-1, b"OK"), (2, b""), (2, b"stdin: OK")):
+        authorities.ask = lambda words, *_: subprocess.CompletedProcess(words, status, said, said)
+        tell(f"an openssl that ends with {status} and says {said!r}", why(trust(ca=[other.path]), leaf) != "taken", True)
+    authorities.ask = kept
+    tell("and one that is content", why(trust(ca=[other.path]), leaf), "taken")
+
+
 def packets(key: dsa_model.Key) -> List[Tuple[bool, str, bytes]]:
     """OpenPGP keys (RFC 4880, sections 4.2 and 5.5.2) by hand, and whether each states the key."""
     numbers = dsa_model.blob(key)
@@ -235,7 +279,7 @@ def packets(key: dsa_model.Key) -> List[Tuple[bool, str, bytes]]:
         (True, "five octets of length", b"\xc6\xff" + len(body).to_bytes(4, "big") + body),
         (True, "a subkey", old(body) + new(body, 14)), (True, "21 signatures that nobody reads", old(body) + user + 21 * new(b"\4" * 2000, 2)),
         (False, "version 2", old(b"\x02" + body[1:])), (False, "version 3", old(b"\x03\x60\0\0\0\0\0\x11" + numbers)),
-        (False, "version 5", old(b"\x05" + body[1:])), (False, "no octet", b""), (False, "one octet", b"\x99"),
+        (False, "version 5", old(b"\x05" + body[1:])), (False, "version 3 with the fields of version 4", old(b"\x03" + body[1:])), (False, "no octet", b""), (False, "one octet", b"\x99"),
         *((False, f"algorithm {it}", old(body[:5] + bytes([it]) + numbers)) for it in (0, 1, 16, 18, 19, 22, 255)),
         (False, "five numbers", old(body + dsa_model.spell(1))), (False, "three numbers", old(head + p + q + g)),
         (False, "an octet after the numbers", old(body + b"\0")), (False, "an octet less", old(body[:-1])),
@@ -284,6 +328,7 @@ def main(tools: str, pem: str) -> None:
         try_uses(key, ca)
         try_times(key, ca)
         try_issuers(key, public, folder, ca)
+        try_chains(key, folder)
         try_openpgp(pair.key, public)
     if failed:
         raise SystemExit("\n".join(failed))

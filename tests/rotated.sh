@@ -1,0 +1,163 @@
+#!/usr/bin/env bash
+# `ssign-keys rotated`: logs that are changed or written to while they are signed, who holds one open, the last number of a
+# session that there is, and what is removed once it was copied. The recipe around it, and kills: nightly.sh.
+# shellcheck source=tests/lib.sh
+. "$(dirname -- "$0")/lib.sh"
+need_program
+if ! python3 -c 'import cryptography' 2>"$scratch/err"; then
+    echo "$name: skipped, since the Python module cryptography is missing"
+    holds 'ssign-keys is there' test -x "$root/tools/ssign-keys"
+    finish
+fi
+export SSIGN=$program
+cd -- "$scratch" || exit 1
+mkdir keys
+"$root/tools/ssign-keys" make keys
+# a program that, before it does the work of ssign, does what the variable CHANGE says
+# shellcheck disable=SC2016
+printf '#!/usr/bin/env bash\n[[ $1 != "${WHEN-}" ]] || eval "$CHANGE"\nexec %q "$@"\n' "$program" >changing
+chmod +x changing
+
+# fresh [RSID]: a new state, and a log of ten messages
+fresh() {
+    rm -rf state logs
+    mkdir state logs
+    echo "${1-0}" >state/rsid
+    cp "$root/examples/signed/ten-messages.log" logs/one
+}
+# rotated ARG..: signs, and waits for no process
+rotated() {
+    timeout "$patience" "$root/tools/ssign-keys" rotated --keys keys --state state --host gate --wait "${wait-0}" --ssign "${with-$program}" \
+        "$@" >out 2>err </dev/null
+    status=$?
+}
+# left WHAT WORD: the log waits, for a reason with these words; nothing was signed, and no number was used up
+left() {
+    holds "$1: status 1" test "$status" = 1
+    holds "$1: why" grep -q "logs/one isn't signed: .*$2" err
+    holds "$1: nothing is signed" test "$(ls logs)" = one
+    holds "$1: no number is used up" test "$(<state/rsid)" = 0
+    holds "$1: no entry" test ! -s state/kept/manifest.jsonl
+    rotated --pending
+    holds "$1: it waits" grep -q "logs/one: since .*$2" out
+}
+
+# ---- a log that is changed while it is signed, in each run of the program over it
+changes=0
+# shellcheck disable=SC2043
+while IFS='|' read -r WHEN CHANGE; do
+    export WHEN CHANGE
+    fresh
+    with=./changing rotated logs/one
+    left "changed at $WHEN, $CHANGE" ''
+    changes=$((changes + 1))
+done <<'END'
+plan|printf X | dd of=logs/one bs=1 seek=50 conv=notrunc status=none
+review|cp -p logs/one times; printf X | dd of=logs/one bs=1 seek=50 conv=notrunc status=none; touch -r times logs/one
+review|truncate -s -9 logs/one
+END
+# lines that come while it is signed are signed too, as a log of their own
+export WHEN=review CHANGE='[[ -e came ]] || printf "<13>1 - h late - - - more\n" >>logs/one; : >came'
+fresh
+with=./changing rotated logs/one
+rotated
+cat logs/*.frames >all
+holds 'written to meanwhile: each line is signed once' test "$("$root/tools/ssign-keys" verify --key keys/public-key.pem --raw all |
+    grep -c '^ok ')" = 11
+holds 'written to meanwhile: each log has an entry' test "$(wc -l <state/kept/manifest.jsonl)" = "$(ls logs | grep -c 'frames$')"
+unset WHEN CHANGE
+echo "$name: $changes changes while a log was signed"
+
+# ---- who holds it open, for what
+for mode in '>>' '<>' '<'; do
+    fresh
+    eval "exec 7${mode}logs/one"
+    rotated logs/one
+    exec 7>&-
+    if [[ $mode == '<' ]]; then
+        expect 'held open for reading: it is signed' 0 '' ''
+    else
+        left "held open by $mode" 'it is still open for writing'
+    fi
+done
+# by another name of the file, and by a process that goes on for a second
+fresh
+ln logs/one other
+exec 7>>other
+rotated logs/one
+exec 7>&-
+left 'held open by another name' 'it is still open for writing'
+fresh
+{ sleep 1 && echo '<13>1 - h late - - - the last line'; } >>logs/one &
+wait=30 rotated logs/one
+expect 'held open for a second: it is signed' 0 '' ''
+holds 'held open for a second: with its last line' test "$(grep -c '^ok ' state/kept/report-1)" = 11
+
+# ---- the last RSID that there is, 9999999999 (RFC 5848, section 4.2.2)
+fresh 9999999998
+rotated logs/one
+expect 'the last RSID' 0 '' ''
+holds 'the last RSID: it has it' grep -qaF 'RSID="9999999999"' logs/one.frames
+cp "$root/examples/signed/ten-messages.log" logs/two
+rotated logs/two
+holds 'no RSID is left: status 2' test "$status.$(wc -c <out)" = 2.0
+holds 'no RSID is left: nothing is signed' test ! -e logs/two.frames
+fresh 10000000000
+rotated logs/one
+holds 'a number that is no RSID: status 2' test "$status" = 2 -a ! -e logs/one.frames
+fresh
+rotated logs/one
+cp "$root/examples/signed/ten-messages.log" logs/two
+echo 0 >state/rsid
+rotated logs/two
+holds 'an RSID that was used: status 2' test "$status" = 2 -a ! -e logs/two.frames
+
+# ---- what was copied is removed, as long as it is what was copied
+fresh
+rotated logs/one
+printf '<13>1 - h late - - - more\nno message of RFC 5424\n' >>logs/one
+rotated
+holds 'late lines: two signed logs, and what was set aside' test "$(ls logs | tr '\n' ' ')" = \
+    'one one.frames one.late-1.frames one.late-1.set-aside.frames one.late-1.set-aside.frames.places '
+cp "$root/examples/signed/ten-messages.log" logs/one.more
+rotated logs/one.more
+mkdir copies
+cp logs/*.frames copies
+for copy in one.frames one.late-1.frames one.more.frames; do
+    "$root/tools/ssign-keys" manifest copied state/kept/manifest.jsonl --to elsewhere "copies/$copy" >out 2>err || tell "$copy is copied" "$(<err)"
+done
+cp logs/one.frames kept
+# as long as before, and one octet is another one
+sed -i 's/session opened/session 0pened/' logs/one.frames
+rotated --remove logs/one
+holds 'what was changed after it was copied stays' test "$status" = 1 -a -e logs/one.frames
+holds 'what was copied goes, with its late lines' test ! -e logs/one.late-1.frames
+holds 'what was not copied stays' test -e logs/one.late-1.set-aside.frames
+holds 'each that stays is named' test "$(grep -c ' stays: ' err)" = 2
+holds 'another log stays' test -e logs/one.more.frames -a -e logs/one
+cp kept logs/one.frames
+"$root/tools/ssign-keys" manifest copied state/kept/manifest.jsonl --to elsewhere copies/one.late-1.set-aside.frames >out 2>err
+rotated --remove logs/one
+expect 'all of it was copied' 0 '' ''
+holds 'all of it is gone' test "$(ls logs | tr '\n' ' ')" = 'one one.more one.more.frames '
+rotated --remove logs/one
+expect 'what is gone stays gone' 0 '' ''
+
+# ---- who waits since when, and who is forgotten
+fresh
+rotated logs/gone
+rotated --pending
+since=$(sed 's/.*since \([^ ]*Z\): .*/\1/' out)
+sleep 1.1
+rotated logs/gone
+rotated --pending
+holds 'it waits since the first time' test "$(sed 's/.*since \([^ ]*Z\): .*/\1/' out).$status" = "$since.1"
+rotated --forget logs/one
+holds 'forget what does not wait: status 2' test "$status" = 2
+rotated --pending
+holds 'forget what does not wait: the other waits still' test "$status.$(wc -l <out)" = 1.1
+rotated --forget logs/gone
+rotated --pending
+expect 'forgotten' 0 '' ''
+holds 'nothing was signed meanwhile' test "$(ls logs)" = one
+finish
