@@ -1,6 +1,7 @@
 #!/usr/bin/env bash
 # `ssign-keys verify` of a stranger's log takes steps by the length of the log. Counted are the octets of the questions
-# and the answers, and the programs that are run; twice the log takes at most three times the time.
+# and the answers, those of base64 that are read and written, and the programs that are run. Twice the log takes at most
+# three times the time.
 # shellcheck source=tests/lib.sh
 . "$(dirname -- "$0")/lib.sh"
 need_program
@@ -54,41 +55,73 @@ subprocess.run(sys.argv[1:], stdout=subprocess.DEVNULL, stderr=subprocess.DEVNUL
 spent = os.times()
 print(int(1000 * (spent.children_user + spent.children_system)))' "$@"
 }
-# try KIND COUNT OPTION..: a log, and one of twice as many. FILE is that of the certificate.
+# try KIND COUNTS OPTION..: a log of so many, and one of twice as many, and so on. FILE is that of the certificate.
 try() {
-    local kind=$1 count=$2 at size took=() sizes=()
+    local kind=$1 counts=$2 at number size took=() sizes=()
     shift 2
-    for at in "$count" $((2 * count)); do
+    for at in $counts; do
         python3 -B "$root/tests/linear_logs.py" "$kind" "$at" leaf.der >log
         size=$(stat -c %s log)
         sizes+=("$size")
         rm -f called counted.*
-        PATH=$scratch/bin:$PATH keys verify "$@" --ssign ./counting log
-        holds "$kind, $at: status 1" test "$status" = 1
+        PATH=$scratch/bin:$PATH timeout "$patience" python3 -B "$root/tests/counted_base64.py" counted.base64 "$root/tools" verify "$@" \
+            --ssign ./counting log >out 2>err
+        holds "$kind, $at: status 1" test "$?" = 1
         # a block has its octets and its signature in base64, and its names beside that
         holds "$kind, $at: octets of the questions" test "$(stat -c %s counted.questions)" -lt $((5 * size + 1000))
         holds "$kind, $at: octets of the answers" test "$(stat -c %s counted.answers)" -lt $((2 * size + 1000))
         holds "$kind, $at: no other program" test ! -e called
+        # each text is looked at, decoded and spelled again, by functions of the library that call one another
+        holds "$kind, $at: octets of base64" test "$(<counted.base64)" -lt $((40 * size + 1000))
         took+=("$(milliseconds timeout 100 "$keys_program" verify "$@" --ssign "$program" log)")
     done
-    holds "$kind: ${took[*]} ms for ${sizes[*]} octets" test "${took[1]}" -lt $((3 * took[0] + 500))
+    for ((number = 1; number < ${#took[@]}; number++)); do
+        holds "$kind: ${took[*]} ms for ${sizes[*]} octets" test "${took[number]}" -lt $((3 * took[number - 1] + 500))
+    done
 }
-try long 1000 --key one/public-key.pem
-try trusted 2000 --session-key 'h s - 1' one/public-key.pem
-try sessions 2000 --key one/public-key.pem
-try sessions 2000 --session-key 'h s - *' one/public-key.pem
-try kinds 1000 --key one/public-key.pem --ca ca.pem
-try kinds 1000 --ca ca.pem --at-signing-time
+try long '1000 2000' --key one/public-key.pem
+try long '1000 2000 4000' --session-key 'h s - 1' one/public-key.pem --max-payload 5M
+try trusted '2000 4000' --session-key 'h s - 1' one/public-key.pem
+try sessions '2000 4000' --key one/public-key.pem
+try sessions '2000 4000' --session-key 'h s - *' one/public-key.pem
+try kinds '1000 2000' --key one/public-key.pem --ca ca.pem
+try kinds '1000 2000' --ca ca.pem --at-signing-time
 # a payload as long as one can be
 python3 -B "$root/tests/linear_logs.py" long 4000 >log
 keys verify --key one/public-key.pem --json log
 holds 'a payload of 4,000,004 octets: it is said' cmp err <(echo 'ssign-keys: 1 payload has more than 65536 octets, the longest 4000004, and is not trusted: --max-payload looks at longer ones')
 holds 'a payload of 4,000,004 octets: why its session is untrusted' \
     grep -q '"state":"untrusted".*"why":"its payload is longer than --max-payload allows"' out
-python3 -B "$root/tests/linear_logs.py" long 400 >log
 keys verify --session-key 'h s - 1' one/public-key.pem --max-payload 5M log
 holds 'a payload that may be so long: nothing is said' test ! -s err
 holds 'a payload that may be so long: it is trusted' grep -q '^  state: unaccepted' out
+
+# ---- a session of several chunks of questions has one payload, whichever process checks a chunk
+mkdir other
+keys make --ver 0121 other
+seq -f '<13>1 2026-01-01T00:00:00Z h a - - - message %.0f' 300 >messages
+for rsid in 1 2 3 4; do
+    folder=one
+    ((rsid % 2)) || folder=other
+    keys sign --key "$folder/private-key.pem" --rsid "$rsid" --host h --app s --count 1 --lines messages
+    cat out
+done >several
+keys verify --key one/public-key.pem --key other/public-key.pem --json several
+cp out right
+holds 'several chunks: status' test "$status" = 0
+for jobs in 2 3 7; do
+    keys verify --key one/public-key.pem --key other/public-key.pem --json --jobs "$jobs" several
+    holds "several chunks, by $jobs processes" cmp right out
+done
+keys verify --key one/public-key.pem --json several
+cp out right
+half=$(($(grep -ao '\[ssign\(-cert\)\? VER=' several | wc -l) / 2))
+holds "several chunks under one of two keys: $half blocks are verified, as many aren't" test "$half" -gt 600
+holds "several chunks under one of two keys: $half blocks are verified" grep -q "\"verified\":$half,.*\"unverified\":$half," right
+for jobs in 2 3 7; do
+    keys verify --key one/public-key.pem --json --jobs "$jobs" several
+    holds "several chunks under one of two keys, by $jobs processes" cmp right out
+done
 
 # ---- what ssign says of a block counts, and nothing that is only spelled like it: VER, RSID and GBC stand in a header
 # or in another element besides

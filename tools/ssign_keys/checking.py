@@ -33,12 +33,20 @@ class Question(NamedTuple):
     """What the octets of a `yes` line say, where ssign said it."""
 
 
+class ChunkPayload(NamedTuple):
+    """A payload of a chunk. One may have a hundred megabytes, and its questions any number of chunks."""
+
+    number: int
+    """Rises by one with each payload that isn't the one before it, whatever chunk it is in."""
+    text: Optional[bytes]
+    """In base64; None for one that isn't looked at, and for one that whoever checks the chunk has kept."""
+
+
 @dataclass
 class Chunk:
     """Questions that are checked together."""
 
-    payloads: List[Optional[bytes]] = field(default_factory=list)
-    """Payloads in base64; None for one that is too long for any key."""
+    payloads: List[ChunkPayload] = field(default_factory=list)
     questions: List[Question] = field(default_factory=list)
     fault: Optional[str] = None
     """What is wrong with the line behind the last question; None where that isn't known to be wrong."""
@@ -83,21 +91,36 @@ def block_of(question: Question) -> Tuple[bytes, Block]:
     return octets, block
 
 
-def check_chunk(trust: Trust, chunk: Chunk) -> Checked:
-    """Checks each question of a chunk."""
-    held: List[Optional[Held]] = []
-    unasked = BUDGET.refused
-    payloads = [text and decode(text) for text in chunk.payloads]
-    try:
-        for place, question in enumerate(chunk.questions):
-            payload = payloads[question.payload]
-            if question.is_block:
-                held.append(check_block(trust, question, payload))
-            else:
-                held.append(check_payload(trust, question, payload, chunk.questions[place + 1:place + 2]))
-    except Fault as fault:
-        return Checked(held, str(fault), BUDGET.refused - unasked)
-    return Checked(held, chunk.fault, BUDGET.refused - unasked)
+class Checker:
+    """Checks chunks, one after the other. The last payload is kept, because the next chunk may go on with it."""
+
+    def __init__(self, trust: Trust) -> None:
+        """No payload yet."""
+        self._trust = trust
+        self._number = 0
+        self._payload: Optional[bytes] = None
+
+    def check(self, chunk: Chunk) -> Checked:
+        """Checks each question of a chunk."""
+        held: List[Optional[Held]] = []
+        unasked = BUDGET.refused
+        payloads = [self._octets(it) for it in chunk.payloads]
+        try:
+            for place, question in enumerate(chunk.questions):
+                payload = payloads[question.payload]
+                if question.is_block:
+                    held.append(check_block(self._trust, question, payload))
+                else:
+                    held.append(check_payload(self._trust, question, payload, chunk.questions[place + 1:place + 2]))
+        except Fault as fault:
+            return Checked(held, str(fault), BUDGET.refused - unasked)
+        return Checked(held, chunk.fault, BUDGET.refused - unasked)
+
+    def _octets(self, payload: ChunkPayload) -> Optional[bytes]:
+        """The octets of a payload. Those of the last one are there, and are the same object."""
+        if payload.number != self._number:
+            self._number, self._payload = payload.number, payload.text and decode(payload.text)
+        return self._payload
 
 
 def check_block(trust: Trust, question: Question, payload: Optional[bytes]) -> Optional[Held]:

@@ -4,12 +4,13 @@ from __future__ import annotations
 import multiprocessing
 import signal
 from collections import deque
+from dataclasses import dataclass
 from multiprocessing.connection import Connection
 from multiprocessing.process import BaseProcess
 from types import FrameType
-from typing import Deque, Iterable, Iterator, List, NamedTuple, Optional, Sequence, Tuple, TypeVar
+from typing import Deque, Iterable, Iterator, List, Optional, Sequence, Tuple, TypeVar
 
-from .checking import Checked, Chunk, check_chunk
+from .checking import Checked, Checker, Chunk
 from .commands import BUDGET
 from .faults import Fault
 from .trust import Trust
@@ -17,11 +18,14 @@ from .trust import Trust
 Kept = TypeVar("Kept")
 
 
-class Worker(NamedTuple):
+@dataclass
+class Worker:
     """A process that checks a chunk at a time."""
 
     process: BaseProcess
     connection: Connection
+    last_payload: int = 0
+    """The number of the last payload that it was handed, which it has kept."""
 
 
 def work(trust: Trust, jobs: int, connection: Connection, foreign: Sequence[Connection]) -> None:
@@ -34,12 +38,13 @@ def work(trust: Trust, jobs: int, connection: Connection, foreign: Sequence[Conn
     signal.signal(signal.SIGTERM, stop)
     signal.signal(signal.SIGHUP, stop)
     BUDGET.share(jobs)
+    checker = Checker(trust)
     # A copy that stays open here would hide the end of the process that asks.
     for it in foreign:
         it.close()
     try:
         while True:
-            connection.send(check_chunk(trust, connection.recv()))
+            connection.send(checker.check(connection.recv()))
     except (EOFError, OSError):
         pass
 
@@ -50,6 +55,7 @@ class Workers:
     def __init__(self, trust: Trust, jobs: int) -> None:
         """Starts no process yet."""
         self._trust = trust
+        self._checker = Checker(trust)
         self._jobs = jobs
         self._workers: List[Worker] = []
 
@@ -58,7 +64,7 @@ class Workers:
         waiting: Deque[Tuple[Worker, Kept]] = deque()
         for (kept, chunk), is_alone in told_alone(chunks):
             if self._jobs == 1 or is_alone:
-                yield kept, check_chunk(self._trust, chunk)
+                yield kept, self._checker.check(chunk)
                 continue
             if len(waiting) == self._jobs:
                 worker, answered = waiting.popleft()
@@ -105,7 +111,12 @@ def told_alone(items: Iterable[Kept]) -> Iterator[Tuple[Kept, bool]]:
 
 
 def send(worker: Worker, chunk: Chunk) -> None:
-    """Hands a chunk to a process that has nothing to do."""
+    """Hands a chunk to a process that has nothing to do. A payload that it has isn't handed over again."""
+    payloads = chunk.payloads
+    if payloads and payloads[0].number == worker.last_payload:
+        payloads[0] = payloads[0]._replace(text=None)
+    if payloads:
+        worker.last_payload = payloads[-1].number
     try:
         worker.connection.send(chunk)
     except OSError as fault:

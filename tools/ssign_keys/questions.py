@@ -4,7 +4,7 @@ from __future__ import annotations
 from typing import Iterable, Iterator, List, NamedTuple, Optional, Tuple
 
 from .asked import Asked, Form, Once, PayloadText, Plain
-from .checking import Chunk, Question
+from .checking import Chunk, ChunkPayload, Question
 from .faults import Fault
 
 # A chunk takes no more than this, but for one line more.
@@ -37,7 +37,10 @@ class Reader:
         self._last: Optional[Asked] = None
         self._lines: List[Line] = []
         self._chunk = Chunk()
+        # of the chunk, but for a payload that an earlier chunk had
         self._octets = 0
+        # how many payloads were read that weren't the one before
+        self._payloads = 0
         # how many payloads are too long, and the greatest length of these
         self.long_payloads = 0
         self.longest = 0
@@ -88,9 +91,11 @@ class Reader:
             payload.is_counted = True
             self.long_payloads += 1
             self.longest = max(self.longest, payload.length)
-        if is_new or not self._chunk.payloads:
-            self._chunk.payloads.append(payload.text)
+        if is_new:
+            self._payloads += 1
             self._octets += len(payload.text or b"")
+        if is_new or not self._chunk.payloads:
+            self._chunk.payloads.append(ChunkPayload(self._payloads, payload.text))
         if is_new or not self._lines or not is_same(asked, self._last):
             self._chunk.questions.append(
                 Question(self._line_number, len(self._chunk.payloads) - 1, asked.is_block, asked.rest, asked.session,
