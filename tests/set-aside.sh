@@ -93,9 +93,26 @@ expect 'a link' 2 '' "ssign-keys: the file new is there already, and isn't overw
 rm new
 keys "${sign[@]}" --lines --set-aside no/new all.log
 refuses 'no folder' "messages can't be kept in no/new: there is no folder no"
-head -c -1 all.log >torn.log
-keys "${sign[@]}" --lines --set-aside new torn.log
-refuses 'a log that breaks off' "the log torn.log breaks off in the message that begins at its octet $(head -n 15 all.log | wc -c), so it can't be signed"
+head -c -1 all.frames >torn.frames
+keys "${sign[@]}" --set-aside new torn.frames
+text=$(tail -n 1 all.log)
+offset=$(($(wc -c <all.frames) - $(printf '%d %s' "${#text}" "$text" | wc -c)))
+refuses 'frames that break off' "the log torn.frames breaks off in the message that begins at its octet $offset, so it can't be signed"
+
+# Lines that no message is: each piece of them is of this table, with the line of its place.
+long=$(printf '%0200d' 0)
+{ printf '\n\n'; head -n 2 all.log; printf '\n%s\n' "$long"; head -n 1 good.log; printf '%s' "$long"; } >rough.log
+keys "${sign[@]}" --lines --max-len 190 --frag 10 --count 1 --set-aside rough rough.log
+mv out rough.signed
+holds 'rough lines: the status' test "$status" = 1
+holds 'rough lines: their places' cmp <(cut -d ' ' -f 1-3 rough.places) <(printf '%s\n' '0 empty' '1 empty' '3 unparsed M5' '4 empty' '5 long 200' '7 torn')
+holds 'rough lines: what is wrong' grep -qxF '  place 5: a line that is longer than --max-len' err
+holds 'rough lines: as they came' cmp rough <(printf '1 \n1 \n'; LC_ALL=C; text=$(head -n 1 odd.log); printf '%d %s1 \n200 %s200 %s' "${#text}" "$text" "$long" "$long")
+keys verify --key keys/public-key.pem --raw --answers-out rough.answers rough.signed
+holds 'rough lines: the others are signed' cmp <(head -n 1 good.log; head -n 1 good.log) <("$program" extract --lines-out --answers rough.answers <rough.signed)
+printf '\n' >empty.log
+keys "${sign[@]}" --lines --set-aside lone empty.log
+holds 'an empty line alone' test "$status" = 1 -a "$(<lone.places)" = '0 empty'
 timeout "$patience" "$root/tools/ssign-keys" "${sign[@]}" --lines --set-aside new all.log >/dev/full 2>err
 holds 'a full disk: status 2' test "$?" = 2
 holds 'a full disk: no file is left' test ! -e new -a ! -e new.places

@@ -1,11 +1,13 @@
 """Messages that can't be signed: each is put apart with its place in the log, and the others are signed without it.
 
-`ssign inspect` says which messages these are: those that `ssign sign` refuses with O2 or O3.
+`ssign inspect` says which messages these are: those that `ssign sign` refuses with O2 or O3. Lines that it doesn't read as
+messages are put apart before it is asked.
 """
 from __future__ import annotations
 
 import argparse
 import contextlib
+import re
 import subprocess
 from types import TracebackType
 from typing import BinaryIO, Dict, Iterator, List, NamedTuple, Optional, Type
@@ -15,7 +17,8 @@ from .kept_file import KeptFile
 from .logs import Log, Part
 from .programs import Run
 from .progress import Progress
-from .walk import Walk, read_at
+from .unread_lines import Unread, unread_lines
+from .walk import LONGEST, Walk, read_at
 from .words import counted, shown_name
 from .workplace import Workplace, finish, put, say
 
@@ -30,6 +33,8 @@ PARTS = {
 }
 BLOCKS = {"signature": "it is a signature block", "certificate": "it is a certificate block",
           "spoilt": "it has the element ssign or ssign-cert"}
+UNREAD = {"empty": "an empty line", "long": "a line that is longer than --max-len", "torn": "the log breaks off in this line"}
+DEFAULT_LONGEST = 65536
 
 
 class Odd(NamedTuple):
@@ -37,7 +42,7 @@ class Odd(NamedTuple):
 
     place: int
     what: str
-    """What it is, in the words of `ssign inspect`, as `unparsed M3 17`."""
+    """What it is, in the words of `ssign inspect`, as `unparsed M3 17`; or of a line that it doesn't read."""
 
     @property
     def why(self) -> str:
@@ -45,6 +50,8 @@ class Odd(NamedTuple):
         kind, *rest = self.what.split(" ")
         if kind == "unparsed":
             return f"{rest[0]} at octet {rest[1]}: {PARTS[rest[0]]}"
+        if kind in UNREAD:
+            return UNREAD[kind]
         return BLOCKS[kind] + (f", {rest[0]}" if kind == "spoilt" else "")
 
 
@@ -85,12 +92,16 @@ class SetAside:
         """The log without the messages that can't be signed; the same log where there are none, or without the option."""
         if self._path is None:
             return log
-        inspecting = Run(program, ["inspect", "--findings", *words], workplace, progress, log.rewind(), subprocess.PIPE)
+        longest = longest_of(words)
+        readable = without_unread(log, longest, workplace)
+        inspecting = Run(program, ["inspect", "--findings", *words], workplace, progress, readable.rewind(), subprocess.PIPE)
         with workplace.new_file("aside") as messages, workplace.new_file("aside.places") as places:
             kept = workplace.new_file("signable")
-            sorting = Sorting(log, kept, messages, places, progress)
-            for it in odd_messages(inspecting.lines(lambda: progress.show("inspecting", log.position(), log.size, "octets")), log):
+            sorting = Sorting(log, readable, longest, kept, messages, places, progress)
+            for it in odd_messages(inspecting.lines(lambda: progress.show("inspecting", readable.position(), readable.size,
+                                                                          "octets")), log):
                 sorting.take(it)
+            sorting.take_unread()
             log.check_unchanged()
             self.count = sorting.count
             if not sorting.count:
@@ -134,11 +145,52 @@ def odd_messages(lines: Iterator[bytes], log: Log) -> Iterator[Odd]:
             raise Fault(f"ssign inspect wrote a line that isn't known here: {word}")
 
 
+def longest_of(words: List[str]) -> int:
+    """How many octets a message has at most that ssign reads under these words, of which it refuses wrong ones."""
+    given = [it.partition("=")[2] for it in words if it.startswith("--max-len=")]
+    return int(given[-1]) if given and re.fullmatch("[0-9]{1,7}", given[-1]) else DEFAULT_LONGEST
+
+
+def unread_of(log: Log, longest: int) -> Iterator[Unread]:
+    """The lines of a log that ssign doesn't read; none of a log of frames."""
+    return unread_lines(log.file, log.size, longest) if log.are_lines else iter(())
+
+
+def without_unread(log: Log, longest: int, workplace: Workplace) -> Log:
+    """The log without the lines that ssign doesn't read; the same log where there are none."""
+    if next(unread_of(log, longest), None) is None:
+        return log
+    file = workplace.new_file("readable")
+    at = 0
+    for it in unread_of(log, longest):
+        copy(log, at, it.start, file)
+        at = it.behind
+    copy(log, at, log.size, file)
+    finish(file)
+    return Log(file, [Part(log.parts[0].name, 0, 0)], log.are_lines, True)
+
+
+def copy(log: Log, start: int, end: int, file: BinaryIO) -> None:
+    """Copies octets of a log."""
+    while start < end:
+        piece = read_at(log.file, start, min(COPIED, end - start))
+        if not piece:
+            raise log.changed()
+        put(file, piece)
+        start += len(piece)
+
+
 class Sorting:
     """Goes over a log, and copies each message to one of two files."""
 
-    def __init__(self, log: Log, kept: BinaryIO, messages: BinaryIO, places: BinaryIO, progress: Progress) -> None:
-        """Nothing is copied yet."""
+    def __init__(self, whole: Log, log: Log, longest: int, kept: BinaryIO, messages: BinaryIO, places: BinaryIO,
+                 progress: Progress) -> None:
+        """Nothing is copied yet. `log` is the whole one without the lines that ssign doesn't read."""
+        self._whole = whole
+        self._unread = unread_of(whole, longest)
+        self._next = next(self._unread, None)
+        # how many of these lines stand before the message at hand
+        self._before = 0
         self._log = log
         self._walk = Walk(log.file, log.are_lines)
         self._kept = kept
@@ -151,6 +203,7 @@ class Sorting:
 
     def take(self, odd: Odd) -> None:
         """Puts a message apart, and keeps those before it."""
+        self.take_unread(odd.place)
         walk, start = self._walk, self._walk.offset
         while walk.place < odd.place:
             if not walk.step(odd.place - walk.place):
@@ -159,8 +212,30 @@ class Sorting:
         text = walk.message()
         if text is None or not walk.step(1):
             raise self._log.changed()
+        self._put(odd._replace(place=odd.place + self._before), text)
+        self._count(odd._replace(place=odd.place + self._before))
+
+    def take_unread(self, place: Optional[int] = None) -> None:
+        """Puts the lines apart that ssign doesn't read, and that stand before a message; all where none is given."""
+        while self._next is not None and (place is None or self._next.place <= place + self._before):
+            it, self._next = self._next, next(self._unread, None)
+            self._before += 1
+            odd = Odd(it.place, it.what)
+            for at in range(it.start, it.end, LONGEST):
+                # no frame is longer than what ssign can read
+                piece = read_at(self._whole.file, at, min(LONGEST, it.end - at))
+                if not piece:
+                    raise self._whole.changed()
+                self._put(odd, piece)
+            self._count(odd)
+
+    def _put(self, odd: Odd, text: bytes) -> None:
+        """Puts a message apart, as a frame, and its place."""
         put(self._messages, b"%d %s" % (len(text), text))
         put(self._places, f"{odd.place} {odd.what}\n".encode("ascii"))
+
+    def _count(self, odd: Odd) -> None:
+        """Counts a message that was put apart."""
         self.count += 1
         if len(self.named) < NAMED:
             self.named.append(odd)
@@ -173,10 +248,5 @@ class Sorting:
 
     def _keep(self, start: int, end: int) -> None:
         """Copies octets of the log to what is signed."""
-        while start < end:
-            piece = read_at(self._log.file, start, min(COPIED, end - start))
-            if not piece:
-                raise self._log.changed()
-            put(self._kept, piece)
-            start += len(piece)
-            self._progress.show("setting messages aside", start, self._log.size, "octets")
+        copy(self._log, start, end, self._kept)
+        self._progress.show("setting messages aside", end, self._log.size, "octets")
