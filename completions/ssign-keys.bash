@@ -92,6 +92,7 @@ _ssign_keys() {
     'rotated --state') _ssign_keys_offer folders ;;
     'rotated --kept') _ssign_keys_offer folders ;;
     'rotated --wait') _ssign_keys_offer text ;;
+    'rotated --last') _ssign_keys_offer text ;;
     'rotated --host') _ssign_keys_offer text ;;
     'rotated --app') _ssign_keys_offer text ;;
     'rotated --ssign') _ssign_keys_offer files ;;
@@ -142,7 +143,7 @@ _ssign_keys_words() {
         ;;
     rotated)
         if [[ $2 == -* ]]; then
-            _ssign_keys_offer words '--help --keys --state --kept --wait --pending --remove --forget --host --app --ssign'
+            _ssign_keys_offer words '--help --keys --state --kept --wait --pending --remove --forget --last --host --app --ssign'
         else
             _ssign_keys_offer files
         fi

@@ -91,6 +91,7 @@ complete -c ssign-keys -n '__ssign_keys_command rotated' -l wait -x -d 'how long
 complete -c ssign-keys -n '__ssign_keys_command rotated' -l pending -d 'sign nothing'
 complete -c ssign-keys -n '__ssign_keys_command rotated' -l remove -d 'sign nothing'
 complete -c ssign-keys -n '__ssign_keys_command rotated' -l forget -d 'sign nothing'
+complete -c ssign-keys -n '__ssign_keys_command rotated' -l last -x -d 'the last entry of the manifest, as `manifest check` prints it, where the state is gone or the manifest was put right'
 complete -c ssign-keys -n '__ssign_keys_command rotated' -l host -x -d 'HOSTNAME of all blocks (default'
 complete -c ssign-keys -n '__ssign_keys_command rotated' -l app -x -d 'APP-NAME of all blocks (default'
 complete -c ssign-keys -n '__ssign_keys_command rotated' -l ssign -r -F -d 'the program ssign (default'

@@ -56,6 +56,10 @@ for number in '' x 07 -1; do
     rotated logs/one
     refuses "the number is '$number'" "$scratch/state/rsid isn't a number"
 done
+rotated --pending
+holds 'a log of a run that was refused waits too' grep -qx "$scratch/logs/one: since .*Z: $scratch/state/rsid isn't a number" out
+holds 'it is in the list' test "$status" = 1
+rotated --forget logs/one
 echo 41 >state/rsid
 rotated logs/nothing
 waits 'no such file' logs/nothing 'it is gone'
@@ -136,9 +140,40 @@ expect 'no manifest' 2 '' "ssign-keys: the manifest $scratch/$manifest is gone: 
 head -n 3 away >"$manifest"
 rotated logs/next
 holds 'a manifest whose end was cut' grep -qF "the manifest $scratch/$manifest ends with the entry 3:" err
+holds 'nothing is signed that would have no entry' test ! -e logs/next.frames -a "$(<state/rsid)" = "$(<rsid)"
 mv away "$manifest"
 rotated
 expect 'the manifest is back' 0 '' ''
+
+# the state is gone, and whoever compared the manifest with a copy says which entry is the last one
+last=$("$root/tools/ssign-keys" manifest check "$manifest" logs --sizes --logs '*.frames' | sed -n 's/.*the last entry is //p')
+mv state/state away
+cp "$root/examples/signed/ten-messages.log" logs/after
+rotated logs/after
+waits 'no state' logs/after "the manifest $scratch/$manifest ends with the entry $last, and the last run knew no entry: compare it with a good copy. If it is right, say so once with --last $last"
+rotated --last "1:${last#*:}" logs/after
+holds 'another entry than the last one' test "$status" = 2
+rotated --last "$last"
+expect 'the last entry is named' 0 '' ''
+holds 'the log is signed' test -s logs/after.frames
+rm logs/after logs/after.frames
+mv away state/state
+"$root/tools/ssign-keys" manifest check "$manifest" logs --sizes --logs '*.frames' >out
+rotated --last "$(sed -n 's/.*the last entry is //p' out)"
+
+# a name that the manifest can't hold, and lines that no message is
+cp "$root/examples/signed/ten-messages.log" $'logs/\xff'
+rotated $'logs/\xff'
+holds 'a name that is no UTF-8: the log waits' grep -qF "/logs/\\xff.frames has a name that isn't UTF-8, which a manifest can't hold: give it another one" err
+holds 'a name that is no UTF-8: the status' test "$status" = 1
+holds 'a name that is no UTF-8: no signed log' test ! -e $'logs/\xff.frames'
+rotated --forget $'logs/\xff'
+rm $'logs/\xff'
+{ echo; head -c 70000 /dev/zero | tr '\0' x; echo; cat logs/next; printf torn; } >logs/rough
+rotated logs/rough
+holds 'lines that are no messages: the status' test "$status" = 1
+holds 'lines that are no messages: the others are signed' test "$("$root/tools/ssign-keys" verify --raw --key keys/public-key.pem logs/rough.frames | grep -c '^ok ')" = 10
+holds 'lines that are no messages: their places' cmp logs/rough.set-aside.frames.places <(printf '%s\n' '0 empty' '1 unparsed M1 0' '12 torn')
 
 # what is old is removed once it was copied
 mkdir copies
@@ -181,7 +216,7 @@ sh -e behind.sh log logs/one >out 2>err
 status=$?
 expect 'what logrotate runs' 0 '' ''
 holds 'the log is signed' test -s logs/one.frames
-holds 'the daemon is told of it' test "$(<told)" = '-HUP -x rsyslogd|syslog-ng'
+holds 'the daemon is told of it' cmp told <(printf '%s\n' '-HUP -x rsyslogd' '-HUP -x syslog-ng')
 rm -r state logs/one logs/one.frames
 mkdir state
 echo 42 >state/rsid
@@ -230,7 +265,7 @@ clean="<6>ssign-review: $signed: clean. All 10 announced messages are present an
 told 'a clean log' 0 "$clean"
 holds 'the last entry is remembered' test "$(<seen/last)" = "1:$(sha256sum "$manifest" | cut -d ' ' -f 1)"
 with_manifest=nowhere reviewed
-told 'no manifest: the status isn'"'"'t 0' 1 "<4>ssign-review: $signed: findings. All 10 announced messages are present and unchanged, and each other stored message is a verified block. Manifest: there is no manifest nowhere, so nobody can say whether all is there."
+told 'no manifest: the status isn'"'"'t 0' 1 "<4>ssign-review: $signed: findings. All 10 announced messages are present and unchanged, and each other stored message is a verified block. Manifest: there is no manifest nowhere, or it may not be read, so nobody can say whether all is there."
 cp "$manifest" away
 : >"$manifest"
 reviewed

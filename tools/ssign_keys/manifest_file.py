@@ -72,7 +72,7 @@ class Appending:
             raise Fault(f"the line {manifest.broken[0]} of the manifest {name} doesn't follow the line before: a line was "
                         "changed, put in or taken out")
 
-    def _is_kept(self) -> bool:
+    def is_kept(self) -> bool:
         """Whether the mark that was kept apart is that of the last line, or of one after which copies alone stand."""
         if self._kept is None or self._kept == self.manifest.last:
             return True
@@ -91,7 +91,7 @@ class Appending:
         if entries:
             last = entries[-1]
             again = dataclasses.replace(entry, number=last.number, previous=last.previous, signed=last.signed)
-            if again == last and (self._is_kept() or self._kept == Mark(last.number - 1, last.previous)):
+            if again == last and (self.is_kept() or self._kept == Mark(last.number - 1, last.previous)):
                 return last
         self._refuse_other_end()
         self._refuse_twice(entry)
@@ -111,7 +111,7 @@ class Appending:
 
     def _refuse_other_end(self) -> None:
         """Refuses a manifest that doesn't end with the entry that was kept apart."""
-        if not self._is_kept():
+        if not self.is_kept():
             number, given = self.manifest.last
             raise Fault(f"the manifest {shown_name(self._path)} ends with the entry {number}:{given}, and not with the one that "
                         "--last names: its end was cut, or entries were added")

@@ -21,6 +21,8 @@ from typing import BinaryIO, Callable, List, Optional, Union
 
 from .faults import Fault
 from .files import reason
+from .manifest import name_for
+from .manifest_file import Appending
 from .manifest_form import Entry, Manifest, Mark, SetAside, read_manifest, read_mark
 from .open_files import wait_until_closed
 from .programs import add_program_argument, find_program
@@ -33,6 +35,9 @@ PIECE = 1 << 20
 GREATEST_RSID = 9999999999
 # how often in one run lines are signed that came while the log was signed
 TRIES = 3
+# The longest message that ssign reads. A daemon takes as long a message as it is set up for, and one that is refused would
+# keep its night unsigned.
+MAX_LEN = 1048576
 PRIVATE, PUBLIC = "private-key.pem", "public-key.pem"
 # how a name ends that a file has until all of its run is done
 NEW = ".new"
@@ -54,6 +59,8 @@ def add_arguments(parser: argparse.ArgumentParser) -> None:
     what.add_argument("--remove", action="store_true", help="sign nothing: remove the signed logs of these logs, where the "
                       "manifest says that they were copied")
     what.add_argument("--forget", action="store_true", help="sign nothing: have these logs wait no longer, as where one is gone")
+    what.add_argument("--last", metavar="N:SHA256", help="the last entry of the manifest, as `manifest check` prints it, where "
+                      "the state is gone or the manifest was put right: nothing is signed as long as the two differ")
     add_program_argument(parser)
     parser.add_argument("logs", nargs="*", metavar="LOG", help="a rotated log, one message a line. The signed log is LOG.frames. "
                         "Without a log those that wait are tried again")
@@ -69,14 +76,15 @@ def seconds(text: str) -> float:
 def run(arguments: argparse.Namespace) -> int:
     """Signs what is to be signed. Status 0 if all of it was, 1 if something waits, came late or was set aside."""
     rotation = Rotation(arguments)
+    if arguments.pending:
+        # a run that is at work replaces the state as a whole, so nobody has to wait for it
+        return rotation.name_pending()
     with Lock(rotation.path("lock")), Workplace() as workplace:
-        rotation.begin(workplace)
-        if arguments.pending:
-            return rotation.name_pending()
         if arguments.forget:
             return rotation.forget()
         if arguments.remove:
             return rotation.remove()
+        rotation.begin(workplace)
         return rotation.sign_all()
 
 
@@ -105,18 +113,15 @@ class Rotation:
     """A run over the logs that are given, and those that wait."""
 
     def __init__(self, arguments: argparse.Namespace) -> None:
-        """Makes the folder of what is kept, if it isn't there. Raises Fault where the folders aren't as they have to be."""
+        """Raises Fault where the folders aren't as they have to be."""
         self._arguments = arguments
-        self._keys = arguments.keys
-        self._state_folder = arguments.state
-        self._kept = arguments.kept or os.path.join(arguments.state, "kept")
+        # the next run may be started in another folder, and reads these paths in the state
+        self._keys = os.path.abspath(arguments.keys)
+        self._state_folder = os.path.abspath(arguments.state)
+        self._kept = os.path.abspath(arguments.kept or os.path.join(arguments.state, "kept"))
         for name, folder in (("--keys", self._keys), ("--state", self._state_folder)):
             if not os.path.isdir(folder):
                 raise Fault(f"there is no folder {shown_name(folder)}, which {name} names")
-        try:
-            os.makedirs(self._kept, 0o750, exist_ok=True)
-        except OSError as fault:
-            raise Fault(f"the folder {shown_name(self._kept)} can't be made: {reason(fault)}") from fault
         self._program = find_program(arguments)
         self._logs = [os.path.abspath(it) for it in arguments.logs]
         self._manifest = os.path.join(self._kept, "manifest.jsonl")
@@ -127,32 +132,58 @@ class Rotation:
         return os.path.join(self._state_folder, name)
 
     def begin(self, workplace: Workplace) -> None:
-        """Reads the state, and puts a signed log in its place that a run before had on its way."""
+        """Has the given logs wait, and puts a signed log in its place that a run before had on its way.
+
+        Raises Fault where nothing can be signed. Then the given logs wait, with that reason, and are tried the next time.
+        """
         self._workplace = workplace
         self._state = read_state(self.path("state"))
-        self._rsid = self._read_rsid()
-        self._begin_manifest()
-        if self._state.current is not None:
-            self._publish(self._state.current)
-        self._check_rsid()
+        self._note("it was not tried to its end")
+        try:
+            self._begin_manifest()
+            self._take_mark()
+            self._rsid = self._read_rsid()
+            if self._state.current is not None:
+                self._publish(self._state.current)
+            self._check_rsid()
+        except Fault as fault:
+            self._note(str(fault))
+            raise
+
+    def _note(self, why: str) -> None:
+        """Has the given logs wait, for this reason."""
+        for it in self._logs:
+            self._state.wait(it, now(), why)
+        if self._logs:
+            self._save()
 
     # ---- the whole of a run
 
     def name_pending(self) -> int:
         """Names the logs that wait. Status 1 if there is one."""
+        pending = read_state(self.path("state")).pending
         with Output() as output:
-            for it in self._state.pending:
+            for it in pending:
                 output.add(f"{shown_name(it.log)}: since {it.since}: {it.why}\n".encode("utf-8", "backslashreplace"))
             output.release()
-        return 1 if self._state.pending else 0
+        return 1 if pending else 0
 
     def forget(self) -> int:
-        """Has the given logs wait no longer."""
+        """Has the given logs wait no longer. What comes to one of them later isn't looked for either."""
+        self._state = read_state(self.path("state"))
         for it in self._logs:
             if self._state.pending_of(it) is None:
                 raise Fault(f"the log {shown_name(it)} doesn't wait to be signed")
         for it in self._logs:
             self._state.done(it)
+            self._state.signed = [signed for signed in self._state.signed if signed.log != it]
+        current = self._state.current
+        if current is not None and current.log in self._logs and not os.path.lexists(current.frames):
+            # its RSID isn't used up, so nothing of it may stay
+            for it in (*current.files.keys(), *current.files.values()):
+                with contextlib.suppress(FileNotFoundError):
+                    os.unlink(it)
+            self._state.current = None
         self._save()
         return 0
 
@@ -179,9 +210,6 @@ class Rotation:
 
     def sign_all(self) -> int:
         """Signs each log that is given, that waits, or to which lines came. One that fails keeps no other from it."""
-        for it in self._logs:
-            self._state.wait(it, now(), "it was not tried to its end")
-        self._save()
         for log in self._to_sign():
             try:
                 self._sign(log)
@@ -237,6 +265,9 @@ class Rotation:
         frames = name + ".frames"
         if os.path.lexists(frames):
             raise Fault(f"{shown_name(frames)} is there already, and isn't overwritten")
+        # what has no entry can't be missed later, so it gets no name
+        name_for(frames)
+        self._check_manifest()
         before = digest(source, size)
         passing = Passing(name, self._kept, self._rsid + 1)
         passing.clear()
@@ -268,7 +299,7 @@ class Rotation:
                 status = self._keys_command(
                     ["sign", f"--key={os.path.join(self._keys, PRIVATE)}", f"--rsid={self._rsid + 1}",
                      f"--host={self._arguments.host or os.uname().nodename}", f"--app={self._arguments.app}", "--lines",
-                     f"--set-aside={passing.aside}", "--", what], out)
+                     f"--max-len={MAX_LEN}", f"--set-aside={passing.aside}", "--", what], out)
                 os.fsync(out.fileno())
         except OSError as fault:
             raise Fault(f"{shown_name(passing.frames)} can't be written: {reason(fault)}") from fault
@@ -279,7 +310,7 @@ class Rotation:
         """Verifies the signed log with the public key, and keeps the report and the counters."""
         with open(passing.report, "xb") as out:
             self._keys_command(
-                ["verify", f"--key={os.path.join(self._keys, PUBLIC)}", "--raw", "--allow-sha1",
+                ["verify", f"--key={os.path.join(self._keys, PUBLIC)}", "--raw", "--allow-sha1", f"--max-len={MAX_LEN}",
                  f"--counters-out={passing.counters}", "--", passing.frames], out)
             os.fsync(out.fileno())
         with open(passing.report, "rb") as report:
@@ -381,17 +412,43 @@ class Rotation:
 
     def _begin_manifest(self) -> None:
         """Makes an empty manifest, if none was begun here. Raises Fault where the one that was is gone."""
+        try:
+            os.makedirs(self._kept, 0o750, exist_ok=True)
+        except OSError as fault:
+            raise Fault(f"the folder {shown_name(self._kept)} can't be made: {reason(fault)}") from fault
         if os.path.lexists(self._manifest):
             return
         if self._state.manifest != NO_ENTRY:
             raise Fault(f"the manifest {shown_name(self._manifest)} is gone: put the last good copy in its place")
         replace(self._manifest, b"")
 
+    def _take_mark(self) -> None:
+        """Remembers the last entry that the command line names, as where the state is gone. It has to be the last one."""
+        if self._arguments.last is not None:
+            mark = read_mark(self._arguments.last)
+            self._check_end(mark)
+            self._state.manifest = str_mark(mark)
+            self._save()
+
+    def _check_manifest(self) -> None:
+        """Raises Fault where no entry can be added, before anything is signed that would have none."""
+        self._check_end(read_mark(self._state.manifest))
+
+    def _check_end(self, mark: Mark) -> None:
+        """Raises Fault where the manifest doesn't end with an entry, or with copies after it."""
+        with Appending(self._manifest, mark) as appending:
+            if not appending.is_kept():
+                last, known = str_mark(appending.manifest.last), str_mark(mark) if mark.number else "no entry"
+                raise Fault(f"the manifest {shown_name(self._manifest)} ends with the entry {last}, and the last run knew {known}: "
+                            f"compare it with a good copy. If it is right, say so once with --last {last}")
+
     def _add_entry(self, current: Current) -> None:
         """Adds the entry of a signed log, unless a run before did, and remembers which entry is the last."""
-        words = ["manifest", "add", self._manifest, current.frames, f"--counters={current.counters}", f"--last={self._state.manifest}"]
+        words = ["manifest", "add", f"--counters={current.counters}", f"--last={self._state.manifest}",
+                 f"--max-len={MAX_LEN}"]
         if current.set_aside is not None:
             words.append(f"--set-aside={current.set_aside}")
+        words += ["--", self._manifest, current.frames]
         with self._workplace.new_file("mark") as out:
             self._keys_command(words, out)
             out.seek(0)
@@ -433,9 +490,12 @@ def files_of(read: Manifest, name: str) -> List[Union[Entry, SetAside]]:
 
 def fault_of(path: str, file: Union[Entry, SetAside]) -> str:
     """Why a file isn't the one that the manifest names; nothing where it is."""
-    with open(path, "rb") as source:
-        if os.fstat(source.fileno()).st_size != file.size or digest(source, file.size) != file.sha256:
-            return "it isn't what the manifest says"
+    try:
+        with open_log(path) as source:
+            if os.fstat(source.fileno()).st_size != file.size or digest(source, file.size) != file.sha256:
+                return "it isn't what the manifest says"
+    except Fault as fault:
+        return str(fault)
     return ""
 
 

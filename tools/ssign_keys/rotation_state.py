@@ -4,6 +4,7 @@ All of it stands in one file, which is replaced as a whole, so that a run that i
 """
 from __future__ import annotations
 
+import contextlib
 import json
 import os
 from dataclasses import asdict, dataclass, field
@@ -156,6 +157,8 @@ def replace(path: str, octets: bytes) -> None:
         os.replace(part, path)
         sync_folder(os.path.dirname(path) or ".")
     except OSError as fault:
+        with contextlib.suppress(OSError):
+            os.unlink(part)
         raise Fault(f"{shown_name(path)} can't be written: {reason(fault)}") from fault
 
 
