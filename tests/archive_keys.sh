@@ -112,6 +112,38 @@ END
     holds 'a certificate without its CA' test "$status" = 1
     review certified --cert alpha.pem
     holds 'a certificate that is given' test "$status" = 0
+    # a certificate that has expired, and an authority that hasn't
+    python3 -B -c 'import datetime, sys
+sys.path.insert(0, sys.argv[1])
+from cryptography.hazmat.primitives import serialization
+import whose_key
+authority = whose_key.Authority("old ca", ".", "old-ca.pem")
+key = serialization.load_pem_public_key(open("key/public-key.pem", "rb").read())
+dates = datetime.datetime(2020, 1, 1), datetime.datetime(2021, 1, 1)
+open("old.der", "wb").write(whose_key.der(authority.issue(key, whose_key.named("alpha"), [], dates)))' "$root/tests" 2>err || tell 'an old certificate' "$(<err)"
+    mkdir -p expired/first expired/second
+    for each in first:1:2020-06-01T00:00:00Z second:2:2020-06-02T00:00:00Z; do
+        IFS=: read -r part rsid stamp <<<"$each"
+        "$keys" sign --key key/private-key.pem --rsid "$rsid" --host alpha --app signer --frag 9999 --payload "$stamp C $(base64 -w0 old.der)" \
+            --lines messages >"expired/$part/log" 2>err
+    done
+    review expired --ca old-ca.pem
+    holds 'a certificate that has expired: status 1' test "$status" = 1
+    holds 'a certificate that has expired: nothing is listed' test "$(grep -cE '^(first|second) .* untrusted 1 ' <(tr -s ' ' <out))" = 2
+    review expired --ca old-ca.pem --at-signing-time
+    says 'a certificate that has expired, at the time of its payload' 0 'first 1 5 3 0 0 0 0 0 joined 1 clean' 'second 1 5 3 0 0 0 0 0 joined 1 clean'
+    # what openssl may take, each part has anew, also in one process
+    archive prepare expired --results budget --ca old-ca.pem --at-signing-time
+    python3 -B -c 'import sys
+sys.path.insert(0, sys.argv[1])
+from ssign_keys import commands
+commands.PROCESSES = 1
+commands.BUDGET.renew()
+from ssign_archive.cli import main
+sys.exit(max(main(["batch", "budget", str(it)]) for it in (1, 2)))' "$root/tools" >out 2>err
+    holds 'two parts in one process' test "$?" = 0
+    archive table budget
+    says 'each of them may ask' 0 'first 1 5 3 0 0 0 0 0 joined 1 clean' 'second 1 5 3 0 0 0 0 0 joined 1 clean'
 else
     echo "$name: openssl isn't here, so no certificate is tried"
 fi

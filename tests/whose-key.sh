@@ -124,6 +124,26 @@ keys verify --json --allow-sha1 --ca rsa.crt log
 holds 'a session of VER 0111: its weakness' is_session out 'weakness=rests on SHA-1, for which two texts with one hash can be made' why= \
     "fingerprint=$spki"
 
+# ---- several sessions in one log, each with its own key
+mkdir two
+keys make two
+spki_two=$(openssl pkey -pubin -in two/public-key.pem -outform DER | sha256sum | cut -d ' ' -f 1)
+printf '<13>1 - - - - - - one\n' >plain
+for each in one:a two:b one:c two:d; do
+    "$keys_program" sign --key "${each%:*}/private-key.pem" --rsid 1 --host "${each#*:}" --app s --lines --ver 0121 plain
+done >several
+# whose FILE: of each session its HOSTNAME and the fingerprint of its key
+whose() {
+    python3 -B -c 'import json, sys
+for it in map(json.loads, open(sys.argv[1])):
+    if it["line"] == "session":
+        print(it["host"], it["fingerprint"])' "$1"
+}
+keys verify --json --key one/public-key.pem --key two/public-key.pem several
+holds 'four sessions: each key' cmp <(whose out) <(printf '%s\n' "a $spki" "b $spki_two" "c $spki" "d $spki_two")
+keys verify --json --key two/public-key.pem several
+holds 'four sessions: one key' cmp <(whose out) <(printf '%s\n' 'a None' "b $spki_two" 'c None' "d $spki_two")
+
 # ---- why a certificate isn't trusted
 signed leaf-rsa elsewhere
 not_taken 'another HOSTNAME' "the certificate isn't for this HOSTNAME: it names rsa.example.org, gate" --ca rsa.crt
