@@ -271,6 +271,10 @@ cp "$manifest" away
 reviewed
 holds 'an emptied manifest: status 1' test "$status" = 1
 holds 'an emptied manifest: it was cut' grep -q '^ *entry 1: cut, ' out
+# a finding isn't what is remembered, so the next review has it too
+reviewed
+holds 'an emptied manifest: so says the next review' grep -q "^ *entry 1: cut, " out
+holds 'an emptied manifest: what is remembered stays' test "$(<seen/last)" = "1:$(sha256sum away | cut -d ' ' -f 1)"
 mv away "$manifest"
 cp "$signed" logs/other.frames
 reviewed
