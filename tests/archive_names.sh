@@ -173,6 +173,16 @@ if [[ $(id -u) != 0 ]]; then
     review_all kinds locked --answers answers
     says 'a file that may not be read' 2 "part - - - - - - - - - NOT REVIEWED: $scratch/kinds/part/log can't be read: Permission denied"
 fi
+# such a part may be the first one that is reviewed, also where the others are done
+kinds
+review_all kinds first --answers answers
+: >kinds/good/log
+review_all kinds first --answers answers
+says 'the first part is emptied after a review' 1 'in good: empty, no message is stored in this part'
+rm kinds/good/log
+mkfifo kinds/good/log
+review_all kinds first --answers answers
+says 'the first part is a pipe after a review' 2 "good - - - - - - - - - NOT REVIEWED: $scratch/kinds/good/log is no regular file"
 holds 'nothing passing is left' test -z "$(ls passing)"
 
 finish

@@ -56,10 +56,11 @@ def make_batches(parts: List[str], left: List[int], settings: Settings, jobs: in
     """The batches of the parts that are left, by their numbers: large parts by themselves, and small ones together."""
     most = max(1, min(PARTS, len(left) // (ROUNDS * jobs)))
     batches: List[List[int]] = []
-    held = OCTETS
+    held = 0
     for it in left:
         size = size_of(settings, parts[it - 1])
-        if held + size > OCTETS or len(batches[-1]) >= most:
+        # a part whose files are empty, or can't be read, has no octets, also where it comes first
+        if not batches or held + size > OCTETS or len(batches[-1]) >= most:
             batches.append([])
             held = 0
         batches[-1].append(it)

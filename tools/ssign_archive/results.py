@@ -162,11 +162,12 @@ def stale(record: Record, part: str, settings: Settings) -> str:
     """Why a record doesn't count of a part as it is now, or nothing where it does."""
     if record.settings != settings_form.to_text(settings):
         return "it was reviewed with other options, or another program or answers file"
+    # which counters of a manifest are used depends on the files, so these come first
+    if [it.stored for it in record.files] != stored_now(settings, part):
+        return "its files were changed"
     for name, seen in settings.given_to(part).items():
         if record.given.get(name) != seen:
             return f"its {name} {'file was' if name == 'answers' else 'were'} changed"
-    if [it.stored for it in record.files] != stored_now(settings, part):
-        return "its files were changed"
     return ""
 
 
