@@ -95,7 +95,8 @@ list_files() {
     put_all "$documents" "$root"/{README,CHANGELOG,SECURITY}.md
     put_all "$documents/docs" "$root"/docs/*.md
     put_all "$documents/docs/decisions" "$root"/docs/decisions/*.md
-    put_all "$documents/examples" "$root"/examples/*.{md,frames,answers,log,seals}
+    put_all "$documents/examples" "$root"/examples/*.{md,frames,answers,counters,log,seals}
+    put_all "$documents/examples/producers" "$root"/examples/producers/*
     put_all "$documents/examples/signed" "$root"/examples/signed/*
     put_all "$documents/examples/systemd" "$root"/examples/systemd/*
     put_all "$documents/examples/logrotate" "$root"/examples/logrotate/*
