@@ -44,7 +44,6 @@ left() {
 
 # ---- a log that is changed while it is signed, in each run of the program over it
 changes=0
-# shellcheck disable=SC2043
 while IFS='|' read -r WHEN CHANGE; do
     export WHEN CHANGE
     fresh
@@ -64,7 +63,7 @@ rotated
 cat logs/*.frames >all
 holds 'written to meanwhile: each line is signed once' test "$("$root/tools/ssign-keys" verify --key keys/public-key.pem --raw all |
     grep -c '^ok ')" = 11
-holds 'written to meanwhile: each log has an entry' test "$(wc -l <state/kept/manifest.jsonl)" = "$(ls logs | grep -c 'frames$')"
+holds 'written to meanwhile: each log has an entry' test "$(wc -l <state/kept/manifest.jsonl)" = "$(find logs -name '*.frames' | wc -l)"
 unset WHEN CHANGE
 echo "$name: $changes changes while a log was signed"
 

@@ -65,6 +65,8 @@ judged mixed 1 0 1
 judged two 1 0 2
 judged three 1 0 2
 judged both 1 0 1
+judged back 1 0 1
+judged between 1 0 1
 judged certificate 0 0 0
 judged unverified 1 1 0
 judged stranger 1 1 0

@@ -69,6 +69,11 @@ def main(private: str, other: str) -> None:
     # one session whose first number rests on SHA-256, and the second on SHA-1
     write("both", [certificate(pair, 1, "0121"), PLAIN, ONE, announcing(pair, 1, "0121", [PLAIN]),
                    announcing(pair, 1, "0111", [ONE], 1, 2)])
+    # the same the other way round, and a block over SHA-1 between two others
+    write("back", [certificate(pair, 1, "0121"), ONE, PLAIN, announcing(pair, 1, "0111", [ONE]),
+                   announcing(pair, 1, "0121", [PLAIN], 1, 2)])
+    write("between", [certificate(pair, 1, "0121"), PLAIN, ONE, third, announcing(pair, 1, "0121", [PLAIN]),
+                      announcing(pair, 1, "0111", [ONE], 1, 2), announcing(pair, 1, "0121", [third], 2, 3)])
     # SHA-1 in the certificate block alone: no number rests on it
     write("certificate", [certificate(pair, 1, "0111"), PLAIN, announcing(pair, 1, "0121", [PLAIN])])
     # SHA-1 in a block whose signature is that of a stranger, and in a session of a stranger
