@@ -96,7 +96,8 @@ def try_seal(tool: str, ssign: str, keys: str, folder: str) -> None:
     """A state file of `seal`: it is new, and then it is there."""
     log = frame(b"<13>1 - - - - - - one")
     state = os.path.join(folder, "sealed")
-    for rsid, option in ((1, ["--new-state"]), (2, [])):
+    options: Dict[int, List[str]] = {1: ["--new-state"], 2: []}
+    for rsid, option in options.items():
         wants = subprocess.run([ssign, "plan", f"--rsid={rsid}", "--ver=0121", "--payload=- N"], input=log, capture_output=True, check=True)
         found = calls(tool, ["seal", os.path.join(keys, "private-key.pem"), "--state", state, *option], "0", wants.stdout)
         look(f"seal, RSID {rsid}", found, [state])

@@ -197,11 +197,11 @@ def bases_of(domain: ModuleType, prime: int) -> List[int]:
         taken.append(base)
         return bool(given(number, base, *rest))
 
-    domain.passes = note  # type: ignore[attr-defined]
+    setattr(domain, "passes", note)
     try:
         tell(f"primes: {prime}", domain.is_prime(prime), "not taken for a prime")
     finally:
-        domain.passes = given  # type: ignore[attr-defined]
+        setattr(domain, "passes", given)
     return taken
 
 
@@ -216,17 +216,17 @@ def try_libraries(good: Pair, weak: Sequence[Weak]) -> None:
     }
     given = domain.is_library_content
     for what, takes in kinds.items():
-        for it in (domain.is_library_strict, domain.prime_fault):
-            it.cache_clear()
-        domain.is_library_content = lambda p, q, g: takes(p)  # type: ignore[assignment,misc]
+        domain.is_library_strict.cache_clear()
+        domain.prime_fault.cache_clear()
+        setattr(domain, "is_library_content", lambda p, q, g: takes(p))
         try:
             tell(f"libraries: one {what}, a good key", domain.prime_fault(*good.key[:3]) is None, "refused")
             for key in of_p:
                 tell(f"libraries: one {what}, p {key.p % 10 ** 9}", domain.prime_fault(*key[:3]) is not None, "taken for a prime")
         finally:
-            domain.is_library_content = given  # type: ignore[assignment]
-            for it in (domain.is_library_strict, domain.prime_fault):
-                it.cache_clear()
+            setattr(domain, "is_library_content", given)
+            domain.is_library_strict.cache_clear()
+            domain.prime_fault.cache_clear()
 
 
 def main(tools: str, pem: str, folder: str) -> None:
