@@ -430,6 +430,10 @@ verify nights/night-2.frames nights/night-2.frames
 finds 'verify: a log twice' 1 '  nights/night-2.frames: twice, entry 2 is of nights/night-2.frames too'
 verify nights/night-3.frames --manifest-last "$third"
 finds 'verify: the last entry that was kept' 0 'Manifest manifest: each log, its session and its numbers are those of its entry.'
+for each in 3 "0:${third#3:}" "03:${third#3:}"; do
+    verify nights/night-3.frames --manifest-last "$each"
+    holds "verify: the last entry $each, which is none" test "$status.$(wc -c <out).$(wc -l <err).$(grep -c '^ssign-keys: --manifest-last' err)" = 2.0.1.1
+done
 cp two manifest
 verify nights/night-2.frames --manifest-last "$third"
 finds 'verify: a manifest that was cut' 1 '  entry 3: cut, the manifest has 2 entries, and this one was kept'

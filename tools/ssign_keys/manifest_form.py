@@ -134,14 +134,14 @@ class Mark(NamedTuple):
     sum: str
 
 
-def read_mark(text: str) -> Mark:
-    """What `N:SHA-256` says. Raises Fault where it is nothing of that form."""
+def read_mark(text: str, option: str = "--last") -> Mark:
+    """What `N:SHA-256` says, as the value of an option. Raises Fault where it is nothing of that form."""
     number, colon, given = text.partition(":")
     if not (colon and re.fullmatch(r"0|[1-9][0-9]{0,9}", number) and SUM.fullmatch(given)):
-        raise Fault(f"--last {shown_name(text)}: this is no number of an entry, a colon and 64 digits of a SHA-256, as "
+        raise Fault(f"{option} {shown_name(text)}: this is no number of an entry, a colon and 64 digits of a SHA-256, as "
                     "`ssign-keys manifest add` prints them")
     if number == "0" and given != FIRST_SUM:
-        raise Fault("--last: of a manifest without entries the hash is 64 zeros")
+        raise Fault(f"{option}: of a manifest without entries the hash is 64 zeros")
     return Mark(int(number), given)
 
 

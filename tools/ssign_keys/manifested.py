@@ -81,7 +81,7 @@ class Listed:
             if arguments.manifest_last is not None:
                 raise Fault("--manifest-last says something of a manifest: name it with --manifest")
             return None
-        kept = None if arguments.manifest_last is None else read_mark(arguments.manifest_last)
+        kept = None if arguments.manifest_last is None else read_mark(arguments.manifest_last, "--manifest-last")
         return cls(read_manifest(arguments.manifest), kept)
 
     def look(self, log: Log) -> List[bytes]:
