@@ -149,6 +149,13 @@ pairs 'a message changed and the next taken out' 's/name=mallory/name=gregory/;/
 pairs 'two neighbours changed' 's/name=mallory/name=gregory/;s/became root/became toor/' $'  missing number 6\n' "    likely place $six"$'\n' $'  missing number 7\n' "    likely place $seven"$'\n'
 pairs 'a message taken out' '/name=mallory/d'
 pairs 'the first message changed' '/^<[0-9]*>1 2026-01-15T09:12:44/s/.$/_/' $'  missing number 1\n' "    likely place $one"$'\n'
+# number 4 is changed, and the block for 5 to 8 is gone: any of the five unlisted messages may be that of any of the five numbers
+python3 -B "$root/tests/verdicts.py" lines made/signed |
+    awk '/\[ssign/ { if (!/GBC="1"/) print; next } { if (++count == 4) sub(/.$/, "_"); print }' >stored.lines
+verify "${key[@]}" --lines stored.lines
+holds 'a missing number beside unannounced ones' grep -Fqx '    missing: number 4' out
+holds 'a missing number beside unannounced ones: these' grep -q '^    unannounced: numbers 5 to 8 ' out
+holds 'a missing number beside unannounced ones: no pair is likely' test "$(grep -ci likely out)" = 0
 { cat made/signed && frame '<13>1 - - - - - - behind'; } >stored
 verify "${key[@]}" stored
 holds 'an unlisted message alone is no pair' test "$(grep -c '^Likely' out)" = 0
