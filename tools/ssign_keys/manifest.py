@@ -103,9 +103,9 @@ def add(arguments: argparse.Namespace, kept: Optional[Mark]) -> int:
             return 0
     except Refused as refused:
         progress.clear()
-        fault = fault_of(refused, program, arguments, log)
-        if fault is not None:
-            raise fault from refused
+        said = fault_of(refused, program, arguments, log)
+        if said is not None:
+            raise said from refused
         return 2
     finally:
         progress.clear()

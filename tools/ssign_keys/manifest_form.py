@@ -11,7 +11,7 @@ import re
 import stat
 from dataclasses import dataclass, field
 from datetime import datetime
-from typing import BinaryIO, Dict, List, NamedTuple, Optional, Tuple, Union, cast
+from typing import BinaryIO, Dict, List, NamedTuple, Optional, Tuple, Union
 
 from .blocks import Session
 from .faults import Fault
@@ -183,7 +183,7 @@ def open_manifest(path: str, flags: int) -> BinaryIO:
     if not stat.S_ISREG(os.fstat(number).st_mode):
         os.close(number)
         raise Fault(f"the manifest {shown_name(path)} is no regular file")
-    return cast(BinaryIO, os.fdopen(number, "r+b" if flags & os.O_RDWR else "rb"))
+    return os.fdopen(number, "r+b" if flags & os.O_RDWR else "rb")
 
 
 def read_manifest(path: str) -> Manifest:
@@ -243,7 +243,8 @@ def read_line(line: bytes) -> Line:
 
 def make_entry(fields: Dict[str, object]) -> Entry:
     """The entry that has these values."""
-    session = Session(*(name_of(fields, it) for it in NAMES), str(number_of(fields, "rsid", 0, MOST)).encode())
+    host, app, procid = (name_of(fields, it) for it in NAMES)
+    session = Session(host, app, procid, str(number_of(fields, "rsid", 0, MOST)).encode())
     counters = fields["counters"]
     if not isinstance(counters, list) or not counters or not isinstance(counters[0], str):
         raise ValueError("its counters aren't the lines of a counters file")
