@@ -121,6 +121,11 @@ holds() {
     tell "$what" "$said"
 }
 
+# drop_unseen: takes from `err` what `ssign-keys rotated` says where it can't look at each process, as without root.
+drop_unseen() {
+    sed -i "/ can't be looked at, so it may still be open for writing\\. /d" "$scratch/err"
+}
+
 # frame TEXT: TEXT as an octet-counted frame.
 frame() {
     local LC_ALL=C

@@ -29,6 +29,8 @@ signed=$log-$yesterday.frames
 rotated() {
     KEYS=$scratch/keys STATE=$scratch/state WAIT=2 timeout "$patience" "$root/examples/logrotate/ssign-rotated" "$@" >out 2>err
     status=$?
+    # that is tried below
+    drop_unseen
 }
 # refuses WHAT SENTENCE: the last run did so, and nothing is left.
 refuses() {
@@ -114,6 +116,100 @@ exec 7<logs/held
 rotated
 exec 7<&-
 expect 'a log that is held open for reading is signed' 0 '' ''
+
+# without root, the processes of other users can't be looked at
+nobody() {
+    if [[ $EUID == 0 ]]; then
+        setpriv --reuid=65534 --regid=65534 --clear-groups env -u BASH_ENV "PATH=$PATH" "$@"
+    else
+        "$@"
+    fi
+}
+python=$(command -v python3)
+[[ -x /usr/bin/python3 ]] && python=/usr/bin/python3
+chmod 711 "$scratch"
+mkdir theirs theirs/keys theirs/state theirs/logs theirs/passing
+cp keys/* theirs/keys
+echo 0 >theirs/state/rsid
+cp "$root/examples/signed/ten-messages.log" theirs/logs/log
+[[ $EUID != 0 ]] || chown -R 65534:65534 theirs
+owner=$(stat -c %U /proc/1)
+if ! nobody "$python" -B -c 'import cryptography' 2>said || ! nobody test -x "$program" -a -r "$root/tools/ssign-keys"; then
+    echo "$name: nobody can run ssign-keys here, so nothing is signed without root"
+elif nobody ls /proc/1/fd >said 2>&1; then
+    echo "$name: nobody can look at each process here, so nothing is said of them"
+else
+    their() {
+        TMPDIR=$scratch/theirs/passing nobody timeout "$patience" "$python" -B "$root/tools/ssign-keys" rotated --keys "$scratch/theirs/keys" \
+            --state "$scratch/theirs/state" --wait 2 "$@" >out 2>err 7>&-
+        status=$?
+    }
+    blind="^ssign-keys: $scratch/theirs/logs/log: [0-9]+ process(es)? of ([^ ]+, )*$owner(, [^ ]+)* can't be looked at, so it may still be open for writing\. Lines that come after this run are signed in the next one, as a log of their own\$"
+    # a process of root writes to it
+    exec 7>>theirs/logs/log
+    their "$scratch/theirs/logs/log"
+    holds 'without root: the status' test "$status" = 0
+    if [[ $EUID == 0 ]]; then
+        holds 'without root: it is signed' test -e theirs/logs/log.frames
+    fi
+    holds 'without root: it is said, in one line' test "$(wc -l <err)" = 1
+    holds 'without root: what could not be looked at' grep -qE "$blind" err
+    printf '<13>1 - h late - - - one line more\n' >&7
+    exec 7>&-
+    their
+    holds 'without root: the line that came is signed' test -e theirs/logs/log.late-1.frames
+    holds 'without root: what could not be looked at, again' grep -qE "$blind" err
+    their
+    expect 'without root: where nothing is signed, nothing is said' 0 '' ''
+    # a process of nobody is seen all the same
+    cp theirs/logs/log theirs/logs/own
+    [[ $EUID != 0 ]] || chown 65534:65534 theirs/logs/own
+    (nobody bash -c 'exec 7>>"$1"; echo "$$" >"$2"; exec sleep 60' bash "$scratch/theirs/logs/own" "$scratch/theirs/passing/open" &) 2>said
+    for ((tries = 0; tries < 100; tries++)); do
+        [[ -s theirs/passing/open ]] && break
+        sleep 0.1
+    done
+    their "$scratch/theirs/logs/own"
+    holds 'without root: a process of this user' grep -qE "^ssign-keys: $scratch/theirs/logs/own isn't signed: it is still open for writing after 2 seconds, by the process [0-9]+ \(sleep\)\$" err
+    kill "$(<theirs/passing/open)"
+fi
+# no process that is seen is all there is, where the first one isn't; and threads of the kernel don't count
+holds 'processes that are hidden' python3 -B -c 'import os, sys
+sys.path.insert(0, sys.argv[1])
+from ssign_keys import open_files
+folder = sys.argv[2]
+def process(number, flags, is_closed):
+    path = os.path.join(folder, number)
+    os.mkdir(path)
+    with open(os.path.join(path, "stat"), "w") as file:
+        file.write(f"{number} (a) b) c) S 0 0 0 0 -1 {flags} 0 0\n")
+    if not is_closed:
+        os.mkdir(os.path.join(path, "fd"))
+closed = set()
+listing = os.listdir
+def listdir(path):
+    if path.endswith("/fd") and path.split("/")[-2] in closed:
+        raise PermissionError(13, "no", path)
+    return listing(path)
+open_files.os.listdir = listdir
+open_files.PROCESSES = folder
+process("5", 0x400000, False)
+words = lambda: open_files.writers_of(sys.argv[1]).unseen
+assert words() == "the processes of other users are hidden", words()
+process("1", 0x400100, False)
+assert words() == "", words()
+process("2", 0x208040, True)
+closed.add("2")
+assert words() == "", words()
+closed.add("5")
+import pwd
+me = pwd.getpwuid(os.geteuid()).pw_name
+assert words() == f"1 process of {me} can\x27t be looked at", words()
+closed.add("1")
+assert words() == f"2 processes of {me} can\x27t be looked at", words()
+open_files.PROCESSES = folder + "/nothing"
+assert words() == f"without {folder}/nothing no process can be looked at", words()
+' "$root/tools" "$(mktemp -d -p "$scratch")"
 
 # what can't be signed
 { head -n 4 logs/held; printf '<13>1 - h %060d - - - a long tag\n' 1; tail -n 6 logs/held; printf '<13>1 - h a - - [ssign x="1"] evil\n'; } >logs/odd
@@ -214,6 +310,7 @@ export KEYS=$scratch/keys STATE=$scratch/state WAIT=2
 sed "s:/usr/local/sbin/ssign-rotated:'$root/examples/logrotate/ssign-rotated':" behind >behind.sh
 sh -e behind.sh log logs/one >out 2>err
 status=$?
+drop_unseen
 expect 'what logrotate runs' 0 '' ''
 holds 'the log is signed' test -s logs/one.frames
 holds 'the daemon is told of it' cmp told <(printf '%s\n' '-HUP -x rsyslogd' '-HUP -x syslog-ng')

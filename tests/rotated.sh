@@ -30,6 +30,7 @@ rotated() {
     timeout "$patience" "$root/tools/ssign-keys" rotated --keys keys --state state --host gate --wait "${wait-0}" --ssign "${with-$program}" \
         "$@" >out 2>err </dev/null
     status=$?
+    drop_unseen
 }
 # left WHAT WORD: the log waits, for a reason with these words; nothing was signed, and no number was used up
 left() {

@@ -2,12 +2,13 @@
 from __future__ import annotations
 
 import os
+import pwd
 import time
-from typing import Iterator, List, NamedTuple
+from typing import Dict, Iterator, List, NamedTuple
 
 from .faults import Fault
 from .files import reason
-from .words import shown
+from .words import counted, shown
 
 PROCESSES = "/proc"
 PAUSE = 0.2
@@ -15,14 +16,17 @@ PAUSE = 0.2
 BLIND = 5.0
 # the last two bits of the flags of open(2): 0 is for reading alone
 ACCESS = 3
+# the flag of a thread of the kernel (PF_KTHREAD), which has no files, and where the flags stand behind the name in `stat`
+KERNEL = 0x200000
+FLAGS = 6
 
 
 class Seen(NamedTuple):
     """Who has a file open for writing, as far as this process may see."""
 
     writers: List[str]
-    is_whole: bool
-    """Whether all processes could be looked at."""
+    unseen: str
+    """Which processes couldn't be looked at, in words; empty where there is none."""
 
 
 def writers_of(path: str) -> Seen:
@@ -32,19 +36,48 @@ def writers_of(path: str) -> Seen:
         numbers = [it for it in os.listdir(PROCESSES) if it.isdigit()]
     except OSError as fault:
         if fault.filename == PROCESSES:
-            return Seen([], False)
+            return Seen([], f"without {PROCESSES} no process can be looked at")
         raise Fault("it is gone" if isinstance(fault, FileNotFoundError) else f"it can't be looked at: {reason(fault)}") from fault
-    found, is_whole = [], True
+    found: List[str] = []
+    unseen: Dict[str, int] = {}
     for number in numbers:
         try:
             if any(os.path.samestat(file, it) for it in open_for_writing(number)):
                 found.append(f"{number} ({name_of(number)})")
         except PermissionError:
-            is_whole = False
+            user = user_of(number)
+            if user:
+                unseen[user] = unseen.get(user, 0) + 1
         except OSError:
             # it has ended meanwhile
             continue
-    return Seen(found, is_whole)
+    return Seen(found, unseen_words(unseen, "1" in numbers))
+
+
+def unseen_words(unseen: Dict[str, int], is_listed: bool) -> str:
+    """Which processes couldn't be looked at. Where the first one isn't listed, only those of this user are."""
+    if not is_listed:
+        return "the processes of other users are hidden"
+    if not unseen:
+        return ""
+    return f"{counted(sum(unseen.values()), 'process', 'processes')} of {', '.join(sorted(unseen))} can't be looked at"
+
+
+def user_of(number: str) -> str:
+    """Whose process it is; empty where it has ended meanwhile, or is a thread of the kernel."""
+    folder = os.path.join(PROCESSES, number)
+    try:
+        with open(os.path.join(folder, "stat"), "rb") as file:
+            flags = int(file.read().rpartition(b")")[2].split()[FLAGS])
+        owner = os.stat(folder).st_uid
+    except (OSError, ValueError, IndexError):
+        return ""
+    if flags & KERNEL:
+        return ""
+    try:
+        return pwd.getpwuid(owner).pw_name
+    except KeyError:
+        return f"the user {owner}"
 
 
 def open_for_writing(number: str) -> Iterator[os.stat_result]:
@@ -67,8 +100,11 @@ def name_of(number: str) -> str:
         return shown(file.read(100).rstrip(b"\n"))
 
 
-def wait_until_closed(path: str, seconds: float) -> None:
-    """Waits until nobody has a file open for writing. Raises Fault where somebody still has, after so many seconds."""
+def wait_until_closed(path: str, seconds: float) -> str:
+    """Waits until nobody has a file open for writing. Raises Fault where somebody still has, after so many seconds.
+
+    Gives which processes couldn't be looked at, in words. Then it has waited for some seconds more.
+    """
     end = time.monotonic() + seconds
     seen = writers_of(path)
     while seen.writers and time.monotonic() < end:
@@ -76,5 +112,6 @@ def wait_until_closed(path: str, seconds: float) -> None:
         seen = writers_of(path)
     if seen.writers:
         raise Fault(f"it is still open for writing after {seconds:g} seconds, by the process {seen.writers[0]}")
-    if not seen.is_whole:
+    if seen.unseen:
         time.sleep(min(BLIND, max(end - time.monotonic(), 0)))
+    return seen.unseen

@@ -242,7 +242,7 @@ class Rotation:
     def _sign(self, log: str) -> None:
         """Signs a log, and then what came to it meanwhile."""
         for _ in range(TRIES):
-            wait_until_closed(log, self._arguments.wait)
+            unseen = wait_until_closed(log, self._arguments.wait)
             with open_log(log) as source:
                 size = os.fstat(source.fileno()).st_size
                 found = self._state.signed_of(log)
@@ -256,6 +256,9 @@ class Rotation:
                     say(f"ssign-keys: {shown_name(log)}: {counted(size - start, 'octet')} came after it was signed, and "
                         "are signed as a log of their own")
                     self._unusual = True
+                if unseen:
+                    say(f"ssign-keys: {shown_name(log)}: {unseen}, so it may still be open for writing. Lines that come after "
+                        "this run are signed in the next one, as a log of their own")
                 self._sign_part(log, source, start, size, found)
         # what comes still is for the next run
 
