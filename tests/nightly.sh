@@ -211,6 +211,17 @@ open_files.PROCESSES = folder + "/nothing"
 assert words() == f"without {folder}/nothing no process can be looked at", words()
 ' "$root/tools" "$(mktemp -d -p "$scratch")"
 
+# a disk that gets full while the signed log is written, as the program says it
+printf '#!/bin/sh\ncase $1 in sign) echo "ssign: W1" >&2; exit 2 ;; esac\nexec "%s" "$@"\n' "$program" >full
+chmod 755 full
+cp "$root/examples/signed/ten-messages.log" logs/large
+SSIGN=$scratch/full rotated logs/large
+expect 'a full disk' 1 '' "ssign-keys: $scratch/logs/large isn't signed: $scratch/logs/large.frames can't be written to its end; perhaps the disk is full"
+holds 'a full disk: nothing is left' test -z "$(find logs -name 'large.*')"
+rotated
+expect 'a full disk: the next run signs the log' 0 '' ''
+rm logs/large logs/large.frames
+
 # what can't be signed
 { head -n 4 logs/held; printf '<13>1 - h %060d - - - a long tag\n' 1; tail -n 6 logs/held; printf '<13>1 - h a - - [ssign x="1"] evil\n'; } >logs/odd
 rotated logs/odd

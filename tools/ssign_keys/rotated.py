@@ -306,6 +306,11 @@ class Rotation:
                 os.fsync(out.fileno())
         except OSError as fault:
             raise Fault(f"{shown_name(passing.frames)} can't be written: {reason(fault)}") from fault
+        except Fault as fault:
+            if not str(fault).endswith("(W1)"):
+                raise
+            # what is standard output there has a name here
+            raise Fault(f"{shown_name(passing.final_frames)} can't be written to its end; perhaps the disk is full") from fault
         if status == 1:
             self._unusual = True
 
