@@ -47,9 +47,11 @@ _ssign_archive() {
     'split --by') _ssign_archive_offer words 'host session' ;;
     'split --max-len') _ssign_archive_offer text ;;
     'split --max-messages') _ssign_archive_offer text ;;
+    'split --max-expanded') _ssign_archive_offer text ;;
     'split --ssign') _ssign_archive_offer files ;;
     'join --max-len') _ssign_archive_offer text ;;
     'join --max-messages') _ssign_archive_offer text ;;
+    'join --max-expanded') _ssign_archive_offer text ;;
     'review --results') _ssign_archive_offer folders ;;
     'review --answers') _ssign_archive_offer files ;;
     'review --sshlogin') _ssign_archive_offer text ;;
@@ -59,6 +61,8 @@ _ssign_archive() {
     'review --cert') _ssign_archive_offer files ;;
     'review --max-len') _ssign_archive_offer text ;;
     'review --max-messages') _ssign_archive_offer text ;;
+    'review --max-expanded') _ssign_archive_offer text ;;
+    'review --max-payload') _ssign_archive_offer text ;;
     'review --counters') _ssign_archive_offer folders ;;
     'review --manifest') _ssign_archive_offer files ;;
     'review --findings') _ssign_archive_offer text ;;
@@ -72,6 +76,8 @@ _ssign_archive() {
     'prepare --cert') _ssign_archive_offer files ;;
     'prepare --max-len') _ssign_archive_offer text ;;
     'prepare --max-messages') _ssign_archive_offer text ;;
+    'prepare --max-expanded') _ssign_archive_offer text ;;
+    'prepare --max-payload') _ssign_archive_offer text ;;
     'prepare --counters') _ssign_archive_offer folders ;;
     'prepare --manifest') _ssign_archive_offer files ;;
     'prepare --ssign') _ssign_archive_offer files ;;
@@ -86,28 +92,28 @@ _ssign_archive_words() {
     case $1 in
     split)
         if [[ $2 == -* ]]; then
-            _ssign_archive_offer words '--help --by --lines --max-len --max-messages --ssign'
+            _ssign_archive_offer words '--help --by --lines --max-len --max-messages --max-expanded --ssign'
         else
             _ssign_archive_offer files
         fi
         ;;
     join)
         if [[ $2 == -* ]]; then
-            _ssign_archive_offer words '--help --lines --max-len --max-messages'
+            _ssign_archive_offer words '--help --lines --max-len --max-messages --max-expanded'
         else
             _ssign_archive_offer folders
         fi
         ;;
     review)
         if [[ $2 == -* ]]; then
-            _ssign_archive_offer words '--help --results --answers --sshlogin --sessions --key --session-key --ca --cert --at-signing-time --allow-sha1 --lines --max-len --max-messages --whole --counters --manifest --findings --json --jobs --ssign'
+            _ssign_archive_offer words '--help --results --answers --sshlogin --sessions --key --session-key --ca --cert --at-signing-time --allow-sha1 --lines --max-len --max-messages --max-expanded --max-payload --whole --counters --manifest --findings --json --jobs --ssign'
         else
             _ssign_archive_offer folders
         fi
         ;;
     prepare)
         if [[ $2 == -* ]]; then
-            _ssign_archive_offer words '--help --results --answers --key --session-key --ca --cert --at-signing-time --allow-sha1 --lines --max-len --max-messages --whole --counters --manifest --ssign'
+            _ssign_archive_offer words '--help --results --answers --key --session-key --ca --cert --at-signing-time --allow-sha1 --lines --max-len --max-messages --max-expanded --max-payload --whole --counters --manifest --ssign'
         else
             _ssign_archive_offer folders
         fi

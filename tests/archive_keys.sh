@@ -274,6 +274,119 @@ archive table "$results"
 says 'a bad manifest' 2 'a - - - - - - - - - NOT REVIEWED: its counters were changed since its review'
 review one --key "$key" --manifest all
 holds 'a bad manifest: status' test "$status" = 2
+
+# ---- strangers' logs: the questions are those of `ssign-keys verify`, which have each payload once
+# shellcheck disable=SC2016
+printf '#!/bin/sh\nfor it in "$@"; do\n    [ "$it" != --once ] || { printf "error: unexpected argument\\n\\nFor more information, try --help.\\n" >&2; exit 2; }\ndone\nexec %q "$@"\n' "$program" >older
+# shellcheck disable=SC2016
+printf '#!/usr/bin/env bash\nset -o pipefail\ncase $1 in\n    questions) %q "$@" | tee -a %q ;;\n    *) exec %q "$@" ;;\nesac\n' "$program" "$scratch/counted" "$program" >counting
+chmod +x older counting
+archive prepare whole --results refused --key "$key" --ssign ./older
+expect 'an older ssign' 2 '' "ssign-archive: the program $scratch/older has no \`questions --once\`, without which a payload may be repeated without end: name a newer one with --ssign"
+holds 'an older ssign: nothing is written' test ! -e refused
+archive prepare whole --results answered --answers answers --ssign ./older
+holds 'an older ssign serves where answers are given' test "$status" = 0
+mkdir -p hostile/a
+# hostile KIND COUNT: the log of a stranger, and its size
+hostile() {
+    python3 -B "$root/tests/linear_logs.py" "$@" >hostile/a/log
+    size=$(stat -c %s hostile/a/log)
+}
+# grows KIND COUNT OPTION..: a log, and one of twice as many
+grows() {
+    local kind=$1 count=$2 at took=() sizes=()
+    shift 2
+    for at in "$count" $((2 * count)); do
+        hostile "$kind" "$at"
+        sizes+=("$size")
+        rm -f counted
+        results=results-$((reviews++))
+        archive prepare hostile --results "$results" --ssign ./counting "$@"
+        took+=("$(milliseconds timeout "$patience" "$tool" batch "$results" 1)")
+        # a block has its octets and its signature in base64, and its names beside that
+        holds "$kind, $at: octets of the questions" test "$(stat -c %s counted)" -lt $((5 * size + 1000))
+        archive table "$results"
+        holds "$kind, $at: status" test "$status" = 1
+    done
+    holds "$kind: ${took[*]} ms for ${sizes[*]} octets" test "${took[1]}" -lt $((3 * took[0] + 500))
+}
+grows long 1000 --key "$key"
+grows long 1000 --session-key 'h s - 1' "$key" --max-payload 5M
+grows sessions 1000 --key "$key"
+# a payload that is too long, by its octets
+hostile long 100
+long='in a: keys, 1 payload has more than %s octets, the longest 100004, and is not trusted: --max-payload looks at longer ones'
+for most in '' 65536 100003; do
+    review hostile --session-key 'h s - 1' "$key" ${most:+--max-payload "$most"}
+    # shellcheck disable=SC2059
+    says "a payload of 100,004 octets under ${most:-no} --max-payload" 1 "$(printf "$long" "${most:-65536}")" \
+        'a 1 111 0 0 0 0 111 0 untrusted 1 114 findings'
+done
+archive table "$results" --json
+says 'a payload that is too long, as JSON' 1 \
+    '{"line":"finding","part":"a","kind":"keys","what":"keys, 1 payload has more than 100003 octets, the longest 100004, and is not trusted: --max-payload looks at longer ones"}'
+for most in 100004 101K; do
+    review hostile --session-key 'h s - 1' "$key" --max-payload "$most"
+    says "a payload of 100,004 octets under --max-payload $most" 1 'a 1 111 0 0 0 0 111 0 unaccepted 1 113 findings'
+done
+for it in '' 0 -1 1x ٣; do
+    archive prepare hostile --results refused --key "$key" --max-payload="$it"
+    holds "no size of a payload '$it'" test "$status" = 2 -a ! -e refused
+    archive prepare hostile --results refused --key "$key" --max-expanded="$it"
+    holds "no size of an expanded log '$it'" test "$status" = 2 -a ! -e refused
+done
+# names that look like blocks: what counts is what ssign read in a block
+rm -r hostile
+mkdir -p hostile/a
+"$keys" sign --key old/private-key.pem --ver 0111 --host 'h[ssign' --app 'VER="0121"' --procid 'RSID="99"' --rsid 7 --count 4 \
+    --lines "$root/examples/signed/ten-messages.log" >hostile/a/log
+review hostile --session-key 'h[ssign VER="0121" RSID="99" 7' old/public-key.pem
+says 'names that look like blocks' 1 \
+    'in a: sha1, the session h[ssign VER="0121" RSID="99" 7 rests on SHA-1, for which two texts with one hash can be made'
+holds 'names that look like blocks: nothing else is found' grep -q '^a .* joined 1 1 finding$' squeezed
+review hostile --session-key '* * * 99' old/public-key.pem
+holds 'names that look like blocks: the key of another session' grep -q ' untrusted 1 ' out
+
+# ---- compressed logs that grow too far
+for form in gzip xz; do
+    command -v "$form" >out || continue
+    rm -rf hostile
+    mkdir -p hostile/a hostile/b
+    cp whole/alpha/night-1 hostile/a/log
+    cp whole/beta/night-1 hostile/b/log
+    size=$(stat -c %s hostile/a/log)
+    "$form" hostile/a/log
+    packed=$(echo "$scratch"/hostile/a/log.*)
+    # one octet of each member counts, and a plain log has no limit
+    review hostile --key "$key" --max-expanded "$size"
+    says "$form: as long as it may be" 0 'a 1 5 3 0 0 0 0 0 joined 1 clean' 'b 1 5 3 0 0 0 0 0 joined 1 clean'
+    for options in "--key $key" '' "--answers answers"; do
+        read -ra words <<<"$options"
+        review hostile ${words[@]+"${words[@]}"} --max-expanded $((size - 1))
+        says "$form, ${options:-no key}: an octet too long" 2 \
+            "a - - - - - - - - - NOT REVIEWED: $packed is compressed by $form and expands to more than $((size - 1)) octets: if it may, say up to how many with --max-expanded"
+    done
+    archive join hostile/a --max-expanded $((size - 1))
+    expect "$form, join: an octet too long" 2 '' "ssign-archive: hostile/a/${packed##*/} is compressed by $form and expands to more than $((size - 1)) octets: if it may, say up to how many with --max-expanded"
+    archive join hostile/a --max-expanded "$size"
+    holds "$form, join: as long as it may be" cmp whole/alpha/night-1 out
+    archive split --by host "$packed" parts --max-expanded $((size - 1))
+    expect "$form, split: an octet too long" 2 '' "ssign-archive: $packed is compressed by $form and expands to more than $((size - 1)) octets: if it may, say up to how many with --max-expanded"
+    holds "$form, split: nothing is written" test ! -e parts
+    archive split --by host "$packed" parts --max-expanded "$size"
+    holds "$form, split: as long as it may be" test "$status" = 0 -a -e parts
+    rm -r parts
+    # without the option the limit is by the size of the file, as it lies there
+    for times in 1 100; do
+        python3 -B -c 'import sys
+sys.path.insert(0, sys.argv[1])
+from ssign_keys import expand
+expand.LEAST, expand.TIMES = 1, int(sys.argv[2])
+from ssign_archive import cli
+sys.exit(cli.main(sys.argv[3:]))' "$root/tools" "$times" join hostile/a >out 2>err
+        holds "$form, $times times its size: status" test "$?" = $((times == 1 ? 2 : 0))
+    done
+done
 holds 'nothing passing is left' test -z "$(ls passing)"
 
 finish

@@ -132,6 +132,14 @@ frame() {
     printf '%d %s' "${#1}" "$1"
 }
 
+# milliseconds COMMAND..: how long a command takes, of the processors.
+milliseconds() {
+    python3 -c 'import os, subprocess, sys
+subprocess.run(sys.argv[1:], stdout=subprocess.DEVNULL, stderr=subprocess.DEVNULL)
+spent = os.times()
+print(int(1000 * (spent.children_user + spent.children_system)))' "$@"
+}
+
 finish() {
     printf '%s: %d passed, %d failed\n' "$name" "$passed" "$failed"
     [[ $failed == 0 && $passed != 0 ]]

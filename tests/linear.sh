@@ -48,13 +48,6 @@ for it in gpg openssl zstd; do
     chmod +x "bin/$it"
 done
 python3 -B "$root/tests/asked_once.py" authority one/public-key.pem .
-# milliseconds COMMAND..: how long a command takes, of the processors.
-milliseconds() {
-    python3 -c 'import os, subprocess, sys
-subprocess.run(sys.argv[1:], stdout=subprocess.DEVNULL, stderr=subprocess.DEVNULL)
-spent = os.times()
-print(int(1000 * (spent.children_user + spent.children_system)))' "$@"
-}
 # try KIND COUNTS OPTION..: a log of so many, and one of twice as many, and so on. FILE is that of the certificate.
 try() {
     local kind=$1 counts=$2 at number size took=() sizes=()

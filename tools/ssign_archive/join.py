@@ -4,6 +4,7 @@ from __future__ import annotations
 import argparse
 import os
 
+from ssign_keys import expand as expand_options
 from ssign_keys.faults import Fault
 from ssign_keys.output import batched, write_out
 from ssign_keys.programs import add_log_arguments
@@ -20,6 +21,7 @@ def add_arguments(parser: argparse.ArgumentParser) -> None:
     """Says which words the command takes."""
     parser.add_argument("folder", metavar="FOLDER", help="the folder of a part")
     add_log_arguments(parser)
+    expand_options.add_arguments(parser)
 
 
 def longest_of(arguments: argparse.Namespace) -> int:
@@ -33,7 +35,7 @@ def longest_of(arguments: argparse.Namespace) -> int:
 def run(arguments: argparse.Namespace) -> int:
     """Writes the messages. The status is 2 where a file can't be read to its end, and 1 where one breaks off."""
     folder = os.path.normpath(arguments.folder)
-    reader = Reader(folder, files_of(folder), arguments.lines, longest_of(arguments))
+    reader = Reader(folder, files_of(folder), arguments.lines, longest_of(arguments), arguments.max_expanded)
     if not reader.files:
         raise Fault(f"no file lies in {shown_name(folder)}")
     write_out(batched(whole.octets for whole in reader.wholes()))

@@ -2,12 +2,11 @@
 from __future__ import annotations
 
 import argparse
-import base64
 import subprocess
 from typing import Any, Dict, Iterator, List, Tuple
 
-from ssign_keys.answer import answers
-from ssign_keys.blocks import read_block
+from ssign_keys.answer import told_answers
+from ssign_keys.asking import ONCE
 from ssign_keys.commands import BUDGET
 from ssign_keys.faults import Fault
 from ssign_keys.programs import Refused, Run
@@ -31,25 +30,24 @@ def read_trust(given: Dict[str, Any]) -> Trust:
 def ask(settings: Settings, trust: Trust, reader: Reader, workplace: Workplace) -> Tuple[str, List[str]]:
     """Has ssign ask about a part, and keeps what holds. Gives the path of the answers, and what is found of the keys."""
     BUDGET.renew()
-    asking = Run(settings.program, ["questions", *settings.log_words], workplace, Progress(), subprocess.PIPE,
+    asking = Run(settings.program, ["questions", *ONCE, *settings.log_words], workplace, Progress(), subprocess.PIPE,
                  subprocess.PIPE)
     asking.feed(candidates(reader, settings.are_lines))
     weak: Dict[str, None] = {}
     try:
-        with workplace.new_file("answers") as file, answers(asking.lines(lambda: None), trust, 1) as answered:
+        with workplace.new_file("answers") as file, told_answers(asking.lines(lambda: None), trust, 1) as answered:
             for it in answered:
                 if not it.line:
                     continue
                 put(file, it.line)
-                if it.line.startswith(b"yes "):
-                    block = read_block(base64.b64decode(it.line.split(b" ", 3)[2]))
-                    if block is not None and block.version == SHA1:
-                        weak[str(block.session)] = None
+                # a `trust` line has no block
+                if it.block is not None and it.block.version == SHA1:
+                    weak[str(it.block.session)] = None
             finish(file)
     except Refused as refused:
         where = "" if refused.where is None else f" {refused.where}"
         raise Fault(f"ssign questions refuses it: {refused.code or 'see above'}{where}") from refused
-    found = [f"keys, {answered.counts.unasked_sentence()}"] if answered.counts.unasked else []
+    found = [f"keys, {it}" for it in answered.counts.sentences()]
     if not settings.allows_sha1:
         found += [f"sha1, the session {it} rests on SHA-1, for which two texts with one hash can be made" for it in weak]
     return workplace.path("answers"), found

@@ -88,7 +88,7 @@ class PartReview:
         """Writes what is kept of the part, and the record last."""
         settings = self._settings
         path = settings.path_of(self._part)
-        reader = Reader(path, files_of(path), settings.are_lines, settings.longest)
+        reader = Reader(path, files_of(path), settings.are_lines, settings.longest, settings.max_expanded)
         if not reader.files:
             raise Fault(f"no file lies in {shown_name(path)}")
         passing = {name: os.path.join(self._folder, f"{name}.{os.getpid()}.new") for name in SUMMED}
@@ -114,7 +114,8 @@ class PartReview:
         """The word that names the answers: a file that was given, or what holds under the keys that were given."""
         if self._trust is not None:
             from .keyed import ask
-            asked = Reader(reader.folder, reader.files, self._settings.are_lines, self._settings.longest)
+            asked = Reader(reader.folder, reader.files, self._settings.are_lines, self._settings.longest,
+                           self._settings.max_expanded)
             answers, found = ask(self._settings, self._trust, asked, self._workplace)
             self._asked = asked.read
             self._extra += found

@@ -9,10 +9,15 @@ import subprocess
 from dataclasses import asdict, dataclass
 from typing import Any, Callable, Dict, List, Optional, Tuple
 
+from ssign_keys import expand as expand_options
+from ssign_keys.asking import refuse_older
 from ssign_keys.faults import Fault
 from ssign_keys.files import reason
 from ssign_keys.programs import add_log_arguments, add_program_argument, find_program, log_words
+from ssign_keys.progress import Progress
+from ssign_keys.sizes import add_max_payload
 from ssign_keys.words import shown_name
+from ssign_keys.workplace import Workplace
 
 from .given import counters_for, own_file
 from .given import sum_of as sum_of_octets
@@ -36,6 +41,8 @@ class Settings:
     # folders with a file for each part; of manifests also one file for all parts
     counters: Optional[str]
     manifest: Optional[str]
+    # how many octets a compressed file may expand to, or None for the usual limit
+    max_expanded: Optional[int]
 
     @property
     def are_lines(self) -> bool:
@@ -127,6 +134,7 @@ def add_arguments(parser: argparse.ArgumentParser) -> None:
                         help="trust a payload with this certificate")
     parser.add_argument("--at-signing-time", action="store_true", help="judge whether a certificate has expired at the "
                         "payload's time, which its signer states, and not now")
+    add_max_payload(parser)
     parser.add_argument("--allow-sha1", action="store_true", help="that a session rests on SHA-1 is no finding")
     parser.add_argument("--counters", metavar="DIR", help="a folder in which PART.counters are the counters of "
                         "the part PART, "
@@ -135,6 +143,7 @@ def add_arguments(parser: argparse.ArgumentParser) -> None:
     parser.add_argument("--manifest", metavar="FILE", help="compare the logs with this manifest, and use its counters; of a "
                         "folder, PART.manifest in it is for the part PART")
     add_log_arguments(parser)
+    expand_options.add_arguments(parser)
     parser.add_argument("--whole", action="store_true", help="also find signature blocks of each session that are missing, "
                         "by their counter GBC")
     add_program_argument(parser)
@@ -150,7 +159,7 @@ def number(least: int, most: int) -> Callable[[str], int]:
 
 
 # what ssign-keys is told of keys, and which of these options name files
-TRUST = ("keys", "session_key", "ca", "cert", "at_signing_time")
+TRUST = ("keys", "session_key", "ca", "cert", "at_signing_time", "max_payload")
 
 
 def make(arguments: argparse.Namespace) -> Settings:
@@ -162,6 +171,8 @@ def make(arguments: argparse.Namespace) -> Settings:
     asked = [f"--answers={answers}"] if answers is not None and not os.path.isdir(answers) else []
     try_words(program, [*asked, *words])
     trust, files = trust_of(arguments)
+    if trust:
+        try_once(program)
     if trust and answers is not None:
         raise Fault("--answers says which signatures are valid, and so do --key, --session-key, --ca and --cert: "
                     "give one of "
@@ -171,7 +182,8 @@ def make(arguments: argparse.Namespace) -> Settings:
         raise Fault(f"--counters {shown_name(arguments.counters)}: this is no folder with a file PART.counters for each "
                     "part")
     seen = [sum_of(program)] + [look_of(it.partition("=")[2]) for it in asked] + [sum_of(it) for it in files]
-    return Settings(archive, program, answers, tuple(words), tuple(seen), trust, arguments.allow_sha1, counters, manifest)
+    return Settings(archive, program, answers, tuple(words), tuple(seen), trust, arguments.allow_sha1, counters, manifest,
+                    arguments.max_expanded)
 
 
 def given_path(path: Optional[str], option: str) -> Optional[str]:
@@ -208,6 +220,12 @@ def try_words(program: str, words: List[str]) -> None:
         raise Fault(f"ssign refuses these options, or the answers: it ended with status {tried.returncode}")
 
 
+def try_once(program: str) -> None:
+    """Refuses an older ssign once, and not for each part."""
+    with Workplace() as workplace:
+        refuse_older(program, workplace, Progress())
+
+
 def sum_of(path: str) -> str:
     """The SHA-256 of a file."""
     look(path)
@@ -237,6 +255,7 @@ def from_text(text: str, path: str) -> Settings:
     try:
         read = json.loads(text)
         return Settings(read["archive"], read["program"], read["answers"], tuple(read["words"]), tuple(read["seen"]),
-                        read["trust"], read["allows_sha1"], read["counters"], read["manifest"])
+                        read["trust"], read["allows_sha1"], read["counters"], read["manifest"],
+                        read["max_expanded"])
     except (ValueError, KeyError, TypeError) as fault:
         raise Fault(f"{shown_name(path)} holds no settings of ssign-archive") from fault

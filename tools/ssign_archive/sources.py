@@ -8,7 +8,7 @@ import stat
 from dataclasses import dataclass
 from typing import BinaryIO, Iterator, List, Optional, Tuple, cast
 
-from ssign_keys.expand import FRONT, PIECE, Damaged, expanded, form_of
+from ssign_keys.expand import FRONT, PIECE, Damaged, expanded, form_of, limited, most_expanded
 from ssign_keys.faults import Fault
 from ssign_keys.files import reason
 from ssign_keys.words import shown_name
@@ -36,11 +36,13 @@ class Read:
 class Reader:
     """Goes over the files of a folder, and keeps what was read of each."""
 
-    def __init__(self, folder: str, files: List[Stored], are_lines: bool, longest: int) -> None:
+    def __init__(self, folder: str, files: List[Stored], are_lines: bool, longest: int, max_expanded: Optional[int]) -> None:
+        """Messages have so many octets at most. A compressed file grows to so many, or to what `most_expanded` allows."""
         self.folder = folder
         self.files = files
         self._are_lines = are_lines
         self._longest = longest
+        self._max_expanded = max_expanded
         self.read: List[Read] = []
         self.messages = 0
 
@@ -53,11 +55,12 @@ class Reader:
         path = os.path.join(self.folder, stored.name)
         read = Read(stored, self.messages)
         cutter = Cutter(self._are_lines, self._longest)
+        most = most_expanded(stored.size, self._max_expanded)
         hasher, plain = hashlib.sha256(), hashlib.sha256()
         with open_file(path) as file:
             seen = look_of_open(path, file, stored)
             try:
-                for octets in gathered(plain_pieces(path, hashed(path, file, hasher))):
+                for octets in gathered(plain_pieces(path, hashed(path, file, hasher), most)):
                     plain.update(octets)
                     read.plain_size += len(octets)
                     whole = cutter.take(octets)
@@ -118,8 +121,8 @@ def hashed(path: str, file: BinaryIO, hasher: "hashlib._Hash") -> Iterator[bytes
         yield piece
 
 
-def plain_pieces(path: str, pieces: Iterator[bytes]) -> Iterator[bytes]:
-    """What a file holds, expanded where it is compressed."""
+def plain_pieces(path: str, pieces: Iterator[bytes], most: int) -> Iterator[bytes]:
+    """What a file holds, expanded to so many octets at most where it is compressed."""
     front = b""
     for piece in pieces:
         front += piece
@@ -129,7 +132,7 @@ def plain_pieces(path: str, pieces: Iterator[bytes]) -> Iterator[bytes]:
     if form == "zstd":
         raise Fault(f"{shown_name(path)} is compressed by zstd, and only gzip and xz are expanded here")
     everything = itertools.chain([front], pieces)
-    return expanded(path, form, everything) if form else everything
+    return limited(path, form, expanded(path, form, everything), most) if form else everything
 
 
 def gathered(pieces: Iterator[bytes]) -> Iterator[bytes]:

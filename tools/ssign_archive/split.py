@@ -12,6 +12,7 @@ import shutil
 from dataclasses import dataclass, field
 from typing import BinaryIO, Dict, Iterator, List, NamedTuple, Set, Tuple
 
+from ssign_keys import expand as expand_options
 from ssign_keys.faults import Fault
 from ssign_keys.files import reason
 from ssign_keys.output import print_text
@@ -39,6 +40,7 @@ def add_arguments(parser: argparse.ArgumentParser) -> None:
     parser.add_argument("--by", required=True, choices=("host", "session"), metavar="HOW", help="a part for each HOSTNAME, or "
                         "for each session with the messages that its blocks announce [possible values: host, session]")
     add_log_arguments(parser)
+    expand_options.add_arguments(parser)
     add_program_argument(parser)
     parser.add_argument("log", metavar="IN", help="the log, plain or compressed by gzip or xz, or a folder of logs that "
                         "follow one another by their names")
@@ -103,6 +105,7 @@ class Split:
         self._words = log_words(arguments)
         self._are_lines = bool(arguments.lines)
         self._longest = longest_of(arguments)
+        self._max_expanded = arguments.max_expanded
         self._by_host = arguments.by == "host"
         self._parts = parts
         self._announced = Announced()
@@ -131,7 +134,7 @@ class Split:
             folder, files = os.path.dirname(self._log), [look(self._log)]
         if not files:
             raise Fault(f"no file lies in {shown_name(folder)}")
-        return Reader(folder, files, self._are_lines, self._longest)
+        return Reader(folder, files, self._are_lines, self._longest, self._max_expanded)
 
     def _messages(self, inspection: BinaryIO) -> Iterator[Message]:
         """The messages of the log, each with what ssign calls it."""

@@ -8,10 +8,8 @@ from typing import NamedTuple, Optional
 
 from .encoding import decode, read_numbers, spell_numbers
 from .keys import Numbers, PublicKey
+from .sizes import LONGEST_PAYLOAD
 
-# No longer payload is looked at, unless --max-payload says so: it isn't trusted. A DSA key has four numbers of at most
-# 10,000 bits, which fit in a tenth of that; a certificate or an OpenPGP key of this length is none of a signer of logs.
-LONGEST = 65536
 # RFC 5424, section 6.2.3, then the type, then the key blob, which the type N lacks.
 STAMP = rb"-|[0-9]{4}-[0-9]{2}-[0-9]{2}T[0-9]{2}:[0-9]{2}:[0-9]{2}(?:\.[0-9]{1,6})?(?:Z|[+-][0-9]{2}:[0-9]{2})"
 PAYLOAD = re.compile(rb"(%s) (?:([CKPU]) ([A-Za-z0-9+/]+=*)|(N) ?)" % STAMP)
@@ -28,7 +26,7 @@ class Payload(NamedTuple):
     """The octets of the key blob; none where the type is N."""
 
 
-def read_payload(octets: bytes, longest: int = LONGEST) -> Optional[Payload]:
+def read_payload(octets: bytes, longest: int = LONGEST_PAYLOAD) -> Optional[Payload]:
     """The payload that has these octets, or None where they are none, or too many."""
     if len(octets) > longest:
         return None

@@ -6,7 +6,8 @@ from typing import Optional
 from . import openpgp
 from .faults import Fault
 from .keys import Numbers, PublicKey
-from .payloads import LONGEST, Payload, read_payload, stated_numbers
+from .payloads import Payload, read_payload, stated_numbers
+from .sizes import LONGEST_PAYLOAD
 
 KINDS = {"C": "a certificate", "K": "a key", "P": "an OpenPGP key"}
 
@@ -16,8 +17,8 @@ def refuse_other_key(octets: bytes, key: PublicKey, where: str) -> None:
 
     A payload of the types N and U states no key. What is no payload is for ssign to refuse.
     """
-    if len(octets) > LONGEST:
-        raise Fault(f"{where} has {len(octets)} octets, and none of more than {LONGEST} is trusted")
+    if len(octets) > LONGEST_PAYLOAD:
+        raise Fault(f"{where} has {len(octets)} octets, and none of more than {LONGEST_PAYLOAD} is trusted")
     payload = read_payload(octets)
     if payload is None or payload.kind not in KINDS:
         return

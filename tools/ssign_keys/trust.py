@@ -11,8 +11,8 @@ from .faults import Fault
 from .files import read_file
 from .identity import UNKNOWN, Finding, Identity
 from .keys import NO_KEY, PUBLIC_KEY, Numbers, PublicKey, one_line, read_pem_keys, stated_fingerprint
-from .payloads import LONGEST, Payload, moment_of, read_payload, stated_numbers
-from .sizes import read_size
+from .payloads import Payload, moment_of, read_payload, stated_numbers
+from .sizes import LONGEST_PAYLOAD, add_max_payload
 
 if TYPE_CHECKING:
     from .authorities import Authority, Chain
@@ -84,8 +84,7 @@ def add_arguments(parser: argparse.ArgumentParser) -> None:
                         help="trust a payload with a certificate that one of these issued for the HOSTNAME of its session")
     parser.add_argument("--cert", action="append", default=[], metavar="CERT.pem",
                         help="trust a payload with this certificate")
-    parser.add_argument("--max-payload", type=read_size, default=LONGEST, metavar="SIZE", help="look at payloads of so many "
-                        "octets; a longer one isn't trusted (default: 65536)")
+    add_max_payload(parser)
     parser.add_argument("--at-signing-time", action="store_true", help="judge whether a certificate has expired at the "
                         "payload's time, which its signer states, and not now")
 
@@ -139,7 +138,7 @@ class Trust:
 
     def __init__(self, keys: Dict[Numbers, Trusted], session_keys: Sequence[SessionKey],
                  authorities: Sequence[Authority], signers: Dict[bytes, Trusted], is_at_signing_time: bool,
-                 longest: int = LONGEST) -> None:
+                 longest: int = LONGEST_PAYLOAD) -> None:
         """Keys by their numbers, and signers by their certificates. Payloads of so many octets are looked at."""
         self._keys = keys
         self._session_keys = session_keys
@@ -175,7 +174,7 @@ class Trust:
         if not (keys or session_keys or signers or authorities):
             raise Fault("nothing says which key is to be trusted: give a public key, --session-key, --ca or --cert")
         return cls(keys, session_keys, authorities, signers, arguments.at_signing_time,
-                   getattr(arguments, "max_payload", LONGEST))
+                   getattr(arguments, "max_payload", LONGEST_PAYLOAD))
 
     @property
     def patterns(self) -> List[SessionKey]:

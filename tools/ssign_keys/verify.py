@@ -14,6 +14,7 @@ from . import sha1
 from . import trust as trust_options
 from .agreement import Survey, Walked
 from .answer import told_answers
+from .asking import ONCE, refuse_older
 from .blocks import Session
 from .broken_blocks import Broken, Search
 from .faults import Fault
@@ -36,9 +37,6 @@ from .vouched import Notes, noted
 from .walk import Walk
 from .words import shown_name
 from .workplace import Workplace, finish, put, say
-
-# how ssign is asked for its questions: each payload once, with what it read in each block
-ONCE = ("--once", "--json")
 
 
 def add_arguments(parser: argparse.ArgumentParser) -> None:
@@ -160,7 +158,7 @@ class Verifier:
             self._keep(asking, trust, jobs)
         except Refused as refused:
             if refused.code is None:
-                self._refuse_older()
+                refuse_older(self._program, self._workplace, self._progress)
             self._refuse(refused)
             raise
         self._log.check_unchanged()
@@ -177,17 +175,6 @@ class Verifier:
         for sentence in answered.counts.sentences():
             self._progress.clear()
             say(f"ssign-keys: {sentence}")
-
-    def _refuse_older(self) -> None:
-        """Refuses an ssign that can't ask about each payload once. An empty log shows whether it is that."""
-        asking = Run(self._program, ["questions", *ONCE], self._workplace, self._progress, subprocess.DEVNULL,
-                     subprocess.DEVNULL)
-        try:
-            asking.end(lambda: None)
-        except Refused as refused:
-            if refused.code is None:
-                raise Fault(f"the program {shown_name(self._program)} has no `questions --once`, without which a payload may "
-                            "be repeated without end: name a newer one with --ssign") from refused
 
     def _refuse(self, refused: Refused) -> None:
         """Has the whole log refused that was refused already by the messages that may be blocks.
