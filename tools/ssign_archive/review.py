@@ -8,6 +8,7 @@ import shutil
 import signal
 import subprocess
 import sys
+import sysconfig
 from typing import BinaryIO, List
 
 from ssign_keys.faults import Fault
@@ -83,12 +84,13 @@ def engine_words(parallel: str, arguments: argparse.Namespace, prepared: Prepara
 
 
 def find_launcher() -> str:
-    """What starts this program, on each machine."""
+    """What starts this program, on each machine: it stands beside the package, or where the interpreter's commands do."""
     folder = os.path.dirname(os.path.dirname(os.path.realpath(__file__)))
-    for name in LAUNCHERS:
-        if os.path.isfile(os.path.join(folder, name)):
-            return os.path.join(folder, name)
-    raise Fault(f"there is no launcher in {shown_name(folder)}")
+    commands = sysconfig.get_path("scripts")
+    for path in (*(os.path.join(folder, name) for name in LAUNCHERS), os.path.join(commands, LAUNCHERS[-1])):
+        if os.path.isfile(path):
+            return path
+    raise Fault(f"there is no launcher in {shown_name(folder)} or {shown_name(commands)}")
 
 
 def run_parallel(words: List[str], batches: int, lock: BinaryIO) -> int:
