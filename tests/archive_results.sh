@@ -128,8 +128,8 @@ resummed() {
 path = sys.argv[1]
 it = open(path, "rb").read()
 it = eval(sys.argv[2])
-open(path, "wb").write(it)' $place/report "$1"
-    edit $place/record 'it["sums"]["report"] = hashlib.sha256(open(sys.argv[1][:-6] + "report", "rb").read()).hexdigest(); resum()'
+open(path, "wb").write(it)' "$place/report" "$1"
+    edit "$place/record" 'it["sums"]["report"] = hashlib.sha256(open(sys.argv[1][:-6] + "report", "rb").read()).hexdigest(); resum()'
 }
 harmed 'an ok line less, with all hashes' 'its report was changed since its review' resummed 'it[:it.index(b"\nok ") + 1] + it[it.index(b"\n", it.index(b"\nok ") + 1) + 1:]'
 harmed 'another count, with all hashes' 'its report was changed since its review' resummed 'it.replace(b"end 24", b"end 25")'
@@ -160,7 +160,7 @@ harm_log() {
     says "fixity: $what" 1 "$line"
     rm -r archive && cp -rp kept archive
 }
-one=$(cd archive/gate-3 && ls | head -n 1)
+one=$(cd archive/gate-3 && printf '%s\n' * | head -n 1)
 size=$(stat -c %s "archive/gate-3/$one")
 # shellcheck disable=SC2317 # called by name
 same_time() {

@@ -55,7 +55,7 @@ expect 'an empty log' 0 'end 0' ''
 told 'another header' "<0>1 2009-05-03T14:00:39.25-07:00 host.example app 42 id ${signature/RSID=\"1\"/RSID=\"9999999999\"}" \
     'signature 0 host.example app 42 9999999999 0 0 0 1 2'
 told 'no header field' "<191>1 - - - - - $certificate and a MSG" 'certificate 0 - - - 1 0 0 27 1 27'
-told 'elements beside the block' "${H}[x@1 SIGN=\"AAAA\"]$signature[y@1 a=\"\\]\"] hello SIGN=\"AAAA\"" 'signature 0 h s - 1 0 0 0 1 2'
+told 'elements beside the block' "${H}[x@1 SIGN=\"AAAA\"]${signature}[y@1 a=\"\\]\"] hello SIGN=\"AAAA\"" 'signature 0 h s - 1 0 0 0 1 2'
 told 'SHA-256' "${H}[ssign VER=\"0121\" RSID=\"0\" SG=\"3\" SPRI=\"191\" GBC=\"9999999999\" FMN=\"9999999999\" CNT=\"1\" HB=\"$A2\" SIGN=\"AAAA\"]" \
     'signature 0 h s - 0 3 191 9999999999 9999999999 1'
 told 'a fragment far inside its payload' "${H}[ssign-cert VER=\"0111\" RSID=\"1\" SG=\"0\" SPRI=\"0\" TPBL=\"99999999\" INDEX=\"99999999\" FLEN=\"1\" FRAG=\"x\" SIGN=\"AAAA\"]" \
@@ -64,12 +64,12 @@ told 'a fragment whose value is shorter than its spelling' "${H}[ssign-cert VER=
     'certificate 0 h s - 1 0 0 4 1 4'
 told 'a plain backslash in a fragment' "${H}[ssign-cert VER=\"0111\" RSID=\"1\" SG=\"0\" SPRI=\"0\" TPBL=\"2\" INDEX=\"1\" FLEN=\"2\" FRAG=\"\\x\" SIGN=\"AAAA\"]" \
     'certificate 0 h s - 1 0 0 2 1 2'
-told 'another SD-ID in capitals' "$H[SSIGN]" 'plain 0'
+told 'another SD-ID in capitals' "${H}[SSIGN]" 'plain 0'
 told 'the octets of a block in MSG alone' "<13>1 - - - - - - $signature" 'plain 0'
 
 # Each cause, and the first of two
 told 'both blocks' "$H$certificate$signature" 'spoilt 0 S1'
-told 'both blocks, one of them with a wrong name' "$H$certificate[ssign]" 'spoilt 0 S1'
+told 'both blocks, one of them with a wrong name' "$H${certificate}[ssign]" 'spoilt 0 S1'
 told 'no parameter' "${H}[ssign]" 'spoilt 0 S2'
 told 'one parameter too many' "$H${signature/ SIGN=/ X=\"\" SIGN=}" 'spoilt 0 S2'
 told 'a name in small letters and a wrong version' "$H${signature/VER=\"0111\"/ver=\"0211\"}" 'spoilt 0 S2'

@@ -23,7 +23,7 @@ from review_examples import (
 from review_logs import GROUPS, HOSTS, LAST
 from review_model import Log, review, state
 from review_runs import answers_text, answers_to, frame, is_clean, joined, line, read_frames, read_lines, report_text
-from whole import ENTRIES, FORMS, Program, fault_of_form, names_of, runs_missing, without
+from whole import ENTRIES, FORMS, Program, fault_of_form, names_of, runs_missing
 
 SEEDS = 10_000
 # how many differences are shown

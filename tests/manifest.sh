@@ -93,7 +93,7 @@ wrong() {
 cp nights/night-4.frames $'nights/\xff'
 cp nights/night-2.frames elsewhere.frames
 cp counters-4 two-sessions && cat counters-3 >>two-sessions
-sed 's/5$/6/' counters-4 >more
+sed 's/5$/6/' counters-4 >./more
 head -n 1 counters-4 >fewer
 wrong 'the counters of another log' 'the log holds a block of the session gate signer - 4, and the counters are of gate signer - 3' nights/night-4.frames --counters counters-3
 wrong 'counters of two sessions' "the counters file two-sessions has 2 sessions and 2 lines with a GBC: an entry is of one session, which has one" nights/night-4.frames --counters two-sessions

@@ -84,8 +84,8 @@ class Told:
         self.log = log
         self.states, self.listed, self.gaps, self.unlisted, self.refused = {}, {}, {}, [], []
         order = iter(log.sessions)
-        for line in review(log, *answers):
-            word, *fields = line.split(" ")
+        for row in review(log, *answers):
+            word, *fields = row.split(" ")
             if word == "session":
                 session = next(order)
                 self.states[session] = fields[-1]

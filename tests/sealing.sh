@@ -225,7 +225,7 @@ for how in other flipped swapped zero order; do
 done
 echo "$name: $stand_ins libraries that make wrong signatures"
 # no number k is used twice: with it r would be the same
-for turn in 1 2 3 4; do
+for _ in 1 2 3 4; do
     keys seal long/private-key.pem <wants
     cat out
 done >sealed

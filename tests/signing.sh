@@ -154,6 +154,7 @@ for text in x '' 2009-05-03 2009-05-03t14:00:39Z 2009-02-29T14:00:39Z 2009-05-03
     2009-05-03T14:00:39; do
     refused "--stamp '$text'" 'ssign: P2' "${given[@]}" --stamp "$text"
 done
+# shellcheck disable=SC2258 # commas that are words
 for text in '' One ones 190 1,1,191 2,1,191 191,191 192 1,192 1,,191 ,191 191, 01,191 1,0191 +1,191 ' 1,191' \
     '1, 191' '1 191' one,191 191,one 256,191 1,447 18446744073709551616,191; do
     refused "--groups '$text'" 'ssign: P2' "${given[@]}" --groups "$text"
@@ -174,6 +175,7 @@ for option in '--rsid 0' '--rsid 9999999999'; do
     # shellcheck disable=SC2086 # an option and its value
     both "$option" --payload "$payload" $option
 done
+# shellcheck disable=SC2089 # quotes that are octets of a value
 for option in '--stamp -' '--stamp 0000-01-01T00:00:00Z' '--stamp 9999-12-31T23:59:59.999999-23:59' '--pri 0' \
     '--pri 191' '--host -' '--app -' '--procid -' '--msgid -' '--host h' '--app s' '--procid p' '--msgid m' \
     "--host $(long 255)" "--app $(long 48)" "--procid $(long 128)" "--msgid $(long 32)" '--ver 0111' '--ver 0121' \
@@ -181,7 +183,7 @@ for option in '--stamp -' '--stamp 0000-01-01T00:00:00Z' '--stamp 9999-12-31T23:
     "--groups $(seq -s , 0 191)" '--count 1' '--count 99' '--frag 1' '--frag 9999' '--copies 1' '--copies 9' \
     '--host !~ --app " --procid ] --msgid =' '--groups pri --count 2 --copies 2 --pri 13 --ver 0121' \
     '--groups 100,191 --count 7 --frag 20'; do
-    # shellcheck disable=SC2086 # an option and its value
+    # shellcheck disable=SC2086,SC2090 # an option and its value
     both "$option" "${given[@]}" $option
 done
 for text in "$time N" "$time N " "$time C S0VZ" "$time P S0VZ" "$time U S0VZ" "$time K $(long 4000)"; do

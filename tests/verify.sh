@@ -523,6 +523,7 @@ kept '2 1' '2 0 0 5' && mv counters counters.old
 twenty_there='Verdict: All 20 announced messages are present and unchanged, and each other stored message is a verified block.'
 for order in '1 2' '2 1' 'old 1 2' '2 old 1'; do
     # shellcheck disable=SC2086
+    # shellcheck disable=SC2046 # several files
     cat $(printf 'counters.%s ' $order) >counters
     keys verify --key keys/public-key.pem --counters counters both
     says "several files of counters: $order" 0 "$twenty_there Nothing is missing up to the counters."

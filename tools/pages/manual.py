@@ -5,7 +5,7 @@ import re
 from typing import List
 
 from .help import Command, Option, Program, Unreadable
-from .roff import entry, inline, plain, quoted, roff, tidy
+from .roff import entry, plain, quoted, roff, tidy
 
 # the day of the texts; a page has to have one
 DATE = "2026-11-24"

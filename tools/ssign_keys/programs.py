@@ -204,5 +204,3 @@ def log_words(arguments: argparse.Namespace, are_lines: Optional[bool] = None) -
     """The words for ssign that say how a log is read: as the options say, but for a form that is known otherwise."""
     is_of_lines = arguments.lines if are_lines is None else are_lines
     return (["--lines"] if is_of_lines else []) + handed_on(arguments, LIMITS)
-
-
