@@ -5,7 +5,7 @@ import argparse
 import os
 import subprocess
 from itertools import chain
-from typing import Callable, Iterator, List, NamedTuple, Optional, Type, Union
+from typing import Callable, Iterator, List, NamedTuple, Optional, Tuple, Type, Union
 
 from . import expand as expand_options
 from . import form as forms
@@ -81,10 +81,32 @@ def positive(text: str) -> int:
 
 def run(arguments: argparse.Namespace) -> int:
     """Prints the verdict, and gives its status: that of `ssign review`, or 1 where nothing is listed."""
-    program = find_program(arguments)
-    progress = Progress()
-    log: Optional[Log] = None
+    verification = Verification(arguments)
     try:
+        return verification.run()
+    except Refused as refused:
+        fault = verification.fault_of(refused)
+        if fault is not None:
+            raise fault from refused
+        return 2
+    finally:
+        verification.progress.clear()
+
+
+class Verification:
+    """A run of the command, from what was given to what is printed and kept."""
+
+    def __init__(self, arguments: argparse.Namespace) -> None:
+        """Nothing is read yet."""
+        self._arguments = arguments
+        self._program = find_program(arguments)
+        self.progress = Progress()
+        # once it is open
+        self._log: Optional[Log] = None
+
+    def run(self) -> int:
+        """Prints the verdict, and gives its status. What is kept of the run goes if it fails."""
+        arguments = self._arguments
         with Workplace() as workplace, KeptFile("--answers-out", "the answers", arguments.answers_out) as answers_out, \
                 KeptFile("--counters-out", "the counters", arguments.counters_out) as counters_out:
             answers_out.check()
@@ -93,13 +115,7 @@ def run(arguments: argparse.Namespace) -> int:
             refuse_one_pipe(arguments.counters, arguments.logs)
             trust = Trust.from_arguments(arguments)
             listed = Listed.from_arguments(arguments)
-            named_form = forms.named_form(arguments)
-            missing = find_missing(program, arguments, workplace, progress)
-            log = open_log(arguments.logs, named_form, workplace, progress, arguments.max_expanded)
-            warn_of_form(log)
-            if listed is not None:
-                missing = add_counters(missing, listed.look(log), program, workplace, progress)
-            verifier = Verifier(program, log_words(arguments, log.are_lines), missing, log, workplace, progress)
+            log, verifier = self._open(listed, workplace)
             verifier.answer(trust, arguments.jobs)
             reviewed = verifier.review(listed, arguments.allow_sha1)
             verifier.name_unused(trust)
@@ -108,17 +124,25 @@ def run(arguments: argparse.Namespace) -> int:
                 counters_out.keep(verifier.count())
             log.check_unchanged()
             answers_out.keep(verifier.answers_path)
-            progress.clear()
+            self.progress.clear()
             write_out(pieces)
             return reviewed.facts.status
-    except Refused as refused:
-        progress.clear()
-        fault = fault_of(refused, program, arguments, log)
-        if fault is not None:
-            raise fault from refused
-        return 2
-    finally:
-        progress.clear()
+
+    def _open(self, listed: Optional[Listed], workplace: Workplace) -> Tuple[Log, Verifier]:
+        """Opens the log, once all that ssign is asked for is known to be right."""
+        arguments, program, progress = self._arguments, self._program, self.progress
+        named_form = forms.named_form(arguments)
+        missing = find_missing(program, arguments, workplace, progress)
+        log = self._log = open_log(arguments.logs, named_form, workplace, progress, arguments.max_expanded)
+        warn_of_form(log)
+        if listed is not None:
+            missing = add_counters(missing, listed.look(log), program, workplace, progress)
+        return log, Verifier(program, log_words(arguments, log.are_lines), missing, log, workplace, progress)
+
+    def fault_of(self, refused: Refused) -> Optional[Fault]:
+        """What is said of a refusal of ssign; None where all was said."""
+        self.progress.clear()
+        return fault_of(refused, self._program, self._arguments, self._log)
 
 
 class Missing(NamedTuple):
