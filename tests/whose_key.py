@@ -98,6 +98,7 @@ def try_names(key: Any, ca: Authority) -> None:
         (named("other"), [dns("a"), dns("b"), dns("gate")], "gate", True), (named("other"), [dns("a")], "gate", False),
         (named("gate"), [dns("a")], "gate", True), (named("*.example.org"), [], "gate.example.org", False),
         (named("other"), [dns("*.example.org")], "gate.example.org", False), (named("other"), [dns("*")], "gate", False),
+        (named("other"), [dns("*.example.org")], "*.example.org", False), (named("*"), [], "*", False),
         (named("other"), [dns(".example.org")], "gate.example.org", False), (named("other"), [dns("gate.")], "gate", False),
         (named("other"), [dns("gate.example.org")], "xgate.example.org", False),
         (named("other"), [address("192.0.2.7")], "192.0.2.7", True), (named("other"), [address("192.0.2.7")], "192.0.2.70", False),

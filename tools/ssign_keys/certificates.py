@@ -35,8 +35,8 @@ class Names(NamedTuple):
 
     def has(self, host: bytes) -> bool:
         """Whether a HOSTNAME (RFC 5424, section 6.2.4) is one of them: as a text without regard to the case of ASCII
-        letters, or as an address by its value. An asterisk stands for itself alone."""
-        if host == b"-":
+        letters, or as an address by its value. A name with an asterisk is for whole domains, and so for no host."""
+        if host == b"-" or b"*" in host:
             return False
         wanted = host.lower()
         return any(it.encode("utf-8", "surrogatepass").lower() == wanted for it in self.texts) \
@@ -160,6 +160,8 @@ def usage_fault(found: x509.Certificate) -> Optional[str]:
 def read_certificates(path: str, text: bytes) -> List[Certificate]:
     """The certificates in a text of PEM, at least one."""
     parts = pem_parts(text, "CERTIFICATE")
+    if not parts and b"-----BEGIN CERTIFICATE-----" in text:
+        raise Fault(f"{path} breaks off in a certificate: its line -----END CERTIFICATE----- is missing")
     if not parts:
         raise Fault(f"{path} holds {what_is(text)}: a certificate in PEM is wanted")
     try:
