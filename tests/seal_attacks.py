@@ -286,6 +286,9 @@ class Attacks:
         os.symlink("state", "link")
         os.link("state", "twin")
         seen = "has to be a plain file with one name"
+        self.refuses("a name without a letter", "--state has an empty name", lines(block("h s - 9")), "--state", "")
+        self.refuses("a file that isn't there", "there is no state file none: put the one back that was there, or begin one with "
+                     "--new-state where none was", lines(block("h s - 9")), "--state", "none")
         self.refuses("a folder", f"the state file folder {seen}", lines(block("h s - 9")), "--state", "folder")
         self.refuses("a file with two names", f"the state file twin {seen}", lines(block("h s - 9")), "--state", "twin")
         os.unlink("twin")
@@ -362,6 +365,9 @@ class Attacks:
         ours = b"h s - 1000"
         with subprocess.Popen(words, stdin=subprocess.PIPE, stdout=subprocess.PIPE) as child:
             assert child.stdin is not None
+            # a run that began before the child has the lock would have the child refuse
+            while child.poll() is None and not has_open(child.pid, "state.lock"):
+                time.sleep(0.05)
             for _ in range(200):
                 status, out, said = seal(self.keys, b"", "--state", "link")
                 if status == 2:
@@ -386,9 +392,19 @@ def inspected(place: int, octets: bytes, found: Written) -> str:
             f"{len(found.fragment)}")
 
 
+def has_open(process: int, name: str) -> bool:
+    """Whether a process has a file of this name open."""
+    folder = f"/proc/{process}/fd"
+    try:
+        return any(os.path.basename(os.readlink(f"{folder}/{it}")) == name for it in os.listdir(folder))
+    except OSError:
+        # the process has ended, or has closed what was listed
+        return False
+
+
 def files() -> Dict[str, bytes]:
-    """Each state file with its contents."""
-    return {it: read(it) for it in ("state", "fresh", "damaged") if os.path.isfile(it)}
+    """Each state file with its contents, and the locks of files that are refused."""
+    return {it: read(it) for it in ("state", "fresh", "damaged", "folder.lock", "none.lock") if os.path.isfile(it)}
 
 
 def read(name: str) -> bytes:

@@ -44,6 +44,10 @@ class State:
 
     def __enter__(self) -> State:
         """Locks and reads the file."""
+        if not self._name:
+            raise Fault("--state has an empty name")
+        # what can't be used gets no file beside it
+        self._look()
         self._lock = self._open_lock()
         try:
             self._mode = self._look()
