@@ -48,6 +48,7 @@ printf '<13>1 - - - - - - one\n' >lines.log
 printf '21 <13>1 - - - - - - one' >frames.log
 printf 'ssh-dss AAAAB3NzaC1kc3MAAACBAJ somebody@host\n' >ssh-dss.pub
 printf 'from="192.0.2.1" ssh-rsa AAAAB3NzaC1yc2EAAAADAQABAAABgQ somebody\n' >ssh-options.pub
+printf '# mine\n\nssh-dss AAAAB3NzaC1kc3MAAACBAJ somebody@host\n' >ssh-comment.pub
 printf -- '---- BEGIN SSH2 PUBLIC KEY ----\nAAAA\n---- END SSH2 PUBLIC KEY ----\n' >ssh2.pub
 printf 'PuTTY-User-Key-File-3: ssh-dss\n' >key.ppk
 rsa_key='a key of RSA: signed syslog has DSA keys alone (RFC 5848, section 4.2.8)'
@@ -84,6 +85,7 @@ row lines.log 'a log' all
 row frames.log 'a log' all
 row ssh-dss.pub 'a public key of SSH' all
 row ssh-options.pub 'a public key of SSH' all
+row ssh-comment.pub 'a public key of SSH' all
 row ssh2.pub 'a public key of SSH' all
 row key.ppk 'a private key of PuTTY' all
 row octets 'other octets than PEM' private
@@ -145,13 +147,29 @@ for each in 'public answer' 'public verify --key' 'private seal' 'private sign -
     [[ ${words[0]} == certificate ]] && kind='a certificate'
     log=(lines.log)
     [[ ${words[1]} == answer || ${words[1]} == seal ]] && log=()
-    for path in folder: /dev/null: empty:; do
+    for path in folder: /dev/null: empty: :; do
         path=${path%:}
         what='a folder'
         [[ $path == /dev/null ]] && what='a device'
         sentence="$path is $what: a file with $kind is wanted"
         [[ $path == empty ]] && sentence="empty is empty: a file with $kind is wanted"
+        [[ $path ]] || sentence="the name of a file is empty: a file with $kind is wanted"
         SSIGN=${SSIGN-$root/ssign} says "$sentence" "${words[@]:1}" "$path" "${log[@]}"
     done
 done
+
+# what breaks off within PEM, and what has a byte order mark in front of it
+head -n 3 one/public-key.pem >cut-key
+head -n 3 rsa.crt >cut-certificate
+{ printf '\357\273\277' && cat one/public-key.pem; } >marked
+SSIGN=${SSIGN-$root/ssign}
+export SSIGN
+says 'cut-key breaks off in a public key: its line -----END PUBLIC KEY----- is missing' answer cut-key
+says 'cut-key breaks off in a public key: its line -----END PUBLIC KEY----- is missing' verify --session-key '* * * *' cut-key lines.log
+for each in --ca --cert; do
+    says 'cut-certificate breaks off in a certificate: its line -----END CERTIFICATE----- is missing' verify $each cut-certificate lines.log
+done
+"$keys_program" answer marked </dev/null >out 2>err
+status=$?
+expect 'a key after a byte order mark' 0 '' ''
 finish

@@ -13,6 +13,8 @@ LONGEST = 16 * 1024 * 1024
 
 def read_file(path: str, wanted: str) -> bytes:
     """What stands in a file of keys or certificates. `wanted` is what it should hold, with its article."""
+    if not path:
+        raise Fault(f"the name of a file is empty: a file with {wanted} is wanted")
     try:
         with open(path, "rb") as file:
             mode = os.fstat(file.fileno()).st_mode

@@ -194,6 +194,8 @@ def read_pem_keys(path: str, text: bytes) -> List[PublicKey]:
         raise Fault(f"{path} holds {what}: signatures are checked with the public key alone")
     parts = pem_parts(text, "PUBLIC KEY")
     if not parts:
+        if what == "a public key":
+            raise Fault(f"{path} breaks off in a public key: its line -----END PUBLIC KEY----- is missing")
         hint = ", or give it with --cert or --ca" if what == "a certificate" else ""
         raise Fault(f"{path} holds {what}: {PUBLIC_KEY} is wanted{hint}")
     return [read_pem_key(path, part) for part in parts]

@@ -21,6 +21,8 @@ LABELS = {
 }
 SSH = re.compile(rb"(?:[^\n]* )?(?:ssh-(?:dss|rsa|ed25519)|ecdsa-sha2-[a-z0-9-]+|sk-[a-z0-9@.-]+) AAAA"
                  rb"|---- BEGIN SSH2 PUBLIC KEY ----")
+# empty lines and comments in front of the keys of OpenSSH (sshd(8), "AUTHORIZED_KEYS FILE FORMAT")
+COMMENTS = re.compile(rb"\A(?:(?:#[^\n]*)?\r?\n)+")
 PRINTABLE_KEY = re.compile(rb"PuTTY-User-Key-File-[23]: ")
 # The version 3 of PKCS #12 (RFC 7292, section 4), and the OID of its contents, 1.2.840.113549.1.7.1.
 PKCS12 = re.compile(rb"\x30.{1,5}?\x02\x01\x03\x30.{1,5}?\x06\x09\x2a\x86\x48\x86\xf7\x0d\x01\x07", re.DOTALL)
@@ -37,7 +39,7 @@ def what_is(text: bytes) -> str:
         if b"\nProc-Type: 4,ENCRYPTED" in text:
             return "an encrypted private key"
         return LABELS.get(label[1], "PEM of another kind")
-    if SSH.match(text):
+    if SSH.match(COMMENTS.sub(b"", text)):
         return "a public key of SSH"
     if PRINTABLE_KEY.match(text):
         return "a private key of PuTTY"

@@ -36,8 +36,9 @@ class Primary(NamedTuple):
 
 
 def is_openpgp(text: bytes) -> bool:
-    """Whether a file begins as OpenPGP keys do, with armor or without; PEM begins otherwise (RFC 4880, section 4.2)."""
-    return text[:1] >= b"\x80" or b"-----BEGIN PGP " in text
+    """Whether a file begins as OpenPGP keys do, with armor or without (RFC 4880, section 4.2). Other PEM begins otherwise, and
+    may have a byte order mark in front."""
+    return (text[:1] >= b"\x80" and b"-----BEGIN " not in text) or b"-----BEGIN PGP " in text
 
 
 def read_primaries(octets: bytes) -> List[Primary]:
