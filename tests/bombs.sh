@@ -169,6 +169,9 @@ if [[ " ${forms[*]} " == *' zstd '* ]]; then
     printf '#!/bin/sh\necho damaged >&2\nexit 1\n' >bin/zstd
     PATH=$scratch/bin:$PATH keys verify --key keys/public-key.pem bomb
     refuses 'a zstd that fails' 'ssign-keys: bomb is compressed by zstd and damaged, so there is no verdict: damaged'
+    head -c -3 <(zstd -q -c <"$root/examples/one-message.log") >damaged
+    keys verify --key keys/public-key.pem damaged
+    holds 'what zstd says, without its own name for the log' grep -qE '^ssign-keys: damaged is compressed by zstd and damaged, so there is no verdict: [A-Z][a-z]' err
 fi
 # no room for what a compressed log expands to
 head -c 30000000 /dev/zero | gzip -9 >bomb

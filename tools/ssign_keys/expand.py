@@ -3,6 +3,7 @@ from __future__ import annotations
 
 import argparse
 import lzma
+import re
 import subprocess
 import zlib
 from typing import BinaryIO, Callable, Dict, Iterator, Optional, Protocol
@@ -46,6 +47,10 @@ def limited(name: str, form: str, pieces: Iterator[bytes], most: int) -> Iterato
             raise Fault(f"{shown_name(name)} is compressed by {form} and expands to more than {most} octets: if it may, say "
                         "up to how many with --max-expanded")
         yield piece
+
+
+# what the command zstd says of where the octets come from
+ZSTD_NAME = re.compile(rb"\A(?:zstd: )?/\*stdin\*\\ ?: ?")
 
 
 class Decoder(Protocol):
@@ -166,4 +171,4 @@ def expanded_zstd(name: str, packed: BinaryIO, workplace: Workplace) -> Iterator
         errors.seek(0)
         said = errors.read(1000).splitlines()
     if status != 0:
-        raise Damaged(name, "zstd", shown(said[-1]) if said else f"zstd ended with status {status}")
+        raise Damaged(name, "zstd", shown(ZSTD_NAME.sub(b"", said[-1])) if said else f"zstd ended with status {status}")
