@@ -158,6 +158,7 @@ def table():
     length = len(LINE % b"a")
     frame = len(framed(LINE % b"a"))
     hint = "this looks like one message a line: use --lines (F1)"
+    unframed = "this looks like one message a line: leave --frames out (F1)"
     compressed = "it is compressed by %s: hand over its contents (`%s`) (F1)"
     outdated = 'it is no TIMESTAMP such as 2026-01-15T09:15:07Z, and not - (P2)'
     warned = "warning: %s: this looks like octet-counted frames, and is read as lines\nssign-keys: "
@@ -168,7 +169,8 @@ def table():
         yield at_end + ["old"], b"", "old: " + hint
         yield at_end + ["-"], b"Jan 15 x\n", "standard input: " + hint
         yield at_end + ["dated"], b"", "dated: " + hint
-        yield at_end + ["--frames", "lines"], b"", "lines: " + hint
+        yield at_end + ["--frames", "lines"], b"", "lines: " + unframed
+        yield at_end + [""], b"", "the name of a log is empty; - is standard input"
         yield at_end + ["--lines", "--frames", "lines"], b"", "--lines and --frames exclude each other: a log has one form"
         yield at_end + ["bz"], b"", "bz: " + compressed % ("bzip2", "bzcat")
         yield at_end + ["zip"], b"", "zip: " + compressed % ("zip", "unzip -p")
@@ -247,8 +249,9 @@ def table():
         "torn-frames: the log breaks off in the frame that begins at octet %d: get the rest, or keep what stands before (`head -c %d`) (P1)" % (frame, frame)
     yield sign + ["torn-lines"], b"", \
         "torn-lines: the last line, from octet %d on, has no line feed: add it, or keep what stands before (`head -c %d`) (P1)" % (length + 1, length + 1)
+    yield sign + ["-"], LINE % b"a", "standard input: its one line has no line feed: add it (P1)"
     yield sign + ["--lines", "frames"], b"", warned % "frames" + "frames: " + framed_too + " (P1)"
-    yield sign + ["-"], b"12", "standard input: the log breaks off in the frame that begins at octet 0: get the rest, or keep what stands before (`head -c 0`) (P1)"
+    yield sign + ["-"], b"12", "standard input: the log breaks off in the frame that begins at octet 0: get the rest (P1)"
     yield sign + ["no-5424"], b"", \
         "no-5424: the message at place 1 isn't one of RFC 5424 (VERSION, at its octet 4): leave it out, or correct its sender (O2)"
     yield sign + ["bad-host"], b"", \
@@ -291,6 +294,7 @@ def table():
     yield sign + ["--groups", "63,127", "lines"], b"", '--groups "63,127": its last number has to be 191, so that each PRI has a group (P2)'
     text = 'it wants the text of the payload, and not the name of its file: --payload "$(cat %s)" (P2)'
     yield sign + ["--payload", "keys/payload", "lines"], b"", '--payload "keys/payload": ' + text % "keys/payload"
+    yield sign + ["--payload", "", "lines"], b"", '--payload "": it is empty: leave it out, and sign makes one of the key (P2)'
     yield sign + ["--payload", "none", "lines"], b"", '--payload "none": ' + text % "keys/payload"
     yield sign + ["--payload", "my log", "lines"], b"", '--payload "my log": ' + text % "'my log'"
     yield sign + ["--payload=--help", "lines"], b"", '--payload "--help": ' + text % "./--help"
@@ -315,7 +319,7 @@ def table():
     # names of files
     for name in NAMES:
         word = at(name)
-        yield sign + ["--frames", word], b"", "%s: %s" % (shown(word), hint)
+        yield sign + ["--frames", word], b"", "%s: %s" % (shown(word), unframed)
         yield verify + ["--max-messages", "1", "frames", word], b"", \
             "%s: this is one message a line, and frames isn't: check logs of two forms one by one, or name the form of all " \
             "with --lines or --frames" % shown(word)

@@ -11,6 +11,7 @@ OTHERS = {b"BZh": ("bzip2", "bzcat"), b"PK\x03\x04": ("zip", "unzip -p"), b"\x04
 # the byte order mark in UTF-8, and in both forms of UTF-16
 MARK = b"\xef\xbb\xbf"
 WIDE_MARKS = (b"\xff\xfe", b"\xfe\xff")
+LINES = "this looks like one message a line: use --lines"
 FRAMED = re.compile(rb"[1-9][0-9]{0,6} ")
 SURELY_FRAMED = re.compile(rb"[1-9][0-9]{0,6} <[0-9]{1,3}>1 ")
 # a length with a mistake in it, and a message
@@ -44,7 +45,7 @@ def likely_cause(front: bytes) -> Optional[str]:
     if front.startswith((b"\n", b"\r")):
         return "it begins with an empty line: remove that, and use --lines"
     if NEARLY_FRAMED.match(front) is None and is_text(front):
-        return "this looks like one message a line: use --lines"
+        return LINES
     return None
 
 

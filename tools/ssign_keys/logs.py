@@ -110,6 +110,8 @@ def open_log(names: Sequence[str], named_form: Optional[bool], workplace: Workpl
 
 def open_file(name: str) -> BinaryIO:
     """Opens a log that isn't standard input."""
+    if not name:
+        raise Fault("the name of a log is empty; - is standard input")
     try:
         file = cast(BinaryIO, open(name, "rb", buffering=0))
     except (OSError, ValueError) as error:

@@ -6,7 +6,7 @@ import re
 from typing import Callable, Dict, Iterator, NamedTuple, Optional, Tuple
 
 from .faults import Fault
-from .likely import is_surely_framed, likely_cause, looks_framed
+from .likely import LINES, is_surely_framed, likely_cause, looks_framed
 from .logs import Log
 from .programs import Refused
 from .texts import not_utf8, out_of_form, quoted
@@ -124,6 +124,8 @@ def bad_length(case: Case) -> str:
     frame = walk.offset - start
     if frame == 0:
         cause = likely_cause(case.front(start))
+        if cause == LINES and getattr(case.arguments, "frames", False):
+            return f"{name}: this looks like one message a line: leave --frames out"
         if cause is not None:
             return f"{name}: {cause}"
     what = spelled(read_at(case.opened().file, case.where, 1))
@@ -194,14 +196,16 @@ def broken_off(case: Case) -> str:
     name, octet, start = case.octet()
     if case.is_framed(start):
         return framed(name)
+    if case.opened().are_lines and octet == 0:
+        return f"{name}: its one line has no line feed: add it"
     if case.opened().are_lines:
         return f"{name}: the last line, from octet {octet} on, has no line feed: add it, or keep what stands before " \
             f"(`head -c {octet}`)"
     cause = likely_cause(case.front(start)) if octet == 0 and b"\n" in case.front(start) else None
     if cause is not None:
         return f"{name}: {cause}"
-    return f"{name}: the log breaks off in the frame that begins at octet {octet}: get the rest, or keep what stands " \
-        f"before (`head -c {octet}`)"
+    keep = f", or keep what stands before (`head -c {octet}`)" if octet else ""
+    return f"{name}: the log breaks off in the frame that begins at octet {octet}: get the rest{keep}"
 
 
 # ---- what is to be signed

@@ -119,6 +119,8 @@ def wrong_field(text: str, field: Field) -> Optional[str]:
 
 def wrong_payload(text: str) -> Optional[str]:
     """What is wrong with the text of a payload block, or with the name of a file that was given for it."""
+    if not text:
+        return "it is empty: leave it out, and sign makes one of the key"
     why = wrong_parts(text)
     is_file = bool(text) and os.path.exists(text)
     if why is None or " " in text and not is_file:

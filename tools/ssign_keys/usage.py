@@ -75,6 +75,8 @@ class Parser(argparse.ArgumentParser):
 
     def error(self, message: str) -> NoReturn:
         """Tells the mistake, and where the right words are found."""
+        # an octet that isn't UTF-8, as Python spells it
+        message = re.sub(r"\\udc([89a-f][0-9a-f])", r"\\x\1", message)
         raise Mistake(f"{message} (see `{self.prog} --help`)")
 
     def _print_message(self, message: str, file: object = None) -> None:
