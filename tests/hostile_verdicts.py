@@ -91,7 +91,7 @@ class Signed:
 
 def trailing(octets: bytes) -> Tuple[Callable[[bytes], bytes], Callable[[bytes], Fault], bool]:
     """Octets behind the element: structured data is followed by a space, or by nothing (RFC 5424, section 6)."""
-    return (lambda it: it + octets), (lambda it: Fault("M8", len(it) - len(octets))), octets in (b"\r", b"\n")
+    return (lambda it: it + octets), (lambda it: Fault("M8", len(it) - len(octets))), not octets.strip(b"\r\n")
 
 
 def front(octets: bytes) -> Tuple[Callable[[bytes], bytes], Callable[[bytes], Fault], bool]:
@@ -113,6 +113,7 @@ UNREADABLE = {
     "a CR behind": trailing(b"\r"),
     "an LF behind": trailing(b"\n"),
     "CR and LF behind": trailing(b"\r\n"),
+    "an LF and a NUL behind": trailing(b"\n\0"),
     "a NUL behind": trailing(b"\0"),
     "#012 behind": trailing(b"#012"),
     "a tab behind": trailing(b"\t"),
@@ -202,9 +203,10 @@ def rewritten(signed: Signed) -> Iterator[Attack]:
         first = fault(stored[0])
         yield Attack(f"each block: {name}", stored, 0, blocks, Fault(first.cause, -1) if name in NO_OCTET else first,
                      has_hint=has_hint)
-    for name, added in (("CRLF", b"\r"), ("an LF in each frame", b"\n"), ("CR and LF in each frame", b"\r\n")):
+    for name, added in (("CRLF", b"\r"), ("an LF in each frame", b"\n"), ("CR and LF in each frame", b"\r\n"),
+                        ("two LF in each frame", b"\n\n")):
         stored = [it + added for it in signed.stored]
-        yield Attack(name, stored, 0, blocks, Fault("M8", len(stored[0]) - len(added)), has_hint=len(added) == 1,
+        yield Attack(name, stored, 0, blocks, Fault("M8", len(stored[0]) - len(added)), has_hint=True,
                      are_lines=name == "CRLF")
     for name, plain in ORDINARY.items():
         yield Attack(f"each block: {name}", signed.changed(blocks, plain), 0, ordinary=blocks)
@@ -329,7 +331,8 @@ def main(folder: str, tool: str) -> None:
         some = cases[::6]
         for form in ("--raw", "--findings"):
             for (_, attack), said in zip(some, pool.map(lambda it: verify.run(it[0], it[1], form), some)):
-                if said[0] != 1 or said[2]:
+                beside = f"ssign-keys: {NOTHING}\n".encode() if form == "--raw" and attack.listed == 0 else b""
+                if said[0] != 1 or said[2] != beside:
                     failed += 1
                     print(f"{attack.name}: FAILED: {form}: status {said[0]}, {said[2][:200]!r}")
     for kind in ("each block", "one block", ""):

@@ -82,6 +82,7 @@ verify --key other/public-key.pem --json long
 holds 'a wrong key: the JSON has each message' test "$(grep -c '^{"line":"unlisted",' out)" = 11000
 verify --key other/public-key.pem --raw --findings long
 holds 'a wrong key: so has the report' test "$(grep -c '^unlisted ' out)" = 11000
+holds 'a wrong key: what a report cannot say stands beside it' grep -qFx "ssign-keys: Nothing in this log is shown to be authentic. Whatever was signed may have been taken out." err
 python3 -B - "$root" <<'END'
 import sys
 sys.path.insert(0, sys.argv[1] + "/tests")

@@ -359,6 +359,11 @@ refuses 'a refusal is no want of --whole' "ssign-keys: stored: there isn't enoug
 printf '#!/bin/sh\nkill -9 $$\n' >older
 keys verify --key keys/public-key.pem --whole --ssign ./older stored
 refuses 'a program that dies is no want of --whole' 'ssign-keys: ssign review was ended by the signal SIGKILL, as where memory runs out'
+printf '#!/bin/sh\nexit 2\n' >older
+for form in '' --json --raw; do
+    keys verify --key keys/public-key.pem ${form:+"$form"} --ssign ./older stored
+    refuses "a program that refuses without a word${form:+, $form}" "ssign-keys: ssign questions ended with the status 2, and didn't say why"
+done
 
 # ---- counters that were kept: what is missing up to them
 # kept LINE..: a counters file of these lines, each of which follows `count gate signer - `
@@ -607,7 +612,7 @@ refuses 'counters with CR' "$(bad_counters 1)"
 keys verify --key keys/public-key.pem --counters "$TMPDIR" signed
 refuses 'a folder of counters' "ssign-keys: the counters file $TMPDIR can't be read: Is a directory"
 keys verify --key keys/public-key.pem --counters counters.1 --counters counters.2 both
-refuses 'two files of counters' "ssign-keys: --counters can be given only once: put the files one behind the other (\`cat\`)"
+refuses 'two files of counters' "ssign-keys: --counters can be given only once: put the files one after another (\`cat\`)"
 keys verify --key keys/public-key.pem --counters /dev/stdin - < <(cat counters.1)
 refuses 'one pipe for the log and the counters' "ssign-keys: standard input can't be both the log and the counters file"
 keys verify --key keys/public-key.pem --counters /dev/stdin signed < <(cat counters.1)

@@ -19,6 +19,8 @@ from .words import grouped
 from .workplace import Workplace
 
 LINE_ENDS = b"\r\n"
+# so many of the last octets of a message are looked at
+LAST = 4
 
 
 class Unreadable(NamedTuple):
@@ -39,7 +41,7 @@ class Broken:
 
     unreadable: int = 0
     first: Optional[Unreadable] = None
-    # how many of the unreadable ones fail at their last octet alone, and that one is CR or LF
+    # how many of the unreadable ones fail at their end alone, where CR and LF stand
     ended: int = 0
     ordinary: int = 0
     first_ordinary: Optional[int] = None
@@ -78,7 +80,7 @@ class Search:
         self._log = log
         self._unlisted = unlisted
         self._progress = progress
-        # of each message that is inspected: its place, its length, and its last octet
+        # of each message that is inspected: its place, its length, and how many CR and LF it ends with
         self._places = array("I")
         self._lengths = array("I")
         self._ends = bytearray()
@@ -102,7 +104,7 @@ class Search:
             if index < len(unlisted) and unlisted[index] == walk.place:
                 self._places.append(walk.place)
                 self._lengths.append(len(stored) - (1 if self._log.are_lines else stored.index(b" ") + 1))
-                self._ends.append(stored[-2 if self._log.are_lines else -1])
+                self._ends.append(line_ends(stored[-LAST - 1:-1] if self._log.are_lines else stored[-LAST:]))
                 yield stored
 
     def _read(self, inspected: BinaryIO) -> Broken:
@@ -131,5 +133,10 @@ class Search:
         found = Unreadable(self._places[index], cause, octet, self._lengths[index])
         broken.unreadable += 1
         broken.first = broken.first or found
-        if cause == "M8" and octet == found.octets - 1 and self._ends[index] in LINE_ENDS:
+        if cause == "M8" and found.octets - self._ends[index] <= octet < found.octets:
             broken.ended += 1
+
+
+def line_ends(last: bytes) -> int:
+    """How many CR and LF a message ends with, by its last octets."""
+    return len(last) - len(last.rstrip(LINE_ENDS))

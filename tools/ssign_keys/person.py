@@ -112,7 +112,7 @@ def neighbours_words(stretch: Stretch) -> str:
     """Between which listed messages a number is missing."""
     sides = [f"{side} number {it[0]} at place {it[1]}"
              for side, it in (("after", stretch.before), ("before", stretch.behind)) if it is not None]
-    return ", ".join(sides) or "of which no other number is listed"
+    return ", ".join(sides) or "no other number of this group is listed"
 
 
 class Person(Teller):

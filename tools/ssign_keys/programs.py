@@ -135,6 +135,8 @@ class Run:
             return Refused(None, None, first[len(MISTAKE):])
         for line in self._held:
             say(line)
+        if not self._passed:
+            raise Fault(f"{self.name} ended with the status 2, and didn't say why")
         return Refused(None, None)
 
     def _pass_on(self, is_end: bool = False) -> None:

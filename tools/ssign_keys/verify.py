@@ -32,7 +32,7 @@ from .report import Reading
 from .reviewed import Reviewed
 from .strays import Finder
 from .trust import Trust
-from .verdict import Facts
+from .verdict import NOTHING, Facts
 from .vouched import Notes, noted
 from .walk import Walk
 from .words import shown_name
@@ -281,6 +281,8 @@ class Verifier:
                 listed.say()
             if reviewed.facts.on_sha1 and not arguments.allow_sha1 and reviewed.facts.review_status == 0:
                 sha1.say_finding(reviewed.facts.on_sha1)
+            if not reviewed.facts.totals.listed:
+                say(f"ssign-keys: {NOTHING}")
             pieces = file_pieces(self._report)
             return without_listed(pieces) if arguments.findings else pieces
         out = self._workplace.new_file("out")
@@ -308,7 +310,7 @@ def without_listed(pieces: Iterator[bytes]) -> Iterator[bytes]:
 def refuse_two_counters(paths: Optional[List[str]]) -> None:
     """Refuses a second counters file, before anything is done."""
     if paths is not None and len(paths) > 1:
-        raise Fault("--counters can be given only once: put the files one behind the other (`cat`)")
+        raise Fault("--counters can be given only once: put the files one after another (`cat`)")
 
 
 def refuse_one_pipe(paths: Optional[List[str]], logs: List[str]) -> None:
