@@ -3,13 +3,13 @@ from __future__ import annotations
 
 import argparse
 import hashlib
-import json
 import os
 import stat
 from concurrent.futures import ThreadPoolExecutor
 from typing import Dict, List, Optional
 
 from ssign_keys.faults import Fault
+from ssign_keys.json_text import compact
 from ssign_keys.words import counted
 
 from .findings import Finding, Spot, file_name
@@ -33,10 +33,10 @@ def run(arguments: argparse.Namespace) -> int:
     fixity = Fixity(Results(arguments.results))
     found = fixity.findings(arguments.jobs)
     if arguments.json:
-        lines = [json.dumps(it.fields(), separators=(",", ":")) for it in found]
+        lines = [compact(it.fields()) for it in found]
         total = {"line": "total", "status": fixity.status, "parts": fixity.parts, "files": fixity.files,
                  "findings": len(found)}
-        print_lines([*lines, json.dumps(total, separators=(",", ":"))])
+        print_lines([*lines, compact(total)])
     else:
         print_lines([*(it.text() for it in found), fixity.verdict(len(found))])
     return fixity.status

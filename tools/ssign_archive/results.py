@@ -17,6 +17,7 @@ from typing import List, NamedTuple, Optional
 
 from ssign_keys.faults import Fault
 from ssign_keys.files import reason
+from ssign_keys.json_text import compact
 from ssign_keys.words import shown_name
 
 from . import record as record_form
@@ -92,7 +93,7 @@ class Results:
 
     def write_batches(self, batches: List[List[int]]) -> None:
         """Keeps the batches."""
-        write_text(self.batches_path, "".join(f"{json.dumps(it, separators=(',', ':'))}\n" for it in batches))
+        write_text(self.batches_path, "".join(f"{compact(it)}\n" for it in batches))
 
     def kept(self, part: str, settings: Settings, is_deep: bool = True) -> Kept:
         """What is kept of a part. A deep look reads its report again, and sees that all else is what comes of it."""

@@ -2,11 +2,11 @@
 from __future__ import annotations
 
 import argparse
-import json
 import os
 from dataclasses import dataclass, field, fields
 from typing import Dict, Iterator, List, Mapping, Optional, Sequence, Tuple
 
+from ssign_keys.json_text import compact
 from ssign_keys.manifest_findings import bare
 from ssign_keys.report import Totals
 from ssign_keys.words import counted, shown_name
@@ -304,7 +304,7 @@ class Table:
 
 def spelled(fields_of: Mapping[str, object]) -> str:
     """An object of JSON in ASCII, on a line."""
-    return json.dumps(fields_of, separators=(",", ":"))
+    return compact(fields_of)
 
 
 def counts_of(is_known: bool, files: int, derived: Derived) -> Dict[str, object]:

@@ -1,13 +1,13 @@
 """Writes a report for programs: one object of JSON a line (docs/FORMATS.md, "A verdict as JSON")."""
 from __future__ import annotations
 
-import json
 from typing import BinaryIO, Dict, Optional, Sequence, Union
 
 from . import sha1
 from .blocks import Session
 from .broken_blocks import Broken
 from .identity import UNKNOWN, identity_fields
+from .json_text import compact
 from .pairs import Stretch, Stretches
 from .reach import Reached
 from .report import Group, Teller
@@ -38,7 +38,7 @@ class Machine(Teller):
         self._stretches = Stretches(reviewed.survey.unlisted)
 
     def _put(self, fields: object) -> None:
-        put(self._out, json.dumps(fields, separators=(",", ":")).encode("ascii") + b"\n")
+        put(self._out, compact(fields).encode("ascii") + b"\n")
 
     def session(self, session: Session, state: str) -> None:
         """Writes a session, with whose its key is."""
@@ -53,7 +53,7 @@ class Machine(Teller):
         """Makes the front of its objects for listed messages."""
         self._stretches.begin_group()
         front: Fields = {"line": "ok", **names_of(group.session), "sg": group.sg, "spri": group.spri}
-        self._front = json.dumps(front, separators=(",", ":"))[:-1]
+        self._front = compact(front)[:-1]
 
     def listed(self, group: Group, numbers: Sequence[int], places: Sequence[int]) -> None:
         """Writes the missing numbers before these, and listed messages."""

@@ -4,7 +4,6 @@ from __future__ import annotations
 import argparse
 import fnmatch
 import hashlib
-import json
 import os
 import subprocess
 from typing import BinaryIO, Dict, Iterator, List, Optional, Tuple
@@ -12,6 +11,7 @@ from typing import BinaryIO, Dict, Iterator, List, Optional, Tuple
 from . import form as forms
 from .blocks import Session
 from .faults import Fault
+from .json_text import compact
 from .kept import copy_counters
 from .logs import Log, open_file, open_log
 from .manifest_file import Appending
@@ -281,7 +281,7 @@ def check(arguments: argparse.Namespace, kept: Optional[Mark]) -> int:
         if arguments.json:
             total = {"line": "total", "status": status, "entries": len(manifest.entries), "logs": len(logs),
                      "findings": len(found), "last": mark}
-            lines.append(json.dumps(total, separators=(",", ":")))
+            lines.append(compact(total))
         else:
             lines.append(f"{counted(len(found), 'finding') if found else 'Clean'}. "
                          f"{counted(len(manifest.entries), 'entry', 'entries')}, {counted(len(logs), 'log')}; "

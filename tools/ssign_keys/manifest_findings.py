@@ -1,11 +1,11 @@
 """What a manifest shows of logs: each that is missing, cut, changed, renamed or unknown, and what is wrong with itself."""
 from __future__ import annotations
 
-import json
 from dataclasses import dataclass
 from typing import Dict, Iterator, List, NamedTuple, Optional, Sequence, Tuple
 
 from .blocks import Session
+from .json_text import compact
 from .manifest_form import Entry, Extent, Manifest, Mark
 from .words import counted, shown_name
 
@@ -46,7 +46,7 @@ class Found:
     def line(self) -> str:
         """As an object of JSON."""
         fields = {"line": "manifest", "kind": self.kind, "where": self.where, "entry": self.entry, "what": self.what}
-        return json.dumps(fields, separators=(",", ":"))
+        return compact(fields)
 
 
 def bare(name: str) -> str:

@@ -16,6 +16,7 @@ from typing import BinaryIO, Dict, List, NamedTuple, Optional, Tuple, Union
 from .blocks import Session
 from .faults import Fault
 from .files import reason
+from .json_text import compact
 from .words import shown_name
 
 # a longer line is none of a manifest
@@ -82,7 +83,7 @@ class Entry:
             "groups": [it._asdict() for it in self.groups], "counters": self.counters,
             "set_aside": None if self.set_aside is None else self.set_aside._asdict(),
         }
-        return json.dumps(fields, separators=(",", ":")).encode("ascii") + b"\n"
+        return compact(fields).encode("ascii") + b"\n"
 
     @property
     def sum(self) -> str:
@@ -111,7 +112,7 @@ class Copied:
         """The line of the copy, with its LF."""
         fields = {"entry": self.number, "previous": self.previous, "copied": self.copied, "name": self.name,
                   "sha256": self.sha256, "to": self.to}
-        return json.dumps(fields, separators=(",", ":")).encode("ascii") + b"\n"
+        return compact(fields).encode("ascii") + b"\n"
 
     @property
     def sum(self) -> str:
