@@ -5,12 +5,13 @@ import argparse
 from typing import List
 
 from ssign_keys.faults import Fault
+from ssign_keys.numbers import number
 from ssign_keys.words import shown_name
 from ssign_keys.workplace import Workplace, say
 
 from .part import review_part, trust_of
 from .results import Results
-from .settings import Settings, number
+from .settings import Settings
 from .tree import files_of
 
 # parts are put together up to so many octets of their files, as they lie there, and to so many parts

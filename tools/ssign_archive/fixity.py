@@ -10,12 +10,12 @@ from typing import Dict, List, Optional
 
 from ssign_keys.faults import Fault
 from ssign_keys.json_text import compact
+from ssign_keys.numbers import MOST_JOBS, number
 from ssign_keys.words import counted
 
 from .findings import Finding, Spot, file_name
 from .output import print_lines
 from .results import Results
-from .settings import number
 from .sources import Read, hashed, open_file
 from .tree import entries, find_parts, order
 
@@ -23,7 +23,7 @@ from .tree import entries, find_parts, order
 def add_arguments(parser: argparse.ArgumentParser) -> None:
     """Says which words the command takes."""
     parser.add_argument("results", metavar="DIR", help="the folder that `review` or `prepare` made")
-    parser.add_argument("--jobs", type=number(1, 1024), default=1, metavar="N",
+    parser.add_argument("--jobs", type=number(1, MOST_JOBS), default=1, metavar="N",
                         help="read so many files at once (default: 1)")
     parser.add_argument("--json", action="store_true", help="print a JSON object for each finding, and one for the total")
 

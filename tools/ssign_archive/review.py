@@ -12,12 +12,12 @@ import sysconfig
 from typing import BinaryIO, List
 
 from ssign_keys.faults import Fault
+from ssign_keys.numbers import MOST_JOBS, number
 from ssign_keys.words import shown_name
 from ssign_keys.workplace import Workplace
 
 from . import settings as settings_form
 from .prepare import Preparation
-from .settings import number
 from .table import Table, add_table_arguments
 
 # the launcher beside this package: in the repository, and where it is installed
@@ -31,7 +31,7 @@ SHELL = "/bin/sh"
 def add_arguments(parser: argparse.ArgumentParser) -> None:
     """Says which words the command takes."""
     settings_form.add_arguments(parser)
-    parser.add_argument("--jobs", type=number(1, 1024), metavar="N", help="review so many parts at once, on each machine "
+    parser.add_argument("--jobs", type=number(1, MOST_JOBS), metavar="N", help="review so many parts at once, on each machine "
                         "(default: one for each processor)")
     parser.add_argument("--sshlogin", action="append", default=[], metavar="LOGIN", help="review on this machine, as GNU "
                         "parallel names it; may be given several times, and : is the machine here")

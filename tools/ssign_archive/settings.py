@@ -7,7 +7,7 @@ import json
 import os
 import subprocess
 from dataclasses import asdict, dataclass
-from typing import Any, Callable, Dict, List, Optional, Tuple
+from typing import Any, Dict, List, Optional, Tuple
 
 from ssign_keys import expand as expand_options
 from ssign_keys.asking import refuse_older
@@ -147,15 +147,6 @@ def add_arguments(parser: argparse.ArgumentParser) -> None:
     parser.add_argument("--whole", action="store_true", help="also find signature blocks of each session that are missing, "
                         "by their counter GBC")
     add_program_argument(parser)
-
-
-def number(least: int, most: int) -> Callable[[str], int]:
-    """Reads a number of the command line."""
-    def read(text: str) -> int:
-        if not (text.isascii() and text.isdigit() and len(text) <= 10 and least <= int(text) <= most):
-            raise argparse.ArgumentTypeError(f"{text!r} is no number from {least} to {most}")
-        return int(text)
-    return read
 
 
 # what ssign-keys is told of keys, and which of these options name files

@@ -8,6 +8,7 @@ from typing import Dict, Iterator, List, Mapping, Optional, Sequence, Tuple
 
 from ssign_keys.json_text import compact
 from ssign_keys.manifest_findings import bare
+from ssign_keys.numbers import number
 from ssign_keys.report import Totals
 from ssign_keys.words import counted, shown_name
 
@@ -18,7 +19,7 @@ from .manifests import Part, compare
 from .output import print_lines
 from .record import Record
 from .results import Kept, Results
-from .settings import Settings, number
+from .settings import Settings
 from .tree import find_parts, order
 
 HEADINGS = ("PART", "FILES", "MESSAGES", "LISTED", "MISSING", "UNANNOUNCED", "UNLISTED", "REFUSED", "SPOILT", "SESSIONS",

@@ -13,14 +13,13 @@ from .checking import Held
 from .commands import PROCESSES, SECONDS
 from .faults import Fault
 from .identity import Finding
+from .numbers import add_jobs
 from .processes import Workers
 from .questions import Line, Reader
 from .streams import Output, input_lines
 from .trust import Trust
 from .words import counted
 from .workplace import say
-
-MOST_JOBS = 1024
 
 
 class Answered(NamedTuple):
@@ -151,19 +150,6 @@ def answers(lines: Iterable[bytes], trust: Trust, jobs: int = 1) -> Answers:
 def told_answers(lines: Iterable[bytes], trust: Trust, jobs: int) -> Answers:
     """The same for lines of `ssign questions --once --json`, which say what ssign read in each block."""
     return Answers(lines, trust, jobs, Told(trust.longest))
-
-
-def read_jobs(word: str) -> int:
-    """What an option --jobs says."""
-    if not (word.isascii() and word.isdigit() and len(word) <= 4 and 1 <= int(word) <= MOST_JOBS):
-        raise argparse.ArgumentTypeError(f"'{word}' isn't a number from 1 to {MOST_JOBS}")
-    return int(word)
-
-
-def add_jobs(parser: argparse.ArgumentParser) -> None:
-    """Says how many processes check signatures; `jobs` of the parsed arguments."""
-    parser.add_argument("--jobs", type=read_jobs, default=1, metavar="N", help="check signatures by so many processes "
-                        "(default: 1)")
 
 
 def add_arguments(parser: argparse.ArgumentParser) -> None:

@@ -23,6 +23,7 @@ from .kept_file import KeptFile
 from .logs import Log, open_log
 from .machine import Machine
 from .manifested import Listed
+from .numbers import add_jobs
 from .output import file_pieces, write_out
 from .person import Person
 from .programs import Refused, Run, add_limit_arguments, add_program_argument, find_program, log_words
@@ -53,8 +54,7 @@ def add_arguments(parser: argparse.ArgumentParser) -> None:
     parser.add_argument("--counters", action="append", metavar="FILE", help="also say what is missing up to the "
                         "counters of FILE, as `ssign counters` wrote them, and do what --whole does; each loss is a "
                         "finding")
-    parser.add_argument("--jobs", type=positive, default=1, metavar="N", help="check signatures by so many processes "
-                        "(default: 1)")
+    add_jobs(parser)
     manifested.add_arguments(parser)
     form = parser.add_mutually_exclusive_group()
     form.add_argument("--raw", action="store_true", help="print the report of `ssign review` as it stands; the status is "
@@ -70,13 +70,6 @@ def add_arguments(parser: argparse.ArgumentParser) -> None:
     add_program_argument(parser)
     parser.add_argument("logs", nargs="+", metavar="LOG", help="the stored log, or several that follow one another; - is "
                         "standard input; each plain, or compressed by gzip, xz or zstd")
-
-
-def positive(text: str) -> int:
-    """A number of processes."""
-    if not (text.isascii() and text.isdigit() and len(text) <= 4 and 1 <= int(text) <= 1024):
-        raise argparse.ArgumentTypeError(f"{text!r} is no number from 1 to 1024")
-    return int(text)
 
 
 def run(arguments: argparse.Namespace) -> int:
