@@ -16,8 +16,9 @@ from typing import BinaryIO, Iterable, Iterator, List, Optional, Sequence, Tuple
 from .expand import FRONT, PIECE, expanded, expanded_zstd, form_of, limited, most_expanded
 from .faults import Fault
 from .form import form_of as form_of_log
+from .frames import LENGTH
 from .progress import Progress
-from .walk import LENGTH, LONGEST, Walk
+from .walk import LONGEST, Walk
 from .words import shown_name
 from .workplace import Workplace, finish, put
 
