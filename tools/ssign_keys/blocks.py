@@ -7,11 +7,13 @@ from __future__ import annotations
 import re
 from typing import NamedTuple, Optional
 
+from .schemes import PATTERN
+
 # RFC 5424, section 6.2. A field holds no space, and may hold `[` and whatever else a block begins with.
 HEADER = re.compile(rb"<[0-9]{1,3}>1 [^ ]+ ([^ ]+) ([^ ]+) ([^ ]+) [^ ]+ ")
 # What the fields of a header can have at most, with the spaces between them.
 LONGEST_HEADER = 600
-FRONT = rb'\[ssign(?:-cert)? VER="(0111|0121)" RSID="([0-9]{1,10})" '
+FRONT = rb'\[ssign(?:-cert)? VER="(' + PATTERN + rb')" RSID="([0-9]{1,10})" '
 FIRST_ELEMENT = re.compile(FRONT)
 # Behind the header nothing but an element begins so: in a value each `"` and `]` is escaped, no name of an element or a
 # parameter holds `]`, and MSG stands behind the elements.
@@ -49,7 +51,7 @@ class Block(NamedTuple):
 
 
 def read_block(octets: bytes) -> Optional[Block]:
-    """The block that has these octets, or None where no block of VER 0111 or 0121 can be seen there."""
+    """The block that has these octets, or None where no block of a VER that is known can be seen there."""
     header = HEADER.match(octets[:LONGEST_HEADER])
     if not header:
         return None

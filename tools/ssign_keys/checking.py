@@ -10,6 +10,7 @@ from .commands import BUDGET
 from .encoding import decode, is_base64
 from .faults import Fault
 from .identity import Finding
+from .schemes import VERSIONS
 from .trust import Trust
 
 TOO_LONG = Finding(None, "its payload is longer than --max-payload allows")
@@ -87,7 +88,7 @@ def block_of(question: Question) -> Tuple[bytes, Block]:
     octets = decode(question.rest.partition(b" ")[0])
     block = question.block or (read_block(octets) if octets else None)
     if not octets or not block:
-        raise Fault(f"line {question.line_number}: the octets are no block of VER 0111 or 0121")
+        raise Fault(f"line {question.line_number}: the octets are no block of VER {VERSIONS}")
     return octets, block
 
 

@@ -5,8 +5,9 @@ import argparse
 from typing import List, Optional
 
 from .faults import Fault
-from .keys import HASHES, PublicKey
+from .keys import PublicKey
 from .payloads import present_stamp, state_key
+from .schemes import SCHEMES, USUAL, scheme_for
 from .stated import refuse_other_key
 
 # The most hashes of a signature block (RFC 5848, section 4.2.6): the fewer blocks, the fewer signatures.
@@ -25,17 +26,12 @@ def fill(arguments: argparse.Namespace, key: PublicKey) -> None:
     for text in arguments.payload or []:
         refuse_other_key(text.encode("utf-8", "surrogateescape"), key, "the payload of --payload")
     arguments.payload = arguments.payload or [state_key(key, present_stamp()).decode("ascii")]
-    arguments.ver = arguments.ver or [usual_version(key)]
-    _, hash_bits = HASHES.get(arguments.ver[0].encode("utf-8", "surrogateescape"), HASHES[b"0121"])
-    if key.numbers.q.bit_length() > hash_bits:
-        raise Fault(f"--ver {arguments.ver[0]} has a hash of {hash_bits} bits, and the number q of the key has "
+    arguments.ver = arguments.ver or [scheme_for(key.numbers.q.bit_length()).name]
+    scheme = SCHEMES.get(arguments.ver[0].encode("utf-8", "surrogateescape"), USUAL)
+    if key.numbers.q.bit_length() > scheme.hash_bits:
+        raise Fault(f"--ver {arguments.ver[0]} has a hash of {scheme.hash_bits} bits, and the number q of the key has "
                     f"{key.numbers.q.bit_length()}: leave --ver out, or use another key")
-    arguments.count = arguments.count or [str(usual_count(arguments, hash_bits // 8, key))]
-
-
-def usual_version(key: PublicKey) -> str:
-    """VER for a key: SHA-1 has the 160 bits of the shortest q, and each longer one takes SHA-256."""
-    return "0111" if key.numbers.q.bit_length() <= HASHES[b"0111"][1] else "0121"
+    arguments.count = arguments.count or [str(usual_count(arguments, scheme.hash_octets, key))]
 
 
 def usual_count(arguments: argparse.Namespace, hash_octets: int, key: PublicKey) -> int:

@@ -18,9 +18,10 @@ except ImportError as missing:
                 "`apt-get install python3-cryptography` installs it") from missing
 from .domain import key_fault
 from .kinds import algorithm_of, what_is
+from .schemes import SCHEMES, SHA1, SHA256, USUAL
 
-# Which hash VER names, and how many bits it has.
-HASHES = {b"0111": (hashes.SHA1, 160), b"0121": (hashes.SHA256, 256)}
+# The hash of each scheme, as the library has it.
+HASHES = {SHA1.ver: hashes.SHA1, SHA256.ver: hashes.SHA256}
 # What `cryptography` raises for a text that spells no key that it knows.
 NO_KEY = (ValueError, TypeError, UnsupportedAlgorithm)
 # What is wanted of a file.
@@ -60,8 +61,8 @@ class PublicKey:
     def is_signature(self, octets: bytes, version: bytes, signature: bytes) -> bool:
         """Whether the value of SIGN is this key's signature of the octets, by the hash that VER names."""
         q = self.numbers.q
-        hashed, hash_bits = HASHES[version]
-        if q.bit_length() > hash_bits:
+        hashed = HASHES[version]
+        if q.bit_length() > SCHEMES[version].hash_bits:
             return False
         numbers = read_numbers(signature)
         if numbers is None or len(numbers) != 2 or not all(0 < number < q for number in numbers):
@@ -129,11 +130,11 @@ class PrivateKey:
     def sign(self, octets: bytes, version: bytes) -> bytes:
         """The value of SIGN. Raises Fault where the hash that VER names is shorter than q, and where the signature that the
         library made isn't valid."""
-        hashed, hash_bits = HASHES[version]
+        hashed, hash_bits = HASHES[version], SCHEMES[version].hash_bits
         q_bits = self.public.numbers.q.bit_length()
         if q_bits > hash_bits:
             raise Fault(f"VER {version.decode()} has a hash of {hash_bits} bits, and the number q of the key has {q_bits}: "
-                        "use --ver 0121, or another key")
+                        f"use --ver {USUAL.name}, or another key")
         try:
             spelled = self._key.sign(octets, hashed())
         except UnsupportedAlgorithm as fault:

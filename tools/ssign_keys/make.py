@@ -1,39 +1,27 @@
-"""Makes the key pair of an originator, and the payload that states it.
-
-The sizes are those of RFC 4880, section 13.6. A hash has to have as many bits as q: SHA-1, which VER 0111 names, has
-160, SHA-256 of VER 0121 has 256.
-"""
+"""Makes the key pair of an originator, and the payload that states it."""
 from __future__ import annotations
 
 import argparse
 import os
-from typing import Dict, List, NamedTuple
+from typing import Dict, List
 
 from .faults import Fault
 from .files import reason
 from .keys import PrivateKey
 from .payloads import present_stamp, state_key
+from .schemes import SCHEMES, SHA1, SHA256, USUAL
 
-
-class Sizes(NamedTuple):
-    """How many bits the numbers of a key have."""
-
-    p: int
-    q: int
-
-
-SIZES = {"0111": Sizes(1024, 160), "0121": Sizes(2048, 256)}
-USUAL = "0121"
 PRIVATE, PUBLIC, PAYLOAD = "private-key.pem", "public-key.pem", "payload"
 
 
 def add_arguments(parser: argparse.ArgumentParser) -> None:
     """Says which words the command takes."""
     parser.add_argument("folder", metavar="DIR", help=f"the folder that gets {PRIVATE}, {PUBLIC} and {PAYLOAD}")
-    parser.add_argument("--ver", choices=sorted(SIZES), default=USUAL,
-                        help="0121: a key of 2048 bits, whose number q has 256, for SHA-256; 0111: a weak key of 1024 "
-                             "bits, whose q has 160, for SHA-1, which SHA-256 can be used with too "
-                             f"(default: {USUAL})")
+    parser.add_argument("--ver", choices=[it.name for it in SCHEMES.values()], default=USUAL.name,
+                        help=f"{SHA256.name}: a key of {SHA256.p_bits} bits, whose number q has {SHA256.q_bits}, for "
+                             f"{SHA256.hash_name}; {SHA1.name}: a weak key of {SHA1.p_bits} bits, whose q has {SHA1.q_bits}, "
+                             f"for {SHA1.hash_name}, which {SHA256.hash_name} can be used with too "
+                             f"(default: {USUAL.name})")
 
 
 def run(arguments: argparse.Namespace) -> int:
@@ -45,7 +33,8 @@ def run(arguments: argparse.Namespace) -> int:
         path = os.path.join(folder, name)
         if os.path.lexists(path):
             raise Fault(f"there is a file {path}, which is not overwritten")
-    key = PrivateKey.generate(*SIZES[arguments.ver])
+    scheme = SCHEMES[arguments.ver.encode("ascii")]
+    key = PrivateKey.generate(scheme.p_bits, scheme.q_bits)
     keep(folder, {PRIVATE: key.pem(), PUBLIC: key.public_pem(), PAYLOAD: state_key(key.public, present_stamp()) + b"\n"})
     return 0
 

@@ -9,6 +9,7 @@ from .faults import Fault
 from .likely import LINES, is_surely_framed, likely_cause, looks_framed
 from .logs import Log
 from .programs import Refused
+from .schemes import VERSIONS
 from .texts import not_utf8, out_of_form, quoted
 from .unsigned import part_that_fails
 from .walk import Walk, read_at
@@ -96,7 +97,7 @@ def mistake(text: str, arguments: argparse.Namespace) -> str:
     if given and option in RANGES:
         return f"--{option} {quoted(given[-1])}: it has to be a number from {RANGES[option]}"
     if given and option == "ver":
-        return f"--ver {quoted(given[-1])}: it has to be 0111 or 0121"
+        return f"--ver {quoted(given[-1])}: it has to be {VERSIONS}"
     foreign = not_utf8(arguments)
     if "UTF-8" in text and foreign is not None:
         return f"--{foreign.option} {quoted(foreign.text)}: {foreign.why}"

@@ -1,30 +1,30 @@
 """Sessions whose numbers rest on SHA-1: what is said of them, and when they leave the status as it is.
 
 Two texts with one SHA-1 can be made. Whoever made both, and had one of them signed, can put the other one in its place,
-and no review sees it. VER 0111 names SHA-1 (RFC 5848, section 4.2.1).
+and no review sees it.
 """
 from __future__ import annotations
 
 import argparse
 from typing import Optional
 
+from .schemes import SHA1
 from .vouched import Vouched
 from .words import grouped
 from .workplace import say
 
-VERSION = "0111"
 WEAKNESS = "SHA-1, for which two texts with one hash can be made"
 
 
 def add_arguments(parser: argparse.ArgumentParser) -> None:
     """Says which words the command takes."""
     parser.add_argument("--allow-sha1", action="store_true", help="let the status be 0 though a session rests on SHA-1 "
-                        "(VER 0111), for which two texts with one hash can be made")
+                        f"(VER {SHA1.name}), for which two texts with one hash can be made")
 
 
 def weakness(vouched: Optional[Vouched], state: str) -> Optional[str]:
     """What is said of a session in this state, or None where its numbers don't rest on SHA-1."""
-    return f"rests on {WEAKNESS}" if vouched and state == "joined" and VERSION in vouched.versions else None
+    return f"rests on {WEAKNESS}" if vouched and state == "joined" and SHA1.name in vouched.versions else None
 
 
 def finding(count: int) -> str:

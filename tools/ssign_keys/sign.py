@@ -14,6 +14,7 @@ from .logs import Log, open_log
 from .programs import Refused, Run, add_limit_arguments, add_program_argument, find_program, handed_on, log_words
 from .progress import Progress
 from .refusals import fault_of, named, warn_of_form
+from .schemes import SHA1, SHA256
 from .seal import seals
 from .set_aside import SetAside
 from .unsigned import warning
@@ -29,7 +30,8 @@ OPTIONS = {
     "app": ("TEXT", "APP-NAME of all blocks (default: -)"),
     "procid": ("TEXT", "PROCID of all blocks (default: -)"),
     "msgid": ("TEXT", "MSGID of all blocks (default: -)"),
-    "ver": ("VER", "0111 (SHA-1) or 0121 (SHA-256) (default: 0111 where the number q of the key has 160 bits, else 0121)"),
+    "ver": ("VER", f"{SHA1.name} ({SHA1.hash_name}) or {SHA256.name} ({SHA256.hash_name}) (default: {SHA1.name} where the "
+                   f"number q of the key has {SHA1.hash_bits} bits, else {SHA256.name})"),
     "groups": ("TEXT", "the groups: one, pri, or the highest PRI of each range (default: one)"),
     "count": ("N", "the most hashes in a signature block: 1 to 99 (default: 99, or as many as --max-len has room for)"),
     "frag": ("N", "the most octets of the payload in a certificate block: 1 to 9999 (default: 500)"),

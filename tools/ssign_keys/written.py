@@ -8,11 +8,12 @@ from typing import NamedTuple, Optional, Tuple, Union
 
 from .blocks import Session
 from .encoding import decode
+from .schemes import PATTERN, SCHEMES
 
 NUMBER = rb"(0|[1-9][0-9]{0,9})"
 # RFC 5424, section 6.2: what stands in a header is printable ASCII without a space
 HEADER = (rb"<(0|[1-9][0-9]{0,2})>1 (-|[0-9T:.Z+-]{20,32}) ([!-~]{1,255}) ([!-~]{1,48}) ([!-~]{1,128}) [!-~]{1,32} ")
-FRONT = rb'VER="(0111|0121)" RSID="%s" SG="([0-3])" SPRI="(0|[1-9][0-9]{0,2})"' % NUMBER
+FRONT = rb'VER="(%s)" RSID="%s" SG="([0-3])" SPRI="(0|[1-9][0-9]{0,2})"' % (PATTERN, NUMBER)
 # In a payload nothing stands that a value has to escape (RFC 5848, section 5.2.1).
 SIGNATURE = re.compile(HEADER + rb"\[ssign " + FRONT + rb' GBC="%s" FMN="%s" CNT="([1-9][0-9]?)" HB="([A-Za-z0-9+/= ]+)"\]'
                        % (NUMBER, NUMBER))
@@ -22,7 +23,6 @@ STAMP = re.compile(rb"[0-9]{4}-([0-9]{2})-([0-9]{2})T([0-9]{2}):([0-9]{2}):([0-9
                    rb"(?:Z|[+-]([0-9]{2}):([0-9]{2}))")
 MOST_PRI = 191
 LAST_NUMBER = 9999999999
-HASH_OCTETS = {b"0111": 20, b"0121": 32}
 
 
 class Signature(NamedTuple):
@@ -74,7 +74,7 @@ def read_signature(version: bytes, session: Session, group: Tuple[int, int], has
     pieces = hashes.split(b" ")
     if not 1 <= first <= LAST_NUMBER + 1 - count or len(pieces) != count:
         return None
-    if any(len(decode(piece) or b"") != HASH_OCTETS[version] for piece in pieces):
+    if any(len(decode(piece) or b"") != SCHEMES[version].hash_octets for piece in pieces):
         return None
     return Signature(version, session, group, gbc, first, count)
 
