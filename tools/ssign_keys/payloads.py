@@ -8,11 +8,13 @@ from typing import NamedTuple, Optional
 
 from .encoding import decode, read_numbers, spell_numbers
 from .keys import Numbers, PublicKey
+from .openpgp import read_payload_key
+from .payload_types import KEY, OPENPGP, TYPES, WITH_BLOB, WITHOUT_BLOB, Type
 from .sizes import LONGEST_PAYLOAD
 
 # RFC 5424, section 6.2.3, then the type, then the key blob, which the type N lacks.
 STAMP = rb"-|[0-9]{4}-[0-9]{2}-[0-9]{2}T[0-9]{2}:[0-9]{2}:[0-9]{2}(?:\.[0-9]{1,6})?(?:Z|[+-][0-9]{2}:[0-9]{2})"
-PAYLOAD = re.compile(rb"(%s) (?:([CKPU]) ([A-Za-z0-9+/]+=*)|(N) ?)" % STAMP)
+PAYLOAD = re.compile(rb"(%s) (?:([%s]) ([A-Za-z0-9+/]+=*)|([%s]) ?)" % (STAMP, WITH_BLOB.encode(), WITHOUT_BLOB.encode()))
 
 
 class Payload(NamedTuple):
@@ -20,10 +22,9 @@ class Payload(NamedTuple):
 
     stamp: str
     """A TIMESTAMP, or `-`."""
-    kind: str
-    """C, K, P, N or U."""
+    type: Type
     blob: bytes
-    """The octets of the key blob; none where the type is N."""
+    """The octets of the key blob; none where the type has none."""
 
 
 def read_payload(octets: bytes, longest: int = LONGEST_PAYLOAD) -> Optional[Payload]:
@@ -34,15 +35,22 @@ def read_payload(octets: bytes, longest: int = LONGEST_PAYLOAD) -> Optional[Payl
     if not parts:
         return None
     if parts[4]:
-        return Payload(parts[1].decode(), "N", b"")
+        return Payload(parts[1].decode(), TYPES[parts[4].decode()], b"")
     blob = decode(parts[3])
-    return None if blob is None else Payload(parts[1].decode(), parts[2].decode(), blob)
+    return None if blob is None else Payload(parts[1].decode(), TYPES[parts[2].decode()], blob)
 
 
 def stated_numbers(blob: bytes) -> Optional[Numbers]:
     """The numbers that the key blob of a payload of the type K states, or None where they aren't those of DSA."""
     numbers = read_numbers(blob)
     return Numbers(*numbers) if numbers is not None and len(numbers) == 4 else None
+
+
+def bare_numbers(payload: Payload) -> Optional[Numbers]:
+    """The numbers of the key in a payload without a certificate, or None where it has none that can be read."""
+    if payload.type == KEY:
+        return stated_numbers(payload.blob)
+    return read_payload_key(payload.blob) if payload.type == OPENPGP else None
 
 
 def moment_of(stamp: str) -> Optional[datetime]:
@@ -55,7 +63,7 @@ def moment_of(stamp: str) -> Optional[datetime]:
 
 def state_key(key: PublicKey, stamp: str) -> bytes:
     """The payload of the type K that states a key, with a TIMESTAMP or `-` as its time. It ends without LF."""
-    return stamp.encode() + b" K " + base64.b64encode(spell_numbers(key.numbers))
+    return f"{stamp} {KEY.letter} ".encode() + base64.b64encode(spell_numbers(key.numbers))
 
 
 def present_stamp() -> str:

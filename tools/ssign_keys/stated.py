@@ -3,13 +3,11 @@ from __future__ import annotations
 
 from typing import Optional
 
-from . import openpgp
 from .faults import Fault
 from .keys import Numbers, PublicKey
-from .payloads import Payload, read_payload, stated_numbers
+from .payload_types import CERTIFICATE
+from .payloads import Payload, bare_numbers, read_payload
 from .sizes import LONGEST_PAYLOAD
-
-KINDS = {"C": "a certificate", "K": "a key", "P": "an OpenPGP key"}
 
 
 def refuse_other_key(octets: bytes, key: PublicKey, where: str) -> None:
@@ -20,22 +18,20 @@ def refuse_other_key(octets: bytes, key: PublicKey, where: str) -> None:
     if len(octets) > LONGEST_PAYLOAD:
         raise Fault(f"{where} has {len(octets)} octets, and none of more than {LONGEST_PAYLOAD} is trusted")
     payload = read_payload(octets)
-    if payload is None or payload.kind not in KINDS:
+    if payload is None or not payload.type.states_key:
         return
     numbers = numbers_in(payload)
-    what = f"{where} has the type {payload.kind}"
+    what = f"{where} has the type {payload.type.letter}"
     if numbers is None:
-        raise Fault(f"{what}, and holds no DSA key that can be read as {KINDS[payload.kind]}")
+        raise Fault(f"{what}, and holds no DSA key that can be read as {payload.type.holds}")
     if numbers != key.numbers:
         raise Fault(f"{what}, and states another key than that of the private key")
 
 
 def numbers_in(payload: Payload) -> Optional[Numbers]:
-    """The numbers of the key in a payload of the types C, K and P, or None where it has none that can be read."""
-    if payload.kind == "K":
-        return stated_numbers(payload.blob)
-    if payload.kind == "P":
-        return openpgp.read_payload_key(payload.blob)
+    """The numbers of the key that a payload states, or None where it has none that can be read."""
+    if payload.type != CERTIFICATE:
+        return bare_numbers(payload)
     # the module of certificates takes half of the time of a start
     from . import certificates
     found = certificates.read_certificate(payload.blob)

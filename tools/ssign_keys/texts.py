@@ -8,12 +8,11 @@ import shlex
 from typing import Callable, Dict, List, NamedTuple, Optional
 
 from .encoding import is_base64
+from .payload_types import LETTERS, TYPES
 from .words import shown_name
 
 # how many characters of a text are shown
 SHOWN = 60
-# the letters of the types of keys (RFC 5848, section 5.2.1)
-KINDS = "CPKNU"
 # RFC 5424, section 6.2.3
 STAMP = re.compile(r"(\d{4})-(\d\d)-(\d\d)T(\d\d):(\d\d):(\d\d)(\.\d{1,6})?(Z|[+-](\d\d):(\d\d))", re.ASCII)
 EXAMPLE = "2026-01-15T09:15:07Z"
@@ -138,10 +137,10 @@ def wrong_parts(text: str) -> Optional[str]:
     if why is not None:
         return f"its first word isn't right: {why}"
     kind, rest = rest[:1], rest[1:]
-    if not kind or kind not in KINDS:
-        return f"a letter {', '.join(KINDS[:-1])} or {KINDS[-1]} has to follow its TIMESTAMP and one space"
-    if kind == "N":
-        return None if rest in ("", " ") else "nothing stands after the letter N"
+    if not kind or kind not in LETTERS:
+        return f"a letter {', '.join(LETTERS[:-1])} or {LETTERS[-1]} has to follow its TIMESTAMP and one space"
+    if not TYPES[kind].has_blob:
+        return None if rest in ("", " ") else f"nothing stands after the letter {kind}"
     if not rest.startswith(" ") or len(rest) == 1:
         return f"the key in base64 has to follow the letter {kind} and one space"
     return None if is_base64(rest[1:].encode("utf-8", "surrogateescape")) else "its key is no strict base64, all on one line"

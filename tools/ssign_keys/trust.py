@@ -11,7 +11,8 @@ from .faults import Fault
 from .files import read_file
 from .identity import UNKNOWN, Finding, Identity
 from .keys import NO_KEY, PUBLIC_KEY, Numbers, PublicKey, one_line, read_pem_keys, stated_fingerprint
-from .payloads import Payload, moment_of, read_payload, stated_numbers
+from .payload_types import CERTIFICATE
+from .payloads import Payload, bare_numbers, moment_of, read_payload
 from .sizes import LONGEST_PAYLOAD, add_max_payload
 
 if TYPE_CHECKING:
@@ -214,7 +215,7 @@ class Trust:
     def _judge_stated(self, stated: Stated, session: Optional[Session]) -> Judged:
         """What comes of what a payload states in a session."""
         given = next((it.trusted for it in self._session_keys if session and it.is_for(session)), None)
-        if stated.payload.kind in "NU":
+        if not stated.payload.type.states_key:
             return self._in_time(given, stated.payload) if given else Judged(None, NO_STATED_KEY)
         if given:
             if given.key.numbers != stated.numbers:
@@ -256,13 +257,9 @@ class Trust:
 
     def _state(self, payload: Payload) -> Stated:
         """What a payload states that was read."""
-        if payload.kind == "C":
+        if payload.type == CERTIFICATE:
             return self._state_certificate(payload)
-        numbers: Optional[Numbers] = None
-        if payload.kind == "K":
-            numbers = stated_numbers(payload.blob)
-        elif payload.kind == "P":
-            numbers = openpgp.read_payload_key(payload.blob)
+        numbers = bare_numbers(payload)
         trusted = self._keys.get(numbers) if numbers else None
         return Stated(payload, numbers, trusted, "" if trusted else unknown_key(numbers))
 
