@@ -330,6 +330,7 @@ def table():
     choices = "argument COMMAND: invalid choice: 'vreify' (choose from "
     yield [KEYS, "vreify"], b"", (choices, "(see `ssign-keys --help`)")
     yield [KEYS, "help", "vreify"], b"", (choices, "(see `ssign-keys --help`)")
+    yield [KEYS, b"v\xff"], b"", ("argument COMMAND: invalid choice: 'v\\xff' (choose from ", "(see `ssign-keys --help`)")
     yield [ARCHIVE, "vreify"], b"", (choices, "(see `ssign-archive --help`)")
     yield [KEYS, "verify", "signed"], b"", ("", "")
     yield [KEYS, "make"], b"", "the following arguments are required: DIR " + SEE % "make"

@@ -157,6 +157,9 @@ verify "${key[@]}" --lines stored.lines
 holds 'a missing number beside unannounced ones' grep -Fqx '    missing: number 4' out
 holds 'a missing number beside unannounced ones: these' grep -q '^    unannounced: numbers 5 to 8 ' out
 holds 'a missing number beside unannounced ones: no pair is likely' test "$(grep -ci likely out)" = 0
+python3 -B "$root/tests/verdicts.py" lines made/signed | sed '/\[ssign/!s/$/_/' >stored.lines
+verify "${key[@]}" --lines stored.lines
+says 'each message changed: no neighbour' 1 '  missing number 1 of gate signer - 1, SG 0, SPRI 0: no other number of this group is listed'
 { cat made/signed && frame '<13>1 - - - - - - behind'; } >stored
 verify "${key[@]}" stored
 holds 'an unlisted message alone is no pair' test "$(grep -c '^Likely' out)" = 0
