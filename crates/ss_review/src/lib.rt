@@ -18,7 +18,7 @@ mod sessions;
 pub use counted::counted_report::CountedReport;
 pub use counted::counted_session::{CountedSession, CountedSessions, Gbcs};
 pub use counted::counter::{Counter, Counters, Counts};
-pub use counted::missing::{MissingRun, MissingRuns, missing_blocks, missing_runs, next_gbc};
+pub use counted::missing::{MissingRun, MissingRuns, missing_runs, next_gbc};
 pub use counted::reaching::log_shortfalls;
 pub use counted::shortfall::{GroupTail, GroupTails, LogShortfalls, Shortfall, Shortfalls};
 pub use fault::ReviewFault;

@@ -1,9 +1,8 @@
 //! Which signature blocks are missing, from the GBC of those that are there.
-ghost use Rattle.std.specs.Prelude.{◌≡◌, ◌++◌, ◌<◌, ◌≤◌, ◌^◌, All, IfOk, OnOk};
+ghost use Rattle.std.specs.Prelude.{◌≡◌, ◌++◌, ◌<◌, ◌^◌, IfOk, OnOk};
 ghost use Rattle.std.specs.Ordering.{nat_cmp};
 ghost use Rattle.std.specs.List.Sorted.{IsStrictlySortedBy};
-ghost use Rattle.ss_block.specs.Ranges.{last_number};
-ghost use Rattle.ss_review.specs.counted.Counted.{next_after, run_between, missing, missing_blocks};
+ghost use Rattle.ss_review.specs.counted.Counted.{next_after, run_between, missing};
 
 use ss_octets::{List, NoMemory};
 use std::alloc::Global;
@@ -48,16 +47,6 @@ pub fn missing_runs(alloc: Global, gbcs: &[u64], next: u64) -> Result<MissingRun
     }
     add_run(&mut runs, first, next)?;
     Ok(MissingRuns::from_vec(runs))
-}
-
-/// Which signature blocks of a session are missing below the greatest GBC that is there, from the GBC of those that are
-/// there, each 0 to 9,999,999,999, once and rising. `NoMemory` where memory runs out.
-pub fn missing_blocks(alloc: Global, gbcs: &[u64]) -> Result<MissingRuns, NoMemory>
-    ensures { IsStrictlySortedBy nat_cmp gbcs.now
-        → All (λ g. g ≤ last_number) gbcs.now
-        → IfOk result (λ r. r ≡ missing_blocks gbcs.now) }
-{
-    missing_runs(alloc, gbcs, next_gbc(gbcs))
 }
 
 /// The GBC of the next signature block of a session, from those of the blocks that are there: one more than the
