@@ -30,7 +30,7 @@ TEST_CRATES = {
     "ss_signing": "test_signings",
 }
 # libraries of laws alone, which have no example
-LAW_CRATES = {"ss_carried", "ss_nights"}
+LAW_CRATES = {"ss_carried", "ss_nights", "ss_parts"}
 
 
 def lines_of(*path):

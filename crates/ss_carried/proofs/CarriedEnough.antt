@@ -43,7 +43,7 @@ use Rattle.ss_review.proofs.of_reports.Leftovers.{takes, unlisted_are, refused_a
 use Rattle.ss_review.proofs.of_reports.Listings.{listed_assigned, assigned_listed, gaps_are}
 use Rattle.ss_review.proofs.of_lists.Members.{has-filter, from_has-filter, has-flat_map, has-filter_map, from_has-filter_map}
 use Rattle.ss_review.proofs.of_assignment.OnePlaceOneKey.{one_key, assigned_cases, from_has-places_with}
-use Rattle.ss_review.proofs.of_parts.PartBlocks.{session_is, has-sessions}
+use Rattle.ss_parts.proofs.PartBlocks.{session_is, has-sessions}
 use Rattle.ss_review.proofs.of_lists.Rising.{has-in_order, from_has-in_order}
 use Rattle.ss_review.proofs.of_sessions.StatesTold.{joined_under, state_told}
 use Rattle.ss_review.proofs.of_lists.Tests.{any_member, member_any}

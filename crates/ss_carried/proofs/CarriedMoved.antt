@@ -23,14 +23,14 @@ use Rattle.ss_review.specs.report.Entries.{same_group}
 use Rattle.ss_review.specs.report.Extract.{place_listed}
 use Rattle.ss_review.specs.report.Meaning.{first_number}
 use Rattle.ss_review.specs.Ordered.{in_order}
-use Rattle.ss_review.specs.parts.Parts.{moved_entry, moved_group, moved_session, moved}
+use Rattle.ss_parts.specs.Parts.{moved_entry, moved_group, moved_session, moved}
 use Rattle.ss_review.specs.sessions.Sessions.{same_session}
 use Rattle.ss_review.specs.report.Verdict.{is_joined}
 use Rattle.ss_origin.proofs.Members.{Has, has-map, from_has-map}
 use Rattle.ss_review.proofs.of_lists.FilteredAlike.{one_test, flat_map-map}
 use Rattle.ss_review.proofs.of_lists.Keyed.{less, from_less}
 use Rattle.ss_review.proofs.of_lists.Mapped.{map-map, filter-map, map-flat_map, filter_agree}
-use Rattle.ss_review.proofs.of_parts.MovedBlocks.{moved_block}
+use Rattle.ss_parts.proofs.MovedBlocks.{moved_block}
 use Rattle.ss_review.proofs.of_lists.Rising.{below_all, all_below, same_members, rises-in_order, has-in_order, from_has-in_order}
 use Rattle.ss_report.specs.runs.Carrying as carrying
 use Rattle.ss_report.specs.runs.Carrying.{told_of, is_joined_in, entries_in, is_numbered, entries_said, entries_under, places_of, is_refused_in, is_verified_in, has_fragment_at, is_fragment_of, is_first_said, is_gap, is_unjudged, is_first_certificate, has_gap, carried_by}

@@ -14,7 +14,7 @@ use Rattle.ss_review.specs.declared.keep.message.NormalMessage.{NormalMessage}
 use Rattle.ss_review.specs.declared.keep.message.BlockMessage.{BlockMessage}
 use Rattle.ss_review.specs.keep.Notes.{Normal, Block, note, notes}
 use Rattle.ss_review.specs.keep.Contents.{Contents, normals, blocks, contents}
-use Rattle.ss_review.specs.parts.Parts.{placed_of, messages_of, places_of}
+use Rattle.ss_parts.specs.Parts.{placed_of, messages_of, places_of}
 use Rattle.ss_review.specs.report.Report.{report_of}
 use Rattle.ss_review.specs.sessions.Verified.{Answers}
 use Rattle.ss_origin.proofs.Members.{Has, has-append_left, has-append_right, has-append_cases, has-map, from_has-map}

@@ -17,16 +17,16 @@ use Rattle.ss_review.specs.declared.keep.message.Said.{Said}
 use Rattle.ss_review.specs.declared.report.report.Report.{Report}
 use Rattle.ss_review.specs.keep.Notes.{Note, Normal, Block, Spoilt, note, notes}
 use Rattle.ss_review.specs.keep.Contents.{said_in, block_with, block_in, block_at, normals, blocks, contents}
-use Rattle.ss_review.specs.parts.Parts.{blocks_of, moved, placed_of, messages_of, places_of}
+use Rattle.ss_parts.specs.Parts.{blocks_of, moved, placed_of, messages_of, places_of}
 use Rattle.ss_review.specs.report.Report.{report_of}
 use Rattle.ss_review.specs.sessions.Verified.{Answers}
 use Rattle.ss_origin.proofs.Members.{Has, has_from_contains, contains_from_has}
 use Rattle.ss_review.proofs.of_reports.Leftovers.{refused_are}
 use Rattle.ss_review.proofs.of_lists.Keyed.{less, from_less, keys_rise-filter}
 use Rattle.ss_review.proofs.of_lists.Mapped.{map-map, filter-map}
-use Rattle.ss_review.proofs.of_parts.MovedBlocks.{moved_block}
+use Rattle.ss_parts.proofs.MovedBlocks.{moved_block}
 use Rattle.ss_review.proofs.of_kept_messages.NotesTold.{block_place, normal_noted, block_noted}
-use Rattle.ss_review.proofs.of_parts.PartLogs.{told_of_part}
+use Rattle.ss_parts.proofs.PartLogs.{told_of_part}
 use Rattle.ss_review.proofs.of_lists.Rising.{all_below, below_all, from_has-in_order}
 use Rattle.std.specs.Cmp.{nat_cmp_total}
 use Rattle.std.proofs.lemmas.Map.Lookups.{exact_unsigned}

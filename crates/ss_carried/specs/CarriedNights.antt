@@ -6,7 +6,7 @@ use Rattle.ss_review.specs.keep.Notes.{notes}
 use Rattle.ss_review.specs.keep.Contents.{Contents, contents}
 use Rattle.ss_review.specs.sessions.Verified.{Answers}
 use Rattle.ss_review.specs.report.Report.{report_of, report}
-use Rattle.ss_review.specs.parts.Parts.{moved, messages_of, places_of}
+use Rattle.ss_parts.specs.Parts.{moved, messages_of, places_of}
 use Rattle.ss_report.specs.runs.Carrying.{carried_by, carried}
 use Rattle.ss_nights.specs.Nights.{Nights, at_places, night_log, AreContents, LeaveEnough}
 use Rattle.ss_nights.specs.NightLaws.{reviewed_part}

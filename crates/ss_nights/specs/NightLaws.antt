@@ -10,7 +10,7 @@ use Rattle.ss_review.specs.sessions.Verified.{Answers, joined, is_verified}
 use Rattle.ss_review.specs.announced.Announced.{Key}
 use Rattle.ss_review.specs.announced.Announcing.{Announces}
 use Rattle.ss_review.specs.report.Report.{report_of}
-use Rattle.ss_review.specs.parts.Parts.{report_of_part}
+use Rattle.ss_parts.specs.Parts.{report_of_part}
 use Rattle.ss_nights.specs.Nights.{Nights, is_reviewed, night_log, so_far, AreContents, IsJoined, LeaveEnough}
 
 -- the part 0 of the log is what the night reviews

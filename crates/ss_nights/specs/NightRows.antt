@@ -13,7 +13,7 @@ use Rattle.ss_review.specs.declared.report.report.Report.{Report}
 use Rattle.ss_review.specs.declared.keep.message.NormalMessage.{NormalMessage}
 use Rattle.ss_review.specs.declared.keep.message.BlockMessage.{BlockMessage}
 use Rattle.ss_review.specs.announced.Announced.{Key}
-use Rattle.ss_review.specs.parts.PartRows.{joined_with}
+use Rattle.ss_parts.specs.PartRows.{joined_with}
 use Rattle.ss_review.specs.report.Report.{report_of}
 use Rattle.ss_review.specs.report.Rows.{first, second, third, message, certificate, hashes_of, sent_by, yes}
 use Rattle.ss_nights.specs.Nights.{Nights, night_log, so_far, LeaveEnough, IsSettled}

@@ -8,5 +8,4 @@ pub mod questions
 pub mod counted
 pub mod Laws
 pub mod deliveries
-pub mod parts
 pub mod FaultText

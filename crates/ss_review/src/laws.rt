@@ -6,7 +6,6 @@ pub mod counted;
 mod delivered;
 pub mod deliveries;
 pub mod kept;
-pub mod parts;
 pub mod reports;
 pub mod reviewers;
 mod whole;

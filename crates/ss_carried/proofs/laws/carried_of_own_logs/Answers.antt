@@ -1,9 +1,9 @@
 use Rattle.std.proofs.Common.{◌≡◌, ◌==◌, Bool, true, false, cond, refl, sym, ap, ◌∙◌}
 use Rattle.ss_review.specs.keep.Notes.{notes}
 use Rattle.ss_review.specs.keep.Contents.{Contents, contents}
-use Rattle.ss_review.specs.parts.Parts.{part_of}
+use Rattle.ss_parts.specs.Parts.{part_of}
 use Rattle.ss_review.specs.report.Report.{report_of}
-use Rattle.ss_review.proofs.of_parts.PartLogs.{part_told}
+use Rattle.ss_parts.proofs.PartLogs.{part_told}
 use Rattle.ss_report.specs.runs.Carrying.{carried_by}
 use Rattle.ss_nights.specs.Nights.{is_reviewed, at_places}
 use Rattle.ss_nights.specs.NightLaws.{reviewed_part}

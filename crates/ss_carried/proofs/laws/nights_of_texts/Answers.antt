@@ -3,7 +3,7 @@ use Rattle.std.specs.Prelude.{slice_index}
 use Rattle.std.proofs.lemmas.List.{length-map}
 use Rattle.ss_review.specs.keep.Notes.{note, notes}
 use Rattle.ss_review.specs.keep.Contents.{contents}
-use Rattle.ss_review.specs.parts.Parts.{moved, messages_of, places_of}
+use Rattle.ss_parts.specs.Parts.{moved, messages_of, places_of}
 use Rattle.ss_review.specs.report.Report.{report}
 use Rattle.ss_nights.specs.NightLaws.{reviewed_part}
 use Rattle.ss_carried.specs.CarriedNights.{night_texts, nights_of}

@@ -2,7 +2,7 @@ use Rattle.std.proofs.Common.{◌≡◌, ◌==◌, Bool, true, false, cond, refl
 use Rattle.ss_review.specs.keep.Notes.{notes}
 use Rattle.ss_review.specs.keep.Contents.{Contents, contents}
 use Rattle.ss_review.specs.report.Report.{report_of}
-use Rattle.ss_review.proofs.of_parts.PartLogs.{part_told}
+use Rattle.ss_parts.proofs.PartLogs.{part_told}
 use Rattle.ss_nights.specs.Nights.{is_reviewed, at_places}
 use Rattle.ss_nights.specs.NightLaws.{reviewed_part}
 use Rattle.ss_nights.proofs.laws.nights_are_logs.Goals as goal

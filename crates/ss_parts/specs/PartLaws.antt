@@ -13,7 +13,7 @@ use Rattle.ss_review.specs.announced.Announcing.{Announces}
 use Rattle.ss_review.specs.assign.Assigned.{assigned}
 use Rattle.ss_review.specs.report.Report.{session_report, report}
 use Rattle.ss_review.specs.report.Verdict.{is_clean}
-use Rattle.ss_review.specs.parts.Parts.{
+use Rattle.ss_parts.specs.Parts.{
   blocks_of,
   part_of,
   SessionsStayWhole,

@@ -22,12 +22,12 @@ use Rattle.ss_review.specs.keep.Notes.{Note, Normal, Block, Spoilt, note, notes}
 use Rattle.ss_review.specs.keep.Contents.{said_in, block_with, block_in, normal_at, block_at, spoilt_at, normals, blocks, spoilts, contents}
 use Rattle.ss_review.specs.sessions.Verified.{Answers}
 use Rattle.ss_review.specs.report.Report.{report_of}
-use Rattle.ss_review.specs.parts.Parts.{moved_spoilt, moved, normals_of, blocks_of, spoilts_of, part_of, placed_of, messages_of, places_of, report_of_part}
+use Rattle.ss_parts.specs.Parts.{moved_spoilt, moved, normals_of, blocks_of, spoilts_of, part_of, placed_of, messages_of, places_of, report_of_part}
 use Rattle.ss_review.proofs.of_lists.Counting.{count_by-map}
 use Rattle.ss_review.proofs.of_lists.Keyed.{less, one_index, keys_rise-filter}
 use Rattle.ss_review.proofs.of_lists.Mapped.{map-map, map-cons_option, filter-map}
-use Rattle.ss_review.proofs.of_parts.MovedBlocks.{moved_block}
-use Rattle.ss_review.proofs.of_parts.MovedReports.{moved_normal, moved_log, KeepsApart, report_moved}
+use Rattle.ss_parts.proofs.MovedBlocks.{moved_block}
+use Rattle.ss_parts.proofs.MovedReports.{moved_normal, moved_log, KeepsApart, report_moved}
 use Rattle.ss_review.proofs.of_kept_messages.NotesTold.{normal_place, block_place, spoilt_place, normal_noted}
 use Rattle.ss_review.proofs.of_lists.Rising.{all_below}
 use Rattle.ss_review.proofs.of_lists.Tests.{from_in_range}

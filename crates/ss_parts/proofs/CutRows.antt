@@ -13,8 +13,8 @@ use Rattle.ss_review.specs.declared.keep.message.NormalMessage.{NormalMessage}
 use Rattle.ss_review.specs.declared.keep.message.BlockMessage.{BlockMessage}
 use Rattle.ss_review.specs.declared.keep.message.Said.{Said}
 use Rattle.ss_review.specs.declared.keep.message.Said.TheVariants.{Hashes, Fragment}
-use Rattle.ss_review.specs.parts.Parts.{SessionsStayWhole, AnnouncedStayWithBlocks, AreParts}
-use Rattle.ss_review.specs.parts.PartRows.{cut_off, halves_log}
+use Rattle.ss_parts.specs.Parts.{SessionsStayWhole, AnnouncedStayWithBlocks, AreParts}
+use Rattle.ss_parts.specs.PartRows.{cut_off, halves_log}
 use Rattle.ss_review.specs.assign.Assigned.{has_hash}
 use Rattle.ss_review.specs.report.Rows.{first, second, yes, whole_log, two_sessions_log, two_hosts_payloads_log}
 use Rattle.ss_origin.proofs.Members.{Has, has_from_contains}

@@ -10,8 +10,8 @@ use Rattle.ss_review.specs.report.Verdict.{is_clean}
 use Rattle.ss_review.specs.sessions.Verified.{joined, is_verified}
 use Rattle.ss_block.specs.PayloadReading.{stamp_in, stamp_and_rest_in, blob_in, payload_in}
 use Rattle.ss_octets.specs.Cut.{parts_at}
-use Rattle.ss_review.proofs.of_parts.CutRows.{session_kept, message_from_one_session, announcer_with_messages, message_from_two_sessions, halves_kept}
-use Rattle.ss_review.proofs.laws.parts.parts_are_these.Goals as goal
+use Rattle.ss_parts.proofs.CutRows.{session_kept, message_from_one_session, announcer_with_messages, message_from_two_sessions, halves_kept}
+use Rattle.ss_parts.proofs.laws.parts_are_these.Goals as goal
 
 pub returns : goal.returns
 unfolding rows keys pair_of_bearer places_with wanted rank assigned is_taken group_keys entries in_order is_disputed cover joined_text stated_payload report_of is_clean joined is_verified parts_at stamp_in stamp_and_rest_in blob_in payload_in

@@ -12,7 +12,7 @@ use Rattle.ss_review.specs.sessions.Verified.{Answers}
 use Rattle.ss_review.specs.announced.Announced.{Key, Row, key_cmp, keys, hashes_for}
 use Rattle.ss_review.specs.assign.Assigned.{same_pair, has_hash, is_pair, pair_of_bearer, places_with, wanted_with, wanted, rank, place_of, assigned}
 use Rattle.ss_review.specs.announced.Announcing.{Announces}
-use Rattle.ss_review.specs.parts.Parts.{normals_of, blocks_of, SessionsStayWhole, AnnouncedStayWithBlocks}
+use Rattle.ss_parts.specs.Parts.{normals_of, blocks_of, SessionsStayWhole, AnnouncedStayWithBlocks}
 use Rattle.ss_origin.proofs.Members.{Has, contains_from_has}
 use Rattle.ss_review.proofs.of_lists.Members.{from_has-filter}
 use Rattle.ss_review.proofs.of_numbers.Announcements.{announced_row, keys-rise, from_has-hashes_for, has-announced_key}
@@ -20,8 +20,8 @@ use Rattle.ss_review.proofs.of_lists.Counting.{same_pair-is}
 use Rattle.ss_review.proofs.of_lists.FilteredAlike.{filter_within, find_within, same_count}
 use Rattle.ss_review.proofs.of_lists.Finding.{find_some, bearer_of}
 use Rattle.ss_review.proofs.of_assignment.OnePlaceOneKey.{only_one}
-use Rattle.ss_review.proofs.of_parts.PartBlocks.{IsOwn, announcer_is, announced_down, announced_own}
-use Rattle.ss_review.proofs.of_parts.PartKeys.{all_rows, own_rows, key_up, key_own, same_hashes}
+use Rattle.ss_parts.proofs.PartBlocks.{IsOwn, announcer_is, announced_down, announced_own}
+use Rattle.ss_parts.proofs.PartKeys.{all_rows, own_rows, key_up, key_own, same_hashes}
 use Rattle.ss_review.proofs.of_lists.TotalOrders.{key_cmp_total}
 
 -- ---- what is wanted by some hashes

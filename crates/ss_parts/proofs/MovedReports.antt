@@ -17,16 +17,16 @@ use Rattle.ss_review.specs.announced.Announced.{Key, Row, key_cmp, keys, rows, h
 use Rattle.ss_review.specs.assign.Assigned.{same_pair, has_hash, is_pair, pair_of_bearer, places_with, wanted, rank, place_of, assigned, is_taken}
 use Rattle.ss_review.specs.report.Entries.{group_keys, entry_with, entry_of, greatest_below, hole_between, entries}
 use Rattle.ss_review.specs.report.Report.{groups, group_report, session_report, unlisted, report_with, report_of}
-use Rattle.ss_review.specs.parts.Parts.{moved_entry, moved_group, moved_session, moved_spoilt, moved}
+use Rattle.ss_parts.specs.Parts.{moved_entry, moved_group, moved_session, moved_spoilt, moved}
 use Rattle.ss_origin.proofs.Members.{Has}
 use Rattle.ss_review.proofs.of_lists.FilteredAlike.{one_test, flat_map_agree}
 use Rattle.ss_review.proofs.of_lists.Finding.{mapped}
 use Rattle.ss_review.proofs.of_lists.Keyed.{has-slice_get}
 use Rattle.ss_review.proofs.of_reports.Leftovers.{taken_by, takes}
 use Rattle.ss_review.proofs.of_lists.Mapped.{option_map-option_map, map-map, filter-map, find-map, map-flat_map, filter_agree}
-use Rattle.ss_review.proofs.of_parts.MovedBlocks.{moved_block, sessions_moved, joined_moved, rows_moved, refused_moved}
+use Rattle.ss_parts.proofs.MovedBlocks.{moved_block, sessions_moved, joined_moved, rows_moved, refused_moved}
 use Rattle.ss_review.proofs.of_assignment.OnePlaceOneKey.{assigned_cases, from_has-places_with}
-use Rattle.ss_review.proofs.of_parts.PartAssigned.{wanted_alike}
+use Rattle.ss_parts.proofs.PartAssigned.{wanted_alike}
 
 module _ (f : ℕ → ℕ) where
   abbrev pub moved_normal : NormalMessage → NormalMessage

@@ -6,7 +6,7 @@ use Rattle.ss_review.specs.declared.report.entry.Entry.TheVariants as entry
 use Rattle.ss_review.specs.declared.report.group_report.GroupReport.{GroupReport}
 use Rattle.ss_review.specs.declared.report.session_report.SessionReport.{SessionReport}
 use Rattle.ss_review.specs.declared.report.report.Report.{Report}
-use Rattle.ss_review.specs.parts.Parts.{moved_entry, moved_group, moved_session, moved_spoilt, moved}
+use Rattle.ss_parts.specs.Parts.{moved_entry, moved_group, moved_session, moved_spoilt, moved}
 use Rattle.ss_review.specs.report.Verdict.{is_joined, is_listed, is_none, is_clean}
 
 list_all-map : {X Y : Type 0} (p : Y → Bool) (g : X → Y) (xs : List X) → list_all p (map g xs) ≡ list_all (λ x. p (g x)) xs

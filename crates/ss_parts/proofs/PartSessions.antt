@@ -14,15 +14,15 @@ use Rattle.ss_review.specs.announced.Announced.{Key, Row, is_disputed_key}
 use Rattle.ss_review.specs.assign.Assigned.{has_hash, places_with, rank, assigned, is_taken}
 use Rattle.ss_review.specs.report.Entries.{group_keys, entry_with, entry_of, greatest_below, hole_between, entries}
 use Rattle.ss_review.specs.report.Report.{groups, group_report, session_report}
-use Rattle.ss_review.specs.parts.Parts.{normals_of, part_of, SessionsStayWhole, AnnouncedStayWithBlocks}
+use Rattle.ss_parts.specs.Parts.{normals_of, part_of, SessionsStayWhole, AnnouncedStayWithBlocks}
 use Rattle.ss_origin.proofs.Members.{Has, contains_from_has}
 use Rattle.ss_review.proofs.of_lists.FilteredAlike.{one_test, flat_map_agree}
 use Rattle.ss_review.proofs.of_lists.Keyed.{has-slice_get}
 use Rattle.ss_review.proofs.of_reports.Leftovers.{taken_by, takes}
 use Rattle.ss_review.proofs.of_assignment.OnePlaceOneKey.{wanted_key, assigned_cases, from_has-places_with}
-use Rattle.ss_review.proofs.of_parts.PartAssigned.{from_own_message, wants_one, same_assigned}
-use Rattle.ss_review.proofs.of_parts.PartBlocks.{IsOwn, own_joined, announced_down, announced_own}
-use Rattle.ss_review.proofs.of_parts.PartKeys.{all_rows, own_rows, key_own, same_groups, same_group_keys, same_dispute}
+use Rattle.ss_parts.proofs.PartAssigned.{from_own_message, wants_one, same_assigned}
+use Rattle.ss_parts.proofs.PartBlocks.{IsOwn, own_joined, announced_down, announced_own}
+use Rattle.ss_parts.proofs.PartKeys.{all_rows, own_rows, key_own, same_groups, same_group_keys, same_dispute}
 use Rattle.ss_review.proofs.of_lists.Sections.{map_agree}
 use Rattle.ss_review.proofs.of_reports.Telling.{from_has-group_keys}
 

@@ -13,7 +13,7 @@ use Rattle.ss_review.specs.declared.report.report.Report.{Report}
 use Rattle.ss_review.specs.keep.Contents.{Contents}
 use Rattle.ss_review.specs.report.Report.{report_of}
 use Rattle.ss_review.specs.report.Verdict.{is_clean}
-use Rattle.ss_review.specs.parts.Parts.{part_of, SessionsStayWhole, AnnouncedStayWithBlocks, AreParts, together}
+use Rattle.ss_parts.specs.Parts.{part_of, SessionsStayWhole, AnnouncedStayWithBlocks, AreParts, together}
 use Rattle.ss_review.specs.report.Rows.{
   first,
   second,

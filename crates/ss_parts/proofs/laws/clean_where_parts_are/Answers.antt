@@ -6,11 +6,11 @@ use Rattle.ss_review.specs.keep.Contents.{contents}
 use Rattle.ss_review.specs.sessions.Verified.{Answers}
 use Rattle.ss_review.specs.report.Report.{report, report_of}
 use Rattle.ss_review.specs.report.Verdict.{is_clean}
-use Rattle.ss_review.specs.parts.Parts.{part_of, messages_of, places_of}
-use Rattle.ss_review.proofs.of_parts.MovedVerdicts.{clean_moved}
-use Rattle.ss_review.proofs.of_parts.PartLogs.{part_told}
-use Rattle.ss_review.proofs.of_parts.PartVerdicts.{clean_where_parts_are}
-use Rattle.ss_review.proofs.laws.parts.clean_where_parts_are.Goals as goal
+use Rattle.ss_parts.specs.Parts.{part_of, messages_of, places_of}
+use Rattle.ss_parts.proofs.MovedVerdicts.{clean_moved}
+use Rattle.ss_parts.proofs.PartLogs.{part_told}
+use Rattle.ss_parts.proofs.PartVerdicts.{clean_where_parts_are}
+use Rattle.ss_parts.proofs.laws.clean_where_parts_are.Goals as goal
 
 own_verdict : (says : Answers) (log : List (List ℕ)) (part : ℕ → ℕ) (k : ℕ)
     → is_clean (report_of says (part_of part k (contents (notes log)))) ≡ is_clean (report says (messages_of part k log))

@@ -1,10 +1,10 @@
 use Rattle.std.proofs.Common.{map, sym, ◌∙◌}
 use Rattle.std.specs.List.{range_with_len}
 use Rattle.ss_review.specs.keep.Notes.{notes}
-use Rattle.ss_review.specs.parts.Parts.{together}
-use Rattle.ss_review.proofs.of_parts.PartLogs.{part_told}
-use Rattle.ss_review.proofs.of_parts.PartReports.{add_up}
-use Rattle.ss_review.proofs.laws.parts.parts_add_up.Goals as goal
+use Rattle.ss_parts.specs.Parts.{together}
+use Rattle.ss_parts.proofs.PartLogs.{part_told}
+use Rattle.ss_parts.proofs.PartReports.{add_up}
+use Rattle.ss_parts.proofs.laws.parts_add_up.Goals as goal
 
 pub returns : goal.returns
 returns c = λ says log part parts are.

@@ -12,11 +12,11 @@ use Rattle.ss_review.specs.sessions.Verified.{Answers}
 use Rattle.ss_review.specs.announced.Announced.{Key, Row, key_cmp, same_key, rows, keys, hashes_for, is_disputed_key}
 use Rattle.ss_review.specs.report.Entries.{same_group, keys_in, group_keys}
 use Rattle.ss_review.specs.report.Report.{groups}
-use Rattle.ss_review.specs.parts.Parts.{blocks_of, SessionsStayWhole}
+use Rattle.ss_parts.specs.Parts.{blocks_of, SessionsStayWhole}
 use Rattle.ss_origin.proofs.Members.{Has}
 use Rattle.ss_review.proofs.of_numbers.Announcements.{announced_row, has-rows, rows-rise, keys-rise, announced_key, has-announced_key}
 use Rattle.ss_review.proofs.of_lists.FilteredAlike.{same_kept}
-use Rattle.ss_review.proofs.of_parts.PartBlocks.{IsOwn, session_is, announced_up, announced_here, announced_own}
+use Rattle.ss_parts.proofs.PartBlocks.{IsOwn, session_is, announced_up, announced_here, announced_own}
 use Rattle.ss_review.proofs.of_lists.TotalOrders.{key_cmp_total, key_cmp_exact, row_cmp_total}
 
 key_is : (j k : Key) → same_key j k ≡ true → j ≡ k

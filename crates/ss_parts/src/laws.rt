@@ -1,13 +1,13 @@
 //! What holds of the parts of a log, where all blocks of a session are in one part, and with them each message that
 //! they announce.
-ghost use Rattle.ss_review.specs.parts.PartLaws.{
+ghost use Rattle.ss_parts.specs.PartLaws.{
   CleanWherePartsAre,
   NumbersOfParts,
   PartsAddUp,
   SessionReportsOfParts,
   SessionsOfParts,
 };
-ghost use Rattle.ss_review.specs.parts.PartRows.{PartsAreThese};
+ghost use Rattle.ss_parts.specs.PartRows.{PartsAreThese};
 
 /// Each session of a log is one of exactly one part. There it has the state, the payload, the verified blocks and the
 /// announced hashes that it has in the whole. The premise is that all blocks of a session belong to one part.

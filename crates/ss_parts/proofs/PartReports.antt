@@ -23,16 +23,16 @@ use Rattle.ss_review.specs.sessions.Verified.{Answers, is_verified}
 use Rattle.ss_review.specs.announced.Announced.{Row, rows}
 use Rattle.ss_review.specs.assign.Assigned.{is_taken}
 use Rattle.ss_review.specs.report.Report.{session_report, unlisted, refused, report_of}
-use Rattle.ss_review.specs.parts.Parts.{normals_of, blocks_of, part_of, AreParts, together}
+use Rattle.ss_parts.specs.Parts.{normals_of, blocks_of, part_of, AreParts, together}
 use Rattle.ss_origin.proofs.Members.{Has, has-map}
 use Rattle.ss_review.proofs.of_lists.Members.{from_has-map, has-filter, from_has-filter, has-flat_map, from_has-flat_map}
 use Rattle.ss_review.proofs.of_lists.Keyed.{keys_rise-filter}
 use Rattle.ss_review.proofs.of_kept_messages.NotesTold.{normal_noted, block_noted, spoilt_noted}
 use Rattle.ss_review.proofs.of_lists.OnesInOrder.{in_order_of_ones, rise_told, rise_by_key}
-use Rattle.ss_review.proofs.of_parts.PartAssigned.{from_own_message}
-use Rattle.ss_review.proofs.of_parts.PartBlocks.{IsOwn, from_own, has-own, is_own, its_own, has-sessions, from_has-sessions, own_verified}
-use Rattle.ss_review.proofs.of_parts.PartCounts.{sum_by-map, counts_add_up}
-use Rattle.ss_review.proofs.of_parts.PartSessions.{same_session_report, same_taken}
+use Rattle.ss_parts.proofs.PartAssigned.{from_own_message}
+use Rattle.ss_parts.proofs.PartBlocks.{IsOwn, from_own, has-own, is_own, its_own, has-sessions, from_has-sessions, own_verified}
+use Rattle.ss_parts.proofs.PartCounts.{sum_by-map, counts_add_up}
+use Rattle.ss_parts.proofs.PartSessions.{same_session_report, same_taken}
 use Rattle.ss_review.proofs.of_kept_messages.PlacesRise.{normals_rise, blocks_rise, spoilts_rise}
 use Rattle.ss_review.proofs.of_lists.Rising.{in_order_is, rises-in_order}
 use Rattle.ss_review.proofs.of_lists.Tests.{in_range, from_in_range}
