@@ -37,7 +37,7 @@ ListedAreAssigned =
     (says : Answers) (log : List (List ℕ)) (k : Key) (place : ℕ)
     → IsListed (report says log) k place ↔ IsAssigned says (notes log) k place
 
--- behind each listed message stands a stored block that announces it
+-- for each listed message the log has a block that announces it
 abbrev pub ListedAreWitnessed : Type 0
 ListedAreWitnessed =
     (says : Answers) (log : List (List ℕ)) (k : Key) (place : ℕ)
@@ -63,7 +63,7 @@ AnnouncedAreTold =
     (says : Answers) (log : List (List ℕ)) (k : Key)
     → IsTold (report says log) k ↔ IsAnnounced says (blocks (notes log)) k
 
--- what a report tells rises
+-- a report is in rising order
 abbrev pub ReportsAreInOrder : Type 0
 ReportsAreInOrder = (says : Answers) (log : List (List ℕ)) → IsInOrder (report says log)
 

@@ -12,7 +12,7 @@ use thiserror::Error;
 /// Why a reviewer gives no answer. It is unchanged then.
 #[derive(Clone, Copy, Debug, PartialEq, Eq, Error)]
 pub enum ReviewFault {
-    /// V1: want of memory.
+    /// V1: out of memory.
     Memory,
     /// V2: as many messages were fed as the reviewer takes.
     TooManyMessages,

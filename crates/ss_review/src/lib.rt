@@ -1,5 +1,5 @@
 //! The review of a stored log (RFC 5848, section 7): which messages its signature blocks announce, which of them are
-//! stored, and what is missing, disputed or in vain.
+//! stored, and what is missing or disputed.
 #![tactic(auto)]
 
 mod announced;

@@ -1,4 +1,4 @@
-//! What a report says of sessions, groups, numbers and places.
+//! What a report says about sessions, groups, numbers and places.
 pub(crate) mod entries;
 pub(crate) mod entry;
 pub(crate) mod group_report;

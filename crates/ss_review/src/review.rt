@@ -16,8 +16,8 @@ use ss_octets::NoMemory;
 use std::alloc::Global;
 use std::mem::drop;
 
-/// What a review says of a log. What is held of it is let go part by part, each once it isn't needed any more, and the
-/// judge once it is known which blocks are verified.
+/// What a review reports about a log. What is held of it is freed part by part, each once it isn't needed any more, and
+/// the judge once it is known which blocks are verified.
 pub(crate) fn review<J: Judge + Drop, I: Index + Drop>(
     alloc: Global,
     judge: J,

@@ -19,7 +19,7 @@ pub record Key : Type 0 where
   pub group : Group
   pub number : ℕ
 
--- a hash, which tells its algorithm, announced for a number
+-- a hash, which has its algorithm with it, announced for a number
 pub record Row : Type 0 where
   pub key : Key
   pub hash : Hash
@@ -58,6 +58,6 @@ keys rs = in_order key_cmp (map (λ r. r.key) rs)
 abbrev pub hashes_for : List Row → Key → List Hash
 hashes_for rs k = map (λ r. r.hash) (filter (λ r. same_key r.key k) rs)
 
--- two hashes are announced for the key, which differ, since each is told once
+-- two hashes are announced for the key, which differ, because each stands there once
 abbrev pub is_disputed_key : List Row → Key → Bool
 is_disputed_key rs k = nat_lt 1 (length (hashes_for rs k))

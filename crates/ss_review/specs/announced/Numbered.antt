@@ -41,7 +41,7 @@ abbrev pub is_more_of : Option Row → Row → Bool
 is_more_of None r = false
 is_more_of (Some first) r = same_key r.key first.key
 
--- a row's hash, unless the row behind it is of its key too
+-- a row's hash, unless the row after it is of its key too
 abbrev pub hash_before : Row → Option Row → Option Hash
 hash_before r None = Some r.hash
 hash_before r (Some next) = if same_key next.key r.key then None else Some r.hash

@@ -97,7 +97,7 @@ abbrev pub stored_cmp : StoredHash → StoredHash → Ordering
 stored_cmp a b =
     ordering_then (hash_cmp a.hash b.hash) (ordering_then (hash_cmp a.other b.other) (nat_cmp a.place b.place))
 
--- where what an entry begins with doesn't tell, by what they stand for
+-- where the first octets are equal, by the whole hashes
 abbrev pub entry_cmp : List HashPair → HashEntry → HashEntry → Ordering
 entry_cmp pairs a b = ordering_then (start_cmp a b) (stored_cmp (hash_of pairs a) (hash_of pairs b))
 

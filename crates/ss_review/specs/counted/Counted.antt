@@ -48,7 +48,7 @@ number_announced (entry.Listed n place) = n ∷ []
 number_announced (entry.Gap n why) = n ∷ []
 number_announced (entry.Hole first last) = []
 
--- the number of a group's next message, from what a report says of the group
+-- the number of a group's next message, from what a report says about the group
 unfoldable pub next_number : GroupReport → ℕ
 next_number g = next_after (flat_map number_announced g.entries)
 

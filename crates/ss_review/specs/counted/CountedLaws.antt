@@ -66,13 +66,13 @@ CountedOrMissing =
     (says : Answers) (log : List (List ℕ)) (s : Session) (next : ℕ)
     → AreMissing (IsCounted says (blocks (notes log)) s) next (missing (gbcs says (blocks (notes log)) s) next)
 
--- the next GBC of a session comes behind all that its verified signature blocks state
+-- the next GBC of a session comes after all that its verified signature blocks state
 abbrev pub NextGbcFollows : Type 0
 NextGbcFollows =
     (says : Answers) (log : List (List ℕ)) (s : Session)
     → IsNext (IsCounted says (blocks (notes log)) s) (next_after (gbcs says (blocks (notes log)) s))
 
--- the next number of a group comes behind all that are announced in it
+-- the next number of a group comes after all that are announced in it
 abbrev pub NextNumbersFollow : Type 0
 NextNumbersFollow =
     (says : Answers) (log : List (List ℕ)) (s : SessionReport) (g : GroupReport)

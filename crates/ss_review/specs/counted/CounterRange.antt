@@ -21,7 +21,7 @@ pub record IsSession (s : Session) : Type 0 where
   pub procid : IsName 128 s.procid
   pub rsid : s.rsid ≤ last_number
 
--- the GBC or the number of what comes next, which may be the one behind the last
+-- the GBC or the number of what comes next, which may be the one after the last
 abbrev pub IsNext : Counts → ℕ → Type 0
 IsNext Blocks next = next ≤ past_last_number
 IsNext (Messages g) next = IsGroup g × (1 ≤ next) × (next ≤ past_last_number)

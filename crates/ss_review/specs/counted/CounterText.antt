@@ -1,4 +1,4 @@
--- How a counter is spelt: one line, told without its line feed; and the lines of several.
+-- How a counter is spelt: one line, here without its line feed; and the lines of several.
 use Rattle.std.specs.Prelude.{ℕ, List, [], ◌∷◌, ◌++◌, flat_map, codes, decimal}
 use Rattle.ss_octets.specs.Ascii.{lf}
 use Rattle.ss_message.specs.declared.draft.Field.{Field}

@@ -71,7 +71,7 @@ kept_sessions cs = in_order session_cmp (map (λ c. c.session) cs)
 
 -- ---- what is missing up to them
 
--- the number behind the last announced one of a group, and 1 where none is announced
+-- the number after the last announced one of a group, and 1 where none is announced
 abbrev pub number_behind : List GroupReport → Group → ℕ
 number_behind gs g = fold max 1 (map next_number (filter (λ r. same_group r.group g) gs))
 
@@ -79,11 +79,11 @@ number_behind gs g = fold max 1 (map next_number (filter (λ r. same_group r.gro
 abbrev pub tail_between : Group → (first end : ℕ) → List GroupTail
 tail_between g first end = if nat_lt first end then record { group = g; first = first; last = end - 1 } ∷ [] else []
 
--- what comes behind the last announced message of each group, up to its counter
+-- what comes after the last announced message of each group, up to its counter
 unfoldable pub tails_in : (own : List Counter) → List GroupReport → List GroupTail
 tails_in own gs = flat_map (λ g. tail_between g (number_behind gs g) (number_in own g)) (groups_in own)
 
--- where a session's signature blocks end: behind the greatest GBC that is there, and at its counter or behind it
+-- where a session's signature blocks end: after the greatest GBC that is there, and at its counter or after it
 abbrev pub end_of_blocks : (own : List Counter) → (gbcs : List ℕ) → ℕ
 end_of_blocks own gbcs = max (next_after gbcs) (gbc_in own)
 

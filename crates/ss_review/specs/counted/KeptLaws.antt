@@ -51,7 +51,7 @@ LogsAreReviewed =
 abbrev pub IsToldOf : LogShortfalls → Shortfall → Type 0
 IsToldOf all f = Contains all.known f ⊎ Contains all.absent f
 
--- the number is reported as missing behind the last announced one of its group
+-- the number is reported as missing after the last announced one of its group
 pub record IsInTail (all : LogShortfalls) (k : Key) : Type 0 where
   pub shortfall : Shortfall
   pub told : IsToldOf all shortfall

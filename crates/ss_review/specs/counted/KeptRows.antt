@@ -18,7 +18,7 @@ use Rattle.ss_review.specs.counted.Kept.{log_shortfalls}
 
 -- ---- what the rows are made of
 
--- the session of the report, and one that stands behind it
+-- the session of the report, and one that stands after it
 abbrev pub here : Session
 here = sent_by (104 ∷ []) 1
 

@@ -1,5 +1,5 @@
--- What a review says of a log that delivers from originators of one session, where counters may have been saved ahead
--- of what was sent.
+-- What a review reports about a log that delivers from originators of one session, where counters may have been saved
+-- ahead of what was sent.
 use Rattle.std.specs.Prelude.{◌≡◌, ◌↔◌, ◌⊎◌, ℕ, ◌<◌, ◌≤◌, true, false, List, ◌∷◌, ◌++◌, map, slice_get, Contains, Some}
 use Rattle.ss_payload.specs.Payload.{payload_text}
 use Rattle.ss_block.specs.declared.hash.Hash.{Hash}

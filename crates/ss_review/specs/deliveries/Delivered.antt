@@ -1,4 +1,4 @@
--- What stands between what originators sent and what a review says of it.
+-- What stands between what originators sent and what a review reports about it.
 use Rattle.std.specs.Prelude.{◌≡◌, ◌↔◌, ℕ, ◌+◌, ◌<◌, ◌≤◌, ◌⊎◌, Bool, true, false, nat_lt, List, [], ◌∷◌, length}
 use Rattle.std.specs.Prelude.{count_by, Contains, Some, Ok, Err}
 use Rattle.std.specs.List.{sum_by, range_with_len}

@@ -1,5 +1,5 @@
--- What a review says of a log that delivers from originators of one session: exactly what the copies that are there
--- allow.
+-- What a review reports about a log that delivers from originators of one session: exactly what the copies that are
+-- there allow.
 use Rattle.std.specs.Prelude.{◌≡◌, ◌≢◌, ◌↔◌, ℕ, ◌+◌, ◌-◌, ◌<◌, ◌≤◌, ◌&&◌, true, false, List, length, count_by}
 use Rattle.std.specs.Prelude.{slice_get, Contains, Option, Some, None}
 use Rattle.std.specs.List.{AllPairs}

@@ -1,4 +1,4 @@
--- Small chains of originators, and logs that deliver from them. A message is told by its one octet of MSG.
+-- Small chains of originators, and logs that deliver from them. A message is known by its one octet of MSG.
 use Rattle.std.specs.Prelude.{◌≡◌, ◌≢◌, ℕ, true, List, [], ◌∷◌, map, Some, None}
 use Rattle.std.specs.List.{AllPairs}
 use Rattle.std.specs.Str.{bytes_eq}
@@ -102,7 +102,7 @@ turns_before = filling 50 (block 0 1 (message 49 ∷ message 50 ∷ [])) ∷ giv
 abbrev pub first_turns : List Turn
 first_turns = given 51 ∷ turns_before
 
--- the next one got one message, behind these counters
+-- the next one got one message, after these counters
 abbrev pub next_turns : ℕ → ℕ → List Turn
 next_turns gbc number = flushed (block gbc number (message 52 ∷ [])) ∷ given 52 ∷ []
 

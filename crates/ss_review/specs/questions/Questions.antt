@@ -48,9 +48,9 @@ IsAskableIn askable judge ss b =
     (s : JoinedSession) (payload : List ℕ) → Contains ss s → s.session ≡ b.session → s.joined ≡ Ok payload
     → askable judge (question_about payload b)
 
--- ---- the same session by session, with each payload once, and with what each block says of itself
+-- ---- the same session by session, with each payload once, and with what each block says about itself
 
--- what a block says of itself, which announces this many hashes (RFC 5848, sections 4.2 and 5.3.2)
+-- what a block says about itself, which announces this many hashes (RFC 5848, sections 4.2 and 5.3.2)
 abbrev pub parameters_of : (count : ℕ) → Said → AskedParameters
 parameters_of count (Hashes b) = parameters.Signature b.alg b.group b.gbc b.first count
 parameters_of count (Fragment c) = parameters.Certificate c.alg c.group c.total c.index (length c.fragment)

@@ -1,4 +1,4 @@
--- Where each place of a log is told of in its report.
+-- Where the report on a log has each of its places.
 use Rattle.std.specs.Prelude.{◌≡◌, ℕ, true, List, map, Contains}
 use Rattle.ss_review.specs.declared.keep.message.BlockMessage.{BlockMessage}
 use Rattle.ss_review.specs.declared.report.report.Report.{Report}
@@ -17,7 +17,7 @@ pub data Account : Type 0 where
 abbrev pub IsVerifiedAt : Answers → List BlockMessage → ℕ → Type 0
 IsVerifiedAt says bs place = (b : BlockMessage) × Contains bs b × (b.place ≡ place) × (is_verified says bs b ≡ true)
 
--- A message is listed under some number, is told as unlisted, is a verified block, is told as refused, or is told as
+-- A message is listed under some number, reported as unlisted, a verified block, reported as refused, or reported as
 -- spoilt. The blocks are those of the log.
 abbrev pub HasAccount : Answers → List BlockMessage → Report → ℕ → Account → Type 0
 HasAccount says bs r place Listed = (k : Key) × IsListed r k place

@@ -1,4 +1,4 @@
--- What a report says of the numbers of a group: which message is listed, which is missing, and which numbers aren't
+-- What a report says about the numbers of a group: which message is listed, which is missing, and which numbers aren't
 -- announced.
 use Rattle.std.specs.Prelude.{ℕ, ◌+◌, ◌-◌, nat_lt, max, fold, Bool, List, [], ◌∷◌, ◌++◌, map, filter, flat_map, Option}
 use Rattle.std.specs.Prelude.{Some, None, if◌then◌else◌}
@@ -40,6 +40,6 @@ greatest_below ks n = fold max 0 (filter (λ m. nat_lt m n) (map (λ k. k.number
 abbrev pub hole_between : ℕ → ℕ → List Entry
 hole_between last n = if nat_lt (last + 1) n then entry.Hole (last + 1) (n - 1) ∷ [] else []
 
--- an entry for each key, behind the hole that ends below its number, where there is one
+-- an entry for each key, after the hole that ends below its number, where there is one
 unfoldable pub entries : List NormalMessage → List Row → List Key → List Entry
 entries ms rs ks = flat_map (λ k. hole_between (greatest_below ks k.number) k.number ++ entry_of ms rs k ∷ []) ks

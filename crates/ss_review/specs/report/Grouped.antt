@@ -40,11 +40,11 @@ numbered ns hs ps = map numbered_with (zip ns (zip hs ps))
 abbrev pub with_entry : NumberEntry → Key × Entry
 with_entry n = (key_of n.number, n.entry)
 
--- keys with what a report says of them
+-- keys with what a report says about them
 abbrev pub with_entries : List NormalMessage → List Row → List Key → List (Key × Entry)
 with_entries ms rs ks = map (λ k. (k, entry_of ms rs k)) ks
 
--- the entries of keys, each behind the hole between the number before it and its own
+-- the entries of keys, each after the hole between the number before it and its own
 abbrev pub entries_after : ℕ → List (Key × Entry) → List Entry
 entries_after last [] = []
 entries_after last (k ∷ ks) = hole_between last k.0.number ++ k.1 ∷ entries_after k.0.number ks

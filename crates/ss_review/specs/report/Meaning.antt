@@ -31,7 +31,7 @@ pub record IsHole (is_announced : ℕ → Type 0) (first last : ℕ) : Type 0 wh
   pub behind : is_announced (last + 1)
   pub before : (first ≡ 1) ⊎ is_announced (first - 1)
 
--- ---- what a report says of a number
+-- ---- what a report says about a number
 
 -- the report has this entry in a group of a session
 pub record Tells (r : Report) (s : Session) (g : Group) (e : Entry) : Type 0 where

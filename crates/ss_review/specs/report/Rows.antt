@@ -41,7 +41,7 @@ message place pair = record { place = place; pair = pair }
 abbrev pub sent_by : List ℕ → ℕ → Session
 sent_by host rsid = record { host = fields.Text host; app = fields.Text (115 ∷ []); procid = fields.Nil; rsid = rsid }
 
--- the octets that are signed are told by one number: 1 of a certificate block, 2 of a signature block
+-- the octets that are signed are shown by one number: 1 of a certificate block, 2 of a signature block
 abbrev pub certificate : ℕ → Session → ℕ → ℕ → List ℕ → BlockMessage
 certificate place s total index fragment = record {
   place = place;
@@ -518,7 +518,7 @@ great_number_report =
       count = 3;
     }
 
--- numbers before, between and behind holes
+-- numbers before, between and after holes
 abbrev pub holes_log : Contents
 holes_log =
     record {
@@ -733,7 +733,7 @@ two_hosts_payloads_report =
       count = 4;
     }
 
--- sessions are told by host before RSID
+-- sessions are reported by host before RSID
 abbrev pub order_of_sessions_log : Contents
 order_of_sessions_log =
     record {

@@ -1,4 +1,4 @@
--- What stands behind a listed message.
+-- The evidence for a listed message.
 use Rattle.std.specs.Prelude.{◌≡◌, ℕ, ◌+◌, true, List, slice_get, Some, Ok}
 use Rattle.ss_block.specs.declared.reading.Reading.TheVariants as readings
 use Rattle.ss_block.specs.Block as block

@@ -8,7 +8,7 @@ use Rattle.ss_review.specs.declared.keep.message.BlockMessage.{BlockMessage}
 use Rattle.ss_review.specs.sessions.Payloads.{certificate_of}
 use Rattle.ss_review.specs.sessions.Verified.{Answers, is_valid}
 
--- from the first index up to the first behind the fragment
+-- from the first index up to the first after the fragment
 abbrev pub span_of : block.Certificate → Span
 span_of c = record { start = c.index; end = c.index + length c.fragment }
 

@@ -57,7 +57,7 @@ abbrev pub octet_at : List (ℕ × ℕ) → ℕ → ℕ
 octet_at os i = octet_found (find (λ p. p.0 == i) os)
 
 -- The octets from index 1 to the total: it is asked for only where nothing is disputed, so each fragment has this
--- total, and no fragment ends behind it.
+-- total, and no fragment ends after it.
 unfoldable pub joined_text : List block.Certificate → List ℕ
 joined_text [] = []
 joined_text (c ∷ cs) = map (octet_at (octets (c ∷ cs))) (range_with_len 1 c.total)

@@ -35,7 +35,7 @@ fn is_more_of(first: Option<&AnnouncedHash<'_>>, row: &AnnouncedHash<'_>) -> boo
     }
 }
 
-/// The hash of the first row of a number, unless the row behind it is of that number too.
+/// The hash of the first row of a number, unless the row after it is of that number too.
 fn only_hash(row: &AnnouncedHash<'_>, next: Option<&AnnouncedHash<'_>>) -> Option<Hash>
     ensures { result ≡ hash_before (row_of row.now) (option_map (λ r. row_of r.now) next.entry) }
 {

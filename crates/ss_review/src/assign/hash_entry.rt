@@ -10,7 +10,7 @@ use ss_block::{Alg, Hash, HashPair};
 use std::cmp::Ordering;
 
 /// A hash of a stored message by this algorithm: where its two hashes stand among those that are kept, and its place.
-/// The first octets of the hash tell most entries apart, so that few hashes are looked up to put them in order.
+/// The first octets of the hash differ for most entries, so that few hashes are looked up to put them in order.
 #[derive(Clone, Copy)]
 pub(crate) struct HashEntry {
     pub(crate) pair: u32,

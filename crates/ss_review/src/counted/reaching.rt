@@ -102,8 +102,8 @@ fn absent_shortfalls(
     Ok(Shortfalls::from_vec(absent))
 }
 
-/// What is missing of each session up to the counters that were kept of it. `sessions` is what a review says of a log,
-/// and `counted` has the GBC of the verified signature blocks of each of these sessions. The counters come in any
+/// What is missing of each session up to the counters that were kept of it. `sessions` is what a review reports about a
+/// log, and `counted` has the GBC of the verified signature blocks of each of these sessions. The counters come in any
 /// order; of several that count the same, the greatest is right. If a session has a counter and no block, it is in
 /// `absent`.
 ///

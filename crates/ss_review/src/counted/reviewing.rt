@@ -18,8 +18,8 @@ use ss_octets::NoMemory;
 use std::alloc::Global;
 use std::mem::drop;
 
-/// What a review says of a log, and the GBC of the verified signature blocks of each of its sessions. The GBC are taken
-/// before the blocks are let go, and the judge goes once it is known which blocks are verified.
+/// What a review reports about a log, and the GBC of the verified signature blocks of each of its sessions. The GBC are
+/// taken before the blocks are freed. The judge is freed once it is known which blocks are verified.
 pub(crate) fn review_counted<J: Judge + Drop, I: Index + Drop>(
     alloc: Global,
     judge: J,

@@ -3,7 +3,7 @@ use crate::counted::missing::MissingRuns;
 use ss_block::{Group, Session};
 use ss_octets::List;
 
-/// Messages of a group that were sent before its counter was noted, and come behind the last one that is announced:
+/// Messages of a group that were sent before its counter was noted, and come after the last one that is announced:
 /// those with the numbers from `first` to `last`, each 1 to 9,999,999,999.
 #[derive(Clone, Copy, Debug, PartialEq, Eq)]
 pub struct GroupTail {
@@ -20,7 +20,7 @@ pub type GroupTails = List<GroupTail>;
 pub struct Shortfall {
     /// Whose it is.
     pub session: Session,
-    /// Of its messages: what comes behind the last announced one of a group.
+    /// Of its messages: what comes after the last announced one of a group.
     pub tails: GroupTails,
     /// Of its signature blocks: those below its counter, and below the greatest GBC that is there.
     pub blocks: MissingRuns,

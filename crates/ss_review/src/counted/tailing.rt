@@ -1,4 +1,4 @@
-//! What comes behind the last announced messages of a session, up to its counters.
+//! What comes after the last announced messages of a session, up to its counters.
 ghost use Rattle.std.specs.Prelude.{◌≡◌, ◌++◌, ◌∷◌, [], List, unwrap_or, IfOk, OnOk};
 ghost use Rattle.std.specs.BTreeMap.{get};
 ghost use Rattle.ss_block.specs.Order.{group_cmp};
@@ -96,7 +96,7 @@ fn kept_numbers(alloc: Global, own: &[&Counter]) -> Result<BTreeMap<Group, u64>,
     Ok(numbers)
 }
 
-/// The number behind the last announced one of a group, and 1 where none is announced.
+/// The number after the last announced one of a group, and 1 where none is announced.
 fn number_behind(groups: &[GroupReport], group: Group) -> u64
     ensures { AreGroups groups.now → result ≡ number_behind groups.now group }
 {
@@ -120,7 +120,7 @@ fn add_tail(tails: &mut Vec<GroupTail>, group: Group, first: u64, end: u64) -> R
     Ok(())
 }
 
-/// What comes behind the last announced message of each group of a session, up to its counter.
+/// What comes after the last announced message of each group of a session, up to its counter.
 pub(crate) fn tails(
     alloc: Global,
     own: &[&Counter],

@@ -9,7 +9,7 @@ use ss_octets::NoMemory;
 use std::alloc::Global;
 
 /// What a text is, as far as its note needs it. A text without `[ssign` holds no block, so it isn't parsed: it is
-/// answered as `Plain`, whether it is a message or not, since the note of either is its two hashes.
+/// answered as `Plain`, whether it is a message or not, because the note of either is its two hashes.
 #[tactic(auto, unfolding(crate::specs::keep::Notes::note))]
 pub(crate) fn reading_to_note(alloc: Global, text: &[u8]) -> Result<Reading, NoMemory>
     ensures { IfOk result (λ r. noted text.now r ≡ note text.now) }

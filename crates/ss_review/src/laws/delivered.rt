@@ -1,4 +1,4 @@
-//! What stands between what originators sent and what a review says of it.
+//! What stands between what originators sent and what a review reports about it.
 ghost use Rattle.ss_review.specs.deliveries.Delivered.{
   EntriesAreByRank,
   JoinsOwnPayload,

@@ -76,12 +76,12 @@ pub fn announced_are_told()
     gaps_are_unassigned();
 }
 
-/// What a report tells rises: its sessions, the groups of each, the entries of each group, and its places.
+/// A report is in rising order: its sessions, the groups of each, the entries of each group, and its places.
 pub fn reports_are_in_order()
     ensures { ReportsAreInOrder }
 {}
 
-/// Behind each listed message stands a stored block that announces its hash, and that the scheme says yes to.
+/// For each listed message the log has a block that announces its hash, and that the scheme says yes to.
 pub fn listed_are_witnessed()
     ensures { ListedAreWitnessed }
 {

@@ -1,4 +1,4 @@
-//! Items that may be there, behind others.
+//! Items that may be there, after others.
 ghost use Rattle.std.specs.Prelude.{◌≡◌, ◌++◌, [], OnOk};
 ghost use Rattle.std.specs.List.{cons_option};
 

@@ -30,7 +30,7 @@ fn earlier(found: Option<NormalMessage>, message: NormalMessage) -> Option<Norma
     }
 }
 
-/// Tells of one more message that has the hash, if the hash is announced.
+/// Notes one more message that has the hash, if the hash is announced.
 fn tell_hash(
     announced: &[Hash],
     found: &mut [Option<NormalMessage>],
@@ -53,7 +53,7 @@ fn tell_hash(
     }
 }
 
-/// Tells of the first message with these two hashes, from their places.
+/// Notes the first message with these two hashes, from their places.
 fn tell_pair(
     announced: &[Hash],
     found: &mut [Option<NormalMessage>],

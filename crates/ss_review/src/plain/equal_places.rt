@@ -6,7 +6,7 @@ use std::alloc::Global;
 use std::marker::Model;
 
 /// The places of the messages with the same two hashes, at least one. Contracts see the list alone. One place takes no
-/// memory of its own, since most messages have no equal.
+/// memory of its own, because most messages have no equal.
 #[derive(Drop)]
 pub(crate) struct EqualPlaces {
     first: u32,
@@ -50,7 +50,7 @@ impl EqualPlaces {
         }
     }
 
-    /// Adds a place behind the others. Where memory runs out, they stay as they are.
+    /// Adds a place after the others. Where memory runs out, they stay as they are.
     pub(crate) fn push(&mut self, place: u32) -> Result<(), NoMemory>
         ensures { self.new ≡ (if is_ok result then self.old ++ place ∷ [] else self.old) }
     {

@@ -12,7 +12,7 @@ use std::alloc::Global;
 use std::collections::BTreeMap;
 use std::collections::btree_map::Entry;
 
-/// Adds a place behind those under the two hashes. Where memory runs out, what is under each stays as it is.
+/// Adds a place after those under the two hashes. Where memory runs out, what is under each stays as it is.
 pub(crate) fn add_place(
     alloc: Global,
     pairs: &mut BTreeMap<HashPair, EqualPlaces>,

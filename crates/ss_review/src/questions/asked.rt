@@ -8,7 +8,7 @@ use ss_octets::{Bytes, List};
 pub struct AskedBlock {
     /// Its place in the log, from 0.
     pub place: u32,
-    /// What it says of itself.
+    /// What it says about itself.
     pub parameters: AskedParameters,
     /// The octets that are signed.
     pub octets: Bytes,

@@ -1,4 +1,4 @@
-//! What a block whose signature is asked about says of itself (RFC 5848, sections 4.2 and 5.3.2).
+//! What a block whose signature is asked about says about itself (RFC 5848, sections 4.2 and 5.3.2).
 ghost use Rattle.std.specs.Prelude.{◌≡◌, length};
 ghost use Rattle.ss_review.specs.questions.Questions.{parameters_of};
 
@@ -44,7 +44,7 @@ fn fragment_len(block: &CertBlock) -> u32
     block.fragment().as_slice().len() as u32
 }
 
-/// What a block says of itself.
+/// What a block says about itself.
 pub(crate) fn parameters_of(block: &BlockMessage) -> AskedParameters
     ensures { result ≡ parameters_of block.now.count block.now.said }
 {

@@ -6,7 +6,7 @@ use ss_octets::{Bytes, List};
 pub enum Question {
     /// Whether it trusts the payload.
     Trust(Bytes),
-    /// Whether, under the payload that stands first, the octets behind it have the signature that stands last.
+    /// Whether, under the payload that stands first, the octets after it have the signature that stands last.
     Yes(Bytes, Bytes, Bytes),
 }
 

@@ -1,4 +1,4 @@
-//! What a report says of the numbers of a group.
+//! What a report says about the numbers of a group.
 ghost use Rattle.std.specs.Prelude.{◌≡◌, ◌++◌, ◌∷◌, [], map, IfOk, OnOk};
 ghost use Rattle.ss_review.specs.report.Entries.{hole_between};
 ghost use Rattle.ss_review.specs.report.Grouped.{with_entry, entries_after};
@@ -8,7 +8,7 @@ use crate::report::number_entry::NumberEntry;
 use ss_octets::NoMemory;
 use std::alloc::Global;
 
-/// Adds the entry of a number, behind the hole between `last`, the number before it, and its own.
+/// Adds the entry of a number, after the hole between `last`, the number before it, and its own.
 fn add_entry(entries: &mut Vec<Entry>, last: u64, number: &NumberEntry<'_>) -> Result<(), NoMemory>
     ensures { OnOk result (entries.new.items
         ≡ entries.old.items ++ (hole_between last number.now.number.number ++ number.now.entry ∷ [])) }
@@ -24,7 +24,7 @@ fn add_entry(entries: &mut Vec<Entry>, last: u64, number: &NumberEntry<'_>) -> R
     Ok(())
 }
 
-/// The entries of the numbers of a group, each behind the hole between the number before it and its own.
+/// The entries of the numbers of a group, each after the hole between the number before it and its own.
 pub(crate) fn entries(alloc: Global, numbers: &[NumberEntry<'_>]) -> Result<Entries, NoMemory>
     ensures { IfOk result (λ e. e ≡ entries_after 0 (map with_entry numbers.now)) }
 {

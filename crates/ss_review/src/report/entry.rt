@@ -1,4 +1,4 @@
-//! What a review says of the numbers of a group.
+//! What a review reports about the numbers of a group.
 use ss_octets::List;
 
 /// Why no message is listed for an announced number.
@@ -10,7 +10,7 @@ pub enum Why {
     Disputed,
 }
 
-/// What a review says of a message number, or of several. Numbers are 1 to 9,999,999,999.
+/// What a review reports about a message number, or of several. Numbers are 1 to 9,999,999,999.
 #[derive(Clone, Copy, Debug, PartialEq, Eq)]
 pub enum Entry {
     /// The number is announced, and the message at `place`, counted from 0, is its message.
@@ -21,5 +21,5 @@ pub enum Entry {
     Hole { first: u64, last: u64 },
 }
 
-/// What a review says of the numbers of a group, in their order. Contracts see the list alone.
+/// What a review reports about the numbers of a group, in their order. Contracts see the list alone.
 pub type Entries = List<Entry>;

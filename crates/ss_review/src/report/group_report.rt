@@ -1,9 +1,9 @@
-//! What a review says of a group of messages.
+//! What a review reports about a group of messages.
 use crate::report::entry::Entries;
 use ss_block::Group;
 use ss_octets::List;
 
-/// What a review says of a group of messages of a session.
+/// What a review reports about a group of messages of a session.
 #[derive(Debug, Drop)]
 pub struct GroupReport {
     /// SG and SPRI.
@@ -12,5 +12,5 @@ pub struct GroupReport {
     pub entries: Entries,
 }
 
-/// What a review says of the groups of a session, by SG and SPRI. Contracts see the list alone.
+/// What a review reports about the groups of a session, by SG and SPRI. Contracts see the list alone.
 pub type GroupReports = List<GroupReport>;

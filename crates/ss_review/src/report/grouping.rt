@@ -1,4 +1,4 @@
-//! What a report says of sessions, from the announced numbers in their order.
+//! What a report says about sessions, from the announced numbers in their order.
 ghost use Rattle.std.specs.Prelude.{◌≡◌, ◌≤◌, List, length, map, IfOk};
 ghost use Rattle.std.specs.List.{take_while};
 ghost use Rattle.std.specs.Ordering.{is_lt};
@@ -44,7 +44,7 @@ fn count_of_group(numbers: &[NumberEntry<'_>], group: Group) -> usize
         .count()
 }
 
-/// What a report says of a group, from the numbers of it.
+/// What a report says about a group, from the numbers of it.
 fn group_report(
     alloc: Global,
     group: Group,
@@ -58,7 +58,7 @@ fn group_report(
     })
 }
 
-/// What a report says of the groups of one session, from all its numbers in their order.
+/// What a report says about the groups of one session, from all its numbers in their order.
 fn group_reports(alloc: Global, numbers: &[NumberEntry<'_>]) -> Result<GroupReports, NoMemory>
     ensures { GroupsRise numbers.now → IfOk result (λ g. g ≡ groups_told numbers.now) }
 {
@@ -112,7 +112,7 @@ fn state_in(joined: &Result<Bytes, SessionState>) -> SessionState
     }
 }
 
-/// What a report says of a session, from all announced numbers in their order.
+/// What a report says about a session, from all announced numbers in their order.
 fn session_report(
     alloc: Global,
     session: &JoinedSession,
@@ -130,7 +130,7 @@ fn session_report(
     })
 }
 
-/// What a report says of the sessions of a log, which stand in their order. `numbers` has all announced numbers in
+/// What a report says about the sessions of a log, which stand in their order. `numbers` has all announced numbers in
 /// theirs, `hashes` the hash that each is announced with, or none where there are several, and `places` the place that
 /// each is assigned, if any.
 pub(crate) fn session_reports(

@@ -1,4 +1,4 @@
-//! Announced message numbers with what a report says of them.
+//! Announced message numbers with what a report says about them.
 ghost use Rattle.std.specs.Prelude.{◌≡◌, List, map, IfOk};
 ghost use Rattle.ss_review.specs.declared.keep.message.NormalMessage.{NormalMessage};
 ghost use Rattle.ss_review.specs.announced.Announced.{Row, keys};

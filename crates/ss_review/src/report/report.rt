@@ -1,9 +1,9 @@
-//! What a review says of a log.
+//! What a review reports about a log.
 use crate::keep::spoilt::SpoiltPlaces;
 use crate::report::places::Places;
 use crate::report::session_report::SessionReports;
 
-/// What a review says of a log. Places are positions of messages in it, from 0.
+/// What a review reports about a log. Places are positions of messages in it, from 0.
 #[derive(Debug, Drop)]
 pub struct Report {
     /// The sessions of its blocks: by the octets of HOSTNAME, APP-NAME and PROCID, then by RSID.

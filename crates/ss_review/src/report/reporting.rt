@@ -18,8 +18,8 @@ use ss_octets::NoMemory;
 use std::alloc::Global;
 use std::mem::drop;
 
-/// What a review says of a log whose blocks were judged: `sessions` are theirs, and `verified` says which of them are
-/// verified. The blocks are let go before the index is asked, and the index before the report is made.
+/// What a review reports about a log whose blocks were judged: `sessions` are theirs, and `verified` says which of them
+/// are verified. The blocks are freed before the index is asked, and the index before the report is made.
 pub(crate) fn reported<I: Index + Drop>(
     alloc: Global,
     held: Held<'_, I>,

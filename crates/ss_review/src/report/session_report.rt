@@ -1,4 +1,4 @@
-//! What a review says of a session.
+//! What a review reports about a session.
 use crate::report::group_report::GroupReports;
 use ss_block::Session;
 use ss_octets::List;
@@ -20,7 +20,7 @@ pub enum SessionState {
     Unaccepted,
 }
 
-/// What a review says of a session.
+/// What a review reports about a session.
 #[derive(Debug, Drop)]
 pub struct SessionReport {
     /// Whose it is.
@@ -31,5 +31,5 @@ pub struct SessionReport {
     pub groups: GroupReports,
 }
 
-/// What a review says of the sessions of a log, in their order. Contracts see the list alone.
+/// What a review reports about the sessions of a log, in their order. Contracts see the list alone.
 pub type SessionReports = List<SessionReport>;

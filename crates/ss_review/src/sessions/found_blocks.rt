@@ -12,7 +12,7 @@ use std::alloc::Global;
 use std::collections::BTreeMap;
 
 /// The signature of a block, the octets that are signed, and the session. Under one scheme and log, the same holds of
-/// all blocks that agree in these. The signature comes first, since it tells most blocks apart by a few octets.
+/// all blocks that agree in these. The signature comes first, because its first octets differ for most blocks.
 #[derive(Clone, Copy, PartialEq, Eq, PartialOrd, Ord)]
 struct Claim<'a> {
     signature: &'a [u8],

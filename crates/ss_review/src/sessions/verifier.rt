@@ -12,7 +12,7 @@ pub trait Judge {
     /// Its answers are those of `trusted` and `valid`, whatever it is asked of what it may be asked.
     ghost sound: { Self → Type 0 };
 
-    /// What it may be asked. A review asks nothing that `questions` doesn't tell of its log.
+    /// What it may be asked. A review asks only what `questions` lists for its log.
     ghost askable: { Self → Question → Type 0 };
 
     /// What it answers of a payload.

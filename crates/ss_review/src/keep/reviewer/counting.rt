@@ -20,8 +20,8 @@ use crate::laws::reports::reports_list_what_is_announced;
 use crate::sessions::verifier::Judge;
 
 impl Reviewer {
-    /// What `conclude_with` says, and the GBC of the verified signature blocks of each session, which tells what blocks
-    /// are missing (RFC 5848, section 4.2.4): `Memory` where memory runs out.
+    /// The report of `conclude_with`, and the GBC of the verified signature blocks of each session, which show what
+    /// blocks are missing (RFC 5848, section 4.2.4). `Memory` if it runs out of memory.
     pub fn conclude_counted<J: Judge + Drop>(self, judge: J) -> Result<CountedReport, ReviewFault>
         requires sound { J.sound judge }
         requires askable { AreAskable J.askable judge (questions (kept_blocks self)) }
