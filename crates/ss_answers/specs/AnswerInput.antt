@@ -25,7 +25,7 @@ abbrev pub failed_read : {T : Type 0} → Result T AnswerFault → Bool
 failed_read (Ok x) = false
 failed_read (Err fault) = is_read fault
 
--- what a fault says of the text
+-- what a fault says about the text
 abbrev pub IsTextFault : List ℕ → AnswerFault → Type 0
 IsTextFault text (BadLine line) = HasFirstBadLine text line
 IsTextFault text Read = ⊥
@@ -46,7 +46,7 @@ pub record IsBadLine (old new : Option (List ℕ)) (max : ℕ) (line : ℕ) : Ty
   pub all : GivesAll old new max text
   pub first : HasFirstBadLine text line
 
--- what each fault says: Read says it of the reader's failure, which is told apart
+-- what each fault says; that the reader failed is stated apart
 abbrev pub IsAnswerFault : Option (List ℕ) → Option (List ℕ) → ℕ → AnswerFault → Type 0
 IsAnswerFault old new max (BadLine line) = IsBadLine old new max line
 IsAnswerFault old new max Read = Unit {0}
@@ -63,7 +63,7 @@ pub record AreOfFile (answers : List Answer) : Type 0 where
   pub has : HasLines text lines
   pub same : SaysTheSame lines answers
 
--- what a fault says of a file
+-- what a fault says about a file
 abbrev pub IsFileFault : AnswerFault → Type 0
 IsFileFault (BadLine line) = (text : List ℕ) × (length text < 2 ^ 32) × HasFirstBadLine text line
 IsFileFault Read = Unit {0}

@@ -19,7 +19,7 @@ sort_key k = record { kind = k.kind; first = k.first.now; second = k.second.now;
 abbrev pub trust_key : List ℕ → SortKey
 trust_key payload = record { kind = 0; first = payload; second = []; third = [] }
 
--- The signature comes first, since the signed octets of all blocks of a session begin alike. The payload comes last:
+-- The signature comes first, because the signed octets of all blocks of a session begin alike. The payload comes last:
 -- it is the longest of the three, and all blocks of a session have it.
 abbrev pub yes_key : List ℕ → List ℕ → List ℕ → SortKey
 yes_key payload octets signature = record { kind = 1; first = signature; second = octets; third = payload }

@@ -17,12 +17,12 @@ use Rattle.ss_answers.specs.declared.lines.Lines.{Lines}
 use Rattle.ss_answers.specs.AnswerKey.{SortKey, key_cmp, key_of}
 use Rattle.ss_answers.specs.Answers.{Answer, Trust, Yes, Seal, HasFields, IsField, line_text}
 
--- what a fault says of the text, where it isn't want of memory
+-- what a fault says about the text, where it isn't out of memory
 abbrev pub IfBad : LineFault → Type 0 → Type 0
 IfBad faults.Bad P = P
 IfBad faults.Memory P = Unit {0}
 
--- what a refusal says, where it isn't want of memory
+-- what a refusal says, where it isn't out of memory
 abbrev pub IfRefused : SealFault → Type 0 → Type 0
 IfRefused refusals.Refused P = P
 IfRefused refusals.Memory P = Unit {0}
@@ -62,14 +62,14 @@ AreWithin lines = AllByRecursion (IsWithin (length lines.octets.items)) lines.pl
 abbrev pub no_span : Span
 no_span = record { start = 0; end = 0 }
 
--- the place of a line whose signature stands behind its octets
+-- the place of a line whose signature stands after its octets
 abbrev pub place_of : Span → Span → Span → Place
 place_of payload octets signature =
     record { payload = payload; start = octets.start; middle = octets.end; end = signature.end }
 
--- ---- a step of the reading: a text is spelt, and the octets of its fields come behind the others
+-- ---- a step of the reading: a text is spelt, and the octets of its fields come after the others
 
--- at most so many octets came behind the others
+-- at most so many octets came after the others
 pub record Grows (old new : List ℕ) (most : ℕ) : Type 0 where
   pub more : List ℕ
   pub appended : new ≡ old ++ more
@@ -83,7 +83,7 @@ pub record HasField (octets text : List ℕ) (span : Span) : Type 0 where
   pub here : part octets span.start span.end ≡ field
   pub within : span.end ≤ length octets
 
--- a field came behind the others
+-- a field came after the others
 pub record KeepsField (old new text : List ℕ) (span : Span) : Type 0 where
   pub has : HasField new text span
   pub grows : Grows old new (length text)
@@ -105,7 +105,7 @@ pub record KeepsPayload (old new text : List ℕ) (known : Known) : Type 0 where
   pub same : known.text.now ≡ text
   pub grows : Grows old new (length text)
 
--- the text is two fields, which came one behind the other
+-- the text is two fields, which came one after the other
 pub record KeepsPair (old new text : List ℕ) (first second : Span) : Type 0 where
   pub left : List ℕ
   pub right : List ℕ

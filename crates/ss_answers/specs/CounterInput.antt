@@ -26,7 +26,7 @@ abbrev pub read_failed : {T : Type 0} → Result T CounterFault → Bool
 read_failed (Ok x) = false
 read_failed (Err fault) = is_read_fault fault
 
--- what a fault says of the text
+-- what a fault says about the text
 abbrev pub IsCountersTextFault : List ℕ → CounterFault → Type 0
 IsCountersTextFault text (BadLine line) = HasFirstBadCounter text line
 IsCountersTextFault text Read = ⊥
@@ -45,7 +45,7 @@ pub record IsBadCounter (old new : Option (List ℕ)) (max : ℕ) (line : ℕ) :
   pub all : GivesAll old new max text
   pub first : HasFirstBadCounter text line
 
--- what each fault says: Read says it of the reader's failure, which is told apart
+-- what each fault says; that the reader failed is stated apart
 abbrev pub IsCounterFault : Option (List ℕ) → Option (List ℕ) → ℕ → CounterFault → Type 0
 IsCounterFault old new max (BadLine line) = IsBadCounter old new max line
 IsCounterFault old new max Read = Unit {0}
@@ -60,7 +60,7 @@ pub record AreCountersOfFile (counters : List Counter) : Type 0 where
   pub within : length text < 2 ^ 32
   pub has : HasCounters text counters
 
--- what a fault says of a file
+-- what a fault says about a file
 abbrev pub IsCountersFileFault : CounterFault → Type 0
 IsCountersFileFault (BadLine line) = (text : List ℕ) × (length text < 2 ^ 32) × HasFirstBadCounter text line
 IsCountersFileFault Read = Unit {0}

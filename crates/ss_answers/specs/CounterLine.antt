@@ -56,7 +56,7 @@ LinesHaveTheirCounters =
 
 -- ---- parts of the reading
 
--- what stands behind `count `: a session and the rest behind it, and then what is counted
+-- what stands after `count `: a session and the rest after it, and then what is counted
 abbrev pub session_text : Session → List ℕ → List ℕ
 session_text s rest =
     field_word s.host ++ sp ∷ (field_word s.app ++ sp ∷ (field_word s.procid ++ sp ∷ (decimal s.rsid ++ sp ∷ rest)))

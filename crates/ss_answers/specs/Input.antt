@@ -27,7 +27,7 @@ abbrev pub failed_input : {T : Type 0} → Result T InputFault → Bool
 failed_input (Ok x) = false
 failed_input (Err fault) = is_failed_read fault
 
--- what a fault says of the reader
+-- what a fault says about the reader
 abbrev pub IsInputFault : Option (List ℕ) → Option (List ℕ) → ℕ → InputFault → Type 0
 IsInputFault old new max Read = Unit {0}
 IsInputFault old new max TooBig = GivesMore old new max

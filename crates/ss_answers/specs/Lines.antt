@@ -1,4 +1,4 @@
--- Texts of lines, each ended by LF: told for lines of any kind, by which of them are good and how each is spelt.
+-- Texts of lines, each ended by LF, for lines of any kind: which of them are good, and how each is spelt.
 use Rattle.std.specs.Prelude.{◌≡◌, ℕ, ◌+◌, ◌<◌, ◌==◌, if◌then◌else◌, ◌⊎◌, List, [], ◌∷◌, ◌++◌, length, flat_map}
 use Rattle.std.specs.List.{AllByRecursion}
 use Rattle.ss_octets.specs.Ascii.{lf}

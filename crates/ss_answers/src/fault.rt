@@ -20,7 +20,7 @@ pub enum AnswerFault {
     Read,
     /// A3: there are more octets than were allowed.
     TooBig,
-    /// A4: want of memory.
+    /// A4: out of memory.
     Memory,
 }
 

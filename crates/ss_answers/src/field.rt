@@ -1,4 +1,4 @@
-//! Fields of lines: their octets stand behind those of the lines before.
+//! Fields of lines: their octets stand after those of the lines before.
 ghost use Rattle.std.specs.Prelude.{◌≡◌, ◌+◌, ◌<◌, ◌^◌, length, IfOk, IfErr};
 ghost use Rattle.ss_answers.specs.Answers.{IsNoField};
 ghost use Rattle.ss_answers.specs.AnswerLine.{IfBad, KeepsField};
@@ -11,7 +11,7 @@ use base64::engine::general_purpose::STANDARD;
 pub struct Span {
     /// Where its first octet stands.
     pub start: u32,
-    /// The place behind its last octet.
+    /// The place after its last octet.
     pub end: u32,
 }
 
@@ -35,7 +35,7 @@ pub enum LineFault {
     Memory,
 }
 
-/// Decodes a field, the base64 of at least one octet, behind the octets of those before it.
+/// Decodes a field, the base64 of at least one octet, after the octets of those before it.
 pub fn keep(octets: &mut Vec<u8>, text: &[u8]) -> Result<Span, LineFault>
     requires { length octets.old.items + length text.now < 2 ^ 32 }
     ensures ok { IfOk result (λ span. KeepsField octets.old.items octets.new.items text.now span) }

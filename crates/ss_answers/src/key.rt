@@ -30,10 +30,9 @@ impl<'a> Key<'a> {
         }
     }
 
-    /// Whether under a payload octets have a valid signature. The signature is compared first, since signatures differ
-    /// in their first octets, and the signed octets of blocks only behind the names that all of a session have. The
-    /// payload is compared last, since it may be as long as a log, and all blocks of a session are asked about with the
-    /// same.
+    /// Whether under a payload octets have a valid signature. The signature is compared first, because signatures
+    /// differ in their first octets. The signed octets of the blocks of a session begin alike. The payload is compared
+    /// last, because it may be as long as a log, and all blocks of a session are asked about with the same.
     pub fn yes(payload: &'a [u8], bytes: &'a [u8], signature: &'a [u8]) -> Key<'a>
         ensures { sort_key result ≡ yes_key payload.now bytes.now signature.now }
     {

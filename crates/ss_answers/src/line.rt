@@ -21,8 +21,8 @@ pub struct Known<'a> {
     pub span: Span,
 }
 
-/// Keeps a line, which is given without its line feed: its fields are decoded behind the octets of the lines before it.
-/// The payload of the line before isn't decoded again; that of this line is told with its place.
+/// Keeps a line, which is given without its line feed: its fields are decoded after the octets of the lines before it.
+/// The payload of the line before isn't decoded again; that of this line comes with its place.
 ///
 /// # Errors
 ///

@@ -14,7 +14,7 @@ use std::collections::BTreeMap;
 /// Lines by the places of their fields among the octets of all of them.
 #[derive(Debug, Drop)]
 pub struct Lines {
-    /// The fields of all lines, one behind the other. A payload stands once for the lines that follow one another with
+    /// The fields of all lines, one after the other. A payload stands once for the lines that follow one another with
     /// it.
     pub octets: Vec<u8>,
     /// For each line, where its fields stand.

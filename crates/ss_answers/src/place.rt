@@ -9,7 +9,7 @@ use crate::field::Span;
 use crate::key::Key;
 
 /// The places of the fields of a line: its payload, which other lines may have too, and octets and signature, one
-/// behind the other. A field that the line lacks is empty.
+/// after the other. A field that the line lacks is empty.
 #[derive(Clone, Copy, Debug)]
 pub struct Place {
     payload: Span,
@@ -21,7 +21,7 @@ pub struct Place {
 impl Place {
     ghost use Rattle.ss_answers.specs.AnswerLine.{answer_at, place_key, place_of};
 
-    /// The signature stands behind the octets.
+    /// The signature stands after the octets.
     pub fn of(payload: Span, bytes: Span, signature: Span) -> Place
         ensures { result ≡ place_of payload bytes signature }
     {

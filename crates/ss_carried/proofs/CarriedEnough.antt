@@ -16,8 +16,8 @@ use Rattle.ss_block.specs.Order.{group_cmp}
 use Rattle.ss_block.specs.OrderLaws.{session_cmp_total, group_cmp_total, group_cmp_exact}
 use Rattle.ss_review.specs.declared.keep.message.NormalMessage.{NormalMessage}
 use Rattle.ss_review.specs.declared.keep.message.BlockMessage.{BlockMessage}
-use Rattle.ss_review.specs.declared.keep.message.Said.{Said}
-use Rattle.ss_review.specs.declared.keep.message.Said.TheVariants.{Hashes, Fragment}
+use Rattle.ss_review.specs.declared.keep.message.BlockContent.{BlockContent}
+use Rattle.ss_review.specs.declared.keep.message.BlockContent.TheVariants.{Hashes, Fragment}
 use Rattle.ss_review.specs.declared.keep.spoilt.SpoiltPlace.{SpoiltPlace}
 use Rattle.ss_review.specs.declared.report.entry.Entry.{Entry}
 use Rattle.ss_review.specs.declared.report.entry.Entry.TheVariants as entry
@@ -172,7 +172,7 @@ module _ (says : Answers) (log : Contents) (apart : AreApart log) where
   under_there : (b : BlockMessage) (said : block.Signature) → b.said ≡ Hashes said → (e : Entry) → Has (entries_under (report_of says log) b) e
       → Tells (report_of says log) b.session said.group e × (said.first ≤ first_number e) × (first_number e < said.first + length said.hashes)
   under_there b said s e h =
-      let here : Has (entries_said r b.session (Hashes said)) e = subst (λ (x : Said). Has (entries_said r b.session x) e) s h in
+      let here : Has (entries_said r b.session (Hashes said)) e = subst (λ (x : BlockContent). Has (entries_said r b.session x) e) s h in
       let f = from_has-filter (is_numbered said.first (length said.hashes)) (entries_in r b.session said.group) e here in
       let p = and_parts (nat_le said.first (first_number e)) (nat_lt (first_number e) (said.first + length said.hashes)) f.1 in
       (entry_there b.session said.group e f.0, leb-true said.first (first_number e) p.0, ltb-true (first_number e) (said.first + length said.hashes) p.1)
@@ -185,7 +185,7 @@ module _ (says : Answers) (log : Contents) (apart : AreApart log) where
       let within = slice_get_within a.said.hashes a.index h a.hash in
       let at : first_number e ≡ a.said.first + a.index = number ∙ a.number in
       let told : Tells r b.session a.said.group e = subst (λ (s : Session). Tells r s a.said.group e) (sym a.session_is) (subst (λ (g : Group). Tells r k.session g e) (sym a.group_is) t) in
-      subst (λ (x : Said). Has (entries_said r b.session x) e) (sym a.says_so)
+      subst (λ (x : BlockContent). Has (entries_said r b.session x) e) (sym a.says_so)
       (has-filter (is_numbered a.said.first (length a.said.hashes)) (entries_in r b.session a.said.group) e (entry_here b.session a.said.group e told)
       (and_from (nat_le a.said.first (first_number e)) (nat_lt (first_number e) (a.said.first + length a.said.hashes))
       (le-leb a.said.first (first_number e) (omega (arith, at)))
@@ -293,8 +293,8 @@ module _ (says : Answers) (log : Contents) (apart : AreApart log) where
   hash_at (h ∷ hs) (suc i) low = hash_at hs i (omega (arith, low))
 
   entry_under : (b : BlockMessage) → Has log.blocks b → has_gap (report_of says log) b ≡ true → (place : ℕ) (e : Entry) → Has (entries_under (report_of says log) b) e → place_listed e ≡ Some place
-      → (x : Said) → b.said ≡ x → IsUnder place
-  entry_under b h t place e i l (Fragment c) s = absurd (subst (λ (x : Said). Has (entries_said r b.session x) e) s i)
+      → (x : BlockContent) → b.said ≡ x → IsUnder place
+  entry_under b h t place e i l (Fragment c) s = absurd (subst (λ (x : BlockContent). Has (entries_said r b.session x) e) s i)
   entry_under b h t place e i l (Hashes said) s =
       let u = under_there b said s e i in
       let number = first_number e in
@@ -369,7 +369,7 @@ module _ (says : Answers) (log : Contents) (apart : AreApart log) where
 
   -- ---- certificate blocks
 
-  fragment_is : (said : Said) (index count : ℕ) → has_fragment_at index count said ≡ true → (c : block.Certificate) × (said ≡ Fragment c) × (c.index ≡ index) × (length c.fragment ≡ count)
+  fragment_is : (said : BlockContent) (index count : ℕ) → has_fragment_at index count said ≡ true → (c : block.Certificate) × (said ≡ Fragment c) × (c.index ≡ index) × (length c.fragment ≡ count)
   fragment_is (Hashes h) index count e = absurd (cc)
   fragment_is (Fragment c) index count e =
       let p = and_parts (c.index == index) (length c.fragment == count) e in

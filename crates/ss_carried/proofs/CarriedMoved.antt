@@ -12,8 +12,8 @@ use Rattle.std.proofs.lemmas.Map.Lookups.{exact_unsigned}
 use Rattle.ss_block.specs.declared.block.Group.{Group}
 use Rattle.ss_block.specs.declared.session.Session.{Session}
 use Rattle.ss_review.specs.declared.keep.message.BlockMessage.{BlockMessage}
-use Rattle.ss_review.specs.declared.keep.message.Said.{Said}
-use Rattle.ss_review.specs.declared.keep.message.Said.TheVariants.{Hashes, Fragment}
+use Rattle.ss_review.specs.declared.keep.message.BlockContent.{BlockContent}
+use Rattle.ss_review.specs.declared.keep.message.BlockContent.TheVariants.{Hashes, Fragment}
 use Rattle.ss_review.specs.declared.report.entry.Entry.{Entry}
 use Rattle.ss_review.specs.declared.report.entry.Entry.TheVariants as entry
 use Rattle.ss_review.specs.declared.report.group_report.GroupReport.{GroupReport}
@@ -100,7 +100,7 @@ module _ (f : ℕ → ℕ) where
         ∙ (λ i. flat_map (λ t. session_moved g t i) (told_of r s))
         ∙ sym (map-flat_map (moved_entry f) (entries_of g) (told_of r s))
 
-    said_moved : (s : Session) (said : Said) → entries_said (moved f r) s said ≡ map (moved_entry f) (entries_said r s said)
+    said_moved : (s : Session) (said : BlockContent) → entries_said (moved f r) s said ≡ map (moved_entry f) (entries_said r s said)
     said_moved s (Fragment c) = refl
     said_moved s (Hashes h) =
         ap (filter (is_numbered h.first (length h.hashes))) (entries_moved s h.group)
@@ -180,7 +180,7 @@ module _ (f : ℕ → ℕ) where
         fragment_moved : (s : Session) (index count : ℕ) (b : BlockMessage) → Has bs b → is_fragment_of (moved f r) s index count (moved_block f b) ≡ is_fragment_of r s index count b
         fragment_moved s index count b h = ap (λ v. same_session b.session s && has_fragment_at index count b.said && v) (verified_in_moved b h)
 
-        first_moved : (b : BlockMessage) → Has bs b → (said : Said) → is_first_said (moved f r) (map (moved_block f) bs) (moved_block f b) said ≡ is_first_said r bs b said
+        first_moved : (b : BlockMessage) → Has bs b → (said : BlockContent) → is_first_said (moved f r) (map (moved_block f) bs) (moved_block f b) said ≡ is_first_said r bs b said
         first_moved b h (Hashes s) = refl
         first_moved b h (Fragment c) =
             ap not

@@ -13,7 +13,7 @@ use Rattle.ss_block.specs.Session.{session}
 use Rattle.ss_block.specs.Signed.{signed}
 use Rattle.ss_review.specs.declared.keep.message.NormalMessage.{NormalMessage}
 use Rattle.ss_review.specs.declared.keep.message.BlockMessage.{BlockMessage}
-use Rattle.ss_review.specs.declared.keep.message.Said.{Said}
+use Rattle.ss_review.specs.declared.keep.message.BlockContent.{BlockContent}
 use Rattle.ss_review.specs.declared.report.report.Report.{Report}
 use Rattle.ss_review.specs.keep.Notes.{Note, Normal, Block, Spoilt, note, notes}
 use Rattle.ss_review.specs.keep.Contents.{said_in, block_with, block_in, block_at, normals, blocks, contents}
@@ -53,7 +53,7 @@ range_rises a zero = tt
 range_rises a (suc n) =
     (all_below (λ p. nat_cmp a p ≡ Less) (range_with_len (a + 1) n) (λ p h. less a p (omega (arith, (from_in_range (a + 1) n p h).0))), range_rises (a + 1) n)
 
-with_moves : (f : ℕ → ℕ) (p : ℕ) (said : Option Said) (s : Option Session) (octets : Option (List ℕ)) → option_map (moved_block f) (block_with p said s octets) ≡ block_with (f p) said s octets
+with_moves : (f : ℕ → ℕ) (p : ℕ) (said : Option BlockContent) (s : Option Session) (octets : Option (List ℕ)) → option_map (moved_block f) (block_with p said s octets) ≡ block_with (f p) said s octets
 with_moves f p (Some said) (Some s) (Some octets) = refl
 with_moves f p (Some said) (Some s) None = refl
 with_moves f p (Some said) None octets = refl

@@ -12,8 +12,8 @@ use Rattle.ss_block.specs.OrderLaws.{session_cmp_total}
 use Rattle.ss_block.specs.Reading.{reading}
 use Rattle.ss_block.specs.ReadingLaws.{BlocksAreInRange}
 use Rattle.ss_review.specs.declared.keep.message.BlockMessage.{BlockMessage}
-use Rattle.ss_review.specs.declared.keep.message.Said.{Said}
-use Rattle.ss_review.specs.declared.keep.message.Said.TheVariants.{Fragment}
+use Rattle.ss_review.specs.declared.keep.message.BlockContent.{BlockContent}
+use Rattle.ss_review.specs.declared.keep.message.BlockContent.TheVariants.{Fragment}
 use Rattle.ss_review.specs.keep.Notes.{notes}
 use Rattle.ss_review.specs.keep.Contents.{Contents, said_in, blocks}
 use Rattle.ss_review.specs.sessions.Sessions.{same_session, of_session}
@@ -65,7 +65,7 @@ certificate_read (readings.Spoilt cause) c e = absurd (cc)
 in_range_of : BlocksAreInRange → (log : List (List ℕ)) → AreInRange (blocks (notes log))
 in_range_of laws log c f =
     let w = stored_block log f.message f.stored in
-    laws.1 w.0 c (certificate_read (reading w.0) c (w.2.said_is ∙ ap (λ (said : Said). Some said) f.says_so))
+    laws.1 w.0 c (certificate_read (reading w.0) c (w.2.said_is ∙ ap (λ (said : BlockContent). Some said) f.says_so))
 
 pub all_in_range : BlocksAreInRange → (whole : Contents) → AreContents whole → AreInRange whole.blocks
 all_in_range laws whole are = subst (λ (log : Contents). AreInRange log.blocks) (sym are.1) (in_range_of laws are.0)
@@ -180,7 +180,7 @@ module _ (x : Nights) where
           = record {
             message = o.message;
             stored = contains_from_has bs o.message m.0;
-            verified = verified_of says bs s text e o.message m.1 (ap (λ (t : Said). says.valid text o.message.signed (signature_of t)) o.says_so ∙ o.valid);
+            verified = verified_of says bs s text e o.message m.1 (ap (λ (t : BlockContent). says.valid text o.message.signed (signature_of t)) o.says_so ∙ o.valid);
             session_is = m.1;
             said = o.said;
             says_so = o.says_so;
@@ -194,7 +194,7 @@ module _ (x : Nights) where
               stored = contains_from_has (in_night night) v.message (has-of_session bs s v.message (has_from_contains bs v.message v.stored) v.session_is);
               said = v.said;
               says_so = v.says_so;
-              valid = sym (ap (λ (t : Said). says.valid text v.message.signed (signature_of t)) v.says_so) ∙ valid_of says bs s text e v.message v.session_is v.verified;
+              valid = sym (ap (λ (t : BlockContent). says.valid text v.message.signed (signature_of t)) v.says_so) ∙ valid_of says bs s text e v.message v.session_is v.verified;
               from = v.from;
               to = v.to;
             },

@@ -11,8 +11,8 @@ use Rattle.ss_block.specs.declared.hash.HashPair.{HashPair}
 use Rattle.ss_block.specs.declared.session.Session.{Session}
 use Rattle.ss_review.specs.declared.keep.message.NormalMessage.{NormalMessage}
 use Rattle.ss_review.specs.declared.keep.message.BlockMessage.{BlockMessage}
-use Rattle.ss_review.specs.declared.keep.message.Said.{Said}
-use Rattle.ss_review.specs.declared.keep.message.Said.TheVariants.{Hashes, Fragment}
+use Rattle.ss_review.specs.declared.keep.message.BlockContent.{BlockContent}
+use Rattle.ss_review.specs.declared.keep.message.BlockContent.TheVariants.{Hashes, Fragment}
 use Rattle.ss_parts.specs.Parts.{SessionsStayWhole, AnnouncedStayWithBlocks, AreParts}
 use Rattle.ss_parts.specs.PartRows.{cut_off, halves_log}
 use Rattle.ss_review.specs.assign.Assigned.{has_hash}
@@ -112,7 +112,7 @@ half_message m (inl e) = inl (subst (λ (n : NormalMessage). half_cut n.place �
 half_message m (inr (inl e)) = inr (subst (λ (n : NormalMessage). half_cut n.place ≡ 1) e refl, ap (λ (n : NormalMessage). n.pair) (sym e))
 half_message m (inr (inr h)) = absurd h
 
-hashes_in : Said → List Hash
+hashes_in : BlockContent → List Hash
 hashes_in (Hashes said) = said.hashes
 hashes_in (Fragment said) = []
 

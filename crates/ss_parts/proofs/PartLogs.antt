@@ -16,7 +16,7 @@ use Rattle.ss_block.specs.Session.{session}
 use Rattle.ss_block.specs.Signed.{signed}
 use Rattle.ss_review.specs.declared.keep.message.NormalMessage.{NormalMessage}
 use Rattle.ss_review.specs.declared.keep.message.BlockMessage.{BlockMessage}
-use Rattle.ss_review.specs.declared.keep.message.Said.{Said}
+use Rattle.ss_review.specs.declared.keep.message.BlockContent.{BlockContent}
 use Rattle.ss_review.specs.declared.keep.spoilt.SpoiltPlace.{SpoiltPlace}
 use Rattle.ss_review.specs.keep.Notes.{Note, Normal, Block, Spoilt, note, notes}
 use Rattle.ss_review.specs.keep.Contents.{said_in, block_with, block_in, normal_at, block_at, spoilt_at, normals, blocks, spoilts, contents}
@@ -124,7 +124,7 @@ module _ (part : ℕ → ℕ) (k : ℕ) (ns : List Note) where
   normal_moves f p (Block text) = refl
   normal_moves f p (Spoilt cause) = refl
 
-  with_moves : (f : ℕ → ℕ) (p : ℕ) (said : Option Said) (s : Option Session) (octets : Option (List ℕ)) → option_map (moved_block f) (block_with p said s octets) ≡ block_with (f p) said s octets
+  with_moves : (f : ℕ → ℕ) (p : ℕ) (said : Option BlockContent) (s : Option Session) (octets : Option (List ℕ)) → option_map (moved_block f) (block_with p said s octets) ≡ block_with (f p) said s octets
   with_moves f p (Some said) (Some s) (Some octets) = refl
   with_moves f p (Some said) (Some s) None = refl
   with_moves f p (Some said) None octets = refl

@@ -1,5 +1,5 @@
 //! Which stored message is listed under each announced number.
-pub(crate) mod bearings;
+pub(crate) mod bearers;
 pub(crate) mod counters;
 pub(crate) mod hash_entry;
 pub(crate) mod hash_list;

@@ -1,7 +1,7 @@
 //! What is kept of the messages of a log as they are fed.
-pub(crate) mod held;
 pub(crate) mod message;
 pub(crate) mod reading;
+pub(crate) mod review_input;
 pub(crate) mod reviewer;
 pub(crate) mod spoilt;
 pub(crate) mod stored;

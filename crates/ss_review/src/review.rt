@@ -6,7 +6,7 @@ ghost use Rattle.ss_review.specs.questions.Questions.{questions, AreAskable};
 ghost use Rattle.ss_review.specs.report.Report.{report_of};
 
 use crate::assign::index::Index;
-use crate::keep::held::Held;
+use crate::keep::review_input::ReviewInput;
 use crate::report::report::Report;
 use crate::report::reporting::reported;
 use crate::sessions::states::joined_sessions;
@@ -21,7 +21,7 @@ use std::mem::drop;
 pub(crate) fn review<J: Judge + Drop, I: Index + Drop>(
     alloc: Global,
     judge: J,
-    held: Held<'_, I>,
+    held: ReviewInput<'_, I>,
 ) -> Result<Report, NoMemory>
     requires sound { J.sound judge }
     requires askable { AreAskable J.askable judge (questions held.blocks.items) }

@@ -150,11 +150,11 @@ module _ (s : Setting) (some : 1 ≤ s.config.frag) where
       → EmitsFrom plan old call for_plan
       → signed_among emitted ≡ copied (signed_among for_plan)
   call_signed old call emitted for_plan accepted e taken p =
-      let told : signed_among for_plan ≡ map (unsigned_text s.config.head (stamp_of call)) e.due
+      let form : signed_among for_plan ≡ map (unsigned_text s.config.head (stamp_of call)) e.due
       = signed_emitted plan old call for_plan taken p
       ∙ once_each (map (unsigned_text s.config.head (stamp_of call)) p.due)
       ∙ ap (map (unsigned_text s.config.head (stamp_of call))) (same_due s old call emitted for_plan some e p) in
-      signed_emitted s old call emitted accepted e ∙ ap copied (sym told)
+      signed_emitted s old call emitted accepted e ∙ ap copied (sym form)
 
   abbrev sent : List Turn → List (List ℕ)
   sent turns = flat_map (λ t. t.emitted) (reverse turns)

@@ -22,7 +22,7 @@ impl Seals for Blank {
 
     ghost answers = { λ _ octets answer. gives_0 octets answer };
 
-    // It is the same behind each question.
+    // It is the same after each question.
     ghost asked = { λ old octets answer new. (new ≡ old) × gives_0 octets answer };
 
     fn payload_block(&self) -> &Payload {

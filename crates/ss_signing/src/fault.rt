@@ -32,7 +32,7 @@ pub enum SignFault {
 
 impl SignFault {
     /// Its code, for programs, which of a fault of a lower layer is the code of that one. The place is the octet's
-    /// behind P1, and the message's behind O1 to O10.
+    /// after P1, and the message's after O1 to O10.
     pub fn code(self) -> Code
         ensures { IsCode result (sign_fault_code self) }
     {

@@ -105,7 +105,7 @@ limits_with a b lines = record { max_len = a; max_messages = b; form = form_of l
 
 -- ---- the commands
 
--- with options of these rules behind those that it has
+-- with options of these rules after those that it has
 abbrev pub with_rules : App → List Rule → App
 with_rules app [] = app
 with_rules app (rule ∷ rules) = with_rules (with_rule app rule) rules

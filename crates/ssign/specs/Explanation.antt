@@ -1,4 +1,4 @@
--- What is told of a code, and which code is asked about.
+-- What is printed about a code, and which code is asked about.
 use Rattle.std.specs.Prelude.{ℕ, Bool, ◌==◌, ◌&&◌, not, List, [], ◌∷◌, ◌++◌, Option, None, codes}
 use Rattle.std.specs.List.{find, slice_split}
 use Rattle.std.specs.Option.{option_or}

@@ -7,7 +7,7 @@ pub mod Task
 pub mod Signing
 pub mod Explanation
 pub mod Extraction
-pub mod Opening
+pub mod FirstOctets
 pub mod LikelyCause
 pub mod Remark
 pub mod Progress

@@ -3,14 +3,14 @@ ghost use Rattle.std.specs.Prelude.{◌≡◌, ◌==◌, ◌∷◌, [], ◌<◌,
 ghost use Rattle.std.specs.List.{slice_split};
 ghost use Rattle.ssign.specs.Explanation.{asked_of, asked_word, is_asked};
 
-/// Whether the word is one that something may be told of. The `ssign:` before a refusal isn't.
+/// Whether the word may be a code. The `ssign:` before a refusal isn't one.
 fn is_asked(word: &str) -> bool
     ensures { result ≡ is_asked word.now }
 {
     !word.is_empty() && word != "ssign:"
 }
 
-/// What stands before the first space, and behind it.
+/// What stands before the first space, and after it.
 fn split_at_space(text: &str) -> Option<(&str, &str)>
     ensures parts { MatchOption result (slice_split (λ octet. octet == 32) text.now ≡ text.now ∷ [])
         (λ x. slice_split (λ octet. octet == 32) text.now ≡ x.0.now ∷ slice_split (λ octet. octet == 32) x.1.now) }
@@ -19,7 +19,7 @@ fn split_at_space(text: &str) -> Option<(&str, &str)>
     text.split_once(' ')
 }
 
-/// The first word of a text, between its spaces, that something may be told of.
+/// The first word of a text, between its spaces, that may be a code.
 pub fn asked_word(text: &str) -> Option<&str>
     ensures { option_map (λ word. word.now) result ≡ asked_word text.now }
 {

@@ -30,7 +30,7 @@ pub fn explanation_of<'t>(tables: Tables<'t>, code: &str) -> Option<&'t Explanat
 /// # Errors
 ///
 /// `RunFault::Write` exactly where a call of the writer failed; what was written then is a prefix of the line.
-/// `RunFault::Memory` for want of memory, with nothing written.
+/// `RunFault::Memory` if it runs out of memory; nothing was written then.
 pub fn write_explanation<W: Write>(
     alloc: Global,
     writer: &mut Watched<W>,

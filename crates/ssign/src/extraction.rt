@@ -17,7 +17,7 @@ use ss_report::{Extraction, Selection};
 use ss_review::Places;
 use std::alloc::{AllocError, AllocFailed, Global};
 
-/// Why options say of nothing that it is extracted.
+/// Why the options don't say what is to be extracted.
 #[derive(Clone, Copy, Debug, PartialEq, Eq)]
 pub enum ExtractionFault {
     /// Places are given, and the unlisted messages are asked for too.

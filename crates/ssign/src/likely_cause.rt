@@ -46,7 +46,7 @@ impl fmt::Display for LikelyCause {
     }
 }
 
-/// What the first octets of a log say of it, which is read in this form.
+/// What the first octets of a log say about it, which is read in this form.
 fn cause_in(form: Form, octets: &[u8]) -> Option<LikelyCause>
     ensures { result ≡ cause_in form octets.now }
 {

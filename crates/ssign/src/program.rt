@@ -11,18 +11,18 @@ use crate::command_line::{
 use crate::explain::explanation_of;
 use crate::explanations::{Tables, all_tables};
 use crate::extraction::{ExtractionFault, extraction_of};
+use crate::first_octets::FirstOctets;
 use crate::likely_cause::{run_cause, signing_cause};
 use crate::negatives::tells_negative;
-use crate::nobody::Nobody;
-use crate::opening::Opening;
 use crate::progress::Progress;
+use crate::refuse_all::RefuseAll;
 use crate::refusing::{
     REFUSED, Remark, Screen, cause_remark, refuse, refuse_code, refuse_words, settings_remark,
 };
 use crate::settings::settings_of;
-use crate::signing::{Signing, ToSign};
+use crate::signing::{Signing, SigningRequest};
 use crate::streams::{explain_on_output, run_streams, sign_streams};
-use crate::task::{Task, Wanted};
+use crate::task::{Task, TaskRequest};
 use clap::ArgMatches;
 use clap::error::ErrorKind;
 use ss_answers::{open_answers, open_counters};
@@ -125,30 +125,30 @@ fn run_log<R: Input + Print + Eprint + Screen + Files + Clock + AllocGlobal>(
             Err(fault) => return refuse(rt, &fault.code(), Remark::CountersFile(file)),
         },
     };
-    let wanted = Wanted {
+    let request = TaskRequest {
         task,
         reporting: reporting_of(options),
         counters: counters.as_slice(),
         extraction,
         limits,
     };
-    run_wanted(rt, wanted, options)
+    run_request(rt, request, options)
 }
 
 /// Makes a run over standard input. The answers file is read before.
-fn run_wanted<R: Input + Print + Eprint + Screen + Files + Clock + AllocGlobal>(
+fn run_request<R: Input + Print + Eprint + Screen + Files + Clock + AllocGlobal>(
     rt: &R,
-    wanted: Wanted<'_>,
+    request: TaskRequest<'_>,
     options: &ArgMatches<'_>,
 ) -> u8
     ensures { result ≤ 2 }
 {
-    let form = wanted.limits.form();
-    let mut input = Progress::new(rt, Opening::new(rt.reader()), form);
+    let form = request.limits.form();
+    let mut input = Progress::new(rt, FirstOctets::new(rt.reader()), form);
     let ended = match answers_file(options) {
-        None => run_streams(rt, &mut input, wanted, Nobody),
+        None => run_streams(rt, &mut input, request, RefuseAll),
         Some(file) => match open_answers(rt, file) {
-            Ok(answers) => run_streams(rt, &mut input, wanted, answers),
+            Ok(answers) => run_streams(rt, &mut input, request, answers),
             Err(fault) => return refuse(rt, &fault.code(), Remark::AnswersFile(file)),
         },
     };
@@ -167,7 +167,7 @@ fn refuse_extraction<R: Print + Eprint + Screen + AllocGlobal>(rt: &R, fault: Ex
     }
 }
 
-/// Says that `--unlisted` and `--place` exclude each other, as other mistakes of the command line are told.
+/// Reports that `--unlisted` and `--place` exclude each other, like other mistakes of the command line.
 fn tell_conflict<R: Print + Eprint + Screen + AllocGlobal>(rt: &R) -> u8
     ensures { result ≤ 2 }
 {
@@ -204,14 +204,14 @@ fn run_sent<R: Input + Print + Eprint + Screen + Files + Clock + AllocGlobal>(
             Err(fault) => return refuse(rt, &fault.code(), Remark::AnswersFile(file)),
         },
     };
-    let mut input = Progress::new(rt, Opening::new(rt.reader()), limits.form());
-    let wanted = ToSign {
+    let mut input = Progress::new(rt, FirstOctets::new(rt.reader()), limits.form());
+    let request = SigningRequest {
         signing,
         settings,
         answers,
         limits,
     };
-    let ended = sign_streams(rt, &mut input, wanted);
+    let ended = sign_streams(rt, &mut input, request);
     input.hide();
     end_signing(rt, ended, limits.form(), input.inner().kept())
 }
@@ -224,7 +224,7 @@ fn run_explain<R: Print + Eprint + Screen + AllocGlobal>(rt: &R, options: &ArgMa
     explain(rt, all_tables(), code)
 }
 
-/// Tells on standard output what a code means, by its entry in one of the tables.
+/// Prints on standard output what a code means, by its entry in one of the tables.
 fn explain<R: Print + Eprint + Screen + AllocGlobal>(rt: &R, tables: Tables<'_>, code: &str) -> u8
     ensures most { result ≤ 2 }
     ensures unknown { find (has_code code.now) (entries_of tables.entry) ≡ None → result ≡ 2 }

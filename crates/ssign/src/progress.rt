@@ -49,7 +49,7 @@ impl<'r, R: Eprint + Screen + Clock, I> Progress<'r, R, I> {
         Progress { rt, inner, meter }
     }
 
-    /// The reader behind it.
+    /// The reader after it.
     pub fn inner(&self) -> &I
         ensures { result.now ≡ read_from self.now }
     {

@@ -104,7 +104,7 @@ pub fn refuse<R: Eprint + Screen>(rt: &R, code: &Code, remark: Remark<'_>) -> u8
     REFUSED
 }
 
-/// Says what `explain` says of the refusal as it is printed.
+/// Prints what `explain` prints for the refusal.
 fn explain_refusal<R: Eprint>(rt: &R, code: &Code) {
     let mut line = ArrayString::<LONGEST_REFUSAL>::new();
     if write!(line, "{code}").is_err() {
@@ -128,7 +128,7 @@ pub fn refuse_words<R: Eprint>(rt: &R) -> u8
     REFUSED
 }
 
-/// Says on standard error that nothing is told of a code, and of which something is.
+/// Prints on standard error that a code has no explanation, and which codes have one.
 pub fn refuse_code<R: Eprint>(rt: &R, tables: Tables<'_>, code: &str) -> u8
     ensures { result ≡ 2 }
 {

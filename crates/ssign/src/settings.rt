@@ -43,7 +43,7 @@ struct Texts<'a> {
 pub struct Settings {
     /// What the originator is to do.
     pub config: Config,
-    /// What it says of its key.
+    /// The payload block that states its key.
     pub payload: Payload,
     /// TIMESTAMP of all block messages, or none.
     pub stamp: Option<Stamp>,

@@ -21,9 +21,9 @@ pub enum Signing {
     Sign,
 }
 
-/// What is wanted of a log that is to be signed.
+/// What is asked of a log that is to be signed.
 #[derive(Drop)]
-pub struct ToSign {
+pub struct SigningRequest {
     /// What is made of it.
     pub signing: Signing,
     /// How it is signed.
@@ -39,32 +39,32 @@ pub struct ToSign {
 ///
 /// Nothing is written before the whole output is made. `Run` with `RunFault::Write` exactly where a call of the writer
 /// failed; what was written then is a prefix of the output. After any other fault nothing was written: `Run` where the
-/// log can't be read to its end, or for want of memory; `TornInput` where it is torn; `Origin` where the originator
+/// log can't be read to its end, or if it runs out of memory; `TornInput` where it is torn; `Origin` where the originator
 /// refuses a message or has no signature.
 pub fn run_signing<R: Read, W: Write>(
     alloc: Global,
     reader: &mut Watched<R>,
     writer: &mut Watched<W>,
-    wanted: ToSign,
+    request: SigningRequest,
 ) -> Result<(), SignFault>
     requires reader { has_failed reader.old ≡ false }
     requires writer { has_failed writer.old ≡ false }
     ensures signed { IfOk result (λ _.
-        Signs (signing_job wanted.signing wanted.settings wanted.answers) wanted.limits
+        Signs (signing_job request.signing request.settings request.answers) request.limits
         (source_of R.remaining reader.old) (source_of R.remaining reader.new)
         (sink_of W.contents writer.old) (sink_of W.contents writer.new)) }
     ensures stopped { IfErr result
-        (Stops (signing_job wanted.signing wanted.settings wanted.answers) wanted.limits
+        (Stops (signing_job request.signing request.settings request.answers) request.limits
         (source_of R.remaining reader.old) (source_of R.remaining reader.new)
         (sink_of W.contents writer.old) (sink_of W.contents writer.new)) }
     ensures untouched { IfErr result (λ fault. fault ≢ SignFault.Run RunFault.Write → writer.new ≡ writer.old) }
 {
-    let ToSign {
+    let SigningRequest {
         signing,
         settings,
         answers,
         limits,
-    } = wanted;
+    } = request;
     let Settings {
         config,
         payload,

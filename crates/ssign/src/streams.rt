@@ -5,8 +5,8 @@ ghost use Rattle.ss_review.specs.declared.questions.question.Question.{Question}
 
 use crate::explain::write_explanation;
 use crate::explanations::Explanation;
-use crate::signing::{ToSign, run_signing};
-use crate::task::{Wanted, run_task};
+use crate::signing::{SigningRequest, run_signing};
+use crate::task::{TaskRequest, run_task};
 use ss_frame::{Buffered, Watched};
 use ss_report::{RunFault, Verdict};
 use ss_review::Judge;
@@ -22,7 +22,7 @@ const BUFFER_SIZE: usize = 65_536;
 pub fn run_streams<R: Print + AllocGlobal, I: Read + Drop, J: Judge + Drop>(
     rt: &R,
     input: I,
-    wanted: Wanted<'_>,
+    request: TaskRequest<'_>,
     judge: J,
 ) -> Result<Verdict, RunFault>
     requires sound { J.sound judge }
@@ -30,18 +30,18 @@ pub fn run_streams<R: Print + AllocGlobal, I: Read + Drop, J: Judge + Drop>(
 {
     let mut reader = buffered(rt.alloc(), input)?;
     let mut writer = standard_output(rt)?;
-    run_task(rt.alloc(), &mut reader, &mut writer, wanted, judge)
+    run_task(rt.alloc(), &mut reader, &mut writer, request, judge)
 }
 
 /// Makes a run that signs from the input to standard output.
 pub fn sign_streams<R: Print + AllocGlobal, I: Read + Drop>(
     rt: &R,
     input: I,
-    wanted: ToSign,
+    request: SigningRequest,
 ) -> Result<(), SignFault> {
     let mut reader = buffered(rt.alloc(), input)?;
     let mut writer = standard_output(rt)?;
-    run_signing(rt.alloc(), &mut reader, &mut writer, wanted)
+    run_signing(rt.alloc(), &mut reader, &mut writer, request)
 }
 
 /// Writes an explanation to standard output.
@@ -49,7 +49,7 @@ pub fn explain_on_output<R: Print + AllocGlobal>(
     rt: &R,
     explanation: &Explanation,
 ) -> Result<(), RunFault>
-    // A failed write, or else want of memory.
+    // A failed write, or else out of memory.
     ensures { IfErr result (λ fault. fault ≢ RunFault.Write → fault ≡ RunFault.Memory) }
 {
     let mut writer = standard_output(rt)?;

@@ -46,9 +46,9 @@ pub struct Reporting {
     pub payloads: Payloads,
 }
 
-/// What is wanted of a log.
+/// What is asked of a log.
 #[derive(Drop)]
-pub struct Wanted<'c> {
+pub struct TaskRequest<'c> {
     /// What is asked of it.
     pub task: Task,
     /// How that is reported.
@@ -63,17 +63,17 @@ pub struct Wanted<'c> {
 
 /// Reads a log to its end, and writes what is asked of it as it is to be reported: of a review that is to be whole, up
 /// to these counters, and of an extract, the messages that are wanted. Questions, inspections and extracts of given
-/// places ask the judge nothing. The judge is let go once it is known which blocks are verified.
+/// places ask the judge nothing. The judge is freed once it is known which blocks are verified.
 ///
 /// Nothing is written before the log is read and all that it leads to stands. `RunFault::Write` exactly where a call of
 /// the writer failed; what was written then is a prefix of the output. After any other fault nothing was written:
 /// `RunFault::Frame` where the log can't be read to its end, `RunFault::Extract` (E1, E2) where the log hasn't what is
-/// to be extracted, or not as lines, `RunFault::Review` (V1) and `RunFault::Memory` for want of memory.
+/// to be extracted, or not as lines, `RunFault::Review` (V1) and `RunFault::Memory` if it runs out of memory.
 pub fn run_task<R: Read, W: Write, J: Judge + Drop>(
     alloc: Global,
     reader: &mut Watched<R>,
     writer: &mut Watched<W>,
-    wanted: Wanted<'_>,
+    request: TaskRequest<'_>,
     judge: J,
 ) -> Result<Verdict, RunFault>
     requires reader { has_failed reader.old ≡ false }
@@ -81,24 +81,24 @@ pub fn run_task<R: Read, W: Write, J: Judge + Drop>(
     requires sound { J.sound judge }
     requires askable { (q : Question) → J.askable judge q }
     ensures done { IfOk result
-        (Runs (job_of (answers J.trusted J.valid judge) wanted.entry.reporting wanted.entry.counters.now
-        wanted.entry.extraction wanted.entry.task) wanted.entry.limits
+        (Runs (job_of (answers J.trusted J.valid judge) request.entry.reporting request.entry.counters.now
+        request.entry.extraction request.entry.task) request.entry.limits
         (source_of R.remaining reader.old) (source_of R.remaining reader.new)
         (sink_of W.contents writer.old) (sink_of W.contents writer.new)) }
     ensures stopped { IfErr result
-        (Stops (job_of (answers J.trusted J.valid judge) wanted.entry.reporting wanted.entry.counters.now
-        wanted.entry.extraction wanted.entry.task) wanted.entry.limits
+        (Stops (job_of (answers J.trusted J.valid judge) request.entry.reporting request.entry.counters.now
+        request.entry.extraction request.entry.task) request.entry.limits
         (source_of R.remaining reader.old) (source_of R.remaining reader.new)
         (sink_of W.contents writer.old) (sink_of W.contents writer.new)) }
     ensures untouched { IfErr result (λ fault. fault ≢ RunFault.Write → writer.new ≡ writer.old) }
 {
-    let Wanted {
+    let TaskRequest {
         task,
         reporting,
         counters,
         extraction,
         limits,
-    } = wanted;
+    } = request;
     let run = Run {
         reader,
         writer,
@@ -126,7 +126,7 @@ fn carrying() -> Extraction
     }
 }
 
-/// Reads a log to its end, reviews its messages, and writes the report as it is wanted.
+/// Reads a log to its end, reviews its messages, and writes the report as it is request.
 fn run_reported<R: Read, W: Write, J: Judge + Drop>(
     run: Run<'_, R, W>,
     reporting: Reporting,

@@ -25,9 +25,9 @@ use std::io::Read;
 use told::{print_questions, print_report};
 
 /// What a reviewer says of a log, or why it says nothing.
-type Said = Result<(Report, Questions), ReviewFault>;
+type BlockContent = Result<(Report, Questions), ReviewFault>;
 
-fn said_of_pairs<R: AllocGlobal>(rt: &R, case: &Case<'_>) -> Said {
+fn said_of_pairs<R: AllocGlobal>(rt: &R, case: &Case<'_>) -> BlockContent {
     let mut reviewer = Reviewer::new(rt.alloc(), MOST_MESSAGES);
     for message in case.messages.as_slice() {
         reviewer.feed(message)?;
@@ -35,7 +35,7 @@ fn said_of_pairs<R: AllocGlobal>(rt: &R, case: &Case<'_>) -> Said {
     Ok((reviewer.finish(&case.answers)?, reviewer.questions()?))
 }
 
-fn said_of_whole<R: AllocGlobal>(rt: &R, case: &Case<'_>) -> Said {
+fn said_of_whole<R: AllocGlobal>(rt: &R, case: &Case<'_>) -> BlockContent {
     let mut reviewer = plain::Reviewer::new(rt.alloc(), MOST_MESSAGES);
     for message in case.messages.as_slice() {
         reviewer.feed(message)?;
@@ -43,7 +43,7 @@ fn said_of_whole<R: AllocGlobal>(rt: &R, case: &Case<'_>) -> Said {
     Ok((reviewer.finish(&case.answers)?, reviewer.questions()?))
 }
 
-fn print_said<R: Print + AllocGlobal>(rt: &R, said: &Said) -> io::Result<()> {
+fn print_said<R: Print + AllocGlobal>(rt: &R, said: &BlockContent) -> io::Result<()> {
     match said {
         Ok((report, questions)) => {
             print_report(rt, report)?;

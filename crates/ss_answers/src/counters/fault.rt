@@ -20,7 +20,7 @@ pub enum CounterFault {
     Read,
     /// C3: there are more octets than were allowed.
     TooBig,
-    /// C4: want of memory.
+    /// C4: out of memory.
     Memory,
 }
 

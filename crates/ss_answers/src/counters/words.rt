@@ -57,7 +57,7 @@ pub fn counter_words(text: &[u8]) -> Option<CounterWords<'_>>
     })
 }
 
-/// The words HOST APP PROCID RSID, and what stands behind them.
+/// The words HOST APP PROCID RSID, and what stands after them.
 fn session_words(text: &[u8]) -> Option<(SessionWords<'_>, &[u8])>
     ensures { MatchOption result (BeginsWithNoSession text.now)
         (λ p. BeginsWithSession text.now (session_by p.0) p.1.now) }
@@ -116,7 +116,7 @@ fn group_words(text: &[u8]) -> Option<(Group, u64)>
     Some((group, number))
 }
 
-/// The first word of a text, if it has 1 to `limit` octets of printable US-ASCII, and what stands behind it. So a
+/// The first word of a text, if it has 1 to `limit` octets of printable US-ASCII, and what stands after it. So a
 /// header field is spelt, also `-`, an absent one.
 fn field_word(limit: usize, text: &[u8]) -> Option<(&[u8], &[u8])>
     ensures { MatchOption result (BeginsWithNoWord limit text.now)
@@ -151,7 +151,7 @@ fn are_printable(octets: &[u8]) -> bool
     true
 }
 
-/// The number that the first word of a text spells, if it is from `least` to `most`, and what stands behind it.
+/// The number that the first word of a text spells, if it is from `least` to `most`, and what stands after it.
 fn number_word(least: u64, most: u64, text: &[u8]) -> Option<(u64, &[u8])>
     ensures { MatchOption result (BeginsWithNoNumber least most text.now)
         (λ p. BeginsWithNumber least most text.now p.0 p.1.now) }

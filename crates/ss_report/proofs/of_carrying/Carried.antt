@@ -12,8 +12,8 @@ use Rattle.std.proofs.lemmas.List.{append-nil, map-append, length-map, length-ta
 use Rattle.std.proofs.lemmas.List.Folds.{list_any-append}
 use Rattle.std.proofs.lemmas.Map.Lookups.{exact_unsigned}
 use Rattle.ss_review.specs.declared.keep.message.BlockMessage.{BlockMessage}
-use Rattle.ss_review.specs.declared.keep.message.Said.{Said}
-use Rattle.ss_review.specs.declared.keep.message.Said.TheVariants.{Hashes, Fragment}
+use Rattle.ss_review.specs.declared.keep.message.BlockContent.{BlockContent}
+use Rattle.ss_review.specs.declared.keep.message.BlockContent.TheVariants.{Hashes, Fragment}
 use Rattle.ss_review.specs.declared.report.report.Report.{Report}
 use Rattle.ss_review.specs.report.Extract.{place_listed}
 use Rattle.ss_review.specs.Ordered.{in_order}
@@ -93,14 +93,14 @@ cond-not : {A : Type 0} (b : Bool) (x y : A) → cond (not b) x y ≡ cond b y x
 cond-not true x y = refl
 cond-not false x y = refl
 
-abbrev for_said : Report → List BlockMessage → BlockMessage → Said → List ℕ
+abbrev for_said : Report → List BlockMessage → BlockMessage → BlockContent → List ℕ
 for_said r bs b (Hashes h) = carried_numbers (entries_under r b) b.place
 for_said r bs b (Fragment c) = cond (is_first_said r bs b (Fragment c)) (b.place ∷ []) []
 
 abbrev carried_for : Report → List BlockMessage → BlockMessage → List ℕ
 carried_for r bs b = cond (not (is_joined_in r b.session)) (b.place ∷ []) (cond (is_refused_in r b) [] (for_said r bs b b.said))
 
-said_is : (r : Report) (before after : List BlockMessage) (b : BlockMessage) (said : Said) → Rise (before ++ b ∷ after)
+said_is : (r : Report) (before after : List BlockMessage) (b : BlockMessage) (said : BlockContent) → Rise (before ++ b ∷ after)
     → carried_verified r before b said ≡ for_said r (before ++ b ∷ after) b said
 said_is r before after b (Hashes h) up = refl
 said_is r before after b (Fragment c) up =
@@ -168,7 +168,7 @@ module _ (r : Report) (bs : List BlockMessage) where
 
   -- ---- what the walk carries is of some kind
 
-  of_verified : (b : BlockMessage) → Has bs b → is_verified_in r b ≡ true → (said : Said) → b.said ≡ said → (q : ℕ) → Has (for_said r bs b said) q → Has all q
+  of_verified : (b : BlockMessage) → Has bs b → is_verified_in r b ≡ true → (said : BlockContent) → b.said ≡ said → (q : ℕ) → Has (for_said r bs b said) q → Has all q
   of_verified b h v (Hashes s) e q i = by (list_any is_gap (entries_under r b)) refl i
     where
       by : (g : Bool) → list_any is_gap (entries_under r b) ≡ g → Has (cond g (b.place ∷ filter_map place_listed (entries_under r b)) []) q → Has all q
@@ -209,11 +209,11 @@ module _ (r : Report) (bs : List BlockMessage) where
       let is : carried_for r bs b ≡ ps = (λ k. cond (not (w.0 k)) (b.place ∷ []) (cond (not-true (is_refused_in r b) w.1 k) [] (for_said r bs b b.said))) ∙ e in
       carries b h q (subst (λ qs. Has qs q) (sym is) i)
 
-  first_for : (b : BlockMessage) (said : Said) → is_first_said r bs b said ≡ true → for_said r bs b said ≡ b.place ∷ []
+  first_for : (b : BlockMessage) (said : BlockContent) → is_first_said r bs b said ≡ true → for_said r bs b said ≡ b.place ∷ []
   first_for b (Hashes s) e = absurd (cc)
   first_for b (Fragment c) e = ap (λ t. cond t (b.place ∷ []) []) e
 
-  gap_for : (b : BlockMessage) (said : Said) → b.said ≡ said → list_any is_gap (entries_under r b) ≡ true → for_said r bs b said ≡ b.place ∷ filter_map place_listed (entries_under r b)
+  gap_for : (b : BlockMessage) (said : BlockContent) → b.said ≡ said → list_any is_gap (entries_under r b) ≡ true → for_said r bs b said ≡ b.place ∷ filter_map place_listed (entries_under r b)
   gap_for b (Hashes s) e t = ap (λ g. cond g (b.place ∷ filter_map place_listed (entries_under r b)) []) t
   gap_for b (Fragment c) e t =
       let none : false ≡ true = sym (ap (λ s. list_any is_gap (entries_said r b.session s)) e) ∙ t in

@@ -20,8 +20,8 @@ use Rattle.ss_block.specs.Reading.{reading}
 use Rattle.ss_block.specs.Session.{session}
 use Rattle.ss_block.specs.Signed.{signed}
 use Rattle.ss_review.specs.declared.keep.message.BlockMessage.{BlockMessage}
-use Rattle.ss_review.specs.declared.keep.message.Said.{Said}
-use Rattle.ss_review.specs.declared.keep.message.Said.TheVariants.{Hashes, Fragment}
+use Rattle.ss_review.specs.declared.keep.message.BlockContent.{BlockContent}
+use Rattle.ss_review.specs.declared.keep.message.BlockContent.TheVariants.{Hashes, Fragment}
 use Rattle.ss_review.specs.declared.report.entry.Entry.{Entry}
 use Rattle.ss_review.specs.declared.report.group_report.GroupReport.{GroupReport}
 use Rattle.ss_review.specs.declared.report.session_report.SessionReport.{SessionReport}
@@ -131,11 +131,11 @@ pub read_held : (place : ℕ) (text : List ℕ) (read : FullReading) → read.re
 unfolding block_in
 read_held place text read r s o = (λ i. block_with place (said_in (r i)) (s i) (o i)) ∙ block_held place text
 
-pub without_session : (place : ℕ) (said : Option Said) (o : Option (List ℕ)) → block_with place said None o ≡ None
+pub without_session : (place : ℕ) (said : Option BlockContent) (o : Option (List ℕ)) → block_with place said None o ≡ None
 without_session place None o = refl
 without_session place (Some x) o = refl
 
-pub without_octets : (place : ℕ) (said : Option Said) (s : Option Session) → block_with place said s None ≡ None
+pub without_octets : (place : ℕ) (said : Option BlockContent) (s : Option Session) → block_with place said s None ≡ None
 without_octets place None s = refl
 without_octets place (Some x) None = refl
 without_octets place (Some x) (Some y) = refl

@@ -9,8 +9,8 @@ use Rattle.std.specs.BTreeSet.{BTreeSet, contains}
 use Rattle.ss_block.specs.Order.{session_cmp, group_cmp}
 use Rattle.ss_block.specs.declared.session.Session.{Session}
 use Rattle.ss_review.specs.declared.keep.message.BlockMessage.{BlockMessage}
-use Rattle.ss_review.specs.declared.keep.message.Said.{Said}
-use Rattle.ss_review.specs.declared.keep.message.Said.TheVariants.{Hashes, Fragment}
+use Rattle.ss_review.specs.declared.keep.message.BlockContent.{BlockContent}
+use Rattle.ss_review.specs.declared.keep.message.BlockContent.TheVariants.{Hashes, Fragment}
 use Rattle.ss_review.specs.declared.report.entry.Entry.{Entry}
 use Rattle.ss_review.specs.declared.report.session_report.SessionReport.{SessionReport}
 use Rattle.ss_review.specs.declared.report.report.Report.{Report}
@@ -40,7 +40,7 @@ abbrev pub carried_numbers : List Entry → ℕ → List ℕ
 carried_numbers es place = if list_any is_gap es then place ∷ filter_map place_listed es else []
 
 -- a verified block
-abbrev pub carried_verified : Report → (before : List BlockMessage) → BlockMessage → Said → List ℕ
+abbrev pub carried_verified : Report → (before : List BlockMessage) → BlockMessage → BlockContent → List ℕ
 carried_verified r before b (Hashes h) = carried_numbers (entries_under r b) b.place
 carried_verified r before b (Fragment c) =
     if list_any (is_fragment_of r b.session c.index (length c.fragment)) before then [] else b.place ∷ []

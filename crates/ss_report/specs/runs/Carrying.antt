@@ -7,8 +7,8 @@ use Rattle.std.specs.Ordering.{nat_cmp}
 use Rattle.ss_block.specs.declared.block.Group.{Group}
 use Rattle.ss_block.specs.declared.session.Session.{Session}
 use Rattle.ss_review.specs.declared.keep.message.BlockMessage.{BlockMessage}
-use Rattle.ss_review.specs.declared.keep.message.Said.{Said}
-use Rattle.ss_review.specs.declared.keep.message.Said.TheVariants.{Hashes, Fragment}
+use Rattle.ss_review.specs.declared.keep.message.BlockContent.{BlockContent}
+use Rattle.ss_review.specs.declared.keep.message.BlockContent.TheVariants.{Hashes, Fragment}
 use Rattle.ss_review.specs.declared.report.entry.Entry.{Entry}
 use Rattle.ss_review.specs.declared.report.entry.Entry.TheVariants as entry
 use Rattle.ss_review.specs.declared.report.session_report.SessionReport.{SessionReport}
@@ -42,7 +42,7 @@ abbrev pub is_numbered : (first count : ℕ) → Entry → Bool
 is_numbered first count e = nat_le first (first_number e) && nat_lt (first_number e) (first + count)
 
 -- of the numbers of a block: those of a signature block, one for each hash (RFC 5848, section 4.2.7)
-abbrev pub entries_said : Report → Session → Said → List Entry
+abbrev pub entries_said : Report → Session → BlockContent → List Entry
 entries_said r s (Hashes h) = filter (is_numbered h.first (length h.hashes)) (entries_in r s h.group)
 entries_said r s (Fragment c) = []
 
@@ -62,7 +62,7 @@ abbrev pub is_verified_in : Report → BlockMessage → Bool
 is_verified_in r b = is_joined_in r b.session && not (is_refused_in r b)
 
 -- a certificate block with this INDEX and FLEN (RFC 5848, section 5.3.2)
-abbrev pub has_fragment_at : (index count : ℕ) → Said → Bool
+abbrev pub has_fragment_at : (index count : ℕ) → BlockContent → Bool
 has_fragment_at index count (Fragment c) = c.index == index && length c.fragment == count
 has_fragment_at index count (Hashes h) = false
 
@@ -71,7 +71,7 @@ abbrev pub is_fragment_of : Report → Session → (index count : ℕ) → Block
 is_fragment_of r s index count b = same_session b.session s && has_fragment_at index count b.said && is_verified_in r b
 
 -- no such block with its INDEX and FLEN stands before this one
-abbrev pub is_first_said : Report → List BlockMessage → BlockMessage → Said → Bool
+abbrev pub is_first_said : Report → List BlockMessage → BlockMessage → BlockContent → Bool
 is_first_said r bs b (Fragment c) =
     not (list_any (λ other.
     nat_lt other.place b.place && is_fragment_of r b.session c.index (length c.fragment) other) bs)

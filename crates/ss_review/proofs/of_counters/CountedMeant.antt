@@ -11,8 +11,8 @@ use Rattle.ss_block.specs.declared.session.Session.{Session}
 use Rattle.ss_block.specs.Order.{session_cmp, group_cmp}
 use Rattle.ss_block.specs.OrderLaws.{session_cmp_total, session_cmp_exact, group_cmp_total, group_cmp_exact}
 use Rattle.ss_review.specs.declared.keep.message.BlockMessage.{BlockMessage}
-use Rattle.ss_review.specs.declared.keep.message.Said.{Said}
-use Rattle.ss_review.specs.declared.keep.message.Said.TheVariants.{Hashes, Fragment}
+use Rattle.ss_review.specs.declared.keep.message.BlockContent.{BlockContent}
+use Rattle.ss_review.specs.declared.keep.message.BlockContent.TheVariants.{Hashes, Fragment}
 use Rattle.ss_review.specs.declared.report.entry.Entry.{Entry}
 use Rattle.ss_review.specs.declared.report.entry.Entry.TheVariants as entry
 use Rattle.ss_review.specs.declared.report.group_report.GroupReport.{GroupReport}
@@ -43,7 +43,7 @@ gbcs_rise : (says : Answers) (bs : List BlockMessage) (s : Session) → IsStrict
 unfolding gbcs
 gbcs_rise says bs s = rises-in_order nat_cmp_total exact_unsigned (gbcs_said (filter (is_verified says bs) (of_session bs s)))
 
-counted_said : (says : Answers) (bs : List BlockMessage) (s : Session) (gbc : ℕ) (b : BlockMessage) → Has bs b → b.session ≡ s → is_verified says bs b ≡ true → (said : Said) → b.said ≡ said → Has (gbc_said said) gbc → IsCounted says bs s gbc
+counted_said : (says : Answers) (bs : List BlockMessage) (s : Session) (gbc : ℕ) (b : BlockMessage) → Has bs b → b.session ≡ s → is_verified says bs b ≡ true → (said : BlockContent) → b.said ≡ said → Has (gbc_said said) gbc → IsCounted says bs s gbc
 counted_said says bs s gbc b h same v (Fragment c) e i = absurd i
 counted_said says bs s gbc b h same v (Hashes d) e (inr i) = absurd i
 counted_said says bs s gbc b h same v (Hashes d) e (inl is) = record {
@@ -71,7 +71,7 @@ unfolding gbcs
 has-counted says bs s gbc c =
     let own = of_session bs s in
     let mine : same_session c.message.session s ≡ true = ap is_eq (ap (λ t. session_cmp t s) c.session_is ∙ tied_itself session_cmp_total s) in
-    let said : Has (gbc_said c.message.said) gbc = subst (λ (said : Said). Has (gbc_said said) gbc) (sym c.says_so) (inl c.gbc_is) in
+    let said : Has (gbc_said c.message.said) gbc = subst (λ (said : BlockContent). Has (gbc_said said) gbc) (sym c.says_so) (inl c.gbc_is) in
     has-in_order nat_cmp_total exact_unsigned gbc (gbcs_said (filter (is_verified says bs) own))
     (has-flat_map (λ (b : BlockMessage). gbc_said b.said) (filter (is_verified says bs) own) c.message gbc
     (has-filter (is_verified says bs) own c.message

@@ -9,8 +9,8 @@ use Rattle.ss_block.specs.Ranges.{last_number, past_last_number}
 use Rattle.ss_block.specs.Reading.{reading}
 use Rattle.ss_block.specs.ReadingLaws.{BlocksAreInRange}
 use Rattle.ss_review.specs.declared.keep.message.BlockMessage.{BlockMessage}
-use Rattle.ss_review.specs.declared.keep.message.Said.{Said}
-use Rattle.ss_review.specs.declared.keep.message.Said.TheVariants.{Hashes}
+use Rattle.ss_review.specs.declared.keep.message.BlockContent.{BlockContent}
+use Rattle.ss_review.specs.declared.keep.message.BlockContent.TheVariants.{Hashes}
 use Rattle.ss_review.specs.declared.report.group_report.GroupReport.{GroupReport}
 use Rattle.ss_review.specs.declared.report.session_report.SessionReport.{SessionReport}
 use Rattle.ss_review.specs.keep.Notes.{notes}
@@ -31,7 +31,7 @@ use Rattle.ss_review.proofs.of_reports.Witnesses.{stored_block, said_signature}
 pub said_in_range : BlocksAreInRange → (log : List (List ℕ)) (b : BlockMessage) (said : block.Signature) → Contains (blocks (notes log)) b → b.said ≡ Hashes said → block.IsSignature said
 said_in_range range log b said stored says_so =
     let s = stored_block log b (has_from_contains (blocks (notes log)) b stored) in
-    range.0 s.0 said (said_signature (reading s.0) said (s.2.said_is ∙ ap (λ (x : Said). Some x) says_so))
+    range.0 s.0 said (said_signature (reading s.0) said (s.2.said_is ∙ ap (λ (x : BlockContent). Some x) says_so))
 
 pub next_within : (ns : List ℕ) → All (λ n. n ≤ last_number) ns → next_after ns ≤ past_last_number
 next_within ns all =

@@ -19,7 +19,7 @@ use Rattle.ss_block.specs.Order.{session_cmp}
 use Rattle.ss_block.specs.OrderLaws.{session_cmp_total, session_cmp_exact}
 use Rattle.ss_review.specs.declared.report.session_report.SessionState.{SessionState}
 use Rattle.ss_review.specs.declared.keep.message.BlockMessage.{BlockMessage}
-use Rattle.ss_review.specs.declared.keep.message.Said.TheVariants.{Fragment}
+use Rattle.ss_review.specs.declared.keep.message.BlockContent.TheVariants.{Fragment}
 use Rattle.ss_review.specs.declared.sessions.joined_session.JoinedSession.{JoinedSession}
 use Rattle.ss_review.specs.declared.counted.counting.SessionGbcs.{SessionGbcs}
 use Rattle.ss_review.specs.Ordered.{in_order}

@@ -22,8 +22,8 @@ use Rattle.ss_origin.specs.Chain.{Turn, IsChain, emitted_by, given_to}
 use Rattle.ss_origin.specs.BlockLaws.{AreNumbered}
 use Rattle.ss_origin.specs.SentLaws.{IsOfChain, SentBlocksAreNumbered}
 use Rattle.ss_review.specs.declared.keep.message.BlockMessage.{BlockMessage}
-use Rattle.ss_review.specs.declared.keep.message.Said.{Said}
-use Rattle.ss_review.specs.declared.keep.message.Said.TheVariants.{Hashes}
+use Rattle.ss_review.specs.declared.keep.message.BlockContent.{BlockContent}
+use Rattle.ss_review.specs.declared.keep.message.BlockContent.TheVariants.{Hashes}
 use Rattle.ss_review.specs.declared.report.session_report.SessionReport.{SessionReport}
 use Rattle.ss_review.specs.declared.report.session_report.SessionState.{SessionState}
 use Rattle.ss_review.specs.declared.report.session_report.SessionState.TheVariants as states
@@ -144,7 +144,7 @@ module _ (x : Case) (is : IsDelivery x) where
     pub read_said : reading block_sent.message ≡ readings.Signature a.said
     read_said =
         said_signature (reading block_sent.message) a.said
-        ((block_read a.message.place block_sent.message a.message block_sent.read).said_is ∙ ap (λ (s : Said). Some s) a.says_so)
+        ((block_read a.message.place block_sent.message a.message block_sent.read).said_is ∙ ap (λ (s : BlockContent). Some s) a.says_so)
 
     has_block : HasBlock x k
     has_block = record {

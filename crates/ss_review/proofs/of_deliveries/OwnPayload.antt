@@ -24,8 +24,8 @@ use Rattle.ss_origin.specs.Groups.{is_grouping}
 use Rattle.ss_origin.specs.Chain.{Turn, emitted_by}
 use Rattle.ss_origin.specs.ChainLaws.{BeginsFirst}
 use Rattle.ss_review.specs.declared.keep.message.BlockMessage.{BlockMessage}
-use Rattle.ss_review.specs.declared.keep.message.Said.{Said}
-use Rattle.ss_review.specs.declared.keep.message.Said.TheVariants.{Fragment}
+use Rattle.ss_review.specs.declared.keep.message.BlockContent.{BlockContent}
+use Rattle.ss_review.specs.declared.keep.message.BlockContent.TheVariants.{Fragment}
 use Rattle.ss_review.specs.declared.report.session_report.SessionState.TheVariants as states
 use Rattle.ss_review.specs.keep.Notes.{notes}
 use Rattle.ss_review.specs.keep.Contents.{said_in, blocks}
@@ -124,7 +124,7 @@ module _ (laws : Laws) (x : Case) (is : IsDelivery x) (one : OneBegins x) where
   from_beginning c h =
       let w : (b : BlockMessage) × Has own_blocks b × (certificate_of b.said ≡ Some c) = from_has-filter_map (λ (b : BlockMessage). certificate_of b.said) own_blocks c h in
       let s = own_block w.0 w.1 in
-      let read = said_certificate (reading s.message) c ((block_read w.0.place s.message w.0 s.read).said_is ∙ ap (λ (said : Said). Some said) (fragment_of w.0.said c w.2)) in
+      let read = said_certificate (reading s.message) c ((block_read w.0.place s.message w.0 s.read).said_is ∙ ap (λ (said : BlockContent). Some said) (fragment_of w.0.said c w.2)) in
       let by = sent_by x.chain s.message s.sent in
       let turn = is.turns by.turns by.turn by.of_chain by.of_originator in
       record {

@@ -8,7 +8,7 @@ use Rattle.ss_block.specs.Reading.{reading}
 use Rattle.ss_review.specs.declared.counted.counted_session.CountedSession.{CountedSession}
 use Rattle.ss_review.specs.declared.counted.missing.MissingRun.{MissingRun}
 use Rattle.ss_review.specs.declared.counted.shortfall.Shortfall.{Shortfall}
-use Rattle.ss_review.specs.declared.keep.message.Said.{Said}
+use Rattle.ss_review.specs.declared.keep.message.BlockContent.{BlockContent}
 use Rattle.ss_review.specs.announced.Announced.{Key}
 use Rattle.ss_review.specs.keep.Contents.{blocks}
 use Rattle.ss_review.specs.counted.Counted.{gbcs, counted_session, counted_sessions, next_after, missing, missing_blocks}
@@ -61,7 +61,7 @@ module _ (laws : Laws) where
   only_0 s n a =
       let b = a.message in
       let t = stored_block whole.log b (has_from_contains (blocks (notes whole.log)) b a.stored) in
-      let read = said_signature (reading t.0) a.said (t.2.said_is ∙ ap (λ (x : Said). Some x) a.says_so) in
+      let read = said_signature (reading t.0) a.said (t.2.said_is ∙ ap (λ (x : BlockContent). Some x) a.says_so) in
       sym a.gbc_is ∙ gbc_whole laws t.0 a.said (has-slice_get whole.log b.place t.0 t.1) read
 
   nothing_missing : CountedOrMissing → NextGbcFollows → CountersGivenBack → NothingIsMissing (shortfalls_of accepting whole.log (log_counters accepting whole.log))

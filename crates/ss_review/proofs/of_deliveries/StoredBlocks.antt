@@ -11,7 +11,7 @@ use Rattle.ss_payload.specs.Payload.{payload_text}
 use Rattle.ss_origin.specs.Setting.{Setting}
 use Rattle.ss_origin.specs.Chain.{Turn, emitted_by}
 use Rattle.ss_review.specs.declared.keep.message.BlockMessage.{BlockMessage}
-use Rattle.ss_review.specs.declared.keep.message.Said.{Said}
+use Rattle.ss_review.specs.declared.keep.message.BlockContent.{BlockContent}
 use Rattle.ss_review.specs.keep.Notes.{Note, Block, noted, note, notes}
 use Rattle.ss_review.specs.keep.Contents.{said_in, block_with, block_in, blocks}
 use Rattle.ss_review.specs.questions.Shortened.{hash_count}
@@ -27,11 +27,11 @@ use Rattle.ss_review.proofs.of_reports.Witnesses.{stored_block}
 
 -- ---- what a reading is noted as
 
-unsaid : (b : Said) → None ≡ Some b → ⊥
+unsaid : (b : BlockContent) → None ≡ Some b → ⊥
 unsaid b e = cc
 
 -- a text that says something of a session is no message without a block
-not_normal : (text : List ℕ) (r : Reading) (said : Said) → said_in r ≡ Some said → is_normal (noted text r) ≡ true → ⊥
+not_normal : (text : List ℕ) (r : Reading) (said : BlockContent) → said_in r ≡ Some said → is_normal (noted text r) ≡ true → ⊥
 not_normal text readings.Plain said e n = unsaid said e
 not_normal text (readings.Unparsed part pos) said e n = unsaid said e
 not_normal text (readings.Signature b) said e n = cc
@@ -39,7 +39,7 @@ not_normal text (readings.Certificate b) said e n = cc
 not_normal text (readings.Spoilt cause) said e n = unsaid said e
 
 -- and not spoilt
-not_spoilt : (text : List ℕ) (r : Reading) (said : Said) → said_in r ≡ Some said → is_spoilt (noted text r) ≡ true → ⊥
+not_spoilt : (text : List ℕ) (r : Reading) (said : BlockContent) → said_in r ≡ Some said → is_spoilt (noted text r) ≡ true → ⊥
 not_spoilt text readings.Plain said e n = unsaid said e
 not_spoilt text (readings.Unparsed part pos) said e n = unsaid said e
 not_spoilt text (readings.Signature b) said e n = cc
@@ -47,7 +47,7 @@ not_spoilt text (readings.Certificate b) said e n = cc
 not_spoilt text (readings.Spoilt cause) said e n = unsaid said e
 
 -- a text that says something is a block
-pub noted_block : (text : List ℕ) (r : Reading) (said : Said) → said_in r ≡ Some said → noted text r ≡ Block text
+pub noted_block : (text : List ℕ) (r : Reading) (said : BlockContent) → said_in r ≡ Some said → noted text r ≡ Block text
 noted_block text readings.Plain said e = absurd (unsaid said e)
 noted_block text (readings.Unparsed part pos) said e = absurd (unsaid said e)
 noted_block text (readings.Signature b) said e = refl
@@ -55,7 +55,7 @@ noted_block text (readings.Certificate b) said e = refl
 noted_block text (readings.Spoilt cause) said e = absurd (unsaid said e)
 
 -- and none without a block
-pub block_not_normal : (m : List ℕ) (said : Said) → said_in (reading m) ≡ Some said → is_normal (note m) ≡ false
+pub block_not_normal : (m : List ℕ) (said : BlockContent) → said_in (reading m) ≡ Some said → is_normal (note m) ≡ false
 unfolding note
 block_not_normal m said e = ap is_normal (noted_block m (reading m) said e)
 

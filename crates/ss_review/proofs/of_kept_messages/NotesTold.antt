@@ -9,7 +9,7 @@ use Rattle.ss_block.specs.Session.{session}
 use Rattle.ss_block.specs.Signed.{signed}
 use Rattle.ss_review.specs.declared.keep.message.NormalMessage.{NormalMessage}
 use Rattle.ss_review.specs.declared.keep.message.BlockMessage.{BlockMessage}
-use Rattle.ss_review.specs.declared.keep.message.Said.{Said}
+use Rattle.ss_review.specs.declared.keep.message.BlockContent.{BlockContent}
 use Rattle.ss_review.specs.declared.keep.spoilt.SpoiltPlace.{SpoiltPlace}
 use Rattle.ss_review.specs.keep.Notes.{Note, Normal, Block, Spoilt}
 use Rattle.ss_review.specs.questions.Shortened.{hash_count}
@@ -52,7 +52,7 @@ pub record IsBlockOf (place : ℕ) (text : List ℕ) (b : BlockMessage) : Type 0
   pub session_is : session text ≡ Some b.session
   pub signed_is : signed text ≡ Some b.signed
 
-block_parts : (place : ℕ) (said : Option Said) (s : Option Session) (octets : Option (List ℕ)) (b : BlockMessage) → block_with place said s octets ≡ Some b
+block_parts : (place : ℕ) (said : Option BlockContent) (s : Option Session) (octets : Option (List ℕ)) (b : BlockMessage) → block_with place said s octets ≡ Some b
     → (b.place ≡ place) × (b.count ≡ hash_count b.said) × (said ≡ Some b.said) × (s ≡ Some b.session) × (octets ≡ Some b.signed)
 block_parts place (Some said) (Some s) (Some octets) b e =
     let it : record { place = place; count = hash_count said; session = s; said = said; signed = octets } ≡ b = same_Some _ _ e in (

@@ -11,8 +11,8 @@ use Rattle.std.proofs.lemmas.Cmp.{tied_itself}
 use Rattle.std.proofs.lemmas.List.Kept.{IsStrictlySortedBy-filter}
 use Rattle.ss_block.specs.declared.hash.Hash.{Hash}
 use Rattle.ss_review.specs.declared.keep.message.BlockMessage.{BlockMessage}
-use Rattle.ss_review.specs.declared.keep.message.Said.{Said}
-use Rattle.ss_review.specs.declared.keep.message.Said.TheVariants.{Hashes, Fragment}
+use Rattle.ss_review.specs.declared.keep.message.BlockContent.{BlockContent}
+use Rattle.ss_review.specs.declared.keep.message.BlockContent.TheVariants.{Hashes, Fragment}
 use Rattle.ss_block.specs.Order.{hash_cmp}
 use Rattle.ss_review.specs.sessions.Verified.{Answers, is_verified}
 use Rattle.ss_review.specs.announced.Announced.{Key, Row, key_cmp, row_cmp, same_key, rows_said, rows, keys, hashes_for, is_disputed_key}
@@ -47,7 +47,7 @@ has-numbered {X} k (y ∷ ys) (suc i) x e =
 
 -- ---- rows
 
-row_said : (says : Answers) (bs : List BlockMessage) (b : BlockMessage) → Has bs b → is_verified says bs b ≡ true → (said : Said) → b.said ≡ said → (r : Row) → Has (rows_said b.session said) r → Announces says bs r.key r.hash
+row_said : (says : Answers) (bs : List BlockMessage) (b : BlockMessage) → Has bs b → is_verified says bs b ≡ true → (said : BlockContent) → b.said ≡ said → (r : Row) → Has (rows_said b.session said) r → Announces says bs r.key r.hash
 row_said says bs b h v (Fragment c) e r i = absurd i
 row_said says bs b h v (Hashes d) e r i =
     let w : (n : ℕ × Hash) × Has (enumerate_from d.first d.hashes) n × (record { key = record { session = b.session; group = d.group; number = n.0 }; hash = n.1 } ≡ r)

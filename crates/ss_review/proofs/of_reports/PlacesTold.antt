@@ -17,8 +17,8 @@ use Rattle.ss_block.specs.Session.{session}
 use Rattle.ss_block.specs.Signed.{signed}
 use Rattle.ss_review.specs.declared.keep.message.NormalMessage.{NormalMessage}
 use Rattle.ss_review.specs.declared.keep.message.BlockMessage.{BlockMessage}
-use Rattle.ss_review.specs.declared.keep.message.Said.{Said}
-use Rattle.ss_review.specs.declared.keep.message.Said.TheVariants.{Hashes, Fragment}
+use Rattle.ss_review.specs.declared.keep.message.BlockContent.{BlockContent}
+use Rattle.ss_review.specs.declared.keep.message.BlockContent.TheVariants.{Hashes, Fragment}
 use Rattle.ss_review.specs.declared.keep.spoilt.SpoiltPlace.{SpoiltPlace}
 use Rattle.ss_review.specs.keep.Notes.{Note, Normal, Block, Spoilt, noted, note, notes}
 use Rattle.ss_review.specs.keep.Contents.{said_in, block_with, block_in, normals, blocks, spoilts, contents}
@@ -47,7 +47,7 @@ some_of : {X : Type 0} (o : Option X) → is_some o ≡ true → (x : X) × (o �
 some_of None e = absurd (cc)
 some_of (Some x) e = (x, refl)
 
-noted_said : (text : List ℕ) (r : Reading) (t : List ℕ) → noted text r ≡ Block t → (is_block r ≡ true) × ((said : Said) × (said_in r ≡ Some said))
+noted_said : (text : List ℕ) (r : Reading) (t : List ℕ) → noted text r ≡ Block t → (is_block r ≡ true) × ((said : BlockContent) × (said_in r ≡ Some said))
 noted_said text readings.Plain t e = absurd (cc)
 noted_said text (readings.Unparsed part pos) t e = absurd (cc)
 noted_said text (readings.Signature b) t e = (refl, (Hashes b, refl))

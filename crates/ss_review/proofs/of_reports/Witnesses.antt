@@ -21,8 +21,8 @@ use Rattle.ss_block.specs.ReadingLaws.{BlocksAreInRange}
 use Rattle.ss_review.specs.declared.report.session_report.SessionState.{SessionState}
 use Rattle.ss_review.specs.declared.keep.message.NormalMessage.{NormalMessage}
 use Rattle.ss_review.specs.declared.keep.message.BlockMessage.{BlockMessage}
-use Rattle.ss_review.specs.declared.keep.message.Said.{Said}
-use Rattle.ss_review.specs.declared.keep.message.Said.TheVariants.{Hashes}
+use Rattle.ss_review.specs.declared.keep.message.BlockContent.{BlockContent}
+use Rattle.ss_review.specs.declared.keep.message.BlockContent.TheVariants.{Hashes}
 use Rattle.ss_block.specs.Hashes.{pair, hash_of}
 use Rattle.ss_review.specs.keep.Notes.{Note, Normal, Block, noted, note, notes}
 use Rattle.ss_review.specs.keep.Contents.{said_in, normals, blocks}
@@ -136,7 +136,7 @@ witnessed range says log k place e =
     let n = w.1 in
     let b = n.message in
     let s = stored_block log b (has_from_contains (blocks ns) b n.stored) in
-    let read : reading s.0 ≡ readings.Signature n.said = said_signature (reading s.0) n.said (s.2.said_is ∙ ap (λ (x : Said). Some x) n.says_so) in
+    let read : reading s.0 ≡ readings.Signature n.said = said_signature (reading s.0) n.said (s.2.said_is ∙ ap (λ (x : BlockContent). Some x) n.says_so) in
     let of_alg : block.is_of n.said.alg w.0 ≡ true = all_member (block.is_of n.said.alg) n.said.hashes (range.0 s.0 n.said read).hashes w.0 (has-slice_get n.said.hashes n.index w.0 n.hash) in
     let has : has_hash w.0 (pair t.0) ≡ true = ap (has_hash w.0) (t.3 ∙ m.2) ∙ bearer_has ms w.0 a.0 w.2 in
     let v = verified_cases says (blocks ns) b n.verified in

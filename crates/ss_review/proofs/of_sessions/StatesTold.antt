@@ -9,8 +9,8 @@ use Rattle.ss_block.specs.Joining.{Stated, HasTotal, HasOctet, IsDisputed, HasGa
 use Rattle.ss_block.specs.Payload.{PayloadValue}
 use Rattle.ss_block.specs.PayloadReading.{payload_in}
 use Rattle.ss_review.specs.declared.keep.message.BlockMessage.{BlockMessage}
-use Rattle.ss_review.specs.declared.keep.message.Said.{Said}
-use Rattle.ss_review.specs.declared.keep.message.Said.TheVariants.{Hashes, Fragment}
+use Rattle.ss_review.specs.declared.keep.message.BlockContent.{BlockContent}
+use Rattle.ss_review.specs.declared.keep.message.BlockContent.TheVariants.{Hashes, Fragment}
 use Rattle.ss_review.specs.declared.report.session_report.SessionState.{SessionState}
 use Rattle.ss_review.specs.declared.report.session_report.SessionState.TheVariants as states
 use Rattle.ss_review.specs.sessions.Payloads.{certificate_of, certificates, octets, is_disputed, has_index, cover, lacks_some, octet_at, joined_text, payload_or_malformed, stated_payload}
@@ -24,7 +24,7 @@ use Rattle.ss_review.proofs.of_sessions.SessionStates.{disputed_payload, incompl
 
 -- ---- what the valid certificate blocks cover
 
-pub fragment_of : (said : Said) (c : block.Certificate) → certificate_of said ≡ Some c → said ≡ Fragment c
+pub fragment_of : (said : BlockContent) (c : block.Certificate) → certificate_of said ≡ Some c → said ≡ Fragment c
 fragment_of (Hashes b) c e = absurd (cc)
 fragment_of (Fragment d) c e = let same : d ≡ c = cc in ap Fragment same
 
@@ -44,7 +44,7 @@ covered_from says bs payload e = λ index low high.
       stored = contains_from_has bs m.0 f.0;
       said = w.0;
       says_so = says_so;
-      valid = sym (ap (λ (x : Said). says.valid payload m.0.signed (signature_of x)) says_so) ∙ f.1;
+      valid = sym (ap (λ (x : BlockContent). says.valid payload m.0.signed (signature_of x)) says_so) ∙ f.1;
       from = leb-true w.0.index index within.0;
       to = ltb-true index (w.0.index + length w.0.fragment) within.1;
     }
@@ -55,7 +55,7 @@ accepted_from says bs payload covered =
     member_all (has_index (certificates (filter (is_valid says payload) bs))) (range_with_len 1 (length payload)) (λ index h.
     (let r : (1 ≤ index) × (index < 1 + length payload) = from_in_range 1 (length payload) index h in
     let o : HasValidOctet says bs payload index = covered index r.0 (omega (arith, r.1)) in
-    let valid : is_valid says payload o.message ≡ true = ap (λ (x : Said). says.valid payload o.message.signed (signature_of x)) o.says_so ∙ o.valid in
+    let valid : is_valid says payload o.message ≡ true = ap (λ (x : BlockContent). says.valid payload o.message.signed (signature_of x)) o.says_so ∙ o.valid in
     member_any (λ (c : block.Certificate). nat_le c.index index && nat_lt index (c.index + length c.fragment)) (certificates (filter (is_valid says payload) bs)) o.said
     (has-filter_map (λ (b : BlockMessage). certificate_of b.said) (filter (is_valid says payload) bs) o.message o.said
     (has-filter (is_valid says payload) bs o.message (has_from_contains bs o.message o.stored) valid) (ap certificate_of o.says_so))

@@ -8,8 +8,8 @@ use Rattle.ss_block.specs.declared.block.Group.{Group}
 use Rattle.ss_block.specs.declared.session.Session.{Session}
 use Rattle.ss_review.specs.Ordered.{in_order}
 use Rattle.ss_review.specs.declared.keep.message.BlockMessage.{BlockMessage}
-use Rattle.ss_review.specs.declared.keep.message.Said.{Said}
-use Rattle.ss_review.specs.declared.keep.message.Said.TheVariants.{Hashes, Fragment}
+use Rattle.ss_review.specs.declared.keep.message.BlockContent.{BlockContent}
+use Rattle.ss_review.specs.declared.keep.message.BlockContent.TheVariants.{Hashes, Fragment}
 use Rattle.ss_block.specs.Order.{session_cmp, group_cmp, hash_cmp}
 use Rattle.ss_review.specs.sessions.Verified.{Answers, is_verified}
 
@@ -37,7 +37,7 @@ abbrev pub row_cmp : Row → Row → Ordering
 row_cmp a b = ordering_then (key_cmp a.key b.key) (hash_cmp a.hash b.hash)
 
 -- a block's hashes, the first under its first number, each other under the next
-abbrev pub rows_said : Session → Said → List Row
+abbrev pub rows_said : Session → BlockContent → List Row
 rows_said s (Fragment c) = []
 rows_said s (Hashes b) =
     map (λ n.

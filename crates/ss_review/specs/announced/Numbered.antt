@@ -7,7 +7,7 @@ use Rattle.ss_review.specs.declared.keep.message.BlockMessage.{BlockMessage}
 use Rattle.ss_review.specs.declared.announced.message_number.MessageNumber.{MessageNumber}
 use Rattle.ss_review.specs.declared.announced.announced_hash.AnnouncedHash as row
 use Rattle.ss_review.specs.declared.announced.announced_block.AnnouncedBlock.{AnnouncedBlock}
-use Rattle.ss_review.specs.declared.keep.message.Said.TheVariants.{Hashes}
+use Rattle.ss_review.specs.declared.keep.message.BlockContent.TheVariants.{Hashes}
 use Rattle.ss_review.specs.declared.sessions.joined_session.JoinedSession.{JoinedSession}
 use Rattle.ss_review.specs.sessions.Sessions.{sessions, of_session}
 use Rattle.ss_review.specs.sessions.Verified.{Answers, joined}

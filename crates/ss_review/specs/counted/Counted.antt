@@ -4,8 +4,8 @@ use Rattle.std.specs.Prelude.{ℕ, ◌+◌, ◌-◌, nat_lt, max, fold, List, []
 use Rattle.std.specs.Ordering.{nat_cmp}
 use Rattle.ss_block.specs.declared.session.Session.{Session}
 use Rattle.ss_review.specs.declared.keep.message.BlockMessage.{BlockMessage}
-use Rattle.ss_review.specs.declared.keep.message.Said.{Said}
-use Rattle.ss_review.specs.declared.keep.message.Said.TheVariants.{Hashes, Fragment}
+use Rattle.ss_review.specs.declared.keep.message.BlockContent.{BlockContent}
+use Rattle.ss_review.specs.declared.keep.message.BlockContent.TheVariants.{Hashes, Fragment}
 use Rattle.ss_review.specs.declared.counted.counted_session.CountedSession.{CountedSession}
 use Rattle.ss_review.specs.declared.counted.missing.MissingRun.{MissingRun}
 use Rattle.ss_review.specs.declared.report.entry.Entry.{Entry}
@@ -18,7 +18,7 @@ use Rattle.ss_review.specs.sessions.Verified.{Answers, is_verified}
 -- ---- what is there
 
 -- the GBC of a signature block
-abbrev pub gbc_said : Said → List ℕ
+abbrev pub gbc_said : BlockContent → List ℕ
 gbc_said (Hashes b) = b.gbc ∷ []
 gbc_said (Fragment c) = []
 

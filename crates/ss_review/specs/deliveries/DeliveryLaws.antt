@@ -23,7 +23,7 @@ use Rattle.ss_review.specs.declared.report.session_report.SessionState.TheVarian
 use Rattle.ss_review.specs.declared.report.entry.Why.TheVariants as whys
 use Rattle.ss_review.specs.declared.keep.message.NormalMessage.{NormalMessage}
 use Rattle.ss_review.specs.keep.Notes.{note, notes}
-use Rattle.ss_review.specs.declared.keep.message.Said.{Said}
+use Rattle.ss_review.specs.declared.keep.message.BlockContent.{BlockContent}
 use Rattle.ss_review.specs.keep.Contents.{said_in, normals, blocks}
 use Rattle.ss_review.specs.sessions.Sessions.{same_session}
 use Rattle.ss_review.specs.sessions.Verified.{Answers, signature_of}
@@ -48,7 +48,7 @@ says x = x.answers
 
 -- the answer to a block message of the originators in the log is yes where it is valid in their own scheme
 abbrev pub AcceptsSent : Case → Type 0
-AcceptsSent x = (m octets : List ℕ) (said : Said) → Contains x.log m → Contains (emitted_by x.chain) m
+AcceptsSent x = (m octets : List ℕ) (said : BlockContent) → Contains x.log m → Contains (emitted_by x.chain) m
     → said_in (reading m) ≡ Some said → signed m ≡ Some octets
     → x.s.valid (payload_text x.s.payload) octets (signature_of said) ≡ true
     → (says x).valid (payload_text x.s.payload) octets (signature_of said) ≡ true

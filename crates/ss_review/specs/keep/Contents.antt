@@ -10,8 +10,8 @@ use Rattle.ss_block.specs.Signed.{signed}
 use Rattle.ss_review.specs.declared.keep.spoilt.SpoiltPlace.{SpoiltPlace}
 use Rattle.ss_review.specs.declared.keep.message.NormalMessage.{NormalMessage}
 use Rattle.ss_review.specs.declared.keep.message.BlockMessage.{BlockMessage}
-use Rattle.ss_review.specs.declared.keep.message.Said.{Said}
-use Rattle.ss_review.specs.declared.keep.message.Said.TheVariants.{Hashes, Fragment}
+use Rattle.ss_review.specs.declared.keep.message.BlockContent.{BlockContent}
+use Rattle.ss_review.specs.declared.keep.message.BlockContent.TheVariants.{Hashes, Fragment}
 use Rattle.ss_review.specs.keep.Notes.{Note, Normal, Block, Spoilt}
 use Rattle.ss_review.specs.questions.Shortened.{hash_count}
 
@@ -22,14 +22,14 @@ pub record Contents : Type 0 where
   pub spoilt : List SpoiltPlace
   pub count : ℕ
 
-abbrev pub said_in : Reading → Option Said
+abbrev pub said_in : Reading → Option BlockContent
 said_in (readings.Signature b) = Some (Hashes b)
 said_in (readings.Certificate b) = Some (Fragment b)
 said_in readings.Plain = None
 said_in (readings.Unparsed part pos) = None
 said_in (readings.Spoilt cause) = None
 
-abbrev pub block_with : ℕ → Option Said → Option Session → Option (List ℕ) → Option BlockMessage
+abbrev pub block_with : ℕ → Option BlockContent → Option Session → Option (List ℕ) → Option BlockMessage
 block_with place (Some said) (Some session) (Some signed) =
     Some (record { place = place; count = hash_count said; session = session; said = said; signed = signed })
 block_with place (Some said) (Some session) None = None

@@ -10,8 +10,8 @@ use Rattle.ss_review.specs.declared.questions.parameters.AskedParameters.TheVari
 use Rattle.ss_review.specs.declared.questions.question.Question.{Question}
 use Rattle.ss_review.specs.declared.questions.question.Question.TheVariants as question
 use Rattle.ss_review.specs.declared.keep.message.BlockMessage.{BlockMessage}
-use Rattle.ss_review.specs.declared.keep.message.Said.{Said}
-use Rattle.ss_review.specs.declared.keep.message.Said.TheVariants.{Hashes, Fragment}
+use Rattle.ss_review.specs.declared.keep.message.BlockContent.{BlockContent}
+use Rattle.ss_review.specs.declared.keep.message.BlockContent.TheVariants.{Hashes, Fragment}
 use Rattle.ss_review.specs.declared.sessions.joined_session.JoinedSession.{JoinedSession}
 use Rattle.ss_review.specs.sessions.Sessions.{sessions, of_session}
 use Rattle.ss_review.specs.sessions.Payloads.{certificate_of, certificates, stated_payload}
@@ -51,7 +51,7 @@ IsAskableIn askable judge ss b =
 -- ---- the same session by session, with each payload once, and with what each block says about itself
 
 -- what a block says about itself, which announces this many hashes (RFC 5848, sections 4.2 and 5.3.2)
-abbrev pub parameters_of : (count : ℕ) → Said → AskedParameters
+abbrev pub parameters_of : (count : ℕ) → BlockContent → AskedParameters
 parameters_of count (Hashes b) = parameters.Signature b.alg b.group b.gbc b.first count
 parameters_of count (Fragment c) = parameters.Certificate c.alg c.group c.total c.index (length c.fragment)
 

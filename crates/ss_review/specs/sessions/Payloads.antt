@@ -9,10 +9,10 @@ use Rattle.ss_block.specs.PayloadReading.{payload_in}
 use Rattle.ss_review.specs.declared.report.session_report.SessionState.{SessionState}
 use Rattle.ss_review.specs.declared.report.session_report.SessionState.TheVariants as states
 use Rattle.ss_review.specs.declared.keep.message.BlockMessage.{BlockMessage}
-use Rattle.ss_review.specs.declared.keep.message.Said.{Said}
-use Rattle.ss_review.specs.declared.keep.message.Said.TheVariants.{Hashes, Fragment}
+use Rattle.ss_review.specs.declared.keep.message.BlockContent.{BlockContent}
+use Rattle.ss_review.specs.declared.keep.message.BlockContent.TheVariants.{Hashes, Fragment}
 
-abbrev pub certificate_of : Said → Option block.Certificate
+abbrev pub certificate_of : BlockContent → Option block.Certificate
 certificate_of (Fragment c) = Some c
 certificate_of (Hashes b) = None
 

@@ -8,7 +8,7 @@ use Rattle.ss_block.specs.PayloadReading.{payload_in}
 use Rattle.ss_review.specs.declared.report.session_report.SessionState.{SessionState}
 use Rattle.ss_review.specs.declared.report.session_report.SessionState.TheVariants as states
 use Rattle.ss_review.specs.declared.keep.message.BlockMessage.{BlockMessage}
-use Rattle.ss_review.specs.declared.keep.message.Said.TheVariants.{Fragment}
+use Rattle.ss_review.specs.declared.keep.message.BlockContent.TheVariants.{Fragment}
 use Rattle.ss_review.specs.sessions.Payloads.{certificates, octets}
 use Rattle.ss_review.specs.sessions.Verified.{Answers}
 

@@ -3,8 +3,8 @@ use Rattle.std.specs.Prelude.{ℕ, not, Bool, false, List, length, filter, Resul
 use Rattle.ss_review.specs.declared.report.session_report.SessionState.{SessionState}
 use Rattle.ss_review.specs.declared.report.session_report.SessionState.TheVariants as states
 use Rattle.ss_review.specs.declared.keep.message.BlockMessage.{BlockMessage}
-use Rattle.ss_review.specs.declared.keep.message.Said.{Said}
-use Rattle.ss_review.specs.declared.keep.message.Said.TheVariants.{Hashes, Fragment}
+use Rattle.ss_review.specs.declared.keep.message.BlockContent.{BlockContent}
+use Rattle.ss_review.specs.declared.keep.message.BlockContent.TheVariants.{Hashes, Fragment}
 use Rattle.ss_review.specs.sessions.Sessions.{of_session}
 use Rattle.ss_review.specs.sessions.Payloads.{certificates, cover, stated_payload}
 
@@ -17,7 +17,7 @@ pub record Answers : Type 0 where
 abbrev pub answers : {J : Type 0} → (J → List ℕ → Bool) → (J → List ℕ → List ℕ → List ℕ → Bool) → J → Answers
 answers trusted valid judge = record { trusted = trusted judge; valid = valid judge }
 
-abbrev pub signature_of : Said → List ℕ
+abbrev pub signature_of : BlockContent → List ℕ
 signature_of (Hashes b) = b.signature
 signature_of (Fragment c) = c.signature
 

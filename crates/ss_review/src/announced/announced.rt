@@ -1,7 +1,7 @@
 //! Which hashes the verified signature blocks announce, and for which message numbers.
 ghost use Rattle.std.specs.Prelude.{◌≡◌, ◌<◌, ◌^◌, ◌++◌, map, flat_map, length, sum_by, IfOk, OnOk};
 ghost use Rattle.std.specs.List.Sorted.{IsStrictlySortedBy};
-ghost use Rattle.ss_review.specs.declared.keep.message.Said.TheVariants.{Hashes};
+ghost use Rattle.ss_review.specs.declared.keep.message.BlockContent.TheVariants.{Hashes};
 ghost use Rattle.ss_review.specs.sessions.Verified.{Answers, is_verified};
 ghost use Rattle.ss_review.specs.announced.Announced.{row_cmp, rows_said, rows, keys};
 ghost use Rattle.ss_review.specs.announced.Numbered.{key_of, row_of, rows_by, only_hashes, session_with_joined};

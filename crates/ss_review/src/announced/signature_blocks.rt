@@ -6,7 +6,7 @@ ghost use Rattle.ss_review.specs.announced.Announced.{rows_said};
 ghost use Rattle.ss_review.specs.announced.Numbered.{rows_by, session_with_joined, sessions_joined};
 
 use crate::announced::announced_block::AnnouncedBlock;
-use crate::keep::message::{BlockMessage, Said};
+use crate::keep::message::{BlockContent, BlockMessage};
 use crate::sessions::joined_session::JoinedSession;
 use ss_block::Session;
 use ss_octets::NoMemory;
@@ -43,11 +43,11 @@ fn add_block<'s>(
     };
     let BlockMessage { said, .. } = message;
     match said {
-        Said::Hashes(block) => {
+        BlockContent::Hashes(block) => {
             announced.push(AnnouncedBlock { session, block })?;
             Ok(())
         }
-        Said::Fragment(_fragment) => Ok(()),
+        BlockContent::Fragment(_fragment) => Ok(()),
     }
 }
 

@@ -10,7 +10,7 @@ ghost use Rattle.ss_review.specs.assign.Assigning.{pair_wanted, pairs_wanted, be
 ghost use Rattle.ss_review.specs.assign.Assigning.{place_after, assigned_all};
 ghost use Rattle.ss_review.specs.assign.StoredHashes.{hashes_in, Lists, IsFoundFor, same_hashes, place_beside, Tallies};
 
-use crate::assign::bearings::bearings;
+use crate::assign::bearers::find_bearers;
 use crate::assign::counters::Counters;
 use crate::assign::hash_entry::hash_of;
 use crate::assign::hash_list::HashList;
@@ -94,7 +94,7 @@ pub(crate) fn assigned_places(
         pairs,
         entries: entries.as_slice(),
     };
-    let found = bearings(alloc, &list, hashes)?;
+    let found = find_bearers(alloc, &list, hashes)?;
     let mut counters = Counters::new(alloc, messages)?;
     let mut places = Vec::with_capacity(alloc, hashes.len())?;
     for at in found.as_slice() {

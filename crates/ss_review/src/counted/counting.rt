@@ -10,7 +10,7 @@ ghost use Rattle.ss_review.specs.counted.CountedSoFar.{found_of, nothing_of, wit
 ghost use Rattle.ss_review.specs.counted.CountedSoFar.{counted_in_order};
 
 use crate::counted::counted_session::{CountedSession, CountedSessions, Gbcs};
-use crate::keep::message::{BlockMessage, Said};
+use crate::keep::message::{BlockContent, BlockMessage};
 use crate::lists::ordered::put_in_order;
 use crate::sessions::joined_session::JoinedSession;
 use ss_block::Session;
@@ -69,8 +69,8 @@ fn add_block(
         return Ok(());
     }
     match &block.said {
-        Said::Hashes(signature) => add_gbc(found, &block.session, signature.gbc()),
-        Said::Fragment(_) => Ok(()),
+        BlockContent::Hashes(signature) => add_gbc(found, &block.session, signature.gbc()),
+        BlockContent::Fragment(_) => Ok(()),
     }
 }
 

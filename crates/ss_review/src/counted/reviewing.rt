@@ -9,7 +9,7 @@ ghost use Rattle.ss_review.specs.counted.Counted.{counted_sessions};
 use crate::assign::index::Index;
 use crate::counted::counted_report::CountedReport;
 use crate::counted::counting::counted_sessions;
-use crate::keep::held::Held;
+use crate::keep::review_input::ReviewInput;
 use crate::report::reporting::reported;
 use crate::sessions::states::joined_sessions;
 use crate::sessions::verified::verified;
@@ -23,7 +23,7 @@ use std::mem::drop;
 pub(crate) fn review_counted<J: Judge + Drop, I: Index + Drop>(
     alloc: Global,
     judge: J,
-    held: Held<'_, I>,
+    held: ReviewInput<'_, I>,
 ) -> Result<CountedReport, NoMemory>
     requires sound { J.sound judge }
     requires askable { AreAskable J.askable judge (questions held.blocks.items) }

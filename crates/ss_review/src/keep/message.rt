@@ -15,9 +15,9 @@ pub struct NormalMessage {
     pub pair: HashPair,
 }
 
-/// What a block says.
+/// The content of a block.
 #[derive(Debug, Drop)]
-pub enum Said {
+pub enum BlockContent {
     /// A signature block: hashes of messages.
     Hashes(SigBlock),
     /// A certificate block: a fragment of the payload.
@@ -33,8 +33,8 @@ pub struct BlockMessage {
     pub count: u8,
     /// Who sent it.
     pub session: Session,
-    /// What its block says.
-    pub said: Said,
+    /// The content of its block.
+    pub said: BlockContent,
     /// What is signed of it.
     pub signed: Bytes,
 }
@@ -48,21 +48,21 @@ fn hashes_len(block: &SigBlock) -> u8
 }
 
 /// How many hashes a block announces: none, if it is a certificate block.
-pub(crate) fn hash_count(said: &Said) -> u8
+pub(crate) fn hash_count(said: &BlockContent) -> u8
     ensures { result ≡ hash_count said.now }
 {
     match said {
-        Said::Hashes(block) => hashes_len(block),
-        Said::Fragment(_) => 0,
+        BlockContent::Hashes(block) => hashes_len(block),
+        BlockContent::Fragment(_) => 0,
     }
 }
 
 /// The signature of a block.
-pub(crate) fn signature_of(said: &Said) -> &Bytes
+pub(crate) fn signature_of(said: &BlockContent) -> &Bytes
     ensures { result.now ≡ signature_of said.now }
 {
     match said {
-        Said::Hashes(block) => block.signature(),
-        Said::Fragment(block) => block.signature(),
+        BlockContent::Hashes(block) => block.signature(),
+        BlockContent::Fragment(block) => block.signature(),
     }
 }

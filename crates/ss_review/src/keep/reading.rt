@@ -3,7 +3,7 @@ ghost use Rattle.std.specs.Prelude.{◌≡◌, IfOk};
 ghost use Rattle.ss_review.specs.keep.Notes.{noted, note};
 ghost use Rattle.ss_review.specs.keep.Contents.{block_in};
 
-use crate::keep::message::{BlockMessage, Said, hash_count};
+use crate::keep::message::{BlockContent, BlockMessage, hash_count};
 use ss_block::{FullReading, Reading, classify, may_hold_block, read_fully};
 use ss_octets::NoMemory;
 use std::alloc::Global;
@@ -36,8 +36,8 @@ pub(crate) fn block_in(
         signed,
     } = read_fully(alloc, text)?;
     let said = match reading {
-        Reading::Signature(block) => Said::Hashes(block),
-        Reading::Certificate(block) => Said::Fragment(block),
+        Reading::Signature(block) => BlockContent::Hashes(block),
+        Reading::Certificate(block) => BlockContent::Fragment(block),
         Reading::Plain | Reading::Unparsed { .. } | Reading::Spoilt(_) => return Ok(None),
     };
     let Some(session) = session else {

@@ -5,7 +5,7 @@ ghost use Rattle.ss_review.specs.questions.Questions.{needed, parameters_of};
 ghost use Rattle.ss_review.specs.questions.Shortened.{hash_count};
 ghost use Rattle.ss_review.specs.sessions.Verified.{signature_of};
 
-use crate::keep::message::{BlockMessage, Said};
+use crate::keep::message::{BlockContent, BlockMessage};
 use crate::questions::asking::copy_of;
 use ss_block::{Hashes, SigBlock};
 use ss_octets::NoMemory;
@@ -36,15 +36,15 @@ fn with_one_hash(alloc: Global, block: SigBlock) -> Result<SigBlock, NoMemory>
 }
 
 /// What the block says, without what no signature scheme is asked about.
-fn needed_of(alloc: Global, said: Said) -> Result<Said, NoMemory>
+fn needed_of(alloc: Global, said: BlockContent) -> Result<BlockContent, NoMemory>
     ensures parameters { (count : ℕ) → IfOk result (λ s. parameters_of count s ≡ parameters_of count said) }
     ensures signature { IfOk result (λ s. signature_of s ≡ signature_of said) }
     ensures certificate { IfOk result (λ s. certificate_of s ≡ certificate_of said) }
     ensures few { IfOk result (λ s. hash_count s ≤ 1) }
 {
     match said {
-        Said::Hashes(block) => Ok(Said::Hashes(with_one_hash(alloc, block)?)),
-        Said::Fragment(block) => Ok(Said::Fragment(block)),
+        BlockContent::Hashes(block) => Ok(BlockContent::Hashes(with_one_hash(alloc, block)?)),
+        BlockContent::Fragment(block) => Ok(BlockContent::Fragment(block)),
     }
 }
 

@@ -2,7 +2,7 @@
 ghost use Rattle.std.specs.Prelude.{◌≡◌, length};
 ghost use Rattle.ss_review.specs.questions.Questions.{parameters_of};
 
-use crate::keep::message::{BlockMessage, Said};
+use crate::keep::message::{BlockContent, BlockMessage};
 use ss_block::{Alg, CertBlock, Group};
 
 /// The parameters of a block, without its session, its hashes, its fragment and its signature.
@@ -49,14 +49,14 @@ pub(crate) fn parameters_of(block: &BlockMessage) -> AskedParameters
     ensures { result ≡ parameters_of block.now.count block.now.said }
 {
     match &block.said {
-        Said::Hashes(said) => AskedParameters::Signature {
+        BlockContent::Hashes(said) => AskedParameters::Signature {
             alg: said.alg(),
             group: said.group(),
             gbc: said.gbc(),
             first: said.first(),
             count: block.count,
         },
-        Said::Fragment(said) => AskedParameters::Certificate {
+        BlockContent::Fragment(said) => AskedParameters::Certificate {
             alg: said.alg(),
             group: said.group(),
             total: said.total(),

@@ -7,7 +7,7 @@ ghost use Rattle.ss_review.specs.report.Report.{report_of};
 
 use crate::announced::announced::announced;
 use crate::assign::index::Index;
-use crate::keep::held::Held;
+use crate::keep::review_input::ReviewInput;
 use crate::keep::spoilt::SpoiltPlaces;
 use crate::report::grouping::session_reports;
 use crate::report::report::Report;
@@ -22,7 +22,7 @@ use std::mem::drop;
 /// are verified. The blocks are freed before the index is asked, and the index before the report is made.
 pub(crate) fn reported<I: Index + Drop>(
     alloc: Global,
-    held: Held<'_, I>,
+    held: ReviewInput<'_, I>,
     sessions: &[JoinedSession],
     verified: Vec<bool>,
 ) -> Result<Report, NoMemory>
@@ -35,7 +35,7 @@ pub(crate) fn reported<I: Index + Drop>(
         → verified.items ≡ map (is_verified says log.blocks) log.blocks
         → IfOk result (λ r. r ≡ report_of says log) }
 {
-    let Held {
+    let ReviewInput {
         index,
         blocks,
         spoilt,

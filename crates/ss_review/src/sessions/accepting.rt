@@ -9,7 +9,7 @@ ghost use Rattle.ss_review.specs.sessions.Covering.{spans_of, accepted_span};
 ghost use Rattle.ss_review.specs.questions.Questions.{question_about, asked, AreAskable};
 ghost use Rattle.ss_review.specs.sessions.FoundBlocks.{claim_cmp, IsClaimOf, TellsEqualsAlike, KeepsWhatHolds};
 
-use crate::keep::message::{BlockMessage, Said, signature_of};
+use crate::keep::message::{BlockContent, BlockMessage, signature_of};
 use crate::report::session_report::SessionState;
 use crate::sessions::found_blocks::FoundBlocks;
 use crate::sessions::joining::stated_payload;
@@ -75,8 +75,8 @@ fn accepted_span<'a, J: Judge>(
         → OnOk result (KeepsWhatHolds (is_valid (answers J.trusted J.valid judge.now) payload.now) found.new) }
 {
     match &message.said {
-        Said::Hashes(_) => Ok(None),
-        Said::Fragment(block) => {
+        BlockContent::Hashes(_) => Ok(None),
+        BlockContent::Fragment(block) => {
             if valid_once(judge, payload, found, message)? {
                 Ok(Some(span_of(block)))
             } else {

@@ -5,7 +5,7 @@ ghost use Rattle.ss_block.specs.Joiner.{Stands};
 ghost use Rattle.ss_review.specs.sessions.Payloads.{certificates, payload_or_malformed, stated_payload};
 ghost use Rattle.ss_review.specs.sessions.Stated.{stated_in_turn, unjoined};
 
-use crate::keep::message::{BlockMessage, Said};
+use crate::keep::message::{BlockContent, BlockMessage};
 use crate::report::session_report::SessionState;
 use ss_block::{CertBlock, JoinState, Joiner, Payload};
 use ss_octets::{Bytes, NoMemory};
@@ -29,8 +29,8 @@ fn add_block(joiner: &mut Joiner, message: &BlockMessage) -> Result<(), NoMemory
         → OnOk result (Stands joiner.new (stated_in_turn (cs ++ certificates (message.now ∷ [])))) }
 {
     match &message.said {
-        Said::Hashes(_) => Ok(()),
-        Said::Fragment(block) => add_fragment(joiner, block),
+        BlockContent::Hashes(_) => Ok(()),
+        BlockContent::Fragment(block) => add_fragment(joiner, block),
     }
 }
 

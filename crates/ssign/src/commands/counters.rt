@@ -1,7 +1,7 @@
 //! `ssign counters`: how far the signature blocks reach.
 /// Its name.
 pub const NAME: &str = "counters";
-/// What the help says of it.
+/// What the help says about it.
 pub const ABOUT: &str =
     "Writes how far the signature blocks of the log reach: the next GBC of each joined session, \
         and the next number of each of its groups";

@@ -1,7 +1,7 @@
 //! `ssign explain`: what a code means.
 /// Its name.
 pub const NAME: &str = "explain";
-/// What the help says of it.
+/// What the help says about it.
 pub const ABOUT: &str = "Explains a refusal or a word of the output: what it means, and what to do";
 /// How a code is asked about.
 pub const EXAMPLES: &str = "Examples:

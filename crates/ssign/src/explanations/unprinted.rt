@@ -1,7 +1,7 @@
 //! What codes mean that the program never prints.
 use super::Explanation;
 
-/// Codes that the libraries tell to other programs. The program has no cause to print one, and lists none of them.
+/// Codes that the libraries give to other programs. The program has no cause to print one, and lists none of them.
 pub static UNPRINTED: [Explanation; 9] = [
     Explanation {
         code: "F6",

@@ -1,5 +1,5 @@
 //! `--copies`: how many times each block message is written.
-/// Its name, behind two hyphens.
+/// Its name, after two hyphens.
 pub const NAME: &str = "copies";
 /// The least.
 pub const LEAST: u64 = 1;
@@ -7,6 +7,6 @@ pub const LEAST: u64 = 1;
 pub const MOST: u64 = 9;
 /// Its value where it isn't given.
 pub const USUAL: &str = "1";
-/// What the help says of it.
+/// What the help says about it.
 pub const HELP: &str =
     "How many times each block message is written, 1 to 9; a plan lists each once";

@@ -1,5 +1,5 @@
 //! `--count`: how many messages a signature block announces at most (RFC 5848, section 4.2.6).
-/// Its name, behind two hyphens.
+/// Its name, after two hyphens.
 pub const NAME: &str = "count";
 /// The least.
 pub const LEAST: u64 = 1;
@@ -7,5 +7,5 @@ pub const LEAST: u64 = 1;
 pub const MOST: u64 = 99;
 /// Its value where it isn't given.
 pub const USUAL: &str = "10";
-/// What the help says of it.
+/// What the help says about it.
 pub const HELP: &str = "How many messages one signature block announces at most, 1 to 99";

@@ -1,7 +1,7 @@
 //! `--max-len`: how many octets a message of the log has at most.
 use ss_frame::LONGEST_MESSAGE;
 
-/// Its name, behind two hyphens.
+/// Its name, after two hyphens.
 pub const NAME: &str = "max-len";
 /// The least.
 pub const LEAST: u32 = 1;
@@ -9,5 +9,5 @@ pub const LEAST: u32 = 1;
 pub const MOST: u32 = LONGEST_MESSAGE;
 /// Its value where it isn't given.
 pub const USUAL: &str = "65536";
-/// What the help says of it.
+/// What the help says about it.
 pub const HELP: &str = "Refuses a message of more than N octets, 1 to 1048576";

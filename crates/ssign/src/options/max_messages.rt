@@ -1,7 +1,7 @@
 //! `--max-messages`: how many messages the log has at most.
 use ss_frame::MOST_MESSAGES;
 
-/// Its name, behind two hyphens.
+/// Its name, after two hyphens.
 pub const NAME: &str = "max-messages";
 /// The least.
 pub const LEAST: u32 = 1;
@@ -9,5 +9,5 @@ pub const LEAST: u32 = 1;
 pub const MOST: u32 = MOST_MESSAGES;
 /// Its value where it isn't given.
 pub const USUAL: &str = "10000000";
-/// What the help says of it.
+/// What the help says about it.
 pub const HELP: &str = "Refuses a log of more than N messages, 1 to 10000000";

@@ -1,5 +1,5 @@
 //! `--pri`: PRI of the block messages (RFC 5424, section 6.2.1).
-/// Its name, behind two hyphens.
+/// Its name, after two hyphens.
 pub const NAME: &str = "pri";
 /// The least.
 pub const LEAST: u64 = 0;
@@ -7,5 +7,5 @@ pub const LEAST: u64 = 0;
 pub const MOST: u64 = 191;
 /// Its value where it isn't given.
 pub const USUAL: &str = "110";
-/// What the help says of it.
+/// What the help says about it.
 pub const HELP: &str = "The PRI of the block messages, 0 to 191";

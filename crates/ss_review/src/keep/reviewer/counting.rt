@@ -13,7 +13,7 @@ ghost use Rattle.ss_review.specs.keep.Keeping.{Keeps, kept_blocks};
 use crate::counted::counted_report::CountedReport;
 use crate::counted::reviewing::review_counted;
 use crate::fault::ReviewFault;
-use crate::keep::held::Held;
+use crate::keep::review_input::ReviewInput;
 use crate::keep::reviewer::Reviewer;
 use crate::keep::reviewer::concluding::blocks_of;
 use crate::laws::reports::reports_list_what_is_announced;
@@ -38,7 +38,7 @@ impl Reviewer {
     {
         let blocks = blocks_of(self.alloc, self.blocks)?;
         reports_list_what_is_announced();
-        let held = Held {
+        let held = ReviewInput {
             index: self.normal,
             blocks,
             spoilt: self.spoilt.as_slice(),

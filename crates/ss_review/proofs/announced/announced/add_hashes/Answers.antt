@@ -1,7 +1,7 @@
 use Rattle.std.proofs.Common.{◌+◌, [], ◌∷◌, ◌++◌, drop, get_or, map, sym, ap, ◌∙◌, arith}
 use Rattle.std.proofs.lemmas.List.{append-nil, drop_more, drop_all}
 use Rattle.ss_block.specs.declared.hash.Hash.TheVariants.{Sha1}
-use Rattle.ss_review.specs.declared.keep.message.Said.TheVariants.{Hashes}
+use Rattle.ss_review.specs.declared.keep.message.BlockContent.TheVariants.{Hashes}
 use Rattle.ss_review.specs.announced.Announced.{rows_said}
 use Rattle.ss_review.specs.announced.Numbered.{row_of}
 use Rattle.ss_review.proofs.of_numbers.RowsTold.{row_more}

@@ -1,6 +1,6 @@
 -- The rows so far, and those of the rest, are all.
 use Rattle.std.proofs.Common.{◌≡◌, ◌+◌, ◌++◌, drop, map}
-use Rattle.ss_review.specs.declared.keep.message.Said.TheVariants.{Hashes}
+use Rattle.ss_review.specs.declared.keep.message.BlockContent.TheVariants.{Hashes}
 use Rattle.ss_review.specs.announced.Announced.{rows_said}
 use Rattle.ss_review.specs.announced.Numbered.{row_of}
 use Rattle.ss_review.proofs.announced.announced.add_hashes.Given as goal

@@ -1,7 +1,0 @@
--- The numbers that the counters so far say.
-use Rattle.std.proofs.Common.{take}
-use Rattle.ss_review.specs.counted.KeptSoFar.{led_to, KeepsNumbers}
-use Rattle.ss_review.proofs.counted.tailing.kept_numbers.Given as goal
-
-abbrev pub invariant-loop-counter : goal.invariant-loop-counter
-invariant-loop-counter l = KeepsNumbers l.numbers (led_to (take l.counter-index l.own))

@@ -1,0 +1,48 @@
+//! Where the bearers of announced hashes stand among the hashes of stored messages.
+ghost use Rattle.std.specs.Prelude.{◌≡◌, ℕ, Option, Some, None, length, slice_get, IfOk};
+ghost use Rattle.std.specs.List.Sorted.{IsStrictlySortedBy};
+ghost use Rattle.ss_block.specs.declared.hash.Hash.{Hash};
+ghost use Rattle.ss_review.specs.assign.StoredHashes.{hashes_in, stored_cmp, IsFoundFor};
+
+use crate::assign::hash_list::HashList;
+use crate::assign::search::Search;
+use crate::assign::wanted_hash::wanted_hashes;
+use ss_block::Hash;
+use ss_octets::NoMemory;
+use std::alloc::Global;
+
+/// As many times nothing.
+fn nothing(alloc: Global, count: usize) -> Result<Vec<Option<usize>>, NoMemory>
+    ensures length { IfOk result (λ v. length v.items ≡ count) }
+    ensures nothing { IfOk result (λ v. (i : ℕ) (o : Option ℕ) → slice_get v.items i ≡ Some o → o ≡ None) }
+{
+    let mut found = Vec::with_capacity(alloc, count)?;
+    found.resize(count, None)?;
+    Ok(found)
+}
+
+/// Finds, for each hash that is there, where its bearer stands in the list.
+pub(crate) fn find_bearers(
+    alloc: Global,
+    list: &HashList,
+    hashes: &[Option<Hash>],
+) -> Result<Vec<Option<usize>>, NoMemory>
+    ensures length { IfOk result (λ v. length v.items ≡ length hashes.now) }
+    ensures found { IsStrictlySortedBy stored_cmp (hashes_in list.now)
+        → IfOk result (λ v. (i : ℕ) (o : Option Hash) (at : Option ℕ)
+        → slice_get hashes.now i ≡ Some o
+        → slice_get v.items i ≡ Some at
+        → IsFoundFor (hashes_in list.now) o at) }
+{
+    let wanted = wanted_hashes(alloc, hashes)?;
+    let mut found = nothing(alloc, hashes.len())?;
+    let mut search = Search::new(list);
+    for one in wanted.as_slice() {
+        let at = search.find(&one.hash);
+        let key = one.key as usize;
+        if key < found.len() {
+            found[key] = at;
+        }
+    }
+    Ok(found)
+}
