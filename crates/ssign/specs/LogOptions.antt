@@ -18,16 +18,16 @@ flag_rule name = record (new_rule name) { long = Some name; action = Some SetTru
 -- it may be given often, and is each time one place of a log of as many messages as are allowed
 abbrev pub place_rule : Rule
 place_rule =
-    record (number_rule place.NAME.now (pos place.LEAST) (pos (most_messages - 1))) { action = Some Append }
+    record (number_rule place.NAME.now (pos place.MIN) (pos (most_messages - 1))) { action = Some Append }
 
 abbrev pub max_len_rule : Rule
 max_len_rule =
-    usual_rule (number_rule max_len.NAME.now (pos max_len.LEAST) (pos longest_message)) max_len.USUAL.now
+    usual_rule (number_rule max_len.NAME.now (pos max_len.MIN) (pos longest_message)) max_len.DEFAULT.now
 
 abbrev pub max_messages_rule : Rule
 max_messages_rule =
-    usual_rule (number_rule max_messages.NAME.now (pos max_messages.LEAST) (pos most_messages))
-    max_messages.USUAL.now
+    usual_rule (number_rule max_messages.NAME.now (pos max_messages.MIN) (pos most_messages))
+    max_messages.DEFAULT.now
 
 -- what `explain` is asked about: one word or more
 abbrev pub code_rule : Rule

@@ -52,7 +52,7 @@ header_in c t = record {
 -- PRI and the fields are in their ranges
 abbrev pub is_head : HeadValue → Bool
 is_head h =
-    nat_le h.pri pri.MOST && is_field host.LONGEST h.hostname && is_field app.LONGEST h.app_name
+    nat_le h.pri pri.MAX && is_field host.LONGEST h.hostname && is_field app.LONGEST h.app_name
     && is_field procid.LONGEST h.procid && is_field msgid.LONGEST h.msgid
 
 abbrev pub head_in : Choices → Texts → Option HeadValue
@@ -131,11 +131,11 @@ pub record HasNumberIn (matches : ArgMatches) (option : List ℕ) (least most n 
 -- the version and the numbers
 pub record HasChoices (matches : ArgMatches) (c : Choices) : Type 0 where
   pub alg : option_and_then version_in (first_value (found_of matches) ver.NAME.now) ≡ Some c.alg
-  pub rsid : HasNumberIn matches rsid.NAME.now rsid.LEAST rsid.MOST c.rsid
-  pub pri : HasNumberIn matches pri.NAME.now pri.LEAST pri.MOST c.pri
-  pub count : HasNumberIn matches count.NAME.now count.LEAST count.MOST c.count
-  pub frag : HasNumberIn matches frag.NAME.now frag.LEAST frag.MOST c.frag
-  pub copies : HasNumberIn matches copies.NAME.now copies.LEAST copies.MOST c.copies
+  pub rsid : HasNumberIn matches rsid.NAME.now rsid.MIN rsid.MAX c.rsid
+  pub pri : HasNumberIn matches pri.NAME.now pri.MIN pri.MAX c.pri
+  pub count : HasNumberIn matches count.NAME.now count.MIN count.MAX c.count
+  pub frag : HasNumberIn matches frag.NAME.now frag.MIN frag.MAX c.frag
+  pub copies : HasNumberIn matches copies.NAME.now copies.MIN copies.MAX c.copies
 
 -- the texts
 pub record HasTexts (matches : ArgMatches) (t : Texts) : Type 0 where

@@ -60,40 +60,40 @@ abbrev pub payload_rule : Rule
 payload_rule = required_rule (text_rule payload.NAME.now)
 
 abbrev pub rsid_rule : Rule
-rsid_rule = required_rule (number_rule rsid.NAME.now (pos rsid.LEAST) (pos rsid.MOST))
+rsid_rule = required_rule (number_rule rsid.NAME.now (pos rsid.MIN) (pos rsid.MAX))
 
 abbrev pub stamp_rule : Rule
-stamp_rule = usual_rule (text_rule stamp.NAME.now) stamp.USUAL.now
+stamp_rule = usual_rule (text_rule stamp.NAME.now) stamp.DEFAULT.now
 
 abbrev pub pri_rule : Rule
-pri_rule = usual_rule (number_rule pri.NAME.now (pos pri.LEAST) (pos pri.MOST)) pri.USUAL.now
+pri_rule = usual_rule (number_rule pri.NAME.now (pos pri.MIN) (pos pri.MAX)) pri.DEFAULT.now
 
 abbrev pub host_rule : Rule
-host_rule = usual_rule (text_rule host.NAME.now) host.USUAL.now
+host_rule = usual_rule (text_rule host.NAME.now) host.DEFAULT.now
 
 abbrev pub app_rule : Rule
-app_rule = usual_rule (text_rule app.NAME.now) app.USUAL.now
+app_rule = usual_rule (text_rule app.NAME.now) app.DEFAULT.now
 
 abbrev pub procid_rule : Rule
-procid_rule = usual_rule (text_rule procid.NAME.now) procid.USUAL.now
+procid_rule = usual_rule (text_rule procid.NAME.now) procid.DEFAULT.now
 
 abbrev pub msgid_rule : Rule
-msgid_rule = usual_rule (text_rule msgid.NAME.now) msgid.USUAL.now
+msgid_rule = usual_rule (text_rule msgid.NAME.now) msgid.DEFAULT.now
 
 abbrev pub ver_rule : Kept → Rule
-ver_rule versions = usual_rule (versions_rule ver.NAME.now versions) ver.USUAL.now
+ver_rule versions = usual_rule (versions_rule ver.NAME.now versions) ver.DEFAULT.now
 
 abbrev pub groups_rule : Rule
-groups_rule = usual_rule (text_rule groups.NAME.now) groups.USUAL.now
+groups_rule = usual_rule (text_rule groups.NAME.now) groups.DEFAULT.now
 
 abbrev pub count_rule : Rule
-count_rule = usual_rule (number_rule count.NAME.now (pos count.LEAST) (pos count.MOST)) count.USUAL.now
+count_rule = usual_rule (number_rule count.NAME.now (pos count.MIN) (pos count.MAX)) count.DEFAULT.now
 
 abbrev pub frag_rule : Rule
-frag_rule = usual_rule (number_rule frag.NAME.now (pos frag.LEAST) (pos frag.MOST)) frag.USUAL.now
+frag_rule = usual_rule (number_rule frag.NAME.now (pos frag.MIN) (pos frag.MAX)) frag.DEFAULT.now
 
 abbrev pub copies_rule : Rule
-copies_rule = usual_rule (number_rule copies.NAME.now (pos copies.LEAST) (pos copies.MOST)) copies.USUAL.now
+copies_rule = usual_rule (number_rule copies.NAME.now (pos copies.MIN) (pos copies.MAX)) copies.DEFAULT.now
 
 -- ---- the options, in their order
 

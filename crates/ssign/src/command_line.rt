@@ -169,6 +169,7 @@ fn bare<'a>(alloc: Global) -> Command<'a>
         .arg_required_else_help(true)
 }
 
+/// The command `review`, with its options.
 fn review<'a>(alloc: Global) -> Result<Command<'a>, AllocError>
     ensures { IfOk result (λ c. IsLocalApp c (task_app Task.Review)) }
 {
@@ -191,6 +192,7 @@ fn review<'a>(alloc: Global) -> Result<Command<'a>, AllocError>
     )
 }
 
+/// The command `questions`, with its options.
 fn questions<'a>(alloc: Global) -> Result<Command<'a>, AllocError>
     ensures { IfOk result (λ c. IsLocalApp c (task_app Task.Questions)) }
 {
@@ -207,6 +209,7 @@ fn questions<'a>(alloc: Global) -> Result<Command<'a>, AllocError>
     )
 }
 
+/// The command `extract`, with its options.
 fn extract<'a>(alloc: Global) -> Result<Command<'a>, AllocError>
     ensures { IfOk result (λ c. IsLocalApp c (task_app Task.Extract)) }
 {
@@ -226,6 +229,7 @@ fn extract<'a>(alloc: Global) -> Result<Command<'a>, AllocError>
     )
 }
 
+/// The command `inspect`, with its options.
 fn inspect<'a>(alloc: Global) -> Result<Command<'a>, AllocError>
     ensures { IfOk result (λ c. IsLocalApp c (task_app Task.Inspect)) }
 {
@@ -242,6 +246,7 @@ fn inspect<'a>(alloc: Global) -> Result<Command<'a>, AllocError>
     )
 }
 
+/// The command `plan`, with its options. `versions` are the values of `--ver`.
 fn plan<'a>(alloc: Global, versions: &'a [&'a str]) -> Result<Command<'a>, AllocError>
     ensures { IfOk result (λ c. IsLocalApp c (signing_app versions.entry Signing.Plan)) }
 {
@@ -254,6 +259,7 @@ fn plan<'a>(alloc: Global, versions: &'a [&'a str]) -> Result<Command<'a>, Alloc
     limited(alloc, with_signing_options(alloc, plan, versions)?)
 }
 
+/// The command `sign`, with its options. `versions` are the values of `--ver`.
 fn sign<'a>(alloc: Global, versions: &'a [&'a str]) -> Result<Command<'a>, AllocError>
     ensures { IfOk result (λ c. IsLocalApp c (signing_app versions.entry Signing.Sign)) }
 {
@@ -267,6 +273,7 @@ fn sign<'a>(alloc: Global, versions: &'a [&'a str]) -> Result<Command<'a>, Alloc
     limited(alloc, with_signing_options(alloc, sign, versions)?)
 }
 
+/// The command `counters`, with its options.
 fn counters<'a>(alloc: Global) -> Result<Command<'a>, AllocError>
     ensures { IfOk result (λ c. IsLocalApp c (task_app Task.Counters)) }
 {
@@ -283,6 +290,7 @@ fn counters<'a>(alloc: Global) -> Result<Command<'a>, AllocError>
     )
 }
 
+/// The command `carry`, with its options.
 fn carry<'a>(alloc: Global) -> Result<Command<'a>, AllocError>
     ensures { IfOk result (λ c. IsLocalApp c (task_app Task.Carry)) }
 {
@@ -298,6 +306,7 @@ fn carry<'a>(alloc: Global) -> Result<Command<'a>, AllocError>
     )
 }
 
+/// The command `explain`, with its argument.
 fn explain<'a>(alloc: Global) -> Result<Command<'a>, AllocError>
     ensures { IfOk result (λ c. IsLocalApp c explain_app) }
 {

@@ -80,6 +80,7 @@ fn selection_of(
     Ok(Selection::At(Places::from_vec(places)))
 }
 
+/// The unlisted messages, or the listed ones.
 fn listed_or_not(unlisted: bool) -> Selection
     ensures { Selects unlisted None (Ok result) }
 {

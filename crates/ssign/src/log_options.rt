@@ -41,10 +41,7 @@ pub(crate) fn place<'a>(alloc: Global) -> Arg<'a>
         .long(options::place::NAME)
         .value_name("N")
         .action(ArgAction::Append)
-        .value_parser(ValueParser::signed(
-            options::place::LEAST as i64,
-            options::place::MOST as i64,
-        ))
+        .value_parser(ValueParser::signed(options::place::MIN as i64, options::place::MAX as i64))
         .help(options::place::HELP)
 }
 
@@ -58,10 +55,10 @@ pub(crate) fn max_len<'a>(alloc: Global) -> Arg<'a>
         .value_name("N")
         .action(ArgAction::Set)
         .value_parser(clap::value_parser!(u32).range(
-            options::max_len::LEAST as i64..=options::max_len::MOST as i64,
+            options::max_len::MIN as i64..=options::max_len::MAX as i64,
         ))
         .help(options::max_len::HELP)
-        .default_value(options::max_len::USUAL)
+        .default_value(options::max_len::DEFAULT)
 }
 
 /// The option of how many messages there may be.
@@ -74,10 +71,10 @@ pub(crate) fn max_messages<'a>(alloc: Global) -> Arg<'a>
         .value_name("N")
         .action(ArgAction::Set)
         .value_parser(clap::value_parser!(u32).range(
-            options::max_messages::LEAST as i64..=options::max_messages::MOST as i64,
+            options::max_messages::MIN as i64..=options::max_messages::MAX as i64,
         ))
         .help(options::max_messages::HELP)
-        .default_value(options::max_messages::USUAL)
+        .default_value(options::max_messages::DEFAULT)
 }
 
 /// The word of `explain`.

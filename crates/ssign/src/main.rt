@@ -47,6 +47,7 @@ impl refusing::Screen for HostRuntime {
     }
 }
 
+/// Runs the program. Its exit status is that of the command.
 fn main(rt: HostRuntime) -> ExitCode {
     ExitCode::from(program::run(&rt))
 }

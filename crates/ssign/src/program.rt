@@ -59,6 +59,7 @@ fn words<R: Env + AllocGlobal>(rt: &R) -> io::Result<Vec<String>> {
     Ok(words)
 }
 
+/// Runs the program with the words of its command line. It gives the exit status.
 fn run_words<R: Input + Print + Eprint + Screen + Files + Clock + AllocGlobal>(
     rt: &R,
     words: &[String],
@@ -86,6 +87,7 @@ fn run_words<R: Input + Print + Eprint + Screen + Files + Clock + AllocGlobal>(
     }
 }
 
+/// Runs the command that the command line names. It gives the exit status.
 fn run_command<R: Input + Print + Eprint + Screen + Files + Clock + AllocGlobal>(
     rt: &R,
     matches: &ArgMatches<'_>,

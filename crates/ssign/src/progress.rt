@@ -67,6 +67,7 @@ impl<'r, R: Eprint + Screen + Clock, I> Progress<'r, R, I> {
 }
 
 impl Meter {
+    /// A meter that has counted nothing. `None` if the clock can't be read.
     fn start<R: Clock>(rt: &R, form: Form) -> Option<Meter> {
         let start = Instant::now(rt).ok()?;
         Some(Meter {
@@ -111,6 +112,7 @@ impl Meter {
     }
 }
 
+/// A duration in whole milliseconds, or the greatest number if it is longer.
 fn in_millis(duration: Duration) -> u64 {
     duration
         .as_secs()

@@ -114,20 +114,22 @@ pub fn settings_of(
     Some(settings_from(alloc, choices, &texts))
 }
 
+/// The choices that the command line has. `None` if one is out of its range.
 fn choices_of(matches: &ArgMatches<'_>) -> Option<Choices>
     ensures found { IfSome result (HasChoices matches.now) }
     ensures only { (c : Choices) → HasChoices matches.now c → IsSome result }
 {
     Some(Choices {
         alg: Alg::of_version(matches.get_str(ver::NAME)?.as_bytes())?,
-        rsid: number_in(matches, rsid::NAME, rsid::LEAST, rsid::MOST)?,
-        pri: number_in(matches, pri::NAME, pri::LEAST, pri::MOST)? as u8,
-        count: number_in(matches, count::NAME, count::LEAST, count::MOST)? as u8,
-        frag: number_in(matches, frag::NAME, frag::LEAST, frag::MOST)? as u16,
-        copies: number_in(matches, copies::NAME, copies::LEAST, copies::MOST)? as u8,
+        rsid: number_in(matches, rsid::NAME, rsid::MIN, rsid::MAX)?,
+        pri: number_in(matches, pri::NAME, pri::MIN, pri::MAX)? as u8,
+        count: number_in(matches, count::NAME, count::MIN, count::MAX)? as u8,
+        frag: number_in(matches, frag::NAME, frag::MIN, frag::MAX)? as u16,
+        copies: number_in(matches, copies::NAME, copies::MIN, copies::MAX)? as u8,
     })
 }
 
+/// The texts that the command line has. `None` if one is missing.
 fn texts_of<'a>(matches: &ArgMatches<'a>) -> Option<Texts<'a>>
     ensures found { IfSome result (HasTexts matches.now) }
     ensures only { (t : Texts) → HasTexts matches.now t → IsSome result }

@@ -28,32 +28,35 @@ pub fn with_signing_options<'a>(
     with_block_options(alloc, command, versions)
 }
 
+/// The command with the options of the key.
 fn with_key_options<'a>(alloc: Global, command: Command<'a>) -> Result<Command<'a>, AllocError>
     ensures { (app : App) → IsLocalApp command.entry app → IfOk result (λ c. IsLocalApp c (with_key_options app)) }
 {
     let option = text(alloc, payload::NAME, "TEXT");
     let command = with_required(command, option, payload::HELP)?;
-    let option = number(alloc, rsid::NAME, rsid::LEAST as i64, rsid::MOST as i64);
+    let option = number(alloc, rsid::NAME, rsid::MIN as i64, rsid::MAX as i64);
     let command = with_required(command, option, rsid::HELP)?;
     let option = text(alloc, stamp::NAME, "TEXT");
-    with_usual(command, option, stamp::USUAL, stamp::HELP)
+    with_usual(command, option, stamp::DEFAULT, stamp::HELP)
 }
 
+/// The command with the options of the block messages' header.
 fn with_header_options<'a>(alloc: Global, command: Command<'a>) -> Result<Command<'a>, AllocError>
     ensures { (app : App) → IsLocalApp command.entry app → IfOk result (λ c. IsLocalApp c (with_header_options app)) }
 {
-    let option = number(alloc, pri::NAME, pri::LEAST as i64, pri::MOST as i64);
-    let command = with_usual(command, option, pri::USUAL, pri::HELP)?;
+    let option = number(alloc, pri::NAME, pri::MIN as i64, pri::MAX as i64);
+    let command = with_usual(command, option, pri::DEFAULT, pri::HELP)?;
     let option = text(alloc, host::NAME, "TEXT");
-    let command = with_usual(command, option, host::USUAL, host::HELP)?;
+    let command = with_usual(command, option, host::DEFAULT, host::HELP)?;
     let option = text(alloc, app::NAME, "TEXT");
-    let command = with_usual(command, option, app::USUAL, app::HELP)?;
+    let command = with_usual(command, option, app::DEFAULT, app::HELP)?;
     let option = text(alloc, procid::NAME, "TEXT");
-    let command = with_usual(command, option, procid::USUAL, procid::HELP)?;
+    let command = with_usual(command, option, procid::DEFAULT, procid::HELP)?;
     let option = text(alloc, msgid::NAME, "TEXT");
-    with_usual(command, option, msgid::USUAL, msgid::HELP)
+    with_usual(command, option, msgid::DEFAULT, msgid::HELP)
 }
 
+/// The command with the options of the blocks.
 fn with_block_options<'a>(
     alloc: Global,
     command: Command<'a>,
@@ -64,18 +67,13 @@ fn with_block_options<'a>(
 {
     let command = with_version(alloc, command, versions)?;
     let option = text(alloc, groups::NAME, "TEXT");
-    let command = with_usual(command, option, groups::USUAL, groups::HELP)?;
-    let option = number(alloc, count::NAME, count::LEAST as i64, count::MOST as i64);
-    let command = with_usual(command, option, count::USUAL, count::HELP)?;
-    let option = number(alloc, frag::NAME, frag::LEAST as i64, frag::MOST as i64);
-    let command = with_usual(command, option, frag::USUAL, frag::HELP)?;
-    let option = number(
-        alloc,
-        copies::NAME,
-        copies::LEAST as i64,
-        copies::MOST as i64,
-    );
-    with_usual(command, option, copies::USUAL, copies::HELP)
+    let command = with_usual(command, option, groups::DEFAULT, groups::HELP)?;
+    let option = number(alloc, count::NAME, count::MIN as i64, count::MAX as i64);
+    let command = with_usual(command, option, count::DEFAULT, count::HELP)?;
+    let option = number(alloc, frag::NAME, frag::MIN as i64, frag::MAX as i64);
+    let command = with_usual(command, option, frag::DEFAULT, frag::HELP)?;
+    let option = number(alloc, copies::NAME, copies::MIN as i64, copies::MAX as i64);
+    with_usual(command, option, copies::DEFAULT, copies::HELP)
 }
 
 /// The command with the option of the version of the blocks.
@@ -89,7 +87,7 @@ fn with_version<'a>(
 {
     let version = text(alloc, ver::NAME, "VER")
         .value_parser(versions)
-        .default_value(ver::USUAL)
+        .default_value(ver::DEFAULT)
         .help(ver::HELP);
     command.arg(version)
 }

@@ -59,7 +59,7 @@ struct Refused {
 }
 
 /// A block for ten messages, sent once.
-const USUAL: Sizes = (10, 1);
+const DEFAULT: Sizes = (10, 1);
 
 /// A block for each message, sent twice.
 const TWICE: Sizes = (1, 2);
@@ -74,63 +74,63 @@ const MADE: [Made; 11] = [
         job: SIGN,
         form: Frames,
         log: b"",
-        sizes: USUAL,
+        sizes: DEFAULT,
         text: CERTIFICATE_FRAME,
     },
     Made {
         job: Job::Plan,
         form: Frames,
         log: b"",
-        sizes: USUAL,
+        sizes: DEFAULT,
         text: CERTIFICATE_WANT,
     },
     Made {
         job: SIGN,
         form: Lines,
         log: b"",
-        sizes: USUAL,
+        sizes: DEFAULT,
         text: CERTIFICATE_FRAME,
     },
     Made {
         job: Job::Plan,
         form: Lines,
         log: b"",
-        sizes: USUAL,
+        sizes: DEFAULT,
         text: CERTIFICATE_WANT,
     },
     Made {
         job: SIGN,
         form: Frames,
         log: FRAMES,
-        sizes: USUAL,
+        sizes: DEFAULT,
         text: BOTH_FRAMES,
     },
     Made {
         job: Job::Plan,
         form: Frames,
         log: FRAMES,
-        sizes: USUAL,
+        sizes: DEFAULT,
         text: BOTH_WANTS,
     },
     Made {
         job: SIGN,
         form: Lines,
         log: LINES,
-        sizes: USUAL,
+        sizes: DEFAULT,
         text: BOTH_FRAMES,
     },
     Made {
         job: Job::Sign(Seal::Zero),
         form: Lines,
         log: LINES,
-        sizes: USUAL,
+        sizes: DEFAULT,
         text: ONE_OCTET_FRAMES,
     },
     Made {
         job: Job::Plan,
         form: Lines,
         log: LINES,
-        sizes: USUAL,
+        sizes: DEFAULT,
         text: BOTH_WANTS,
     },
     Made {
@@ -154,7 +154,7 @@ const REFUSED: [Refused; 24] = [
         job: NOT_BEGUN,
         form: Frames,
         log: b"",
-        sizes: USUAL,
+        sizes: DEFAULT,
         fault: Origin {
             fault: OriginFault::SealRefused,
             place: None,
@@ -166,7 +166,7 @@ const REFUSED: [Refused; 24] = [
         job: Job::Sign(Seal::FaultFor(SealFault::Memory, CERTIFICATE)),
         form: Frames,
         log: b"",
-        sizes: USUAL,
+        sizes: DEFAULT,
         fault: Origin {
             fault: OriginFault::Memory,
             place: None,
@@ -178,7 +178,7 @@ const REFUSED: [Refused; 24] = [
         job: SIGN,
         form: Frames,
         log: b"3 ab",
-        sizes: USUAL,
+        sizes: DEFAULT,
         fault: TornInput { pos: 0 },
         code: "P1 0",
         words: "the log ends inside a frame or line that begins at octet 0",
@@ -187,7 +187,7 @@ const REFUSED: [Refused; 24] = [
         job: Job::Plan,
         form: Frames,
         log: b"3 ab",
-        sizes: USUAL,
+        sizes: DEFAULT,
         fault: TornInput { pos: 0 },
         code: "P1 0",
         words: "the log ends inside a frame or line that begins at octet 0",
@@ -196,7 +196,7 @@ const REFUSED: [Refused; 24] = [
         job: SIGN,
         form: Frames,
         log: b"3 abc",
-        sizes: USUAL,
+        sizes: DEFAULT,
         fault: Origin {
             fault: OriginFault::NotSyslog,
             place: Some(0),
@@ -208,7 +208,7 @@ const REFUSED: [Refused; 24] = [
         job: Job::Plan,
         form: Frames,
         log: b"3 abc",
-        sizes: USUAL,
+        sizes: DEFAULT,
         fault: Origin {
             fault: OriginFault::NotSyslog,
             place: Some(0),
@@ -220,7 +220,7 @@ const REFUSED: [Refused; 24] = [
         job: SIGN,
         form: Lines,
         log: b"<13>1 - - - - - - a\nabc\nabcd\n",
-        sizes: USUAL,
+        sizes: DEFAULT,
         fault: Origin {
             fault: OriginFault::NotSyslog,
             place: Some(1),
@@ -232,7 +232,7 @@ const REFUSED: [Refused; 24] = [
         job: Job::Plan,
         form: Lines,
         log: b"<13>1 - - - - - - a\n<14>1 - - - - - [ssign]\n",
-        sizes: USUAL,
+        sizes: DEFAULT,
         fault: Origin {
             fault: OriginFault::HasBlock,
             place: Some(1),
@@ -244,7 +244,7 @@ const REFUSED: [Refused; 24] = [
         job: SIGN,
         form: Lines,
         log: b"<13>1 - - - - - - a\n<14>1 - - - - - - b",
-        sizes: USUAL,
+        sizes: DEFAULT,
         fault: TornInput { pos: 20 },
         code: "P1 20",
         words: "the log ends inside a frame or line that begins at octet 20",
@@ -253,7 +253,7 @@ const REFUSED: [Refused; 24] = [
         job: Job::Plan,
         form: Lines,
         log: b"<13>1 - - - - - - a\n<14>1 - - - - - - b",
-        sizes: USUAL,
+        sizes: DEFAULT,
         fault: TornInput { pos: 20 },
         code: "P1 20",
         words: "the log ends inside a frame or line that begins at octet 20",
@@ -317,7 +317,7 @@ const REFUSED: [Refused; 24] = [
         job: Job::Plan,
         form: Frames,
         log: b"3 abc12",
-        sizes: USUAL,
+        sizes: DEFAULT,
         fault: TornInput { pos: 5 },
         code: "P1 5",
         words: "the log ends inside a frame or line that begins at octet 5",
@@ -326,7 +326,7 @@ const REFUSED: [Refused; 24] = [
         job: Job::Plan,
         form: Lines,
         log: b"abc\n\n",
-        sizes: USUAL,
+        sizes: DEFAULT,
         fault: Run(RunFault::Frame(FrameFault::EmptyLine { pos: 4 })),
         code: "F9 4",
         words: "a line is empty, at octet 4",
@@ -335,7 +335,7 @@ const REFUSED: [Refused; 24] = [
         job: NOT_BEGUN,
         form: Frames,
         log: b"3 abc",
-        sizes: USUAL,
+        sizes: DEFAULT,
         fault: Origin {
             fault: OriginFault::SealRefused,
             place: None,
@@ -360,7 +360,7 @@ const REFUSED: [Refused; 24] = [
         job: NOT_FLUSHED,
         form: Lines,
         log: b"<14>1 - - - - - - b\n",
-        sizes: USUAL,
+        sizes: DEFAULT,
         fault: Origin {
             fault: OriginFault::SealRefused,
             place: None,
@@ -384,7 +384,7 @@ const REFUSED: [Refused; 24] = [
         job: EMPTY,
         form: Lines,
         log: b"<14>1 - - - - - - b\n",
-        sizes: USUAL,
+        sizes: DEFAULT,
         fault: Origin {
             fault: OriginFault::SignatureLength,
             place: None,
@@ -408,7 +408,7 @@ const REFUSED: [Refused; 24] = [
         job: NO_MEMORY,
         form: Lines,
         log: b"<14>1 - - - - - - b\n",
-        sizes: USUAL,
+        sizes: DEFAULT,
         fault: Origin {
             fault: OriginFault::Memory,
             place: None,

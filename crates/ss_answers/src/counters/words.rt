@@ -140,6 +140,7 @@ fn is_text(limit: usize, octets: &[u8]) -> bool
     1 <= octets.len() && octets.len() <= limit && are_printable(octets)
 }
 
+/// Whether each octet is printable US-ASCII, without the space (RFC 5424, section 6).
 fn are_printable(octets: &[u8]) -> bool
     ensures { result ≡ list_all is_printable octets.now }
 {

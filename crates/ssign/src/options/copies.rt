@@ -2,11 +2,11 @@
 /// Its name, after two hyphens.
 pub const NAME: &str = "copies";
 /// The least.
-pub const LEAST: u64 = 1;
+pub const MIN: u64 = 1;
 /// The greatest.
-pub const MOST: u64 = 9;
+pub const MAX: u64 = 9;
 /// Its value where it isn't given.
-pub const USUAL: &str = "1";
+pub const DEFAULT: &str = "1";
 /// What the help says about it.
 pub const HELP: &str =
     "How many times each block message is written, 1 to 9; a plan lists each once";

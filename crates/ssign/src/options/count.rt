@@ -2,10 +2,10 @@
 /// Its name, after two hyphens.
 pub const NAME: &str = "count";
 /// The least.
-pub const LEAST: u64 = 1;
+pub const MIN: u64 = 1;
 /// The greatest.
-pub const MOST: u64 = 99;
+pub const MAX: u64 = 99;
 /// Its value where it isn't given.
-pub const USUAL: &str = "10";
+pub const DEFAULT: &str = "10";
 /// What the help says about it.
 pub const HELP: &str = "How many messages one signature block announces at most, 1 to 99";

@@ -2,11 +2,11 @@
 /// Its name, after two hyphens.
 pub const NAME: &str = "frag";
 /// The least.
-pub const LEAST: u64 = 1;
+pub const MIN: u64 = 1;
 /// The greatest.
-pub const MOST: u64 = 9_999;
+pub const MAX: u64 = 9_999;
 /// Its value where it isn't given.
-pub const USUAL: &str = "500";
+pub const DEFAULT: &str = "500";
 /// What the help says about it.
 pub const HELP: &str =
     "How many octets of the payload one certificate block carries at most, 1 to 9999";

@@ -2,7 +2,7 @@
 /// Its name, after two hyphens.
 pub const NAME: &str = "groups";
 /// Its value where it isn't given.
-pub const USUAL: &str = "one";
+pub const DEFAULT: &str = "one";
 /// What the help says about it.
 pub const HELP: &str =
     "Which messages share a signature group: one (all of them), pri (those of one PRI), or the highest PRI of \

@@ -4,7 +4,7 @@ pub const NAME: &str = "msgid";
 /// How many octets it has at most.
 pub const LONGEST: usize = 32;
 /// Its value where it isn't given.
-pub const USUAL: &str = "-";
+pub const DEFAULT: &str = "-";
 /// What the help says about it.
 pub const HELP: &str =
     "The MSGID of the block messages, at most 32 visible ASCII octets, or - for none";

@@ -2,10 +2,10 @@
 /// Its name, after two hyphens.
 pub const NAME: &str = "pri";
 /// The least.
-pub const LEAST: u64 = 0;
+pub const MIN: u64 = 0;
 /// The greatest.
-pub const MOST: u64 = 191;
+pub const MAX: u64 = 191;
 /// Its value where it isn't given.
-pub const USUAL: &str = "110";
+pub const DEFAULT: &str = "110";
 /// What the help says about it.
 pub const HELP: &str = "The PRI of the block messages, 0 to 191";

@@ -4,7 +4,7 @@ pub const NAME: &str = "procid";
 /// How many octets it has at most.
 pub const LONGEST: usize = 128;
 /// Its value where it isn't given.
-pub const USUAL: &str = "-";
+pub const DEFAULT: &str = "-";
 /// What the help says about it.
 pub const HELP: &str =
     "The PROCID of the block messages, at most 128 visible ASCII octets, or - for none";

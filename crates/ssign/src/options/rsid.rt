@@ -4,9 +4,9 @@ use ss_block::LAST_NUMBER;
 /// Its name, after two hyphens.
 pub const NAME: &str = "rsid";
 /// The least number.
-pub const LEAST: u64 = 0;
+pub const MIN: u64 = 0;
 /// The greatest number, of ten digits.
-pub const MOST: u64 = LAST_NUMBER;
+pub const MAX: u64 = LAST_NUMBER;
 /// What the help says about it.
 pub const HELP: &str =
     "The number of the session, 0 to 9999999999: give each log that you sign a greater one";

@@ -2,7 +2,7 @@
 /// Its name, after two hyphens.
 pub const NAME: &str = "stamp";
 /// Its value where it isn't given.
-pub const USUAL: &str = "-";
+pub const DEFAULT: &str = "-";
 /// What the help says about it.
 pub const HELP: &str =
     "The time stamp of all block messages, as in 2009-05-03T14:00:39Z, or - for none";

@@ -2,7 +2,7 @@
 /// Its name, after two hyphens.
 pub const NAME: &str = "ver";
 /// Its value where it isn't given.
-pub const USUAL: &str = "0111";
+pub const DEFAULT: &str = "0111";
 /// What the help says about it.
 pub const HELP: &str =
     "The hash algorithm, as the version of the blocks: 0111 is SHA-1, 0121 is SHA-256";
