@@ -128,7 +128,7 @@ pub static REFUSALS: [Explanation; 27] = [
         code: "O1",
         text: "A number for the originator is out of its range, or the payload has more than 99999999 octets. ssign \
             refuses such numbers before, and few systems let an option be so long: give a shorter payload. The library \
-            tells it to other programs.",
+            reports it to other programs.",
     },
     Explanation {
         code: "O2",

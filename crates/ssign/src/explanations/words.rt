@@ -199,7 +199,7 @@ pub static WORDS: [Explanation; 37] = [
     },
     Explanation {
         code: "count",
-        text: "A line of ssign counters, for a joined session. One number behind the RSID is the GBC of the session's \
+        text: "A line of ssign counters, for a joined session. One number after the RSID is the GBC of the session's \
             next signature block. Three numbers there are a group, SG and SPRI, and the number of the group's next \
             message. 10000000000 means that a counter is used up. Keep these lines elsewhere, where nobody who can \
             change the log can change them. Give them to a later ssign review with --counters: it reports what is \
