@@ -12,3 +12,4 @@ pub mod OnceRead
 pub mod KnownSoFar
 pub mod MarksSoFar
 pub mod OnceTexts
+pub mod Records

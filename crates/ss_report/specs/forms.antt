@@ -1,4 +1,1 @@
-pub mod ReportText
-pub mod Findings
-pub mod Json
 pub mod Forms

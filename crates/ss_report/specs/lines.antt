@@ -4,3 +4,4 @@ pub mod Taken
 pub mod Settled
 pub mod Listed
 pub mod Whole
+pub mod Records

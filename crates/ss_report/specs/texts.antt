@@ -1,4 +1,3 @@
-pub mod Words
 pub mod Ending
 pub mod Inspection
 pub mod Asked

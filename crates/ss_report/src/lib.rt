@@ -9,6 +9,7 @@ mod lines;
 mod log;
 mod notation;
 mod payloads;
+mod records;
 pub mod report_text;
 mod runs;
 mod texts;

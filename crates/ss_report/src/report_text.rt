@@ -2,11 +2,11 @@
 ghost use Rattle.std.specs.Prelude.{◌≡◌, IfOk};
 ghost use Rattle.ss_frame.specs.Watched.{sink_of};
 ghost use Rattle.ss_report.specs.log.Writing.{Writes};
-ghost use Rattle.ss_report.specs.forms.ReportText.{report_lines};
+ghost use Rattle.ss_report.specs.forms.Forms.{report_lines};
 
-use crate::forms::text::Text;
+use crate::forms::report_form::ReportForm;
 use crate::lines::detail::Detail;
-use crate::lines::writing::write_lines;
+use crate::lines::writing::write_report_as;
 use ss_frame::{Tail, Watched};
 use ss_octets::{Bytes, NoMemory};
 use ss_review::Report;
@@ -14,7 +14,7 @@ use std::alloc::Global;
 use std::io::Write;
 
 /// The text of a report on a log with this end, a line for each thing that it says, ended by LF: each session, and
-/// behind it the entries of its groups; then the messages that are listed nowhere, the blocks that aren't verified and
+/// after it the entries of its groups; then the messages that are listed nowhere, the blocks that aren't verified and
 /// the spoilt messages; `torn` at a torn end, and `end` with the count of the messages. Each list stands in its order.
 ///
 /// Errs only where memory runs out. It is taken for the text.
@@ -33,5 +33,5 @@ pub fn report_text(alloc: Global, report: &Report, tail: Tail) -> Result<Bytes, 
 pub(crate) fn write_report<W: Write>(writer: &mut Watched<W>, report: &Report, tail: Tail)
     ensures { Writes (sink_of W.contents writer.old) (sink_of W.contents writer.new) (report_lines report.now tail) }
 {
-    write_lines(&Text, writer, report, tail, Detail::Each);
+    write_report_as(writer, report, tail, ReportForm::Text, Detail::Each);
 }

@@ -2,9 +2,7 @@
 pub(crate) mod encoded;
 pub(crate) mod ending;
 pub(crate) mod inspection;
-pub(crate) mod inspection_objects;
 pub(crate) mod payload_marks;
-pub(crate) mod question_members;
+pub(crate) mod question_fields;
 pub(crate) mod question_text;
 pub(crate) mod questions_once;
-pub(crate) mod words;

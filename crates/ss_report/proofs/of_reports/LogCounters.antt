@@ -1,6 +1,6 @@
 -- The plain text of the counters of a log is the lines of the counters that the log gives.
-use Rattle.std.proofs.Common.{◌≡◌, ℕ, Bool, true, false, codes, List, [], ◌∷◌, ◌++◌, map, flat_map, refl, sym, ap, ◌∙◌, append_assoc}
-use Rattle.std.specs.Prelude.{zip, if◌then◌else◌}
+use Rattle.std.proofs.Common.{◌≡◌, ℕ, Bool, true, false, codes, List, [], ◌∷◌, ◌++◌, map, flat_map, refl, sym, ap, ◌∙◌, append-nil, append_assoc}
+use Rattle.std.specs.Prelude.{decimal, zip, if◌then◌else◌}
 use Rattle.std.proofs.lemmas.Grind.{flat_map-append}
 use Rattle.ss_octets.specs.Ascii.{lf}
 use Rattle.ss_message.specs.declared.draft.Field.{Field}
@@ -21,8 +21,10 @@ use Rattle.ss_review.specs.counted.KeptLaws.{group_given, session_given, given_b
 use Rattle.ss_review.specs.report.Report.{report}
 use Rattle.ss_review.specs.report.Verdict.{is_joined}
 use Rattle.ss_report.specs.runs.CounterLaws.{CountersAreTheLogs}
-use Rattle.ss_report.specs.runs.Counters.{block_counter_text, message_counter_text, group_counter, session_counters, counters_beside, counter_lines_with}
-use Rattle.ss_report.specs.texts.Words.{spaced, field_word, session_words, group_words}
+use Rattle.ss_report.specs.runs.Counters.{block_counter, message_counter, group_counter, session_counters, counters_beside, counter_lines_with}
+use Rattle.ss_report.specs.records.Record.{field}
+use Rattle.ss_report.specs.records.Fields.{field_word, session_fields, group_fields}
+use Rattle.ss_report.specs.records.Written.{fields_in, written}
 use Rattle.ss_report.specs.declared.notation.Notation.TheVariants.{Plain}
 use Rattle.ss_report.proofs.of_reports.CountersWritten.{counters_are}
 
@@ -32,29 +34,35 @@ same_word : (f : Field) → field_word f ≡ spelling.field_word f
 same_word Nil = refl
 same_word (Text octets) = refl
 
-same_words : (s : Session) → session_words s ≡ spelling.session_words s
-same_words s i =
+-- five words, each with a space before it, and seven
+five_words : (kind sp host app procid rsid next end : List ℕ)
+    → kind ++ ((sp ++ host) ++ ((sp ++ app) ++ ((sp ++ procid) ++ ((sp ++ rsid) ++ ((sp ++ next) ++ []))))) ++ end
+    ≡ (kind ++ (sp ++ host ++ sp ++ app ++ sp ++ procid ++ (sp ++ rsid)) ++ (sp ++ next)) ++ end
+five_words kind sp host app procid rsid next end = simp (append_assoc, append-nil)
+
+seven_words : (kind sp host app procid rsid sg spri next end : List ℕ)
+    → kind ++ ((sp ++ host) ++ ((sp ++ app) ++ ((sp ++ procid) ++ ((sp ++ rsid) ++ ((sp ++ sg) ++ ((sp ++ spri) ++ ((sp ++ next) ++ []))))))) ++ end
+    ≡ (kind ++ (sp ++ host ++ sp ++ app ++ sp ++ procid ++ (sp ++ rsid)) ++ ((sp ++ sg) ++ (sp ++ spri)) ++ (sp ++ next)) ++ end
+seven_words kind sp host app procid rsid sg spri next end = simp (append_assoc, append-nil)
+
+same_session : (s : Session)
+    → codes " " ++ field_word s.host ++ codes " " ++ field_word s.app ++ codes " " ++ field_word s.procid ++ spelling.spaced s.rsid ≡ spelling.session_words s
+same_session s i =
     codes " " ++ same_word s.host i ++ codes " " ++ same_word s.app i ++ codes " " ++ same_word s.procid i
-    ++ spaced s.rsid
+    ++ spelling.spaced s.rsid
 
-regroup : (a b c d : List ℕ) → a ++ b ++ c ++ d ≡ (a ++ b ++ c) ++ d
-regroup a b c d = simp append_assoc
-
-regroup_group : (a b c d e : List ℕ) → a ++ b ++ c ++ d ++ e ≡ (a ++ b ++ c ++ d) ++ e
-regroup_group a b c d e = simp append_assoc
-
-block_line : (s : Session) (gbc : ℕ) → block_counter_text s gbc ≡ counter_text s Blocks gbc ++ lf ∷ []
-unfolding block_counter_text
+block_line : (s : Session) (gbc : ℕ) → block_counter Plain s gbc ≡ counter_text s Blocks gbc ++ lf ∷ []
+unfolding written fields_in session_fields field
 block_line s gbc =
-    ap (λ words. codes "count" ++ words ++ spaced gbc ++ codes "\n") (same_words s)
-    ∙ regroup (codes "count") (spelling.session_words s) (spaced gbc) (codes "\n")
+    five_words (codes "count") (codes " ") (field_word s.host) (field_word s.app) (field_word s.procid) (decimal s.rsid) (decimal gbc) (codes "\n")
+    ∙ ap (λ words. (codes "count" ++ words ++ spelling.spaced gbc) ++ codes "\n") (same_session s)
 
 message_line : (s : Session) (g : Group) (number : ℕ)
-    → message_counter_text s g number ≡ counter_text s (Messages g) number ++ lf ∷ []
-unfolding message_counter_text
+    → message_counter Plain s g number ≡ counter_text s (Messages g) number ++ lf ∷ []
+unfolding written fields_in session_fields group_fields field
 message_line s g number =
-    ap (λ words. codes "count" ++ words ++ group_words g ++ spaced number ++ codes "\n") (same_words s)
-    ∙ regroup_group (codes "count") (spelling.session_words s) (group_words g) (spaced number) (codes "\n")
+    seven_words (codes "count") (codes " ") (field_word s.host) (field_word s.app) (field_word s.procid) (decimal s.rsid) (decimal g.sg) (decimal g.spri) (decimal number) (codes "\n")
+    ∙ ap (λ words. (codes "count" ++ words ++ spelling.group_words g ++ spelling.spaced number) ++ codes "\n") (same_session s)
 
 -- ---- the lines of a log
 

@@ -2,7 +2,7 @@
 use Rattle.std.proofs.Common.{◌≡◌, ℕ, Bool, true, false, List, [], ◌∷◌, ◌++◌, flat_map, refl, ap}
 use Rattle.std.specs.Prelude.{◌||◌, if◌then◌else◌}
 use Rattle.std.specs.List.{list_any}
-use Rattle.ss_report.specs.forms.Json.{is_escaped, escaped}
+use Rattle.ss_report.specs.records.Json.{is_escaped, escaped}
 
 one_more : (x : ℕ) (rest told : List ℕ) (this more : Bool) → (this || more) ≡ false → (more ≡ false → told ≡ rest)
     → (if this then 92 ∷ x ∷ [] else x ∷ []) ++ told ≡ x ∷ rest

@@ -1,5 +1,5 @@
 -- The lines of what is asked about sessions, one session after the other.
-use Rattle.std.proofs.Common.{◌≡◌, ℕ, List, [], ◌∷◌, ◌++◌, map, refl, sym, ap, ◌∙◌}
+use Rattle.std.proofs.Common.{◌≡◌, ℕ, List, [], ◌∷◌, ◌++◌, map, refl, sym, ap, ◌∙◌, append-nil}
 use Rattle.std.specs.List.{flat_map}
 use Rattle.std.proofs.lemmas.List.{map-append}
 use Rattle.std.proofs.lemmas.List.Concat.{flat_map-append}
@@ -11,12 +11,14 @@ use Rattle.ss_review.specs.declared.questions.question.Question.TheVariants.{Tru
 use Rattle.ss_review.specs.questions.Questions.{asked_sessions, question_under, questions, session_questions, questions_shared}
 use Rattle.ss_review.proofs.of_questions.AskedShared.{sessions_shared}
 use Rattle.ss_report.specs.declared.notation.Notation.{Notation}
-use Rattle.ss_report.specs.declared.notation.Notation.TheVariants.{Plain, Json}
+use Rattle.ss_report.specs.declared.notation.Notation.TheVariants.{Plain}
 use Rattle.ss_report.specs.declared.payloads.Payloads.{Payloads}
 use Rattle.ss_report.specs.declared.payloads.Payloads.TheVariants.{InEach, Once}
 use Rattle.ss_report.specs.texts.Asked.{AskTrust, AskYes, Asking, askings, question_of, session_askings}
 use Rattle.ss_report.specs.texts.QuestionForms.{asking_lines_as, questions_as}
-use Rattle.ss_report.specs.texts.QuestionText.{asking_lines, asking_text, question_lines, question_text}
+use Rattle.ss_report.specs.records.Record.{Value}
+use Rattle.ss_report.specs.records.Written.{written}
+use Rattle.ss_report.specs.texts.QuestionText.{asking_lines, asking_text, question_fields, question_kind, question_lines, question_text}
 use Rattle.ss_report.specs.texts.QuestionsOnce.{once_text_of}
 
 -- ---- the questions of what is asked
@@ -39,9 +41,14 @@ pub all_asked : (ss : List AskedSession) → map question_of (askings ss) ≡ qu
 unfolding askings questions_shared
 all_asked ss = sessions_asked ss
 
+-- plain text leaves out what a question is about
+plain_line : (x : Asking) → asking_text Plain x ≡ question_text (question_of x)
+plain_line x =
+    ap (λ (fields : List (List ℕ × Value)). written Plain (record { kind = question_kind (question_of x); fields = fields })) (append-nil (question_fields (question_of x)))
+
 plain_lines : (xs : List Asking) → flat_map (asking_text Plain) xs ≡ flat_map question_text (map question_of xs)
 plain_lines [] = refl
-plain_lines (x ∷ xs) = ap (λ ls. question_text (question_of x) ++ ls) (plain_lines xs)
+plain_lines (x ∷ xs) = λ i. plain_line x i ++ plain_lines xs i
 
 -- in plain text the lines are those of the questions
 pub plain_is : (ss : List AskedSession) (qs : List Question) → questions_shared ss ≡ qs → asking_lines Plain ss ≡ question_lines qs
@@ -51,9 +58,8 @@ plain_is ss qs are = plain_lines (askings ss) ∙ ap (flat_map question_text) (a
 -- what is written of the sessions that a log asks about is what the run writes of its blocks
 pub lines_as : (notation : Notation) (payloads : Payloads) (bs : List BlockMessage) (ss : List AskedSession) → ss ≡ asked_sessions bs → asking_lines_as notation payloads ss ≡ questions_as notation payloads bs
 lines_as Plain InEach bs ss are = plain_is ss (questions bs) (ap questions_shared are ∙ sessions_shared bs)
-lines_as Json InEach bs ss are = ap (asking_lines Json) are
-lines_as Plain Once bs ss are = ap (once_text_of Plain) are
-lines_as Json Once bs ss are = ap (once_text_of Json) are
+lines_as notation InEach bs ss are = ap (asking_lines notation) are
+lines_as notation Once bs ss are = ap (once_text_of notation) are
 
 -- where each payload is written in each question, and where it is written once
 pub each_lines : (notation : Notation) (payloads : Payloads) (ts ss : List AskedSession) → payloads ≡ InEach → ts ≡ ss → asking_lines notation ts ≡ asking_lines_as notation payloads ss

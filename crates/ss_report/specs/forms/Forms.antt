@@ -1,5 +1,5 @@
 -- The forms of a report's output.
-use Rattle.std.specs.Prelude.{ℕ, Bool, true, false, List, flat_map}
+use Rattle.std.specs.Prelude.{ℕ, Bool, true, false, ◌&&◌, if◌then◌else◌, List, [], flat_map}
 use Rattle.ss_frame.specs.declared.step.Tail.{Tail}
 use Rattle.ss_review.specs.declared.report.report.Report.{Report}
 use Rattle.ss_report.specs.declared.forms.report_form.ReportForm.{ReportForm}
@@ -7,10 +7,10 @@ use Rattle.ss_report.specs.declared.forms.report_form.ReportForm.TheVariants as 
 use Rattle.ss_report.specs.declared.notation.Notation.{Notation}
 use Rattle.ss_report.specs.declared.notation.Notation.TheVariants.{Plain, Json}
 use Rattle.ss_report.specs.declared.lines.detail.Detail.{Detail}
-use Rattle.ss_report.specs.lines.Lines.{ReportLine, lines}
-use Rattle.ss_report.specs.forms.ReportText.{line_text}
-use Rattle.ss_report.specs.forms.Findings.{finding}
-use Rattle.ss_report.specs.forms.Json.{line_object}
+use Rattle.ss_report.specs.declared.lines.detail.Detail.TheVariants as details
+use Rattle.ss_report.specs.records.Written.{written}
+use Rattle.ss_report.specs.lines.Lines.{ReportLine, OkLine, lines}
+use Rattle.ss_report.specs.lines.Records.{record_of}
 
 -- how each line of a form is written
 abbrev pub notation_of : ReportForm → Notation
@@ -26,13 +26,20 @@ has_findings_alone forms.Findings = true
 has_findings_alone forms.Json = false
 has_findings_alone forms.JsonFindings = true
 
+-- each other line is a finding
+abbrev pub is_ok : ReportLine → Bool
+is_ok (OkLine s g number place) = true
+is_ok line = false
+
 -- a line in a form
 abbrev pub line_as : ReportForm → ReportLine → List ℕ
-line_as forms.Text line = line_text line
-line_as forms.Findings line = finding line_text line
-line_as forms.Json line = line_object line
-line_as forms.JsonFindings line = finding line_object line
+line_as form line =
+    if has_findings_alone form && is_ok line then [] else written (notation_of form) (record_of line)
 
 -- the whole report
 abbrev pub report_as : ReportForm → Detail → Report → Tail → List ℕ
 report_as form detail report tail = flat_map (line_as form) (lines detail report tail)
+
+-- the text of the report
+abbrev pub report_lines : Report → Tail → List ℕ
+report_lines report tail = report_as forms.Text details.Each report tail

@@ -1,5 +1,5 @@
--- The counters of a log: what comes next in each joined session, behind all that its verified blocks state. A line a
--- counter, ended by LF: words with one SP between two, or a JSON object (RFC 8259).
+-- The counters of a log: what comes next in each joined session, after all that its verified blocks state. A line a
+-- counter, each a record.
 use Rattle.std.specs.Prelude.{ℕ, ◌≤◌, List, [], ◌++◌, codes, flat_map, zip, All, if◌then◌else◌}
 use Rattle.ss_block.specs.declared.block.Group.{Group}
 use Rattle.ss_block.specs.declared.session.Session.{Session}
@@ -12,36 +12,27 @@ use Rattle.ss_review.specs.declared.report.report.Report.{Report}
 use Rattle.ss_review.specs.sessions.Verified.{Answers}
 use Rattle.ss_review.specs.report.Verdict.{is_joined}
 use Rattle.ss_review.specs.counted.Counted.{counted_session, next_after, next_number}
-use Rattle.ss_report.specs.texts.Words.{spaced, session_words, group_words}
-use Rattle.ss_report.specs.forms.Json.{number_member, session_members, group_members}
+use Rattle.ss_report.specs.records.Record.{Number, Record, field}
+use Rattle.ss_report.specs.records.Fields.{session_fields, group_fields}
+use Rattle.ss_report.specs.records.Written.{written}
 use Rattle.ss_report.specs.declared.notation.Notation.{Notation}
-use Rattle.ss_report.specs.declared.notation.Notation.TheVariants.{Plain, Json}
 
 -- count HOST APP PROCID RSID GBC
-unfoldable pub block_counter_text : Session → (gbc : ℕ) → List ℕ
-block_counter_text s gbc = codes "count" ++ session_words s ++ spaced gbc ++ codes "\n"
+abbrev pub block_record : Session → (gbc : ℕ) → Record
+block_record s gbc = record { kind = codes "count"; fields = session_fields s ++ field (codes "gbc") (Number gbc) }
 
 -- count HOST APP PROCID RSID SG SPRI NUMBER
-unfoldable pub message_counter_text : Session → Group → (number : ℕ) → List ℕ
-message_counter_text s g number = codes "count" ++ session_words s ++ group_words g ++ spaced number ++ codes "\n"
-
--- the same as JSON
-unfoldable pub block_counter_object : Session → (gbc : ℕ) → List ℕ
-block_counter_object s gbc =
-    codes "{\"line\":\"count\"" ++ session_members s ++ number_member (codes "gbc") gbc ++ codes "}\n"
-
-unfoldable pub message_counter_object : Session → Group → (number : ℕ) → List ℕ
-message_counter_object s g number =
-    codes "{\"line\":\"count\"" ++ session_members s ++ group_members g ++ number_member (codes "number") number
-    ++ codes "}\n"
+abbrev pub message_record : Session → Group → (number : ℕ) → Record
+message_record s g number = record {
+  kind = codes "count";
+  fields = session_fields s ++ group_fields g ++ field (codes "number") (Number number);
+}
 
 abbrev pub block_counter : Notation → Session → (gbc : ℕ) → List ℕ
-block_counter Plain s gbc = block_counter_text s gbc
-block_counter Json s gbc = block_counter_object s gbc
+block_counter notation s gbc = written notation (block_record s gbc)
 
 abbrev pub message_counter : Notation → Session → Group → (number : ℕ) → List ℕ
-message_counter Plain s g number = message_counter_text s g number
-message_counter Json s g number = message_counter_object s g number
+message_counter notation s g number = written notation (message_record s g number)
 
 -- the number of the group's next message
 abbrev pub group_counter : Notation → Session → GroupReport → List ℕ
@@ -71,7 +62,7 @@ counters_beside notation p = counters_with notation p.0 p.1
 unfoldable pub counter_lines_with : Notation → Report → List CountedSession → List ℕ
 counter_lines_with notation report counted = flat_map (counters_beside notation) (zip report.sessions counted)
 
--- how far the numbers of these lines go: to the one behind the greatest of ten digits
+-- how far the numbers of these lines go: to the one after the greatest of ten digits
 pub record AreInRange (sessions : List SessionReport) (counted : List CountedSession) : Type 0 where
   pub numbers : All (λ s. All (λ g. next_number g ≤ past_last_number) s.groups) sessions
   pub gbcs : All (λ c. next_after c.gbcs ≤ past_last_number) counted

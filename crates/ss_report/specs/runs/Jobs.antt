@@ -12,8 +12,7 @@ use Rattle.ss_review.specs.Laws.{ListsWhatIsAnnounced}
 use Rattle.ss_review.specs.announced.Announced.{Key}
 use Rattle.ss_review.specs.counted.KeptLaws.{NumberIsTold, BlockIsTold}
 use Rattle.ss_report.specs.texts.Inspection.{inspection}
-use Rattle.ss_report.specs.forms.ReportText.{report_lines}
-use Rattle.ss_report.specs.forms.Forms.{line_as, report_as}
+use Rattle.ss_report.specs.forms.Forms.{line_as, report_as, report_lines}
 use Rattle.ss_block.specs.declared.session.Session.{Session}
 use Rattle.ss_report.specs.lines.Whole.{TellsMissing, whole_lines, whole_verdict}
 use Rattle.ss_review.specs.declared.counted.counter.Counter.{Counter}

@@ -1,4 +1,4 @@
--- What is asked about a log, one question after the other, and what a JSON object says of a question besides.
+-- What is asked about a log, one question after the other, and what a question is about.
 use Rattle.std.specs.Prelude.{ℕ, List, ◌∷◌, ◌++◌, codes, flat_map, map}
 use Rattle.ss_block.specs.Versions.{version_text}
 use Rattle.ss_block.specs.declared.session.Session.{Session}
@@ -9,7 +9,8 @@ use Rattle.ss_review.specs.declared.questions.parameters.AskedParameters.TheVari
 use Rattle.ss_review.specs.declared.questions.question.Question.{Question}
 use Rattle.ss_review.specs.declared.questions.question.Question.TheVariants as question
 use Rattle.ss_review.specs.questions.Questions.{question_under}
-use Rattle.ss_report.specs.forms.Json.{group_members, number_member, session_members, word_member}
+use Rattle.ss_report.specs.records.Record.{Value, Number, Word, field}
+use Rattle.ss_report.specs.records.Fields.{session_fields, group_fields}
 
 -- whether the payload of a session is trusted, or whether a block of it is valid under that
 pub data Asking : Type 0 where
@@ -34,16 +35,18 @@ session_askings s = AskTrust s ∷ map (AskYes s) s.blocks
 unfoldable pub askings : List AskedSession → List Asking
 askings ss = flat_map session_askings ss
 
+-- ---- what a question is about, which plain text leaves out
+
 -- ver, sg and spri; then gbc, first and count of a signature block, or total, index and length of a certificate block
 -- (RFC 5848, sections 4.2 and 5.3.2)
-unfoldable pub parameter_members : AskedParameters → List ℕ
-parameter_members (parameters.Signature alg group gbc first count) =
-    word_member (codes "ver") (version_text alg) ++ group_members group ++ number_member (codes "gbc") gbc
-    ++ number_member (codes "first") first ++ number_member (codes "count") count
-parameter_members (parameters.Certificate alg group total index length) =
-    word_member (codes "ver") (version_text alg) ++ group_members group ++ number_member (codes "total") total
-    ++ number_member (codes "index") index ++ number_member (codes "length") length
+unfoldable pub parameter_fields : AskedParameters → List (List ℕ × Value)
+parameter_fields (parameters.Signature alg group gbc first count) =
+    field (codes "ver") (Word (version_text alg)) ++ group_fields group ++ field (codes "gbc") (Number gbc)
+    ++ field (codes "first") (Number first) ++ field (codes "count") (Number count)
+parameter_fields (parameters.Certificate alg group total index length) =
+    field (codes "ver") (Word (version_text alg)) ++ group_fields group ++ field (codes "total") (Number total)
+    ++ field (codes "index") (Number index) ++ field (codes "length") (Number length)
 
 -- place, the session, and the parameters of a block
-unfoldable pub block_members : Session → AskedBlock → List ℕ
-block_members s b = number_member (codes "place") b.place ++ session_members s ++ parameter_members b.parameters
+unfoldable pub block_fields : Session → AskedBlock → List (List ℕ × Value)
+block_fields s b = field (codes "place") (Number b.place) ++ session_fields s ++ parameter_fields b.parameters

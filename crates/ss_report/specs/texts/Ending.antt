@@ -2,15 +2,13 @@
 use Rattle.std.specs.Prelude.{ℕ, List, [], ◌++◌, codes}
 use Rattle.ss_frame.specs.declared.step.Tail.{Tail}
 use Rattle.ss_frame.specs.declared.step.Tail.TheVariants as tails
-use Rattle.ss_report.specs.texts.Words.{number_line}
-use Rattle.ss_report.specs.forms.Json.{number_object}
+use Rattle.ss_report.specs.records.Record.{Number, field}
+use Rattle.ss_report.specs.records.Written.{written}
 use Rattle.ss_report.specs.declared.notation.Notation.{Notation}
-use Rattle.ss_report.specs.declared.notation.Notation.TheVariants.{Plain, Json}
 
 -- a line that says one number
 abbrev pub number_as : Notation → (kind key : List ℕ) → ℕ → List ℕ
-number_as Plain kind key n = number_line kind n
-number_as Json kind key n = number_object kind key n
+number_as notation kind key n = written notation (record { kind = kind; fields = field key (Number n) })
 
 -- torn POS, where the log has a torn end
 abbrev pub torn_line : Notation → Tail → List ℕ

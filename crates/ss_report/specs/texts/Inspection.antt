@@ -1,90 +1,75 @@
 -- What each message of a log is, one line a message, each ended by LF: words with one SP between two, or a JSON object
 -- (RFC 8259). The findings alone leave out the plain messages.
-use Rattle.std.specs.Prelude.{ℕ, ◌+◌, Bool, true, false, ◌&&◌, if◌then◌else◌, List, [], ◌∷◌, ◌++◌, codes, decimal}
-use Rattle.std.specs.Prelude.{length, Option, Some, None}
+use Rattle.std.specs.Prelude.{ℕ, ◌+◌, Bool, true, false, ◌&&◌, if◌then◌else◌, List, [], ◌∷◌, ◌++◌, codes}
+use Rattle.std.specs.Prelude.{length, Option}
 use Rattle.ss_frame.specs.declared.step.Tail.{Tail}
 use Rattle.ss_message.specs.declared.fault.Part.{Part}
 use Rattle.ss_message.specs.declared.fault.Part.TheVariants as parts
+use Rattle.ss_block.specs.declared.block.Group.{Group}
 use Rattle.ss_block.specs.declared.session.Session.{Session}
 use Rattle.ss_block.specs.declared.reading.Reading.{Reading}
 use Rattle.ss_block.specs.declared.reading.Reading.TheVariants as readings
 use Rattle.ss_block.specs.Reading.{reading}
 use Rattle.ss_block.specs.Session.{session}
-use Rattle.ss_report.specs.texts.Words.{spaced, session_words, group_words, number_line, spoilt_line}
-use Rattle.ss_report.specs.forms.Json.{number_member, session_members, group_members, number_object, spoilt_object}
+use Rattle.ss_report.specs.records.Record.{Value, Number, Word, Record, field}
+use Rattle.ss_report.specs.records.Fields.{known_session_fields, group_fields, cause_word}
+use Rattle.ss_report.specs.records.Written.{written}
 use Rattle.ss_report.specs.forms.Forms.{notation_of, has_findings_alone}
 use Rattle.ss_report.specs.texts.Ending.{end_lines}
 use Rattle.ss_report.specs.declared.notation.Notation.{Notation}
-use Rattle.ss_report.specs.declared.notation.Notation.TheVariants.{Plain, Json}
 use Rattle.ss_report.specs.declared.forms.report_form.ReportForm.{ReportForm}
 
--- the number of the part at fault, 1 to 12
-abbrev pub part_number : Part → ℕ
-part_number parts.Pri = 1
-part_number parts.Version = 2
-part_number parts.Timestamp = 3
-part_number parts.Hostname = 4
-part_number parts.AppName = 5
-part_number parts.ProcId = 6
-part_number parts.MsgId = 7
-part_number parts.Syntax = 8
-part_number parts.Name = 9
-part_number parts.Value = 10
-part_number parts.RepeatedId = 11
-part_number parts.Msg = 12
+-- the word of the part at fault, M1 to M12
+abbrev pub part_word : Part → List ℕ
+part_word parts.Pri = codes "M1"
+part_word parts.Version = codes "M2"
+part_word parts.Timestamp = codes "M3"
+part_word parts.Hostname = codes "M4"
+part_word parts.AppName = codes "M5"
+part_word parts.ProcId = codes "M6"
+part_word parts.MsgId = codes "M7"
+part_word parts.Syntax = codes "M8"
+part_word parts.Name = codes "M9"
+part_word parts.Value = codes "M10"
+part_word parts.RepeatedId = codes "M11"
+part_word parts.Msg = codes "M12"
 
--- the words of a session, where one is known
-abbrev pub known_session_words : Option Session → List ℕ
-known_session_words None = []
-known_session_words (Some s) = session_words s
+-- what a block of either kind says first: its place, its session, where one is known, and its group
+abbrev pub head_fields : (place : ℕ) → Option Session → Group → List (List ℕ × Value)
+head_fields place s g = field (codes "place") (Number place) ++ known_session_fields s ++ group_fields g
 
--- a line for a message: its kind, its place, and what it says
-abbrev pub line_of : Reading → Option Session → ℕ → List ℕ
-line_of readings.Plain s place = number_line (codes "plain") place
-line_of (readings.Unparsed part pos) s place =
-    codes "unparsed" ++ spaced place ++ codes " M" ++ decimal (part_number part) ++ spaced pos ++ codes "\n"
-line_of (readings.Signature b) s place =
-    codes "signature" ++ spaced place ++ known_session_words s ++ group_words b.group ++ spaced b.gbc ++ spaced b.first
-    ++ spaced (length b.hashes) ++ codes "\n"
-line_of (readings.Certificate b) s place =
-    codes "certificate" ++ spaced place ++ known_session_words s ++ group_words b.group ++ spaced b.total
-    ++ spaced b.index ++ spaced (length b.fragment) ++ codes "\n"
-line_of (readings.Spoilt cause) s place = spoilt_line place cause
+-- ---- a line for a message
 
--- the members of a session, where one is known
-abbrev pub known_session_members : Option Session → List ℕ
-known_session_members None = []
-known_session_members (Some s) = session_members s
+abbrev pub reading_kind : Reading → List ℕ
+reading_kind readings.Plain = codes "plain"
+reading_kind (readings.Unparsed part pos) = codes "unparsed"
+reading_kind (readings.Signature b) = codes "signature"
+reading_kind (readings.Certificate b) = codes "certificate"
+reading_kind (readings.Spoilt cause) = codes "spoilt"
 
--- the same line as JSON
-abbrev pub object_of : Reading → Option Session → ℕ → List ℕ
-object_of readings.Plain s place = number_object (codes "plain") (codes "place") place
-object_of (readings.Unparsed part pos) s place =
-    codes "{\"line\":\"unparsed\"" ++ number_member (codes "place") place ++ codes ",\"part\":\"M"
-    ++ decimal (part_number part) ++ codes "\""
-    ++ number_member (codes "offset") pos ++ codes "}\n"
-object_of (readings.Signature b) s place =
-    codes "{\"line\":\"signature\"" ++ number_member (codes "place") place ++ known_session_members s
-    ++ group_members b.group
-    ++ number_member (codes "gbc") b.gbc ++ number_member (codes "first") b.first
-    ++ number_member (codes "count") (length b.hashes) ++ codes "}\n"
-object_of (readings.Certificate b) s place =
-    codes "{\"line\":\"certificate\"" ++ number_member (codes "place") place ++ known_session_members s
-    ++ group_members b.group
-    ++ number_member (codes "total") b.total ++ number_member (codes "index") b.index
-    ++ number_member (codes "length") (length b.fragment) ++ codes "}\n"
-object_of (readings.Spoilt cause) s place = spoilt_object place cause
+abbrev pub reading_fields : Reading → Option Session → (place : ℕ) → List (List ℕ × Value)
+reading_fields readings.Plain s place = field (codes "place") (Number place)
+reading_fields (readings.Unparsed part pos) s place =
+    field (codes "place") (Number place) ++ field (codes "part") (Word (part_word part))
+    ++ field (codes "offset") (Number pos)
+reading_fields (readings.Signature b) s place =
+    head_fields place s b.group ++ field (codes "gbc") (Number b.gbc) ++ field (codes "first") (Number b.first)
+    ++ field (codes "count") (Number (length b.hashes))
+reading_fields (readings.Certificate b) s place =
+    head_fields place s b.group ++ field (codes "total") (Number b.total) ++ field (codes "index") (Number b.index)
+    ++ field (codes "length") (Number (length b.fragment))
+reading_fields (readings.Spoilt cause) s place =
+    field (codes "place") (Number place) ++ field (codes "cause") (Word (cause_word cause))
+
+abbrev pub reading_record : Reading → Option Session → (place : ℕ) → Record
+reading_record r s place = record { kind = reading_kind r; fields = reading_fields r s place }
 
 abbrev pub reading_line : Notation → Reading → Option Session → ℕ → List ℕ
-reading_line Plain r s place = line_of r s place
-reading_line Json r s place = object_of r s place
+reading_line notation r s place = written notation (reading_record r s place)
 
 abbrev pub is_plain : Reading → Bool
 is_plain readings.Plain = true
-is_plain (readings.Unparsed part pos) = false
-is_plain (readings.Signature b) = false
-is_plain (readings.Certificate b) = false
-is_plain (readings.Spoilt cause) = false
+is_plain r = false
 
 unfoldable pub message_line : ReportForm → ℕ → List ℕ → List ℕ
 message_line form place message =

@@ -6,7 +6,7 @@ use Rattle.ss_review.specs.questions.Questions.{asked_sessions, questions}
 use Rattle.ss_report.specs.texts.QuestionText.{asking_lines, question_lines}
 use Rattle.ss_report.specs.texts.QuestionsOnce.{once_text_of}
 use Rattle.ss_report.specs.declared.notation.Notation.{Notation}
-use Rattle.ss_report.specs.declared.notation.Notation.TheVariants.{Plain, Json}
+use Rattle.ss_report.specs.declared.notation.Notation.TheVariants.{Plain}
 use Rattle.ss_report.specs.declared.payloads.Payloads.{Payloads}
 use Rattle.ss_report.specs.declared.payloads.Payloads.TheVariants as payloads
 
@@ -18,6 +18,5 @@ asking_lines_as notation payloads.Once ss = once_text_of notation ss
 -- what a review of these blocks asks: in plain text the questions alone, with each payload in each
 abbrev pub questions_as : Notation → Payloads → List BlockMessage → List ℕ
 questions_as Plain payloads.InEach bs = question_lines (questions bs)
-questions_as Json payloads.InEach bs = asking_lines Json (asked_sessions bs)
-questions_as Plain payloads.Once bs = once_text_of Plain (asked_sessions bs)
-questions_as Json payloads.Once bs = once_text_of Json (asked_sessions bs)
+questions_as notation payloads.InEach bs = asking_lines notation (asked_sessions bs)
+questions_as notation payloads.Once bs = once_text_of notation (asked_sessions bs)

@@ -1,17 +1,17 @@
 -- The questions to a signature scheme, of which each payload is written once. A line with the payload and its index
--- stands in front of the first question about it, and each question has the index in place of the payload. A line ends
--- in LF: words with one SP between two, or a JSON object (RFC 8259), which also says what the question is about.
+-- stands before the first question about it, and each question has the index in place of the payload. A line is a
+-- record, and as a JSON object (RFC 8259) it also says what the question is about.
 use Rattle.std.specs.Prelude.{ℕ, List, [], ◌∷◌, ◌++◌, codes, flat_map, map, zip, if◌then◌else◌}
 use Rattle.ss_octets.specs.StrictBase64.{base64}
 use Rattle.ss_block.specs.declared.session.Session.{Session}
 use Rattle.ss_review.specs.declared.questions.asked.AskedBlock.{AskedBlock}
 use Rattle.ss_review.specs.declared.questions.asked.AskedSession.{AskedSession}
-use Rattle.ss_report.specs.forms.Json.{number_member, session_members, word_member}
-use Rattle.ss_report.specs.texts.Asked.{AskTrust, AskYes, Asking, askings, block_members, payload_of, session_askings}
+use Rattle.ss_report.specs.records.Record.{Value, Number, Word, field}
+use Rattle.ss_report.specs.records.Fields.{session_fields}
+use Rattle.ss_report.specs.records.Written.{about_in, written}
+use Rattle.ss_report.specs.texts.Asked.{AskTrust, AskYes, Asking, askings, block_fields, payload_of, session_askings}
 use Rattle.ss_report.specs.texts.Payloads.{marks}
-use Rattle.ss_report.specs.texts.Words.{number_line, spaced}
 use Rattle.ss_report.specs.declared.notation.Notation.{Notation}
-use Rattle.ss_report.specs.declared.notation.Notation.TheVariants.{Plain, Json}
 use Rattle.ss_report.specs.declared.texts.payload_marks.Mark.{Mark}
 
 -- a line: a payload and its index, or what is asked about the payload with this index
@@ -40,28 +40,22 @@ once_lines xs = flat_map marked_lines (zip (marks (map payload_of xs)) xs)
 -- ---- how a line is written
 
 -- payload INDEX PAYLOAD, trust INDEX, or yes INDEX OCTETS SIGNATURE, with octets in strict base64
-unfoldable pub once_text : OnceLine → List ℕ
-once_text (PayloadLine index payload) =
-    codes "payload" ++ spaced index ++ codes " " ++ base64 payload ++ codes "\n"
-once_text (TrustLine index s) = number_line (codes "trust") index
-once_text (YesLine index s b) =
-    codes "yes" ++ spaced index ++ codes " " ++ base64 b.octets ++ codes " " ++ base64 b.signature ++ codes "\n"
+abbrev pub once_kind : OnceLine → List ℕ
+once_kind (PayloadLine index payload) = codes "payload"
+once_kind (TrustLine index s) = codes "trust"
+once_kind (YesLine index s b) = codes "yes"
 
--- the same as JSON, with what it is about
-unfoldable pub once_object : OnceLine → List ℕ
-once_object (PayloadLine index payload) =
-    codes "{\"line\":\"payload\"" ++ number_member (codes "payload_index") index
-    ++ word_member (codes "payload") (base64 payload) ++ codes "}\n"
-once_object (TrustLine index s) =
-    codes "{\"line\":\"trust\"" ++ number_member (codes "payload_index") index ++ session_members s ++ codes "}\n"
-once_object (YesLine index s b) =
-    codes "{\"line\":\"yes\"" ++ number_member (codes "payload_index") index
-    ++ word_member (codes "octets") (base64 b.octets)
-    ++ word_member (codes "signature") (base64 b.signature) ++ block_members s b ++ codes "}\n"
+abbrev pub once_fields : Notation → OnceLine → List (List ℕ × Value)
+once_fields notation (PayloadLine index payload) =
+    field (codes "payload_index") (Number index) ++ field (codes "payload") (Word (base64 payload))
+once_fields notation (TrustLine index s) =
+    field (codes "payload_index") (Number index) ++ about_in notation (session_fields s)
+once_fields notation (YesLine index s b) =
+    field (codes "payload_index") (Number index) ++ field (codes "octets") (Word (base64 b.octets))
+    ++ field (codes "signature") (Word (base64 b.signature)) ++ about_in notation (block_fields s b)
 
 abbrev pub once_line : Notation → OnceLine → List ℕ
-once_line Plain line = once_text line
-once_line Json line = once_object line
+once_line notation line = written notation (record { kind = once_kind line; fields = once_fields notation line })
 
 -- the whole text
 unfoldable pub once_text_of : Notation → List AskedSession → List ℕ

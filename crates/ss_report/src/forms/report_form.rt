@@ -1,19 +1,14 @@
 //! The forms of a review's output.
-ghost use Rattle.std.specs.Prelude.{◌≡◌, flat_map};
+ghost use Rattle.std.specs.Prelude.{◌≡◌};
 ghost use Rattle.ss_frame.specs.Watched.{sink_of};
 ghost use Rattle.ss_report.specs.log.Writing.{Writes};
-ghost use Rattle.ss_report.specs.forms.Forms.{line_as, notation_of, has_findings_alone, report_as};
-ghost use Rattle.ss_report.specs.lines.Whole.{lines_with};
+ghost use Rattle.ss_report.specs.lines.Lines.{seen};
+ghost use Rattle.ss_report.specs.forms.Forms.{notation_of, has_findings_alone, is_ok, line_as};
 
-use crate::forms::findings::Findings;
-use crate::forms::json::Json;
-use crate::forms::text::Text;
-use crate::lines::detail::Detail;
-use crate::lines::whole::WholeReport;
-use crate::lines::writing::{write_lines, write_lines_with};
+use crate::lines::line::Line;
+use crate::lines::record::write_line;
 use crate::notation::Notation;
-use ss_frame::{Tail, Watched};
-use ss_review::Report;
+use ss_frame::Watched;
 use std::io::Write;
 
 /// In which form a review writes its report, and an inspection its lines.
@@ -51,39 +46,19 @@ impl ReportForm {
     }
 }
 
-/// Writes a report on a log with this end, in a form and a detail. Nothing is allocated.
-pub(crate) fn write_report_as<W: Write>(
-    writer: &mut Watched<W>,
-    report: &Report,
-    tail: Tail,
-    form: ReportForm,
-    detail: Detail,
-)
-    ensures { Writes (sink_of W.contents writer.old) (sink_of W.contents writer.new)
-        (report_as form detail report.now tail) }
+/// Writes a line in a form, unless the form leaves it out. Nothing is allocated.
+pub(crate) fn write_line_as<W: Write>(writer: &mut Watched<W>, form: ReportForm, line: Line<'_>)
+    ensures { Writes (sink_of W.contents writer.old) (sink_of W.contents writer.new) (line_as form (seen line.entry)) }
 {
-    match form {
-        ReportForm::Text => write_lines(&Text, writer, report, tail, detail),
-        ReportForm::Findings => write_lines(&Findings::of(Text), writer, report, tail, detail),
-        ReportForm::Json => write_lines(&Json, writer, report, tail, detail),
-        ReportForm::JsonFindings => write_lines(&Findings::of(Json), writer, report, tail, detail),
+    if form.has_findings_alone() && is_ok(line) {
+        return;
     }
+    write_line(writer, form.notation(), line);
 }
 
-/// Writes a report, in a form and a detail, with what is missing beside it. Nothing is allocated.
-pub(crate) fn write_whole_as<W: Write>(
-    writer: &mut Watched<W>,
-    whole: &WholeReport,
-    form: ReportForm,
-    detail: Detail,
-)
-    ensures { Writes (sink_of W.contents writer.old) (sink_of W.contents writer.new)
-        (flat_map (line_as form) (lines_with detail whole.now.report whole.now.short whole.now.tail)) }
+/// Whether the line says that a message is listed.
+fn is_ok(line: Line<'_>) -> bool
+    ensures { result ≡ is_ok (seen line.entry) }
 {
-    match form {
-        ReportForm::Text => write_lines_with(&Text, writer, whole, detail),
-        ReportForm::Findings => write_lines_with(&Findings::of(Text), writer, whole, detail),
-        ReportForm::Json => write_lines_with(&Json, writer, whole, detail),
-        ReportForm::JsonFindings => write_lines_with(&Findings::of(Json), writer, whole, detail),
-    }
+    matches!(line, Line::Ok { .. })
 }

@@ -20,7 +20,7 @@ impl Taker<bool> for Settling {
     }
 }
 
-/// Whether the line leaves nothing to look into.
+/// Whether the line leaves nothing to look into. A line that isn't named here does.
 fn is_settled(line: Line<'_>) -> bool
     ensures { result ≡ is_settled (seen line.entry) }
 {
@@ -31,15 +31,7 @@ fn is_settled(line: Line<'_>) -> bool
         Line::UnlistedCount { count }
         | Line::RefusedCount { count }
         | Line::SpoiltCount { count } => count == 0,
-        Line::Gap { .. }
-        | Line::Hole { .. }
-        | Line::Tail { .. }
-        | Line::Blocks { .. }
-        | Line::Absent { .. }
-        | Line::Unlisted { .. }
-        | Line::Refused { .. }
-        | Line::Spoilt { .. }
-        | Line::Torn { .. } => false,
+        _ => false,
     }
 }
 

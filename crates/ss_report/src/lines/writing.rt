@@ -2,11 +2,11 @@
 ghost use Rattle.std.specs.Prelude.{◌≡◌, flat_map};
 ghost use Rattle.ss_frame.specs.Watched.{sink_of};
 ghost use Rattle.ss_report.specs.log.Writing.{Writes};
-ghost use Rattle.ss_report.specs.lines.Lines.{lines};
+ghost use Rattle.ss_report.specs.forms.Forms.{line_as, report_as};
 ghost use Rattle.ss_report.specs.lines.Whole.{lines_with};
 
+use crate::forms::report_form::{ReportForm, write_line_as};
 use crate::lines::detail::Detail;
-use crate::lines::form::Form;
 use crate::lines::line::Line;
 use crate::lines::taker::Taker;
 use crate::lines::walk::walk_lines;
@@ -18,42 +18,42 @@ use std::io::Write;
 
 /// Writes each line in a form.
 #[derive(Drop)]
-struct Writing<'f, F> {
-    form: &'f F,
+struct Writing {
+    form: ReportForm,
 }
 
-impl<'f, F: Form, W: Write> Taker<Watched<W>> for Writing<'f, F> {
+impl<W: Write> Taker<Watched<W>> for Writing {
     ghost takes = { λ t before after line.
-        Writes (sink_of W.contents before) (sink_of W.contents after) (F.text t.form.now line) };
+        Writes (sink_of W.contents before) (sink_of W.contents after) (line_as t.form line) };
 
     fn take(&self, into: &mut Watched<W>, line: Line<'_>) {
-        self.form.write(into, line);
+        write_line_as(into, self.form, line);
     }
 }
 
-/// Writes the lines of a report on a log with this end, in their order, each in this form. Nothing is allocated.
-pub(crate) fn write_lines<F: Form, W: Write>(
-    form: &F,
+/// Writes a report on a log with this end, in a form and a detail. Nothing is allocated.
+pub(crate) fn write_report_as<W: Write>(
     writer: &mut Watched<W>,
     report: &Report,
     tail: Tail,
+    form: ReportForm,
     detail: Detail,
 )
     ensures { Writes (sink_of W.contents writer.old) (sink_of W.contents writer.new)
-        (flat_map (F.text form.now) (lines detail report.now tail)) }
+        (report_as form detail report.now tail) }
 {
     walk_lines(&Writing { form }, writer, report, tail, detail);
 }
 
-/// Writes the lines of a report, each in this form, with what is missing beside it. Nothing is allocated.
-pub(crate) fn write_lines_with<F: Form, W: Write>(
-    form: &F,
+/// Writes a report, in a form and a detail, with what is missing beside it. Nothing is allocated.
+pub(crate) fn write_whole_as<W: Write>(
     writer: &mut Watched<W>,
     whole: &WholeReport,
+    form: ReportForm,
     detail: Detail,
 )
     ensures { Writes (sink_of W.contents writer.old) (sink_of W.contents writer.new)
-        (flat_map (F.text form.now) (lines_with detail whole.now.report whole.now.short whole.now.tail)) }
+        (flat_map (line_as form) (lines_with detail whole.now.report whole.now.short whole.now.tail)) }
 {
     walk_lines_with(&Writing { form }, writer, whole, detail);
 }

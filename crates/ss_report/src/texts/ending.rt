@@ -4,14 +4,14 @@ ghost use Rattle.ss_frame.specs.Watched.{sink_of};
 ghost use Rattle.ss_report.specs.log.Writing.{Writes};
 ghost use Rattle.ss_report.specs.texts.Ending.{number_as, torn_line, end_lines};
 
-use crate::forms::json::write_one;
 use crate::notation::Notation;
-use crate::texts::words::write_number_line;
+use crate::records::record::{begin, end, put};
+use crate::records::value::Value;
 use ss_frame::{Tail, Watched};
 use ss_octets::NoMemory;
 use std::io::Write;
 
-/// The text with `torn POS` behind it, where the log has a torn end, and `end COUNT`.
+/// The text with `torn POS` after it, where the log has a torn end, and `end COUNT`.
 pub(crate) fn put_end(
     text: Vec<u8>,
     tail: Tail,
@@ -45,7 +45,7 @@ fn write_torn<W: Write>(writer: &mut Watched<W>, tail: Tail, notation: Notation)
 }
 
 /// Writes a line that says one number.
-pub(crate) fn write_number_as<W: Write>(
+fn write_number_as<W: Write>(
     writer: &mut Watched<W>,
     kind: &[u8],
     key: &[u8],
@@ -55,8 +55,7 @@ pub(crate) fn write_number_as<W: Write>(
     ensures { Writes (sink_of W.contents writer.old) (sink_of W.contents writer.new)
         (number_as notation kind.now key.now number) }
 {
-    match notation {
-        Notation::Plain => write_number_line(writer, kind, number),
-        Notation::Json => write_one(writer, kind, key, number),
-    }
+    begin(writer, notation, kind);
+    put(writer, notation, key, Value::Number(number));
+    end(writer, notation);
 }

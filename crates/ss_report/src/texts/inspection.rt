@@ -2,17 +2,15 @@
 ghost use Rattle.std.specs.Prelude.{◌≡◌, ◌++◌, None, IfOk, OnOk};
 ghost use Rattle.ss_frame.specs.Watched.{sink_of};
 ghost use Rattle.ss_report.specs.log.Writing.{Writes};
-ghost use Rattle.ss_report.specs.texts.Words.{spaced, group_words};
-ghost use Rattle.ss_report.specs.texts.Inspection.{part_number, known_session_words, line_of, reading_line, is_plain};
-ghost use Rattle.ss_report.specs.texts.Inspection.{message_line};
+ghost use Rattle.ss_report.specs.records.Written.{fields_in};
+ghost use Rattle.ss_report.specs.texts.Inspection.{part_word, head_fields, reading_kind, reading_fields, reading_line};
+ghost use Rattle.ss_report.specs.texts.Inspection.{is_plain, message_line};
 
 use crate::forms::report_form::ReportForm;
-use crate::log::output::{write_number, write_text};
 use crate::notation::Notation;
-use crate::texts::inspection_objects::write_reading_object;
-use crate::texts::words::{
-    write_group, write_number_line, write_session, write_spaced, write_spoilt,
-};
+use crate::records::fields::{put_group, put_known_session, put_spoilt};
+use crate::records::record::{begin, end, put};
+use crate::records::value::Value;
 use ss_block::{CertBlock, Group, Reading, Session, SigBlock, classify_with_session};
 use ss_frame::Watched;
 use ss_message::Part;
@@ -20,7 +18,7 @@ use ss_octets::NoMemory;
 use std::alloc::Global;
 use std::io::Write;
 
-/// The text with the line of the message at this place behind it. Places count the messages of the log from 0.
+/// The text with the line of the message at this place after it. Places count the messages of the log from 0.
 pub(crate) fn put_message(
     alloc: Global,
     text: Vec<u8>,
@@ -38,6 +36,7 @@ pub(crate) fn put_message(
     Ok(writer.into_inner())
 }
 
+/// Writes the line of a message at this place, unless the form leaves it out.
 #[tactic(auto, unfolding(crate::specs::texts::Inspection::message_line))]
 fn write_message<W: Write>(
     alloc: Global,
@@ -57,12 +56,14 @@ fn write_message<W: Write>(
     Ok(())
 }
 
+/// Whether a message is a plain one.
 fn is_plain(reading: &Reading) -> bool
     ensures { result ≡ is_plain reading.now }
 {
     matches!(reading, Reading::Plain)
 }
 
+/// Writes the line of a message at this place that is read so.
 fn write_reading<W: Write>(
     writer: &mut Watched<W>,
     reading: &Reading,
@@ -73,120 +74,140 @@ fn write_reading<W: Write>(
     ensures { Writes (sink_of W.contents writer.old) (sink_of W.contents writer.new)
         (reading_line notation reading.now session.now place) }
 {
-    match notation {
-        Notation::Plain => write_reading_text(writer, reading, session, place),
-        Notation::Json => write_reading_object(writer, reading, session, place),
+    begin(writer, notation, kind_of(reading));
+    put_reading(writer, notation, reading, session, place);
+    end(writer, notation);
+}
+
+/// The kind of the line.
+fn kind_of(reading: &Reading) -> &'static [u8]
+    ensures { result.now ≡ reading_kind reading.now }
+{
+    match reading {
+        Reading::Plain => b"plain",
+        Reading::Unparsed { .. } => b"unparsed",
+        Reading::Signature(_) => b"signature",
+        Reading::Certificate(_) => b"certificate",
+        Reading::Spoilt(_) => b"spoilt",
     }
 }
 
-fn write_reading_text<W: Write>(
+/// Writes the fields of the line in their order.
+fn put_reading<W: Write>(
     writer: &mut Watched<W>,
+    notation: Notation,
     reading: &Reading,
     session: &Option<Session>,
     place: u64,
 )
     ensures { Writes (sink_of W.contents writer.old) (sink_of W.contents writer.new)
-        (line_of reading.now session.now place) }
+        (fields_in notation (reading_fields reading.now session.now place)) }
 {
     match reading {
-        Reading::Plain => write_number_line(writer, b"plain", place),
-        Reading::Unparsed { part, pos } => write_unparsed(writer, place, *part, *pos),
-        Reading::Signature(block) => write_signature(writer, place, session, block),
-        Reading::Certificate(block) => write_certificate(writer, place, session, block),
-        Reading::Spoilt(cause) => write_spoilt(writer, place, *cause),
+        Reading::Plain => put(writer, notation, b"place", Value::Number(place)),
+        Reading::Unparsed { part, pos } => put_unparsed(writer, notation, place, *part, *pos),
+        Reading::Signature(block) => put_signature(writer, notation, place, session, block),
+        Reading::Certificate(block) => put_certificate(writer, notation, place, session, block),
+        Reading::Spoilt(cause) => put_spoilt(writer, notation, place, *cause),
     }
 }
 
-/// unparsed PLACE Mn POS
-fn write_unparsed<W: Write>(writer: &mut Watched<W>, place: u64, part: Part, pos: usize)
+/// Writes the place, the part at fault, and where in the message it is.
+#[tactic(auto, using(crate::proofs::of_writing::Records::three_fields))]
+fn put_unparsed<W: Write>(
+    writer: &mut Watched<W>,
+    notation: Notation,
+    place: u64,
+    part: Part,
+    pos: usize,
+)
     ensures { Writes (sink_of W.contents writer.old) (sink_of W.contents writer.new)
-        (line_of (Reading.Unparsed part pos) None place) }
+        (fields_in notation (reading_fields (Reading.Unparsed part pos) None place)) }
 {
-    write_text(writer, b"unparsed");
-    write_spaced(writer, place);
-    write_text(writer, b" M");
-    write_number(writer, number_of_part(part));
-    write_spaced(writer, pos as u64);
-    write_text(writer, b"\n");
+    put(writer, notation, b"place", Value::Number(place));
+    put(writer, notation, b"part", Value::Word(word_of_part(part)));
+    put(writer, notation, b"offset", Value::Number(pos as u64));
 }
 
-/// signature PLACE HOST APP PROCID RSID SG SPRI GBC FMN CNT
-fn write_signature<W: Write>(
+/// Writes what a signature block says: its head, GBC, FMN and CNT (RFC 5848, section 4.2).
+fn put_signature<W: Write>(
     writer: &mut Watched<W>,
+    notation: Notation,
     place: u64,
     session: &Option<Session>,
     block: &SigBlock,
 )
     ensures { Writes (sink_of W.contents writer.old) (sink_of W.contents writer.new)
-        (line_of (Reading.Signature block.now) session.now place) }
+        (fields_in notation (reading_fields (Reading.Signature block.now) session.now place)) }
 {
-    write_head(writer, b"signature", place, session, block.group());
-    write_spaced(writer, block.gbc());
-    write_spaced(writer, block.first());
-    write_spaced(writer, block.hashes().as_slice().len() as u64);
-    write_text(writer, b"\n");
+    let count = block.hashes().as_slice().len() as u64;
+    put_head(writer, notation, place, session, block.group());
+    put(writer, notation, b"gbc", Value::Number(block.gbc()));
+    put(writer, notation, b"first", Value::Number(block.first()));
+    put(writer, notation, b"count", Value::Number(count));
 }
 
-/// certificate PLACE HOST APP PROCID RSID SG SPRI TPBL INDEX FLEN
-fn write_certificate<W: Write>(
+/// Writes what a certificate block says: its head, TPBL, INDEX and FLEN (RFC 5848, section 5.3.2).
+fn put_certificate<W: Write>(
     writer: &mut Watched<W>,
+    notation: Notation,
     place: u64,
     session: &Option<Session>,
     block: &CertBlock,
 )
     ensures { Writes (sink_of W.contents writer.old) (sink_of W.contents writer.new)
-        (line_of (Reading.Certificate block.now) session.now place) }
+        (fields_in notation (reading_fields (Reading.Certificate block.now) session.now place)) }
 {
-    write_head(writer, b"certificate", place, session, block.group());
-    write_spaced(writer, u64::from(block.total()));
-    write_spaced(writer, u64::from(block.index()));
-    write_spaced(writer, block.fragment().as_slice().len() as u64);
-    write_text(writer, b"\n");
+    let length = block.fragment().as_slice().len() as u64;
+    put_head(writer, notation, place, session, block.group());
+    put(
+        writer,
+        notation,
+        b"total",
+        Value::Number(u64::from(block.total())),
+    );
+    put(
+        writer,
+        notation,
+        b"index",
+        Value::Number(u64::from(block.index())),
+    );
+    put(writer, notation, b"length", Value::Number(length));
 }
 
-/// The kind, PLACE, and what a block of either kind says: HOST APP PROCID RSID SG SPRI.
-fn write_head<W: Write>(
+/// Writes what a block of either kind says first: its place, its session, where one is known, and its group.
+#[tactic(auto, using(crate::proofs::of_writing::Records::three_fields))]
+fn put_head<W: Write>(
     writer: &mut Watched<W>,
-    kind: &[u8],
+    notation: Notation,
     place: u64,
     session: &Option<Session>,
     group: Group,
 )
-    ensures { Writes (sink_of W.contents writer.old) (sink_of W.contents writer.new) (kind.now ++ spaced place
-        ++ known_session_words session.now ++ group_words group) }
+    ensures { Writes (sink_of W.contents writer.old) (sink_of W.contents writer.new)
+        (fields_in notation (head_fields place session.now group)) }
 {
-    write_text(writer, kind);
-    write_spaced(writer, place);
-    write_known_session(writer, session);
-    write_group(writer, group);
+    put(writer, notation, b"place", Value::Number(place));
+    put_known_session(writer, notation, session);
+    put_group(writer, notation, group);
 }
 
-/// HOST APP PROCID RSID, with the SP before each, where a session is known.
-fn write_known_session<W: Write>(writer: &mut Watched<W>, session: &Option<Session>)
-    ensures { Writes (sink_of W.contents writer.old) (sink_of W.contents writer.new) (known_session_words session.now) }
-{
-    match session {
-        None => {}
-        Some(session) => write_session(writer, session),
-    }
-}
-
-/// The number of the part at fault, 1 to 12.
-pub(crate) fn number_of_part(part: Part) -> u64
-    ensures { result ≡ part_number part }
+/// The word of the part at fault, M1 to M12.
+fn word_of_part(part: Part) -> &'static [u8]
+    ensures { result.now ≡ part_word part }
 {
     match part {
-        Part::Pri => 1,
-        Part::Version => 2,
-        Part::Timestamp => 3,
-        Part::Hostname => 4,
-        Part::AppName => 5,
-        Part::ProcId => 6,
-        Part::MsgId => 7,
-        Part::Syntax => 8,
-        Part::Name => 9,
-        Part::Value => 10,
-        Part::RepeatedId => 11,
-        Part::Msg => 12,
+        Part::Pri => b"M1",
+        Part::Version => b"M2",
+        Part::Timestamp => b"M3",
+        Part::Hostname => b"M4",
+        Part::AppName => b"M5",
+        Part::ProcId => b"M6",
+        Part::MsgId => b"M7",
+        Part::Syntax => b"M8",
+        Part::Name => b"M9",
+        Part::Value => b"M10",
+        Part::RepeatedId => b"M11",
+        Part::Msg => b"M12",
     }
 }

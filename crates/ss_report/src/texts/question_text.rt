@@ -2,14 +2,13 @@
 ghost use Rattle.std.specs.Prelude.{◌≡◌, flat_map};
 ghost use Rattle.ss_frame.specs.Watched.{sink_of};
 ghost use Rattle.ss_report.specs.log.Writing.{Writes};
-ghost use Rattle.ss_report.specs.texts.Asked.{AskTrust, AskYes, question_of, session_askings};
-ghost use Rattle.ss_report.specs.texts.QuestionText.{asking_lines, asking_object, asking_text, question_text};
+ghost use Rattle.ss_report.specs.texts.Asked.{AskTrust, AskYes, session_askings};
+ghost use Rattle.ss_report.specs.texts.QuestionText.{asking_lines, asking_text};
 
-use crate::forms::members::write_session_members;
-use crate::log::output::write_text;
 use crate::notation::Notation;
-use crate::texts::encoded::write_base64;
-use crate::texts::question_members::{write_base64_member, write_block_members};
+use crate::records::record::{begin, end, put};
+use crate::records::value::Value;
+use crate::texts::question_fields::{put_about_block, put_about_session};
 use ss_frame::Watched;
 use ss_review::{AskedBlock, AskedSession};
 use std::io::Write;
@@ -57,32 +56,11 @@ fn write_trust<W: Write>(writer: &mut Watched<W>, session: &AskedSession, notati
     ensures { Writes (sink_of W.contents writer.old) (sink_of W.contents writer.new)
         (asking_text notation (AskTrust session.now)) }
 {
-    match notation {
-        Notation::Plain => write_trust_text(writer, session),
-        Notation::Json => write_trust_object(writer, session),
-    }
-}
-
-/// Writes trust PAYLOAD.
-#[tactic(auto, unfolding(crate::specs::texts::QuestionText::question_text))]
-fn write_trust_text<W: Write>(writer: &mut Watched<W>, session: &AskedSession)
-    ensures { Writes (sink_of W.contents writer.old) (sink_of W.contents writer.new)
-        (question_text (question_of (AskTrust session.now))) }
-{
-    write_text(writer, b"trust ");
-    write_base64(writer, session.payload.as_slice());
-    write_text(writer, b"\n");
-}
-
-#[tactic(auto, unfolding(crate::specs::texts::QuestionText::asking_object))]
-fn write_trust_object<W: Write>(writer: &mut Watched<W>, session: &AskedSession)
-    ensures { Writes (sink_of W.contents writer.old) (sink_of W.contents writer.new)
-        (asking_object (AskTrust session.now)) }
-{
-    write_text(writer, b"{\"line\":\"trust\"");
-    write_base64_member(writer, b"payload", session.payload.as_slice());
-    write_session_members(writer, &session.session);
-    write_text(writer, b"}\n");
+    let payload = session.payload.as_slice();
+    begin(writer, notation, b"trust");
+    put(writer, notation, b"payload", Value::Base64(payload));
+    put_about_session(writer, notation, &session.session);
+    end(writer, notation);
 }
 
 /// Writes the line that asks whether the signature of a block is right under the key of its session's payload.
@@ -95,36 +73,13 @@ fn write_yes<W: Write>(
     ensures { Writes (sink_of W.contents writer.old) (sink_of W.contents writer.new)
         (asking_text notation (AskYes session.now block.now)) }
 {
-    match notation {
-        Notation::Plain => write_yes_text(writer, session, block),
-        Notation::Json => write_yes_object(writer, session, block),
-    }
-}
-
-/// Writes yes PAYLOAD OCTETS SIGNATURE.
-#[tactic(auto, unfolding(crate::specs::texts::QuestionText::question_text))]
-fn write_yes_text<W: Write>(writer: &mut Watched<W>, session: &AskedSession, block: &AskedBlock)
-    ensures { Writes (sink_of W.contents writer.old) (sink_of W.contents writer.new)
-        (question_text (question_of (AskYes session.now block.now))) }
-{
-    write_text(writer, b"yes ");
-    write_base64(writer, session.payload.as_slice());
-    write_text(writer, b" ");
-    write_base64(writer, block.octets.as_slice());
-    write_text(writer, b" ");
-    write_base64(writer, block.signature.as_slice());
-    write_text(writer, b"\n");
-}
-
-#[tactic(auto, unfolding(crate::specs::texts::QuestionText::asking_object))]
-fn write_yes_object<W: Write>(writer: &mut Watched<W>, session: &AskedSession, block: &AskedBlock)
-    ensures { Writes (sink_of W.contents writer.old) (sink_of W.contents writer.new)
-        (asking_object (AskYes session.now block.now)) }
-{
-    write_text(writer, b"{\"line\":\"yes\"");
-    write_base64_member(writer, b"payload", session.payload.as_slice());
-    write_base64_member(writer, b"octets", block.octets.as_slice());
-    write_base64_member(writer, b"signature", block.signature.as_slice());
-    write_block_members(writer, &session.session, block);
-    write_text(writer, b"}\n");
+    let payload = session.payload.as_slice();
+    let octets = block.octets.as_slice();
+    let signature = block.signature.as_slice();
+    begin(writer, notation, b"yes");
+    put(writer, notation, b"payload", Value::Base64(payload));
+    put(writer, notation, b"octets", Value::Base64(octets));
+    put(writer, notation, b"signature", Value::Base64(signature));
+    put_about_block(writer, notation, &session.session, block);
+    end(writer, notation);
 }

@@ -1,11 +1,9 @@
-use Rattle.std.proofs.Common.{subst, sym}
-use Rattle.ss_frame.specs.Watched.{sink_of}
-use Rattle.ss_report.specs.declared.notation.Notation.{Notation}
-use Rattle.ss_report.specs.log.Writing.{Writes}
-use Rattle.ss_report.specs.texts.QuestionsOnce.{YesLine, once_line}
+use Rattle.ss_report.proofs.of_writing.Records.{four_fields, record_written}
 use Rattle.ss_report.proofs.texts.questions_once.write_yes.Goals as goal
 
-pub returns-in-Plain : goal.returns-in-Plain
-returns-in-Plain g c =
-    let line = YesLine c.args.index c.args.session.now c.args.block.now in
-    subst (λ (n : Notation). Writes (sink_of g.W.Write.contents c.args.writer.now) (sink_of g.W.Write.contents c.write_yes_text.new.writer) (once_line n line)) (sym c.in-Plain.is) (c.write_yes_text.ensures c.args.session.now)
+pub returns : goal.returns
+returns g c =
+    let octets = rw c.as_slice-octets.ensures at c.put-2.ensures in
+    let signature = rw c.as_slice-signature.ensures at c.put-3.ensures in
+    let asked = four_fields _ _ _ _ _ _ _ _ _ _ c.put.ensures octets signature c.put_about_block.ensures in
+    record_written _ _ _ _ _ _ _ c.begin.ensures asked c.end.ensures

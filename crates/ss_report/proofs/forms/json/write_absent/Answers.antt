@@ -1,9 +1,0 @@
-use Rattle.ss_report.specs.forms.Json.{absent_object}
-use Rattle.ss_report.proofs.of_writing.Writings.{writes_then}
-use Rattle.ss_report.proofs.forms.json.write_absent.Goals as goal
-
-pub returns : goal.returns
-unfolding absent_object
-returns g c =
-    let named = writes_then _ _ _ _ _ c.write_text.ensures c.write_session_members.ensures in
-    writes_then _ _ _ _ _ (writes_then _ _ _ _ _ named c.write_word_member.ensures) c.write_text-2.ensures

@@ -1,9 +1,0 @@
-use Rattle.ss_report.specs.forms.Json.{text_member}
-use Rattle.ss_report.proofs.of_writing.Writings.{writes_then}
-use Rattle.ss_report.proofs.forms.members.write_text_member.Goals as goal
-
-pub returns : goal.returns
-unfolding text_member
-returns g c =
-    let named = writes_then _ _ _ _ _ (writes_then _ _ _ _ _ c.write_text.ensures c.write_text-2.ensures) c.write_text-3.ensures in
-    writes_then _ _ _ _ _ (writes_then _ _ _ _ _ named c.write_escaped.ensures) c.write_text-4.ensures

@@ -1,8 +1,0 @@
-use Rattle.ss_frame.specs.Watched.{sink_of}
-use Rattle.ss_report.specs.lines.Lines.{lines}
-use Rattle.ss_report.proofs.of_reports.TakenLines.{all_written}
-use Rattle.ss_report.proofs.lines.writing.write_lines.Goals as goal
-
-pub returns : goal.returns
-returns g c =
-    all_written (sink_of g.W.Write.contents) (g.F.Form.text c.args.form.now) _ _ (lines c.args.detail c.args.report.now c.args.tail) c.walk_lines.ensures

@@ -1,0 +1,5 @@
+use Rattle.ss_report.proofs.of_writing.Writings.{writes_then}
+use Rattle.ss_report.proofs.records.json.write_quoted_base64.Goals as goal
+
+pub returns : goal.returns
+returns g c = writes_then _ _ _ _ _ (writes_then _ _ _ _ _ c.write_text.ensures c.write_base64.ensures) c.write_text-2.ensures

@@ -1,9 +1,0 @@
-use Rattle.ss_report.specs.runs.Counters.{message_counter_text}
-use Rattle.ss_report.proofs.of_writing.Writings.{writes_then}
-use Rattle.ss_report.proofs.runs.counters.write_message_text.Goals as goal
-
-pub returns : goal.returns
-unfolding message_counter_text
-returns g c =
-    let grouped = writes_then _ _ _ _ _ (writes_then _ _ _ _ _ c.write_text.ensures c.write_session.ensures) c.write_group.ensures in
-    writes_then _ _ _ _ _ (writes_then _ _ _ _ _ grouped c.write_spaced.ensures) c.write_text-2.ensures

@@ -1,0 +1,10 @@
+use Rattle.ss_report.proofs.of_writing.Records.{four_fields, record_written}
+use Rattle.ss_report.proofs.texts.question_text.write_yes.Goals as goal
+
+pub returns : goal.returns
+returns g c =
+    let payload = rw c.as_slice-payload.ensures at c.put.ensures in
+    let octets = rw c.as_slice-octets.ensures at c.put-2.ensures in
+    let signature = rw c.as_slice-signature.ensures at c.put-3.ensures in
+    let asked = four_fields _ _ _ _ _ _ _ _ _ _ payload octets signature c.put_about_block.ensures in
+    record_written _ _ _ _ _ _ _ c.begin.ensures asked c.end.ensures

@@ -1,6 +1,0 @@
-use Rattle.ss_report.proofs.of_writing.Writings.{writes_then}
-use Rattle.ss_report.proofs.texts.words.write_number_line.Goals as goal
-
-pub returns : goal.returns
-returns g c =
-    writes_then _ _ _ _ _ (writes_then _ _ _ _ _ c.write_text.ensures c.write_spaced.ensures) c.write_text-2.ensures

@@ -1,0 +1,78 @@
+-- A line of a report as a record: its kind, and its fields in their order.
+use Rattle.std.specs.Prelude.{ℕ, List, ◌++◌, codes}
+use Rattle.ss_review.specs.declared.report.entry.Why.{Why}
+use Rattle.ss_review.specs.declared.report.entry.Why.TheVariants as whys
+use Rattle.ss_review.specs.declared.report.session_report.SessionState.{SessionState}
+use Rattle.ss_review.specs.declared.report.session_report.SessionState.TheVariants as states
+use Rattle.ss_report.specs.declared.lines.tally.Tally.{Tally}
+use Rattle.ss_report.specs.records.Record.{Value, Number, Word, Record, field}
+use Rattle.ss_report.specs.records.Fields.{session_fields, group_fields, cause_word}
+use Rattle.ss_report.specs.lines.Lines.{ReportLine, SessionLine, OkLine, GapLine, HoleLine, TailLine, BlocksLine}
+use Rattle.ss_report.specs.lines.Lines.{AbsentLine, TallyLine}
+use Rattle.ss_report.specs.lines.Lines.{UnlistedLine, RefusedLine, SpoiltLine, UnlistedCountLine, RefusedCountLine}
+use Rattle.ss_report.specs.lines.Lines.{SpoiltCountLine, TornLine, EndLine}
+
+abbrev pub state_word : SessionState → List ℕ
+state_word states.Joined = codes "joined"
+state_word states.Disputed = codes "disputed"
+state_word states.Incomplete = codes "incomplete"
+state_word states.Malformed = codes "malformed"
+state_word states.Untrusted = codes "untrusted"
+state_word states.Unaccepted = codes "unaccepted"
+
+abbrev pub why_word : Why → List ℕ
+why_word whys.Lost = codes "lost"
+why_word whys.Disputed = codes "disputed"
+
+-- ok, lost, disputed and holes, and the first and the last number
+unfoldable pub tally_fields : Tally → List (List ℕ × Value)
+tally_fields t =
+    field (codes "ok") (Number t.listed) ++ field (codes "lost") (Number t.lost)
+    ++ field (codes "disputed") (Number t.disputed) ++ field (codes "holes") (Number t.holes)
+    ++ field (codes "first") (Number t.first) ++ field (codes "last") (Number t.last)
+
+abbrev pub kind_of : ReportLine → List ℕ
+kind_of (SessionLine s state) = codes "session"
+kind_of (OkLine s g number place) = codes "ok"
+kind_of (GapLine s g number why) = codes "gap"
+kind_of (HoleLine s g first last) = codes "hole"
+kind_of (TailLine s g first last) = codes "tail"
+kind_of (BlocksLine s first last) = codes "blocks"
+kind_of (AbsentLine s) = codes "session"
+kind_of (TallyLine s g t) = codes "tally"
+kind_of (UnlistedLine place) = codes "unlisted"
+kind_of (RefusedLine place) = codes "refused"
+kind_of (SpoiltLine place cause) = codes "spoilt"
+kind_of (UnlistedCountLine count) = codes "unlisted-count"
+kind_of (RefusedCountLine count) = codes "refused-count"
+kind_of (SpoiltCountLine count) = codes "spoilt-count"
+kind_of (TornLine offset) = codes "torn"
+kind_of (EndLine count) = codes "end"
+
+abbrev pub fields_of : ReportLine → List (List ℕ × Value)
+fields_of (SessionLine s state) = session_fields s ++ field (codes "state") (Word (state_word state))
+fields_of (OkLine s g number place) =
+    session_fields s ++ group_fields g ++ field (codes "number") (Number number) ++ field (codes "place") (Number place)
+fields_of (GapLine s g number why) =
+    session_fields s ++ group_fields g ++ field (codes "number") (Number number)
+    ++ field (codes "why") (Word (why_word why))
+fields_of (HoleLine s g first last) =
+    session_fields s ++ group_fields g ++ field (codes "first") (Number first) ++ field (codes "last") (Number last)
+fields_of (TailLine s g first last) =
+    session_fields s ++ group_fields g ++ field (codes "first") (Number first) ++ field (codes "last") (Number last)
+fields_of (BlocksLine s first last) =
+    session_fields s ++ field (codes "first") (Number first) ++ field (codes "last") (Number last)
+fields_of (AbsentLine s) = session_fields s ++ field (codes "state") (Word (codes "absent"))
+fields_of (TallyLine s g t) = session_fields s ++ group_fields g ++ tally_fields t
+fields_of (UnlistedLine place) = field (codes "place") (Number place)
+fields_of (RefusedLine place) = field (codes "place") (Number place)
+fields_of (SpoiltLine place cause) =
+    field (codes "place") (Number place) ++ field (codes "cause") (Word (cause_word cause))
+fields_of (UnlistedCountLine count) = field (codes "count") (Number count)
+fields_of (RefusedCountLine count) = field (codes "count") (Number count)
+fields_of (SpoiltCountLine count) = field (codes "count") (Number count)
+fields_of (TornLine offset) = field (codes "offset") (Number offset)
+fields_of (EndLine count) = field (codes "count") (Number count)
+
+abbrev pub record_of : ReportLine → Record
+record_of line = record { kind = kind_of line; fields = fields_of line }

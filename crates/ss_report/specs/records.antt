@@ -1,0 +1,5 @@
+pub mod Record
+pub mod Plain
+pub mod Json
+pub mod Written
+pub mod Fields

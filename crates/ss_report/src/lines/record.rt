@@ -1,0 +1,262 @@
+//! A line of a report as a record.
+ghost use Rattle.std.specs.Prelude.{◌≡◌, ◌++◌, codes};
+ghost use Rattle.ss_frame.specs.Watched.{sink_of};
+ghost use Rattle.ss_report.specs.log.Writing.{Writes};
+ghost use Rattle.ss_report.specs.lines.Lines.{seen};
+ghost use Rattle.ss_report.specs.lines.Records.{state_word, why_word, tally_fields, kind_of, fields_of, record_of};
+ghost use Rattle.ss_report.specs.records.Record.{field, Number, Word};
+ghost use Rattle.ss_report.specs.records.Fields.{session_fields, group_fields};
+ghost use Rattle.ss_report.specs.records.Written.{fields_in, written};
+
+use crate::lines::line::Line;
+use crate::lines::tally::Tally;
+use crate::notation::Notation;
+use crate::records::fields::{put_group, put_session, put_spoilt};
+use crate::records::record::{begin, end, put};
+use crate::records::value::Value;
+use ss_block::{Group, Session};
+use ss_frame::Watched;
+use ss_review::{MissingRun, SessionState, Why};
+use std::io::Write;
+
+/// Writes a line in a notation. Nothing is allocated.
+pub(crate) fn write_line<W: Write>(writer: &mut Watched<W>, notation: Notation, line: Line<'_>)
+    ensures { Writes (sink_of W.contents writer.old) (sink_of W.contents writer.new)
+        (written notation (record_of (seen line.entry))) }
+{
+    begin(writer, notation, kind_of(line));
+    put_fields(writer, notation, line);
+    end(writer, notation);
+}
+
+/// The kind of a line.
+fn kind_of(line: Line<'_>) -> &'static [u8]
+    ensures { result.now ≡ kind_of (seen line.entry) }
+{
+    match line {
+        Line::Session { .. } | Line::Absent { .. } => b"session",
+        Line::Ok { .. } => b"ok",
+        Line::Gap { .. } => b"gap",
+        Line::Hole { .. } => b"hole",
+        Line::Tail { .. } => b"tail",
+        Line::Blocks { .. } => b"blocks",
+        Line::Tally { .. } => b"tally",
+        Line::Unlisted { .. } => b"unlisted",
+        Line::Refused { .. } => b"refused",
+        Line::Spoilt { .. } => b"spoilt",
+        Line::UnlistedCount { .. } => b"unlisted-count",
+        Line::RefusedCount { .. } => b"refused-count",
+        Line::SpoiltCount { .. } => b"spoilt-count",
+        Line::Torn { .. } => b"torn",
+        Line::End { .. } => b"end",
+    }
+}
+
+/// Writes the fields of a line in their order.
+fn put_fields<W: Write>(writer: &mut Watched<W>, notation: Notation, line: Line<'_>)
+    ensures { Writes (sink_of W.contents writer.old) (sink_of W.contents writer.new)
+        (fields_in notation (fields_of (seen line.entry))) }
+{
+    match line {
+        Line::Session { session, state } => put_state(writer, notation, session, state),
+        Line::Ok {
+            session,
+            group,
+            number,
+            place,
+        } => put_ok(writer, notation, session, group, number, u64::from(place)),
+        Line::Gap {
+            session,
+            group,
+            number,
+            why,
+        } => put_gap(writer, notation, session, group, number, why),
+        Line::Hole {
+            session,
+            group,
+            first,
+            last,
+        } => put_numbers(writer, notation, session, group, first, last),
+        Line::Tail { session, tail } => {
+            put_numbers(writer, notation, session, tail.group, tail.first, tail.last)
+        }
+        Line::Blocks { session, run } => put_blocks(writer, notation, session, run),
+        Line::Absent { session } => put_absent(writer, notation, session),
+        Line::Tally {
+            session,
+            group,
+            tally,
+        } => put_tally(writer, notation, session, group, tally),
+        Line::Unlisted { place } | Line::Refused { place } => {
+            put(writer, notation, b"place", Value::Number(u64::from(place)))
+        }
+        Line::Spoilt { place, cause } => put_spoilt(writer, notation, u64::from(place), cause),
+        Line::UnlistedCount { count }
+        | Line::RefusedCount { count }
+        | Line::SpoiltCount { count } => put(writer, notation, b"count", Value::Number(count)),
+        Line::Torn { offset } => put(writer, notation, b"offset", Value::Number(offset)),
+        Line::End { count } => put(writer, notation, b"count", Value::Number(u64::from(count))),
+    }
+}
+
+/// Writes the session and its state.
+#[tactic(auto, using(crate::proofs::of_writing::Records::fields_then))]
+fn put_state<W: Write>(
+    writer: &mut Watched<W>,
+    notation: Notation,
+    session: &Session,
+    state: SessionState,
+)
+    ensures { Writes (sink_of W.contents writer.old) (sink_of W.contents writer.new) (fields_in notation
+        (session_fields session.now ++ field (codes "state") (Word (state_word state)))) }
+{
+    put_session(writer, notation, session);
+    put(
+        writer,
+        notation,
+        b"state",
+        Value::Word(word_of_state(state)),
+    );
+}
+
+/// The word of a state.
+fn word_of_state(state: SessionState) -> &'static [u8]
+    ensures { result.now ≡ state_word state }
+{
+    match state {
+        SessionState::Joined => b"joined",
+        SessionState::Disputed => b"disputed",
+        SessionState::Incomplete => b"incomplete",
+        SessionState::Malformed => b"malformed",
+        SessionState::Untrusted => b"untrusted",
+        SessionState::Unaccepted => b"unaccepted",
+    }
+}
+
+/// Writes the session and that it is absent.
+#[tactic(auto, using(crate::proofs::of_writing::Records::fields_then))]
+fn put_absent<W: Write>(writer: &mut Watched<W>, notation: Notation, session: &Session)
+    ensures { Writes (sink_of W.contents writer.old) (sink_of W.contents writer.new) (fields_in notation
+        (session_fields session.now ++ field (codes "state") (Word (codes "absent")))) }
+{
+    put_session(writer, notation, session);
+    put(writer, notation, b"state", Value::Word(b"absent"));
+}
+
+/// Writes the session, the group, the number and the place.
+#[tactic(auto, using(crate::proofs::of_writing::Records::four_fields))]
+fn put_ok<W: Write>(
+    writer: &mut Watched<W>,
+    notation: Notation,
+    session: &Session,
+    group: Group,
+    number: u64,
+    place: u64,
+)
+    ensures { Writes (sink_of W.contents writer.old) (sink_of W.contents writer.new) (fields_in notation
+        (session_fields session.now ++ group_fields group ++ field (codes "number") (Number number)
+        ++ field (codes "place") (Number place))) }
+{
+    put_session(writer, notation, session);
+    put_group(writer, notation, group);
+    put(writer, notation, b"number", Value::Number(number));
+    put(writer, notation, b"place", Value::Number(place));
+}
+
+/// Writes the session, the group, the number and why no message is listed for it.
+#[tactic(auto, using(crate::proofs::of_writing::Records::four_fields))]
+fn put_gap<W: Write>(
+    writer: &mut Watched<W>,
+    notation: Notation,
+    session: &Session,
+    group: Group,
+    number: u64,
+    why: Why,
+)
+    ensures { Writes (sink_of W.contents writer.old) (sink_of W.contents writer.new) (fields_in notation
+        (session_fields session.now ++ group_fields group ++ field (codes "number") (Number number)
+        ++ field (codes "why") (Word (why_word why)))) }
+{
+    put_session(writer, notation, session);
+    put_group(writer, notation, group);
+    put(writer, notation, b"number", Value::Number(number));
+    put(writer, notation, b"why", Value::Word(word_of_why(why)));
+}
+
+/// The word of a reason.
+fn word_of_why(why: Why) -> &'static [u8]
+    ensures { result.now ≡ why_word why }
+{
+    match why {
+        Why::Lost => b"lost",
+        Why::Disputed => b"disputed",
+    }
+}
+
+/// Writes the session, the group, and the first and the last number.
+#[tactic(auto, using(crate::proofs::of_writing::Records::four_fields))]
+fn put_numbers<W: Write>(
+    writer: &mut Watched<W>,
+    notation: Notation,
+    session: &Session,
+    group: Group,
+    first: u64,
+    last: u64,
+)
+    ensures { Writes (sink_of W.contents writer.old) (sink_of W.contents writer.new) (fields_in notation
+        (session_fields session.now ++ group_fields group ++ field (codes "first") (Number first)
+        ++ field (codes "last") (Number last))) }
+{
+    put_session(writer, notation, session);
+    put_group(writer, notation, group);
+    put(writer, notation, b"first", Value::Number(first));
+    put(writer, notation, b"last", Value::Number(last));
+}
+
+/// Writes the session, and the first and the last GBC.
+#[tactic(auto, using(crate::proofs::of_writing::Records::three_fields))]
+fn put_blocks<W: Write>(
+    writer: &mut Watched<W>,
+    notation: Notation,
+    session: &Session,
+    run: MissingRun,
+)
+    ensures { Writes (sink_of W.contents writer.old) (sink_of W.contents writer.new) (fields_in notation
+        (session_fields session.now ++ field (codes "first") (Number run.first)
+        ++ field (codes "last") (Number run.last))) }
+{
+    put_session(writer, notation, session);
+    put(writer, notation, b"first", Value::Number(run.first));
+    put(writer, notation, b"last", Value::Number(run.last));
+}
+
+/// Writes the session, the group, and the counts of its numbers.
+#[tactic(auto, using(crate::proofs::of_writing::Records::three_fields))]
+fn put_tally<W: Write>(
+    writer: &mut Watched<W>,
+    notation: Notation,
+    session: &Session,
+    group: Group,
+    tally: Tally,
+)
+    ensures { Writes (sink_of W.contents writer.old) (sink_of W.contents writer.new) (fields_in notation
+        (session_fields session.now ++ group_fields group ++ tally_fields tally)) }
+{
+    put_session(writer, notation, session);
+    put_group(writer, notation, group);
+    put_counts(writer, notation, tally);
+}
+
+/// Writes the counts of the numbers of a group.
+#[tactic(auto, unfolding(crate::specs::lines::Records::tally_fields))]
+fn put_counts<W: Write>(writer: &mut Watched<W>, notation: Notation, tally: Tally)
+    ensures { Writes (sink_of W.contents writer.old) (sink_of W.contents writer.new)
+        (fields_in notation (tally_fields tally)) }
+{
+    put(writer, notation, b"ok", Value::Number(tally.listed));
+    put(writer, notation, b"lost", Value::Number(tally.lost));
+    put(writer, notation, b"disputed", Value::Number(tally.disputed));
+    put(writer, notation, b"holes", Value::Wide(tally.holes));
+    put(writer, notation, b"first", Value::Number(tally.first));
+    put(writer, notation, b"last", Value::Number(tally.last));
+}
