@@ -28,7 +28,7 @@ class Made:
 
     stored: List[bytes]
     answers: bytes
-    strays: Dict[str, int] = field(default_factory=lambda: {"host": 0, "session": 0})
+    misplaced: Dict[str, int] = field(default_factory=lambda: {"host": 0, "session": 0})
 
 
 def text_of(host: str, number: int) -> bytes:
@@ -45,13 +45,13 @@ def signed(dice: random.Random, passing: str, kind: str, made: Made) -> List[Lis
             texts += [dice.choice(texts) for _ in range(dice.randint(0, 3))]
             if kind == "foreign":
                 strange = [text_of("delta", 1000 * rsid + len(logs) * 100 + it) for it in range(dice.randint(1, 3))]
-                made.strays["host"] += len(strange)
+                made.misplaced["host"] += len(strange)
                 texts += strange
             texts += shared
             dice.shuffle(texts)
             ver = dice.choice(("0111", "0121"))
             logs.append(list(unframed(sign(texts, host, rsid, passing, ver, "--count", str(dice.randint(1, 9))))))
-        made.strays["session"] += len(shared)
+        made.misplaced["session"] += len(shared)
     return logs
 
 
@@ -126,7 +126,7 @@ def try_split(folder: str, made: Made, by: str) -> None:
     """Splits, and sees that all is as it has to be."""
     log, out, answers = (os.path.join(folder, it) for it in ("log", f"by-{by}", "answers"))
     said = subprocess.run([TOOL, "split", "--by", by, log, out], stdout=subprocess.PIPE, check=False)
-    count = made.strays[by]
+    count = made.misplaced[by]
     words = b"(b) NOT MET: %d announced hash" % count if count else b"(b) met:"
     if said.returncode != (1 if count else 0) or words not in said.stdout or b"(a) met" not in said.stdout:
         sys.exit(f"by {by}: status {said.returncode}, and not the words {words!r}: {said.stdout.decode()}")

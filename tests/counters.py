@@ -213,8 +213,8 @@ def by_signing(program):
             tell(f"the first {end} messages, {count} in a block", "" if (status, lines) == (0, wanted) else f"{lines}, and not {wanted}")
             # each line of a front is there later, with the same number or a greater one
             later = {it.rpartition(" ")[0]: int(it.rpartition(" ")[2]) for it in lines}
-            fallen = [it for it in before if later.get(it.rpartition(" ")[0], -1) < int(it.rpartition(" ")[2])]
-            tell(f"the first {end} messages, {count} in a block: counters rise", f"{fallen}" if fallen else "")
+            out_of_order = [it for it in before if later.get(it.rpartition(" ")[0], -1) < int(it.rpartition(" ")[2])]
+            tell(f"the first {end} messages, {count} in a block: counters rise", f"{out_of_order}" if out_of_order else "")
             before = lines
 
 

@@ -5,7 +5,7 @@ from typing import Callable, List, Optional, Sequence
 
 from ssign_keys.blocks import Session
 from ssign_keys.kept import Counters
-from ssign_keys.report import Group, Teller
+from ssign_keys.report import Group, ReportVisitor
 
 from .findings import Emit, Finding, Places, Spot
 
@@ -13,7 +13,7 @@ from .findings import Emit, Finding, Places, Spot
 WAITING = 1000
 
 
-class Locator(Teller):
+class Locator(ReportVisitor):
     """Gives on each finding of a report, and writes a line for each session and group, with files and places."""
 
     def __init__(self, part: str, places: Places, emit: Emit, sessions: Callable[[str], None], is_whole: bool,

@@ -57,7 +57,7 @@ class Message(NamedTuple):
 
 
 @dataclass
-class Strays:
+class Misplaced:
     """Announced hashes whose message lies in another part than the block that announces it."""
 
     count: int = 0
@@ -109,7 +109,7 @@ class Split:
         self._by_host = arguments.by == "host"
         self._parts = parts
         self._announced = Announced()
-        self._strays = Strays()
+        self._misplaced = Misplaced()
         self._read: List[Read] = []
         # the parts of the names that were met, since to spell the name of a folder for each message takes long
         self._known: Dict[Tuple[bytes, ...], int] = {}
@@ -178,7 +178,7 @@ class Split:
         for digest, announcing in announced.items():
             for other in announcing:
                 if other != part:
-                    self._strays.add(digest, message.place, part, other)
+                    self._misplaced.add(digest, message.place, part, other)
         self._parts.put(part, message.stored, message.place, False)
 
     def tell(self) -> int:
@@ -189,21 +189,21 @@ class Split:
             say(f"ssign-archive: {it.text()}")
         if any(it.octet is not None and it.why != "torn" for it in self._read):
             return 2
-        return 1 if self._strays.count or found else 0
+        return 1 if self._misplaced.count or found else 0
 
     def _lines(self) -> Iterator[str]:
         """A line for each part, one for all of them, and one for each premise."""
-        parts, strays = self._parts, self._strays
+        parts, misplaced = self._parts, self._misplaced
         for number in sorted(range(len(parts.names)), key=parts.names.__getitem__):
             yield f"{parts.names[number]}: {counted(parts.messages[number], 'message')}, {counted(parts.blocks[number], 'block')}"
         yield f"{counted(sum(parts.messages), 'message')} in {counted(len(parts.names), 'part')}"
         yield "(a) met: all blocks of a session lie in one part"
-        if not strays.count:
+        if not misplaced.count:
             yield "(b) met: each message with an announced hash lies in the part of the block that announces it"
             return
-        here, there = (parts.names[it] for it in strays.first_parts)
-        yield (f"(b) NOT MET: {counted(strays.count, 'announced hash', 'announced hashes')} with the message in another part. "
-               f"First: the message at {self._where(strays.first_place)} lies in {here}, and a block of {there} announces it. "
+        here, there = (parts.names[it] for it in misplaced.first_parts)
+        yield (f"(b) NOT MET: {counted(misplaced.count, 'announced hash', 'announced hashes')} with the message in another part. "
+               f"First: the message at {self._where(misplaced.first_place)} lies in {here}, and a block of {there} announces it. "
                "The reports on the parts don't add up to the report on the whole log.")
 
     def _where(self, place: int) -> str:

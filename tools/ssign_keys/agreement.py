@@ -11,8 +11,8 @@ from . import sha1
 from .blocks import Session
 from .kept import Counters
 from .reach import Reach
-from .report import Group, Teller, wrong
-from .vouched import Notes, Vouched
+from .report import Group, ReportVisitor, wrong
+from .block_facts import Notes, BlockFacts
 
 
 class Walked(NamedTuple):
@@ -28,7 +28,7 @@ class Walked(NamedTuple):
     """How many messages hold the octets `[ssign`. Each block is one of them."""
 
 
-class Survey(Teller):
+class Survey(ReportVisitor):
     """Counts the lines of a report, and keeps which messages are unlisted, and how far each group goes."""
 
     def __init__(self, walked: Walked, notes: Notes, is_whole: bool, counters: Optional[Counters]) -> None:
@@ -37,7 +37,7 @@ class Survey(Teller):
         self.unlisted = array("I")
         self.reach = Reach(counters)
         self._notes = notes
-        self._vouched: Optional[Vouched] = None
+        self._facts: Optional[BlockFacts] = None
         self._groups = 0
         # how many sessions rest on SHA-1
         self.on_sha1 = 0
@@ -89,8 +89,8 @@ class Survey(Teller):
 
     def session(self, session: Session, state: str) -> None:
         """Looks up what its blocks vouch for."""
-        self._vouched = self._notes.of(session)
-        self.on_sha1 += sha1.weakness(self._vouched, state) is not None
+        self._facts = self._notes.of(session)
+        self.on_sha1 += sha1.weakness(self._facts, state) is not None
         if state not in ("joined", "absent"):
             self.reach.pass_over(session)
 
@@ -110,9 +110,9 @@ class Survey(Teller):
 
     def end_group(self, group: Group) -> None:
         """Keeps how far the group goes."""
-        greatest = None if self._vouched is None else self._vouched.greatest.get((group.sg, group.spri))
-        self.reach.add(group.session, group.sg, group.spri, group.last, greatest, group.fallen,
-                       group.first_fallen if group.fallen else None)
+        greatest = None if self._facts is None else self._facts.greatest.get((group.sg, group.spri))
+        self.reach.add(group.session, group.sg, group.spri, group.last, greatest, group.out_of_order,
+                       group.first_out_of_order if group.out_of_order else None)
 
     def tail(self, session: Session, sg: int, spri: int, first: int, last: int) -> None:
         """Keeps a group of which no other line has anything, since nothing of it is announced."""

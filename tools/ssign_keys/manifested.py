@@ -12,7 +12,7 @@ from .manifest import sum_of
 from .manifest_findings import Found, Names, Reviewed, Stored, bare, of_manifest, of_review, of_sessions
 from .manifest_form import Entry, Extent, Manifest, Mark, read_manifest, read_mark
 from .progress import Progress
-from .report import Group, Reading, Teller
+from .report import Group, Reading, ReportVisitor
 from .words import counted, shown_name
 from .workplace import put, say
 
@@ -25,7 +25,7 @@ def add_arguments(parser: argparse.ArgumentParser) -> None:
                         "that it isn't there is a finding")
 
 
-class Extents(Teller):
+class Extents(ReportVisitor):
     """Keeps the states of the sessions, and the first and last number of each group."""
 
     def __init__(self) -> None:
@@ -112,13 +112,13 @@ class Listed:
 
     def compare(self, report: BinaryIO) -> None:
         """Compares the sessions and numbers of the entries with those of a report."""
-        teller = Extents()
-        Reading(teller).read(report, Progress())
+        visitor = Extents()
+        Reading(visitor).read(report, Progress())
         for it in self._entries:
-            found = of_review(it, self._labels[it.number], teller.reviewed)
+            found = of_review(it, self._labels[it.number], visitor.reviewed)
             if found is not None:
                 self.found.append(found)
-        self.found += of_sessions(self._entries, teller.reviewed)
+        self.found += of_sessions(self._entries, visitor.reviewed)
 
     def count(self, report: BinaryIO) -> int:
         """Compares a report, and gives how many findings there are in all."""

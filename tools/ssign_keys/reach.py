@@ -32,8 +32,8 @@ class Reached:
     """The number of its next message, by the counters."""
     next_gbc: Optional[int]
     """The GBC of the next signature block of its session, by the counters."""
-    fallen: int = 0
-    first_fallen: Optional[int] = None
+    out_of_order: int = 0
+    first_out_of_order: Optional[int] = None
 
     @property
     def is_covered(self) -> bool:
@@ -60,15 +60,15 @@ class Reach:
         """How many groups there are."""
         return len(self._groups)
 
-    def add(self, session: Session, sg: int, spri: int, last: int, gbc: Optional[int], fallen: int = 0,
-            first_fallen: Optional[int] = None) -> None:
+    def add(self, session: Session, sg: int, spri: int, last: int, gbc: Optional[int], out_of_order: int = 0,
+            first_out_of_order: Optional[int] = None) -> None:
         """Adds a group of the present session, where its SG and SPRI belong."""
         counters = self._counters or Counters()
         place = len(self._groups)
         while place and self._stands_behind(self._groups[place - 1], session, sg, spri):
             place -= 1
         self._groups.insert(place, Reached(session, sg, spri, last, gbc, counters.next_number(session, sg, spri),
-                                           counters.next_gbc(session), fallen, first_fallen))
+                                           counters.next_gbc(session), out_of_order, first_out_of_order))
 
     def pass_over(self, session: Session) -> None:
         """Takes a session of the log that isn't joined, so it has no group of its own: only counters can say how far it

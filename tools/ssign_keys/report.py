@@ -44,8 +44,8 @@ class Group:
     disputed: int = 0
     unannounced: int = 0
     # of the listed messages: how many stand before the one with the number before, and the first such number
-    fallen: int = 0
-    first_fallen: int = 0
+    out_of_order: int = 0
+    first_out_of_order: int = 0
     place: int = -1
 
     def reach(self, first: int, last: int) -> None:
@@ -62,10 +62,10 @@ class Group:
             raise wrong(f"the numbers from {numbers[0]} to {numbers[-1]} aren't all there")
         self.listed += len(numbers)
         before = [self.place, *places[:-1]]
-        fallen = sum(map(operator.gt, before, places))
-        if fallen and not self.fallen:
-            self.first_fallen = numbers[list(map(operator.gt, before, places)).index(True)]
-        self.fallen += fallen
+        out_of_order = sum(map(operator.gt, before, places))
+        if out_of_order and not self.out_of_order:
+            self.first_out_of_order = numbers[list(map(operator.gt, before, places)).index(True)]
+        self.out_of_order += out_of_order
         self.place = places[-1]
 
 
@@ -79,7 +79,7 @@ class Totals:
     unannounced: int = 0
     # numbers of `tail` lines, which only counters bring about
     tails: int = 0
-    fallen: int = 0
+    out_of_order: int = 0
     unlisted: int = 0
     refused: int = 0
     spoilt: int = 0
@@ -92,10 +92,10 @@ class Totals:
         self.lost += group.lost
         self.disputed += group.disputed
         self.unannounced += group.unannounced
-        self.fallen += group.fallen
+        self.out_of_order += group.out_of_order
 
 
-class Teller(ABC):
+class ReportVisitor(ABC):
     """Tells of the lines of a report, one after the other. What is counted stands in `totals` and `states`."""
 
     def __init__(self, is_whole: bool = False, counters: Optional[Counters] = None) -> None:
@@ -170,10 +170,10 @@ def text_of(octets: bytes) -> str:
 
 
 class Reading:
-    """Goes over a report, counts, and has a teller tell."""
+    """Goes over a report, counts, and has a visitor tell."""
 
-    def __init__(self, teller: Teller) -> None:
-        self._teller = teller
+    def __init__(self, visitor: ReportVisitor) -> None:
+        self._visitor = visitor
         self._session = Session(b"", b"", b"", b"")
         self._state = ""
         self._group: Optional[Group] = None
@@ -212,7 +212,7 @@ class Reading:
 
     def _list(self, group: Group, numbers: List[int], places: List[int]) -> None:
         group.list(numbers, places)
-        self._teller.listed(group, numbers, places)
+        self._visitor.listed(group, numbers, places)
 
     def _take(self, line: bytes) -> None:
         word, *fields = line.split(b" ")
@@ -229,30 +229,30 @@ class Reading:
         self._close_group()
         if word == b"session":
             self._take_session(fields)
-        elif word == b"tail" and self._teller.counters is not None:
+        elif word == b"tail" and self._visitor.counters is not None:
             self._take_tail(fields)
-        elif word == b"blocks" and self._teller.missing is not None:
+        elif word == b"blocks" and self._visitor.missing is not None:
             self._take_blocks(fields)
         elif word in (b"unlisted", b"refused", b"spoilt"):
             self._take_stray(word.decode("ascii"), fields)
         elif word == b"torn":
-            self._teller.totals.torn = number_of(fields[0])
-            self._teller.torn(self._teller.totals.torn)
+            self._visitor.totals.torn = number_of(fields[0])
+            self._visitor.torn(self._visitor.totals.torn)
         elif word == b"end":
-            self._teller.totals.messages = number_of(fields[0])
-            self._teller.end(self._teller.totals.messages)
+            self._visitor.totals.messages = number_of(fields[0])
+            self._visitor.end(self._visitor.totals.messages)
         else:
             raise wrong(f"it has a line that wasn't asked for, {text_of(line)}")
 
     def _take_session(self, fields: List[bytes]) -> None:
         session, state = Session(*fields[:4]), fields[4].decode("ascii", "replace")
-        if state not in STATES or state == "absent" and self._teller.counters is None:
+        if state not in STATES or state == "absent" and self._visitor.counters is None:
             raise wrong(f"it has a session whose state is {text_of(fields[4])}")
         if session == self._session:
             raise wrong(f"it has the session {text_of(bytes(str(session), 'ascii'))} twice")
         self._session, self._state, self._before = session, state, (-1, -1)
-        self._teller.states[state] = self._teller.states.get(state, 0) + 1
-        self._teller.session(session, state)
+        self._visitor.states[state] = self._visitor.states.get(state, 0) + 1
+        self._visitor.session(session, state)
 
     def _check_session(self, fields: List[bytes]) -> None:
         """Sees that a line is about the present session, below whose line it stands."""
@@ -265,24 +265,24 @@ class Reading:
         sg, spri, first, last = map(number_of, fields[4:])
         if not 0 < first <= last:
             raise wrong(f"it has a tail from {first} to {last}")
-        self._teller.totals.tails += last - first + 1
-        self._teller.tail(self._session, sg, spri, first, last)
+        self._visitor.totals.tails += last - first + 1
+        self._visitor.tail(self._session, sg, spri, first, last)
 
     def _take_blocks(self, fields: List[bytes]) -> None:
         self._check_session(fields)
         first, last = map(number_of, fields[4:])
         if last < first:
             raise wrong(f"it has missing blocks from {first} to {last}")
-        self._teller.missing = (self._teller.missing or 0) + last - first + 1
-        self._teller.missing_blocks(self._session, first, last)
+        self._visitor.missing = (self._visitor.missing or 0) + last - first + 1
+        self._visitor.missing_blocks(self._session, first, last)
 
     def _take_stray(self, kind: str, fields: List[bytes]) -> None:
-        place, totals = number_of(fields[0]), self._teller.totals
+        place, totals = number_of(fields[0]), self._visitor.totals
         if place <= self._place:
             raise wrong(f"the place {place} follows the place {self._place}")
         self._place = place
         setattr(totals, kind, getattr(totals, kind) + 1)
-        self._teller.stray(kind, place, fields[1].decode("ascii", "replace") if fields[1:] else "")
+        self._visitor.stray(kind, place, fields[1].decode("ascii", "replace") if fields[1:] else "")
 
     def _take_number(self, word: bytes, fields: List[bytes]) -> None:
         self._check_session(fields)
@@ -297,7 +297,7 @@ class Reading:
             self._before = sg, spri
             group = self._group = Group(self._session, sg, spri)
             self._front = b" ".join([b"ok", *fields[:6], b""])
-            self._teller.begin_group(group)
+            self._visitor.begin_group(group)
         if word == b"ok":
             self._list(group, [number], [number_of(fields[7])])
         elif word == b"gap":
@@ -306,7 +306,7 @@ class Reading:
             last = number_of(fields[7])
             group.reach(number, last)
             group.unannounced += last - number + 1
-            self._teller.hole(group, number, last)
+            self._visitor.hole(group, number, last)
 
     def _take_gap(self, group: Group, number: int, why: str) -> None:
         group.reach(number, number)
@@ -316,12 +316,12 @@ class Reading:
             group.disputed += 1
         else:
             raise wrong(f"number {number} is {text_of(why.encode('ascii', 'replace'))}")
-        self._teller.gap(group, number, why)
+        self._visitor.gap(group, number, why)
 
     def _close_group(self) -> None:
         if self._group is not None:
-            self._teller.totals.add(self._group)
-            self._teller.end_group(self._group)
+            self._visitor.totals.add(self._group)
+            self._visitor.end_group(self._group)
         self._group, self._front = None, b""
 
 

@@ -6,9 +6,9 @@ from typing import NamedTuple, Optional
 from .agreement import Survey
 from .kept import Counters
 from .logs import Log
-from .strays import Finder
+from .finder import Finder
 from .verdict import Facts
-from .vouched import Notes
+from .block_facts import Notes
 
 
 class Reviewed(NamedTuple):

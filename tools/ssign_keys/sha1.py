@@ -8,8 +8,8 @@ from __future__ import annotations
 import argparse
 from typing import Optional
 
+from .block_facts import BlockFacts
 from .schemes import SHA1
-from .vouched import Vouched
 from .words import grouped
 from .workplace import say
 
@@ -22,9 +22,9 @@ def add_arguments(parser: argparse.ArgumentParser) -> None:
                         f"(VER {SHA1.name}), for which two texts with one hash can be made")
 
 
-def weakness(vouched: Optional[Vouched], state: str) -> Optional[str]:
+def weakness(facts: Optional[BlockFacts], state: str) -> Optional[str]:
     """What is said of a session in this state, or None where its numbers don't rest on SHA-1."""
-    return f"rests on {WEAKNESS}" if vouched and state == "joined" and SHA1.name in vouched.versions else None
+    return f"rests on {WEAKNESS}" if facts and state == "joined" and SHA1.name in facts.versions else None
 
 
 def finding(count: int) -> str:

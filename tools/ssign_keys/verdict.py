@@ -131,7 +131,7 @@ def tails(totals: Totals) -> str:
 
 def order(totals: Totals) -> str:
     """What is to be said of the order, where that isn't the one of the numbers."""
-    return " But the listed messages don't stand in the order of their numbers." if totals.fallen else ""
+    return " But the listed messages don't stand in the order of their numbers." if totals.out_of_order else ""
 
 
 def covered(facts: Facts) -> str:

@@ -21,20 +21,20 @@ from .faults import Fault
 from .kept import Counters, copy_counters, is_standard_pipe, read_counters
 from .kept_file import KeptFile
 from .logs import Log, open_log
-from .machine import Machine
+from .json_verdict import JsonVerdict
 from .manifested import Listed
 from .numbers import add_jobs
 from .output import file_pieces, write_out
-from .person import Person
+from .text_verdict import TextVerdict
 from .programs import Refused, Run, add_limit_arguments, add_program_argument, find_program, log_words
 from .progress import Progress
 from .refusals import fault_of, warn_of_form
 from .report import Reading
 from .reviewed import Reviewed
-from .strays import Finder
+from .finder import Finder
 from .trust import Trust
 from .verdict import NOTHING, Facts
-from .vouched import Notes, noted
+from .block_facts import Notes, noted
 from .walk import Walk
 from .words import shown_name
 from .workplace import Workplace, finish, put, say
@@ -281,7 +281,7 @@ class Verifier:
         out = self._workplace.new_file("out")
         if listed is not None:
             listed.put(out, arguments.json)
-        make: Type[Union[Machine, Person]] = Machine if arguments.json else Person
+        make: Type[Union[JsonVerdict, TextVerdict]] = JsonVerdict if arguments.json else TextVerdict
         form = make(out, reviewed, arguments.findings)
         Reading(form).read(self._report, self._progress)
         front = form.verdict()

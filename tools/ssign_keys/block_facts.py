@@ -18,7 +18,7 @@ GroupName = Tuple[int, int]
 
 
 @dataclass
-class Vouched:
+class BlockFacts:
     """Of one session: whose its key is, or why none is trusted, and what its signature blocks say that are validly signed."""
 
     finding: Finding
@@ -31,29 +31,29 @@ class Vouched:
 def noted(answered: Iterable[Answered], notes: BinaryIO) -> Iterator[Answered]:
     """Gives on what was answered, and keeps what its blocks vouch for."""
     session: Optional[Session] = None
-    vouched = Vouched(UNKNOWN)
+    facts = BlockFacts(UNKNOWN)
     for it in answered:
         if it.is_payload or it.session is None:
             yield it
             continue
         if it.session != session:
             if session is not None:
-                put_note(notes, session, vouched)
-            session, vouched = it.session, Vouched(it.finding)
+                put_note(notes, session, facts)
+            session, facts = it.session, BlockFacts(it.finding)
         if it.line and it.block is not None and it.block.counters is not None:
             sg, spri, gbc = it.block.counters
-            vouched.versions.add(it.block.version.decode("ascii"))
-            vouched.greatest[sg, spri] = max(gbc, vouched.greatest.get((sg, spri), 0))
+            facts.versions.add(it.block.version.decode("ascii"))
+            facts.greatest[sg, spri] = max(gbc, facts.greatest.get((sg, spri), 0))
         yield it
     if session is not None:
-        put_note(notes, session, vouched)
+        put_note(notes, session, facts)
 
 
-def put_note(notes: BinaryIO, session: Session, vouched: Vouched) -> None:
+def put_note(notes: BinaryIO, session: Session, facts: BlockFacts) -> None:
     """Keeps a line of JSON."""
-    groups = [[*group, gbc] for group, gbc in vouched.greatest.items()]
+    groups = [[*group, gbc] for group, gbc in facts.greatest.items()]
     names = [it.decode("latin-1") for it in session]
-    put(notes, json.dumps([names, note_of(vouched.finding), groups, sorted(vouched.versions)]).encode("ascii") + b"\n")
+    put(notes, json.dumps([names, note_of(facts.finding), groups, sorted(facts.versions)]).encode("ascii") + b"\n")
 
 
 class Notes:
@@ -64,20 +64,20 @@ class Notes:
         self._notes = notes
         self._next = self._read()
 
-    def of(self, session: Session) -> Optional[Vouched]:
+    def of(self, session: Session) -> Optional[BlockFacts]:
         """What is known of this session's key and blocks, or None where nothing is. Asked for in the order of a report."""
         if self._next is None or self._next[0] != session:
             return None
-        vouched = self._next[1]
+        facts = self._next[1]
         self._next = self._read()
-        return vouched
+        return facts
 
-    def _read(self) -> Optional[Tuple[Session, Vouched]]:
+    def _read(self) -> Optional[Tuple[Session, BlockFacts]]:
         line = self._notes.readline()
         if not line:
             return None
         names, note, groups, versions = json.loads(line)
         host, app, procid, rsid = (str(it).encode("latin-1") for it in names)
         rows: List[List[int]] = groups
-        return Session(host, app, procid, rsid), Vouched(finding_of(note), {(sg, spri): gbc for sg, spri, gbc in rows},
+        return Session(host, app, procid, rsid), BlockFacts(finding_of(note), {(sg, spri): gbc for sg, spri, gbc in rows},
                                                    set(versions))

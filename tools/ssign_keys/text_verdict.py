@@ -11,12 +11,12 @@ from .blocks import Session
 from .identity import identity_lines
 from .pairs import Neighbour, Stretch, Stretches
 from .reach import Reached
-from .report import Group, Teller
+from .report import Group, ReportVisitor
 from .reviewed import Reviewed
-from .strays import most_shown
+from .finder import most_shown
 from .summaries import FEW, Few, Runs
 from .verdict import sentence
-from .vouched import Vouched
+from .block_facts import BlockFacts
 from .words import grouped, shown, shown_name
 from .workplace import put
 
@@ -115,7 +115,7 @@ def neighbours_words(stretch: Stretch) -> str:
     return ", ".join(sides) or "no other number of this group is listed"
 
 
-class Person(Teller):
+class TextVerdict(ReportVisitor):
     """Writes for a person, into a passing file, as the report is read."""
 
     def __init__(self, out: BinaryIO, reviewed: Reviewed, only_findings: bool) -> None:
@@ -124,7 +124,7 @@ class Person(Teller):
         self._reviewed = reviewed
         self._only_findings = only_findings
         self.lines = 0
-        self._vouched: Optional[Vouched] = None
+        self._facts: Optional[BlockFacts] = None
         # headings that are written once something follows them
         self._session_heading: List[str] = []
         self._group_heading: List[str] = []
@@ -151,11 +151,11 @@ class Person(Teller):
     def session(self, session: Session, state: str) -> None:
         """Shows a session that isn't joined, and keeps the heading of another until something follows it."""
         self._end_session()
-        self._vouched = self._reviewed.notes.of(session)
+        self._facts = self._reviewed.notes.of(session)
         self._session_heading = [f"Session: {session_words(session)}", f"  state: {state}; {STATES[state]}"]
-        if self._vouched is not None:
-            self._session_heading += [f"  {it}" for it in identity_lines(self._vouched.finding)]
-        weakness = sha1.weakness(self._vouched, state)
+        if self._facts is not None:
+            self._session_heading += [f"  {it}" for it in identity_lines(self._facts.finding)]
+        weakness = sha1.weakness(self._facts, state)
         if weakness is not None:
             self._session_heading.append(f"  {weakness}")
         self._left = None
@@ -258,7 +258,7 @@ class Person(Teller):
     def end_group(self, group: Group) -> None:
         """Shows the counts of a group, and its order."""
         self._show_missing(group, self._stretches.end_group())
-        if group.lost or group.disputed or group.unannounced or group.fallen:
+        if group.lost or group.disputed or group.unannounced or group.out_of_order:
             self._need_group()
         for few, what in ((self._missing, "missing"), (self._disputed, "disputed"), (self._holes, "unannounced")):
             if few.left:
@@ -273,9 +273,9 @@ class Person(Teller):
         counts = "".join(f", {count:,} {what}" for count, what in (
             (group.lost, "missing"), (group.disputed, "disputed"), (group.unannounced, "unannounced")) if count)
         self._put(f"    numbers {group.first} to {group.last}: {group.listed:,} listed{counts}")
-        if group.fallen:
-            stand = grouped(group.fallen, "listed message stands", "listed messages stand")
-            self._put(f"    order: {stand} in front of the one with the number before, first number {group.first_fallen}")
+        if group.out_of_order:
+            stand = grouped(group.out_of_order, "listed message stands", "listed messages stand")
+            self._put(f"    order: {stand} in front of the one with the number before, first number {group.first_out_of_order}")
         elif group.listed > 1 and not self._only_findings:
             self._put("    order: the places of the listed messages rise with their numbers")
 

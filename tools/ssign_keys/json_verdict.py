@@ -10,9 +10,9 @@ from .identity import UNKNOWN, identity_fields
 from .json_text import compact
 from .pairs import Stretch, Stretches
 from .reach import Reached
-from .report import Group, Teller
+from .report import Group, ReportVisitor
 from .reviewed import Reviewed
-from .strays import most_shown
+from .finder import most_shown
 from .verdict import sentence
 from .words import shown, shown_name
 from .workplace import put
@@ -26,7 +26,7 @@ def names_of(session: Session) -> Fields:
     return {"host": shown(host), "app": shown(app), "procid": shown(procid), "rsid": int(rsid)}
 
 
-class Machine(Teller):
+class JsonVerdict(ReportVisitor):
     """Writes JSON into a passing file, as the report is read."""
 
     def __init__(self, out: BinaryIO, reviewed: Reviewed, only_findings: bool) -> None:
@@ -42,11 +42,11 @@ class Machine(Teller):
 
     def session(self, session: Session, state: str) -> None:
         """Writes a session, with whose its key is."""
-        vouched = self._reviewed.notes.of(session)
-        finding = vouched.finding if vouched else UNKNOWN
+        facts = self._reviewed.notes.of(session)
+        finding = facts.finding if facts else UNKNOWN
         fields: Dict[str, object] = {"line": "session", **names_of(session), "state": state}
         fields.update(identity_fields(finding))
-        fields["weakness"] = sha1.weakness(vouched, state)
+        fields["weakness"] = sha1.weakness(facts, state)
         self._put(fields)
 
     def begin_group(self, group: Group) -> None:
@@ -134,7 +134,7 @@ class Machine(Teller):
     def _group(self, it: Reached) -> Fields:
         counted: Fields = {} if self.counters is None else {"next": it.next_number, "next_gbc": it.next_gbc}
         return {**names_of(it.session), "sg": it.sg, "spri": it.spri, "last": it.last, "gbc": it.gbc, **counted,
-                "out_of_order": it.fallen, "first_out_of_order": it.first_fallen}
+                "out_of_order": it.out_of_order, "first_out_of_order": it.first_out_of_order}
 
 
 def broken_fields(broken: Broken) -> Fields:
