@@ -16,6 +16,8 @@ from typing import Iterator, List, NamedTuple, Sequence, Tuple
 
 from review_runs import frame, read_frames
 
+NOTHING = b"ssign-keys: Nothing in this log is shown to be authentic. Whatever was signed may have been taken out.\n"
+
 FORMS = ((), ("--raw",), ("--json",), ("--findings",))
 STAND_IN = """#!/bin/sh
 if [ "$1" = "$LIE_COMMAND" ]; then
@@ -246,8 +248,10 @@ def main(folder: str, tool: str, program: str) -> None:
         truths = [(it, Lie("the truth", it.log, joined(it.lines), it.status)) for it in reports.values()]
         said = pool.map(lambda it: bench.tell(1000 + names.index(it[0].log), it[1], "--raw"), truths)
         for (report, _), (status, out, complaint) in zip(truths, said):
-            wanted = max(report.status, not any(it.startswith(b"ok ") for it in report.lines))
-            if (status, out, complaint) != (wanted, joined(report.lines), b""):
+            # README.md: a log in which nothing is listed has status 1 and this sentence
+            lists = any(it.startswith(b"ok ") for it in report.lines)
+            wanted = max(report.status, not lists)
+            if (status, out, complaint) != (wanted, joined(report.lines), b"" if lists else NOTHING):
                 failed += 1
                 print(f"the truth about {report.log}: FAILED: {status}, {complaint!r}")
         # a lie is told in one form, and each eighth in all of them
