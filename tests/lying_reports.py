@@ -95,6 +95,7 @@ class Bench:
             "broken": [it + b"\n" if place == at else it for place, it in enumerate(stored)],
             "foreign": [it.replace(b" gate ", b" gato ", 1) if place in blocks else it for place, it in enumerate(stored)],
             "certificates": [it for it in stored if b"[ssign-cert" in it],
+            "missing": [it for it in stored if b"name=mallory" not in it],
         }
         for name, texts in logs.items():
             self._write(name, b"".join(map(frame, texts)))
@@ -143,6 +144,7 @@ def lies(reports: "dict[str, Report]") -> Iterator[Lie]:
         if report.log not in ("clean", "changed"):
             yield Lie(f"a clean report on {report.log}", report.log, text, 0)
     yield from left_out(reports)
+    yield from in_place_of_blocks(reports["missing"])
     yield from twisted(clean)
     yield from malformed(clean)
 
@@ -168,6 +170,16 @@ def left_out(reports: "dict[str, Report]") -> Iterator[Lie]:
     yield Lie("nothing of the torn end", "torn", reports["torn"].without(b"torn "), 1)
     yield Lie("another torn end", "torn", joined([b"torn 7" if it.startswith(b"torn ") else it
                                                   for it in reports["torn"].lines]), 1)
+
+
+def in_place_of_blocks(report: Report) -> Iterator[Lie]:
+    """Reports of a missing message as listed, at the place of a verified block: no line names one."""
+    gap = next(it for it in report.lines if it.startswith(b"gap "))
+    named = {int(it.split(b" ")[-1]) for it in report.lines if it.startswith((b"ok ", b"unlisted ", b"refused "))}
+    count = int(report.lines[-1].split(b" ")[1])
+    for place in sorted(set(range(count)) - named):
+        lie = gap.replace(b"gap ", b"ok ").replace(b" lost", b" %d" % place)
+        yield Lie(f"a missing message listed at the block of place {place}", "missing", report.edited(gap, lie), 0)
 
 
 def twisted(clean: Report) -> Iterator[Lie]:
@@ -239,9 +251,10 @@ def main(folder: str, tool: str, program: str) -> None:
     """Tries each lie, by two runs at a time, and prints what was tried."""
     bench = Bench(folder, tool, program)
     bench.make_logs()
-    names = ("clean", "changed", "added", "block", "spoilt", "broken", "foreign", "certificates", "torn", "empty")
+    names = ("clean", "changed", "added", "block", "spoilt", "broken", "foreign", "certificates", "torn", "empty",
+             "missing")
     reports = {it: bench.report(it) for it in names}
-    assert [it.status for it in reports.values()] == [0, 1, 1, 1, 1, 1, 1, 0, 1, 0], reports
+    assert [it.status for it in reports.values()] == [0, 1, 1, 1, 1, 1, 1, 0, 1, 0, 1], reports
     failed = runs = 0
     with ThreadPoolExecutor(2) as pool:
         # the truth, told by the stand-in, is believed

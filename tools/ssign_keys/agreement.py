@@ -41,6 +41,8 @@ class Survey(ReportVisitor):
         self._groups = 0
         # how many sessions rest on SHA-1
         self.on_sha1 = 0
+        # how many blocks of joined sessions are validly signed
+        self._valid = 0
         self._walked = walked
         # for each place whether a line has it
         self._seen = bytearray(walked.messages)
@@ -77,6 +79,9 @@ class Survey(ReportVisitor):
             raise wrong(f"it leaves out messages: only {walked.marked} can be blocks")
         if self.verified > valid:
             raise wrong(f"it leaves room for {self.verified} verified blocks, and only {valid} signatures are valid")
+        if self.verified != self._valid:
+            raise wrong(f"it leaves room for {self.verified} verified blocks, "
+                        f"and {self._valid} blocks of its joined sessions are validly signed")
         if self.verified < self.states.get("joined", 0) + self._groups:
             raise wrong("its sessions have more blocks than it leaves room for")
 
@@ -91,6 +96,8 @@ class Survey(ReportVisitor):
         """Looks up what its blocks vouch for."""
         self._facts = self._notes.of(session)
         self.on_sha1 += sha1.weakness(self._facts, state) is not None
+        if state == "joined" and self._facts is not None:
+            self._valid += self._facts.valid
         if state not in ("joined", "absent"):
             self.reach.pass_over(session)
 

@@ -26,6 +26,8 @@ class BlockFacts:
     """The greatest GBC of each group."""
     versions: Set[str] = field(default_factory=set)
     """Each VER."""
+    valid: int = 0
+    """How many of its blocks, certificate blocks too, are validly signed."""
 
 
 def noted(answered: Iterable[Answered], notes: BinaryIO) -> Iterator[Answered]:
@@ -40,6 +42,7 @@ def noted(answered: Iterable[Answered], notes: BinaryIO) -> Iterator[Answered]:
             if session is not None:
                 put_note(notes, session, facts)
             session, facts = it.session, BlockFacts(it.finding)
+        facts.valid += bool(it.line)
         if it.line and it.block is not None and it.block.counters is not None:
             sg, spri, gbc = it.block.counters
             facts.versions.add(it.block.version.decode("ascii"))
@@ -53,7 +56,7 @@ def put_note(notes: BinaryIO, session: Session, facts: BlockFacts) -> None:
     """Keeps a line of JSON."""
     groups = [[*group, gbc] for group, gbc in facts.greatest.items()]
     names = [it.decode("latin-1") for it in session]
-    put(notes, json.dumps([names, note_of(facts.finding), groups, sorted(facts.versions)]).encode("ascii") + b"\n")
+    put(notes, json.dumps([names, note_of(facts.finding), groups, sorted(facts.versions), facts.valid]).encode("ascii") + b"\n")
 
 
 class Notes:
@@ -76,8 +79,8 @@ class Notes:
         line = self._notes.readline()
         if not line:
             return None
-        names, note, groups, versions = json.loads(line)
+        names, note, groups, versions, valid = json.loads(line)
         host, app, procid, rsid = (str(it).encode("latin-1") for it in names)
         rows: List[List[int]] = groups
         return Session(host, app, procid, rsid), BlockFacts(finding_of(note), {(sg, spri): gbc for sg, spri, gbc in rows},
-                                                   set(versions))
+                                                   set(versions), valid)
