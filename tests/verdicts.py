@@ -75,6 +75,10 @@ def wanted(line: str, stored: List[bytes], log: str) -> Dict[str, object]:
         names.update(place=int(fields[0]))
         names.update({"cause": fields[1]} if word == "spoilt" else {})
         names.update(file=log, file_place=int(fields[0]), octets=len(text), text=escaped(text, 2048 if word == "unlisted" else 60))
+    # docs/guide.md, "Words of a verdict"
+    words = {"hole": "unannounced", "tail": "missing", "blocks": "missing", "unlisted": "unlisted", "refused": "unverified",
+             "spoilt": "spoilt", "torn": "torn", "gap": "missing" if line.endswith(" lost") else "disputed"}
+    names.update({"finding": words[word]} if word in words else {})
     return names
 
 

@@ -270,7 +270,7 @@ as_reviewed 'a group taken out' stored --whole
 as_reviewed 'a group taken out, without --whole' stored
 keys verify --key keys/public-key.pem --json --whole stored
 holds 'a group taken out: its object' grep -Fqx \
-    '{"line":"blocks","host":"gate","app":"signer","procid":"-","rsid":1,"first":1,"last":1}' out
+    '{"line":"blocks","host":"gate","app":"signer","procid":"-","rsid":1,"first":1,"last":1,"finding":"missing"}' out
 holds 'a group taken out: how many' grep -Fq '"unannounced":0,"missing_blocks":1,"unlisted":0,' out
 python3 -B "$root/tests/verdicts.py" lines stored >stored.lines
 keys verify --key keys/public-key.pem --whole --lines stored.lines
@@ -458,7 +458,7 @@ as_reviewed 'the tail cut off' stored --counters counters
 as_reviewed 'the tail cut off, with --whole too' stored --counters counters --whole
 keys verify --key keys/public-key.pem --json --counters counters stored
 holds 'the tail cut off: its object' grep -Fqx \
-    '{"line":"tail","host":"gate","app":"signer","procid":"-","rsid":1,"sg":0,"spri":0,"first":9,"last":10}' out
+    '{"line":"tail","host":"gate","app":"signer","procid":"-","rsid":1,"sg":0,"spri":0,"first":9,"last":10,"finding":"missing"}' out
 holds 'the tail cut off: how many' grep -Fq '"unannounced":0,"missing_up_to_counters":2,"missing_blocks":1,"unlisted":0,' out
 kept '1 2' '1 0 0 10'
 keys verify --key keys/public-key.pem --counters counters stored

@@ -19,6 +19,9 @@ from .workplace import put
 
 Fields = Dict[str, Union[str, int, None]]
 
+# what the report calls a cause or a message, and the word of a verdict for it
+FINDINGS = {"lost": "missing", "disputed": "disputed", "unlisted": "unlisted", "refused": "unverified", "spoilt": "spoilt"}
+
 
 def names_of(session: Session) -> Fields:
     """The four names of a session."""
@@ -80,13 +83,13 @@ class JsonVerdict(ReportVisitor):
 
     def _put_gap(self, group: Group, number: int, why: str, likely: Sequence[int]) -> None:
         self._put({"line": "gap", **names_of(group.session), "sg": group.sg, "spri": group.spri, "number": number,
-                   "why": why, "likely_places": list(likely)})
+                   "why": why, "likely_places": list(likely), "finding": FINDINGS[why]})
 
     def hole(self, group: Group, first: int, last: int) -> None:
         """Writes unannounced numbers."""
         self._put_lost(group, self._stretches.other())
         self._put({"line": "hole", **names_of(group.session), "sg": group.sg, "spri": group.spri, "first": first,
-                   "last": last})
+                   "last": last, "finding": "unannounced"})
 
     def end_group(self, group: Group) -> None:
         """Writes missing numbers at the end of a group."""
@@ -94,23 +97,25 @@ class JsonVerdict(ReportVisitor):
 
     def tail(self, session: Session, sg: int, spri: int, first: int, last: int) -> None:
         """Writes numbers that are missing up to a counter."""
-        self._put({"line": "tail", **names_of(session), "sg": sg, "spri": spri, "first": first, "last": last})
+        self._put({"line": "tail", **names_of(session), "sg": sg, "spri": spri, "first": first, "last": last,
+                   "finding": "missing"})
 
     def missing_blocks(self, session: Session, first: int, last: int) -> None:
         """Writes missing signature blocks."""
-        self._put({"line": "blocks", **names_of(session), "first": first, "last": last})
+        self._put({"line": "blocks", **names_of(session), "first": first, "last": last, "finding": "missing"})
 
     def stray(self, kind: str, place: int, cause: str) -> None:
         """Writes a message that is unlisted, refused or spoilt."""
         found = self._reviewed.finder.find(place, most_shown(kind))
         why: Fields = {"cause": cause} if kind == "spoilt" else {}
         self._put({"line": kind, "place": place, **why, "file": shown_name(found.file), "file_place": found.place,
-                   "octets": found.octets, "text": found.text})
+                   "octets": found.octets, "text": found.text, "finding": FINDINGS[kind]})
 
     def torn(self, offset: int) -> None:
         """Writes where the log breaks off."""
         part = self._reviewed.log.part_of_offset(offset)
-        self._put({"line": "torn", "offset": offset, "file": shown_name(part.name), "file_offset": offset - part.offset})
+        self._put({"line": "torn", "offset": offset, "file": shown_name(part.name), "file_offset": offset - part.offset,
+                   "finding": "torn"})
 
     def end(self, count: int) -> None:
         """Writes how many messages there are."""
