@@ -13,7 +13,8 @@ cd -- "$root" || exit 1
 # a script that takes longer hangs, even beside much other work
 longest=1800
 # the scripts that take longest begin first, so that none of them is alone at the end
-first=(verify archive ssign keys cost refusals mistakes install nights completions)
+first=(verify archive_keys nightly refusals kept archive keys answers-out linear strangers mistakes ssign sealing deliveries
+    verdict agreement reports bombs archive_results manifest)
 
 usage() {
     echo 'usage: tests/all.sh [--gate] [-j N] [NAME..]' >&2
@@ -45,6 +46,18 @@ if ! find_program; then
 fi
 echo "all: the program is ${program#"$root/"}"
 export SSIGN=$program scratch longest
+# A starter of Python, as pyenv has one, takes as long as Python itself.
+if python=$(python3 -c 'import os, sys; print(os.path.dirname(sys.executable))' 2>"$scratch/fault"); then
+    export PATH=$python:$PATH
+fi
+# Thousands of processes would each compile the tools anew. What is compiled here goes at the end.
+compiled=
+if ! compgen -G 'tools/*/__pycache__' >"$scratch/fault" && python3 -m compileall -q tools >"$scratch/fault" 2>&1; then
+    compiled=1
+fi
+remove_compiled() {
+    [[ ! $compiled ]] || rm -rf -- tools/*/__pycache__
+}
 if [[ ${#names[@]} == 0 ]]; then
     for it in "${first[@]}" $(cd tests && printf '%s\n' *.sh); do
         it=${it%.sh}
@@ -83,6 +96,7 @@ end() {
     trap '' INT TERM HUP
     kill "$runner" 2>"$scratch/fault"
     cat -- "$scratch"/*.running 2>"$scratch/fault" | xargs -r kill 2>"$scratch/fault"
+    remove_compiled
     exit 130
 }
 trap end INT TERM HUP
@@ -90,6 +104,7 @@ trap end INT TERM HUP
 xargs -0 -r -n 1 -P "$jobs" bash -c 'run_one "$1"' run_one < <(printf '%s\0' "${names[@]}") &
 runner=$!
 wait "$runner"
+remove_compiled
 
 # what scripts say of tools that aren't here
 for it in "${names[@]}"; do
