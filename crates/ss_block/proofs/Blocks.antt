@@ -107,7 +107,7 @@ unsigned_same (x ∷ es) none others = by_tests x es (bytes_eq x.id (codes "ssig
 
 -- ---- the element of a block
 
--- The element that holds the block stands behind these and before those, which stay as they are; it has eight
+-- The element that holds the block stands after these and before those, which stay as they are; it has eight
 -- parameters and SIGN.
 pub record BlockElement (es : List ElementValue) (id : List ℕ) : Type 0 where
   pub before : List ElementValue

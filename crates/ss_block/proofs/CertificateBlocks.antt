@@ -20,7 +20,7 @@ use Rattle.ss_block.proofs.Values.{text_is_utf8}
 use Rattle.ss_octets.proofs.Numbers.{is_spelled}
 use Rattle.ss_block.proofs.CertificateCauses.{of_block, spoilt_fragment, is_block}
 
--- what the calls before told of the element
+-- what the calls before found the element to be
 pub record IsTold (e : ElementValue) (alg : Alg) (n : CertificateNumbers) (sign fragment : List ℕ) : Type 0 where
   pub raws : has_raws e ≡ true
   pub names : has_parameters certificate_names e ≡ true

@@ -10,7 +10,7 @@ text-push h [] x = refl
 text-push h (next ∷ hs) x =
     ap (λ (l : List ℕ). base64 (hash_octets h) ++ 32 ∷ l) (text-push next hs x) ∙ sym (append_assoc (base64 (hash_octets h)) (32 ∷ hashes_text (next ∷ hs)) (32 ∷ base64 (hash_octets x)))
 
--- a further hash, behind an SP
+-- a further hash, after an SP
 pub one_more : (hs : List Hash) (i : ℕ) (d : Hash) (text : List ℕ) → 0 < i → i < length hs → text ≡ hashes_text (take i hs)
     → (text ++ 32 ∷ []) ++ base64 (hash_octets (get_or hs i d)) ≡ hashes_text (take (i + 1) hs)
 one_more [] i d text some lt is = absurd (omega arith)

@@ -1,4 +1,4 @@
--- Where STRUCTURED-DATA lies in a message: behind the header, with MSG behind it.
+-- Where STRUCTURED-DATA lies in a message: after the header and before MSG.
 use Rattle.std.proofs.Common.{◌≡◌, ℕ, ◌+◌, ◌<◌, ◌≤◌, List, [], ◌∷◌, ◌++◌, length, drop, ap, ◌∙◌, sym, append_assoc, arith}
 use Rattle.std.proofs.lemmas.List.{length-append, length-drop}
 use Rattle.ss_message.specs.Message.{ElementValue, MessageValue, field_text, header_text, before_msgid, structured_text, msg_text, text}
@@ -13,7 +13,7 @@ text_parts v = simp append_assoc
 header_parts : (v : MessageValue) → header_text v ≡ before_msgid v ++ (field_text v.msgid ++ 32 ∷ [])
 header_parts v = simp append_assoc
 
--- the elements follow one another behind the header, if there is one
+-- the elements, if there are any, follow one another after the header
 pub record Follows (t : List ℕ) (l : Layout) : Type 0 where
   pub end : ℕ
   pub lie : ElementsLie t (l.msgid.end + 1) l.elements end

@@ -21,7 +21,7 @@ use Rattle.ss_block.proofs.SignPlaces.{back_of, around}
 opened : (x y i p back : List ℕ) → (x ++ y ++ 91 ∷ i ++ p) ++ back ≡ (x ++ y) ++ ((91 ∷ i) ++ (p ++ back))
 opened x y i p back = simp append_assoc
 
--- behind the elements before the one with an SD-ID stands its `[`, with the SD-ID behind it
+-- the element with an SD-ID begins, after the elements before it, with `[` and the SD-ID
 element_stands : (v : MessageValue) (id : List ℕ) (e : ElementValue) → element_with id v.elements ≡ Some e
     → (front : List ℕ) × (back : List ℕ) × (text v ≡ front ++ ((91 ∷ id) ++ back))
 element_stands v id e has =
@@ -83,7 +83,7 @@ nowhere t none h =
     let there = stands_there t h in
     none (length h.front) (omega arith) (omega (arith, there.fits)) there
 
--- a search for them tells whether they stand there
+-- a search for them finds whether they stand there
 pub search_tells : (t : List ℕ) (r : Option ℕ) (some : Bool) → some ≡ is_some r → FindsNeedle t (codes "[ssign") 0 r → (IsTrue some → HoldsMark t) × (HoldsMark t → IsTrue some)
 search_tells t None some is finds = (λ told. absurd cc, λ holds. absurd (nowhere t finds holds))
 search_tells t (Some k) some is finds = (λ told. holds_there t k finds.1, λ holds. is)

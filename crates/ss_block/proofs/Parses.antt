@@ -1,4 +1,4 @@
--- What is told of a text through its parse.
+-- What is known of a text from its parse.
 use Rattle.std.proofs.Common.{◌≡◌, ℕ, List, Some, None, Result, Ok, Err, refl, sym, ap, ◌∙◌}
 use Rattle.ss_message.specs.declared.fault.BadPart.{BadPart}
 use Rattle.ss_message.specs.declared.message.Message.{Message}

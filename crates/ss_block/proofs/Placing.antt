@@ -1,4 +1,4 @@
--- Where an element and a parameter of a message lie, told by what stands before them.
+-- Where an element and a parameter of a message lie, by what stands before them.
 use Rattle.std.proofs.Common.{◌≡◌, ℕ, ◌+◌, ◌≤◌, Bool, true, false, cond, List, [], ◌∷◌, ◌++◌, length, Some, None, refl, ap, subst, ◌∙◌, arith}
 use Rattle.std.specs.Prelude.{◌&&◌, nat_le}
 use Rattle.std.specs.List.{flat_map, slice_get}
@@ -17,7 +17,7 @@ use Rattle.ss_message.proofs.ElementLaws.{element_stands}
 use Rattle.ss_message.proofs.ParameterLaws.{stands_within}
 use Rattle.ss_block.specs.Reading.{element_with}
 
--- the element e behind these
+-- the element e after these
 pub record ElementPlaced (t id : List ℕ) (n pos : ℕ) (es : List Element) (before : List ElementValue) (e : ElementValue) : Type 0 where
   pub at : Element
   pub next : ℕ
@@ -83,7 +83,7 @@ element_placed t id n pos (x ∷ es) end (b ∷ before) e after le lie says none
       lies = subst (λ q. ElementLies t q r.at r.next) p r.lies;
     }
 
--- the parameter p behind these
+-- the parameter p after these
 pub record ParameterPlaced (t : List ℕ) (pos : ℕ) (ps : List Parameter) (before : List ParameterValue) (p : ParameterValue) : Type 0 where
   pub at : Parameter
   pub there : slice_get ps (length before) ≡ Some at

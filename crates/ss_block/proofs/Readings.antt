@@ -16,7 +16,7 @@ pub reading_is : (t : List ℕ) (r : Result Layout BadPart) → layout_at t ≡ 
 unfolding reading
 reading_is t r e = ap (reading_from t) e
 
--- ---- a message is never told to be none
+-- ---- a message is never read as none
 
 spoilt_parsed : (cause : Option Spoil) (r : Reading) (part : Part) (pos : ℕ) → (r ≡ Unparsed part pos → ⊥) → unless_spoilt cause r ≡ Unparsed part pos → ⊥
 spoilt_parsed None r part pos parsed e = parsed e

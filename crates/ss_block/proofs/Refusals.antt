@@ -1,4 +1,4 @@
--- What is told of a reading by a call that gave no value.
+-- What a call that gave no value reports about a reading.
 use Rattle.std.proofs.Common.{◌≡◌, Bool, false, List, Some, Result, Ok, Err, sym, subst, ap, ◌∙◌}
 use Rattle.std.specs.Prelude.{IsErrAnd}
 use Rattle.ss_block.specs.declared.spoil.Spoil.{Spoil}

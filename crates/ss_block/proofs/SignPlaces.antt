@@ -139,7 +139,7 @@ sign_placed t l id places valid spelled is_block =
       split = record { value = v; valid = valid; spelled = spelled; before = b.before; id = id; parameters = b.parameters; sign = b.raw; after = b.after; block = block_named (value_reading v) id is_block; before_sign = b.eight; elements = b.is; whole = spelled ∙ r.whole ∙ spelled_out front b.raw (back_of v b.after); left = refl };
     }
 
--- what is left of the text where it is cut from the SP before this parameter up to behind its `"`
+-- what is left of the text without this parameter, its last `"` and the SP before it
 pub record SignCut (t : List ℕ) (l : Layout) (sign : Parameter) : Type 0 where
   pub some_start : 1 ≤ sign.name.start
   pub in_order : sign.name.start - 1 ≤ sign.value.end + 1

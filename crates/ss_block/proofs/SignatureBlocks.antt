@@ -21,7 +21,7 @@ use Rattle.ss_block.proofs.HashTexts.{length-hashes_in, all_of}
 use Rattle.ss_octets.proofs.Numbers.{is_spelled}
 use Rattle.ss_block.proofs.SignatureCauses.{of_block, spoilt_last, is_block, counted, hashed, both}
 
--- what the calls before told of the element
+-- what the calls before found the element to be
 pub record IsTold (e : ElementValue) (alg : Alg) (n : SignatureNumbers) (hashes : List Hash) (sign : List ℕ) : Type 0 where
   pub names : has_parameters signature_names e ≡ true
   pub version : is_version (signature_texts e).ver ≡ true

@@ -40,7 +40,7 @@ more a b rest true e behind next =
     subst (Stands (a ∷ b ∷ rest)) (sym (escaped_front a b rest backslash p.1)) (escape backslash p.1 behind)
 more a b rest false e behind next = subst (Stands (a ∷ b ∷ rest)) (sym (plain_front a (b ∷ rest) e)) (itself e next)
 
--- for the octets, and for them behind one more
+-- for the octets, and for them after one more
 both : (raw : List ℕ) → Stands raw (meant raw) × ((a : ℕ) → Stands (a ∷ raw) (meant (a ∷ raw)))
 both [] = (nothing, λ (a : ℕ). subst (Stands (a ∷ [])) (sym (plain_front a [] refl)) (itself refl nothing))
 both (b ∷ rest) =

@@ -1,4 +1,4 @@
--- The values of a written block are texts, and each tells what was written.
+-- The values of a written block are texts, and each states what was written.
 use Rattle.std.proofs.Common.{◌≡◌, ◌==◌, ℕ, zero, suc, ◌<◌, ◌≤◌, ◌^◌, true, cond, eqb, List, [], ◌∷◌, ◌++◌, length, map, Option, Some, None, refl, ap, ◌∙◌, arith}
 use Rattle.std.specs.Prelude.{is_some, decimal}
 use Rattle.std.specs.List.{AllByRecursion, list_all}

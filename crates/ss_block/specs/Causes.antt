@@ -1,4 +1,4 @@
--- How a call tells why an element holds no block.
+-- How a call reports why an element holds no block.
 use Rattle.std.specs.Prelude.{◌≡◌, ◌+◌, ◌≤◌, nat_lt, ◌||◌, Bool, true, false, not, List, [], ◌∷◌, length, Some, None}
 use Rattle.std.specs.Prelude.{Result, Ok, Err, ◌==◌, is_some}
 use Rattle.std.specs.List.{list_all}
@@ -35,7 +35,7 @@ hash_causes t =
     ∷ (not (list_all (λ piece. is_some (hash_in (alg_of t.ver) piece)) (pieces t.hb)), spoils.Hash)
     ∷ []
 
--- the fragment ends behind the payload, or hasn't FLEN octets
+-- the fragment ends after the payload, or hasn't FLEN octets
 abbrev pub misfits : CertificateTexts → Bool
 misfits t = nat_lt (number t.tpbl + 1) (number t.index + number t.flen) || not (length t.frag == number t.flen)
 

@@ -1,4 +1,4 @@
--- What holds of the pieces in which a payload block is sent.
+-- What holds for the pieces in which a payload is sent.
 use Rattle.std.specs.Prelude.{ℕ, ◌≤◌, List, length}
 use Rattle.std.specs.List.{Contains}
 use Rattle.std.specs.Str.{IsAscii}

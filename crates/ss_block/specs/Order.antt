@@ -55,7 +55,7 @@ spoil_cmp a b = nat_cmp (spoil_number a) (spoil_number b)
 abbrev pub spelled : Field → List ℕ
 spelled f = field_text (drafted_field f)
 
--- Tells an absent field from the text `-`, which no field of a message is.
+-- Sets an absent field apart from the text `-`, which no field of a message is.
 abbrev pub presence : Field → ℕ
 presence Nil = 0
 presence (Text octets) = 1

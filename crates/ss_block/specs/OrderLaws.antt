@@ -1,4 +1,4 @@
--- What holds of the orders: each is total, and only equal values tie.
+-- What holds for the orders: each is total, and only equal values tie.
 use Rattle.std.specs.Prelude.{◌≡◌, ℕ, ◌==◌, List, [], ◌∷◌, if◌then◌else◌, refl}
 use Rattle.std.proofs.Common.{sym, ◌∙◌, ap, subst}
 use Rattle.std.specs.declared.cmp.Ordering.{Ordering}

@@ -5,6 +5,6 @@ use Rattle.std.specs.Prelude.{ℕ}
 abbrev pub last_number : ℕ
 last_number = 9999999999
 
--- the one behind it, which no block can tell
+-- the one after it, which no block can state
 abbrev pub past_last_number : ℕ
 past_last_number = 10000000000

@@ -1,5 +1,5 @@
--- What a stored text is to a review (RFC 5848, sections 4 and 5): a block, a spoilt block, a message without a block,
--- or no message of RFC 5424.
+-- What a stored text is to a review (RFC 5848, sections 4 and 5): a block, a spoilt block, an ordinary message, or no
+-- message of RFC 5424.
 use Rattle.std.specs.Prelude.{ℕ, ◌+◌, Bool, ◌&&◌, ◌||◌, not, List, [], ◌∷◌, length, drop, map, flat_map, codes, Option}
 use Rattle.std.specs.Prelude.{Some, None, Result, Ok, Err, nat_lt, ◌==◌, if◌then◌else◌, is_some}
 use Rattle.std.specs.List.{list_all, slice_split}
@@ -247,6 +247,6 @@ abbrev pub reading_from : List ℕ → Result Layout BadPart → Reading
 reading_from t (Ok l) = value_reading (value_at t l)
 reading_from t (Err e) = Unparsed e.part e.pos
 
--- What a stored text is: that of its value, or the fault for which it is the text of no value.
+-- What a stored text is: what its value is, or the fault for which it is the text of no value.
 unfoldable pub reading : List ℕ → Reading
 reading t = reading_from t (layout_at t)

@@ -1,4 +1,4 @@
--- What holds of every text.
+-- What holds for every text.
 use Rattle.std.specs.Prelude.{◌≡◌, ℕ, Bool, true, false, List, is_some}
 use Rattle.ss_message.specs.declared.fault.Part.{Part}
 use Rattle.ss_message.specs.Message.{MessageValue, IsMessage, text}
@@ -10,15 +10,14 @@ use Rattle.ss_block.specs.Reading.{value_reading, reading}
 use Rattle.ss_block.specs.Session.{session}
 use Rattle.ss_block.specs.Signed.{signed}
 
--- the text of a message is read as what its value is, and what is told to be no message is the text of no value
+-- the text of a message is read as what its value is, and what is read as no message is the text of no value
 abbrev pub ReadingsAreOfValues : Type 0
 ReadingsAreOfValues =
     ((t : List ℕ) (v : MessageValue) → IsMessage v → t ≡ text v → reading t ≡ value_reading v)
     × ((t : List ℕ) (part : Part) (pos : ℕ) → reading t ≡ Unparsed part pos → (v : MessageValue) → IsMessage v
     → t ≡ text v → ⊥)
 
--- what is told to be no message fails there, by the row of the table of faults for that part, and what fails so is told
--- so
+-- what is read as no message fails there, by the row of the table of faults for that part, and what fails so is read so
 abbrev pub UnparsedTextsFail : Type 0
 UnparsedTextsFail =
     ((t : List ℕ) (part : Part) (pos : ℕ) → reading t ≡ Unparsed part pos → FailsAt part t pos)
@@ -38,7 +37,7 @@ is_block (Signature b) = true
 is_block (Certificate b) = true
 is_block (Spoilt cause) = false
 
--- what is signed of a text, and its session, are there exactly where it is a block
+-- a text has signed octets and a session exactly where it is a block
 abbrev pub BlocksAreSigned : Type 0
 BlocksAreSigned =
     (t : List ℕ) → (is_some (signed t) ≡ is_block (reading t)) × (is_some (session t) ≡ is_block (reading t))

@@ -1,5 +1,5 @@
--- What is signed of a block message (RFC 5848, sections 4.2 and 5.3.2): all of it, as it stands, but the SIGN
--- parameter of its block element and the SP before it.
+-- What is signed of a block message (RFC 5848, sections 4.2 and 5.3.2): all of it as it stands, except SIGN of its
+-- block element and the SP before it.
 use Rattle.std.specs.Prelude.{◌≡◌, ℕ, [], Bool, true, length, ◌∷◌, ◌++◌, List, take, map, flat_map, codes, Option, Some}
 use Rattle.std.specs.Prelude.{None, Result, Ok, Err, if◌then◌else◌, ◌||◌}
 use Rattle.std.specs.Str.{bytes_eq}
@@ -18,7 +18,7 @@ use Rattle.ss_block.specs.Reading.{value_reading}
 abbrev pub is_block_id : List ℕ → Bool
 is_block_id id = bytes_eq id (codes "ssign") || bytes_eq id (codes "ssign-cert")
 
--- a block element with the parameters before SIGN alone; any other element as it is
+-- a block element with only the parameters before SIGN; any other element as it is
 abbrev pub unsigned_element : ElementValue → ElementValue
 unsigned_element e =
     if is_block_id e.id then record { id = e.id; parameters = take (place_of kinds.Sign) e.parameters } else e

@@ -1,4 +1,4 @@
--- What the value of a parameter stands for, told from its front on (RFC 5424, section 6.3.3).
+-- What the value of a parameter stands for, by how it begins (RFC 5424, section 6.3.3).
 use Rattle.std.specs.Prelude.{◌≡◌, ℕ, Bool, true, false, ◌&&◌, ◌==◌, List, [], ◌∷◌}
 use Rattle.ss_octets.specs.Ascii.{backslash}
 use Rattle.ss_message.specs.Octets.{is_special}

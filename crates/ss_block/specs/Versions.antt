@@ -25,7 +25,7 @@ version_in text = find (λ alg. bytes_eq text (version_text alg)) algorithms
 abbrev pub is_version : List ℕ → Bool
 is_version text = is_some (version_in text)
 
--- it means something where `is_version` holds of the text
+-- it means something where `is_version` holds for the text
 abbrev pub alg_of : List ℕ → Alg
 alg_of text = unwrap_or (version_in text) algs.Sha1
 

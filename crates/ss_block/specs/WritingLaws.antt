@@ -1,4 +1,4 @@
--- What holds of every block message that is written (RFC 5848, sections 4.2 and 5.3.2).
+-- What holds for every block message that is written (RFC 5848, sections 4.2 and 5.3.2).
 use Rattle.std.specs.Prelude.{◌≡◌, ℕ, ◌≤◌, true, List, length, Option, Some}
 use Rattle.std.specs.List.{All}
 use Rattle.base64.specs.GeneralPurpose.{IsBytes}
@@ -19,7 +19,7 @@ use Rattle.ss_block.specs.Signed.{signed}
 use Rattle.ss_block.specs.Writing.{unsigned_signature_text, signature_text, unsigned_certificate_text, certificate_text}
 use Rattle.ss_block.specs.Writing.{head_session}
 
--- as many octets as the algorithm makes, each below 256, as every hash of a call has them
+-- as many octets as the algorithm makes, each below 256; every hash in a call has them
 abbrev pub IsHash : Hash → Type 0
 IsHash (hashes.Sha1 octets) = (length octets ≡ hash_length algs.Sha1) × IsBytes octets
 IsHash (hashes.Sha256 octets) = (length octets ≡ hash_length algs.Sha256) × IsBytes octets

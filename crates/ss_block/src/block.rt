@@ -11,7 +11,7 @@ use ss_octets::Bytes;
 use ss_payload::LONGEST_PAYLOAD;
 use std::marker::Model;
 
-/// The group of messages that a block speaks of (RFC 5848, section 4.2.3).
+/// The group of messages that a block is about (RFC 5848, section 4.2.3).
 #[derive(Clone, Copy, Debug, PartialEq, Eq, PartialOrd, Ord)]
 pub struct Group {
     /// SG, 0 to 3: 0 one group, 1 a group per PRI, 2 ranges of PRI, 3 by private arrangement.
@@ -92,9 +92,10 @@ impl Model for SigBlock {
 }
 
 impl SigBlock {
+    /// The block with these values. Takes no memory.
+    ///
     /// `None` where `rsid` or `gbc` is over 9,999,999,999, `first` is 0, SG or SPRI is out of its range, there are not
-    /// 1 to 99 hashes or not all of them are of `alg`, or the last message's number is over 9,999,999,999. Takes no
-    /// memory.
+    /// 1 to 99 hashes or not all of them are of `alg`, or the last message's number is over 9,999,999,999.
     pub fn new(
         alg: Alg,
         rsid: u64,
@@ -144,7 +145,7 @@ impl SigBlock {
         })
     }
 
-    /// VER's hash algorithm, which each of the hashes is of.
+    /// VER's hash algorithm, by which all the hashes are.
     pub fn alg(&self) -> Alg
         ensures { result ≡ self.now.alg }
     {
@@ -165,7 +166,7 @@ impl SigBlock {
         self.group
     }
 
-    /// GBC, 0 to 9,999,999,999: the signature blocks sent before in the session, over all groups.
+    /// GBC, 0 to 9,999,999,999: how many signature blocks of the session, in all groups, were sent before this one.
     pub fn gbc(&self) -> u64
         ensures { result ≡ self.now.gbc }
     {
@@ -193,7 +194,7 @@ impl SigBlock {
         &self.signature
     }
 
-    /// The block with these octets as SIGN's, and all else as it is. Takes no memory.
+    /// The same block with these octets as SIGN's. Takes no memory.
     pub fn with_signature(mut self, signature: Bytes) -> SigBlock
         ensures { result ≡ record self { signature = signature } }
     {
@@ -201,7 +202,7 @@ impl SigBlock {
         self
     }
 
-    /// Every block is in the ranges that `new` asks for.
+    /// Assures contracts that the block is in the ranges that `new` asks for. It does nothing else.
     pub fn assure_in_range(&self)
         ensures { IsSignature self.now }
     {
@@ -209,8 +210,7 @@ impl SigBlock {
     }
 }
 
-/// A certificate block: a fragment of the payload block of a session. Contracts see its fields, which are in their
-/// ranges.
+/// A certificate block: a fragment of the payload of a session. Contracts see its fields, which are in their ranges.
 #[derive(Debug, Drop)]
 pub struct CertBlock {
     alg: Alg,
@@ -250,8 +250,10 @@ impl Model for CertBlock {
 }
 
 impl CertBlock {
+    /// The block with these values. Takes no memory.
+    ///
     /// `None` where `rsid` is over 9,999,999,999, `total` over 99,999,999, `index` is 0, SG or SPRI is out of its
-    /// range, the fragment has not 1 to 9,999 octets, isn't UTF-8, or ends behind the payload's end. Takes no memory.
+    /// range, or the fragment has not 1 to 9,999 octets, isn't UTF-8, or ends after the payload's end.
     pub fn new(
         alg: Alg,
         rsid: u64,
@@ -336,7 +338,7 @@ impl CertBlock {
         self.index
     }
 
-    /// FRAG: 1 to 9,999 octets of UTF-8, FLEN many, none of them behind the payload's end.
+    /// FRAG: 1 to 9,999 octets of UTF-8, FLEN many, none of them after the payload's end.
     pub fn fragment(&self) -> &Bytes
         ensures { result.now ≡ self.now.fragment }
     {
@@ -350,7 +352,7 @@ impl CertBlock {
         &self.signature
     }
 
-    /// The block with these octets as SIGN's, and all else as it is. Takes no memory.
+    /// The same block with these octets as SIGN's. Takes no memory.
     pub fn with_signature(mut self, signature: Bytes) -> CertBlock
         ensures { result ≡ record self { signature = signature } }
     {
@@ -358,7 +360,7 @@ impl CertBlock {
         self
     }
 
-    /// Every block is in the ranges that `new` asks for.
+    /// Assures contracts that the block is in the ranges that `new` asks for. It does nothing else.
     pub fn assure_in_range(&self)
         ensures { IsCertificate self.now }
     {

@@ -47,7 +47,7 @@ pub const CERTIFICATE: [BlockParameter; 9] = [
 ];
 
 impl BlockParameter {
-    /// Its name.
+    /// Its name, as it stands in an element.
     pub fn name(self) -> &'static [u8]
         ensures { result.now ≡ name_of self }
     {
@@ -68,7 +68,7 @@ impl BlockParameter {
         }
     }
 
-    /// How many parameters stand before it in its element.
+    /// How many parameters stand before it in its element, 0 to 8.
     pub fn place(self) -> usize
         ensures value { result ≡ place_of self }
         ensures within { result < parameter_count }

@@ -32,7 +32,7 @@ pub struct CertificateNumbers {
     octets: u32,
 }
 
-// RSID, SG, SPRI, TPBL, INDEX and FLEN.
+/// Reads RSID, SG, SPRI, TPBL, INDEX and FLEN, or gives the first cause why it can't.
 fn numbers(alloc: Global, source: &[u8], element: &Element) -> Result<CertificateNumbers, Refusal>
     requires { HasAll source.now element.now }
     ensures value { Tests spoils.Number (certificate_numbers (certificate_texts (element_value source.now element.now)))
@@ -66,7 +66,7 @@ fn numbers(alloc: Global, source: &[u8], element: &Element) -> Result<Certificat
     })
 }
 
-// The block of an element with the parameters of `ssign-cert`.
+/// The certificate block of an element that has the parameters of `ssign-cert`, or the first cause why it holds none.
 fn named_block(alloc: Global, source: &[u8], element: &Element) -> Result<CertBlock, Refusal>
     requires all { HasAll source.now element.now }
     requires raws { has_raws (element_value source.now element.now) ≡ true }
@@ -89,10 +89,11 @@ fn named_block(alloc: Global, source: &[u8], element: &Element) -> Result<CertBl
         fragment,
         signature,
     );
-    // All else was told to be in its range.
+    // All else was found to be in its range.
     block.ok_or(Refusal::Spoilt(Spoil::Fragment))
 }
 
+/// The certificate block of an element, or the first cause why it holds none.
 fn certificate_block(alloc: Global, source: &[u8], element: &Element) -> Result<CertBlock, Refusal>
     requires within { ElementIsWithin source.now element.now }
     requires raws { has_raws (element_value source.now element.now) ≡ true }
@@ -104,7 +105,7 @@ fn certificate_block(alloc: Global, source: &[u8], element: &Element) -> Result<
     named_block(alloc, source, element)
 }
 
-/// The certificate block of the element `ssign-cert`, or the first cause why it holds none.
+/// What the element `ssign-cert` is read as: a certificate block, or a spoilt one with the first cause.
 pub fn read_certificate(
     alloc: Global,
     source: &[u8],

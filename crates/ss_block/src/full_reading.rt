@@ -1,4 +1,4 @@
-//! All that is told of a message, by one parse.
+//! All that a message is found to be, by one parse.
 ghost use Rattle.std.specs.Prelude.{◌≡◌, IfOk, IfSome};
 ghost use Rattle.ss_block.specs.Reading.{reading};
 ghost use Rattle.ss_block.specs.Session.{session};
@@ -10,20 +10,20 @@ use crate::signed::signed_with;
 use ss_octets::{Bytes, NoMemory};
 use std::alloc::Global;
 
-/// What a message is, who sent it, and what is signed of it.
+/// What a message is, who sent it, and which of its octets are signed.
 #[derive(Debug, Drop)]
 pub struct FullReading {
-    /// What it is, as `classify` tells it.
+    /// What it is, as `classify` gives it.
     pub reading: Reading,
-    /// The session of a block, as `session_of` tells it.
+    /// The session of a block, as `session_of` gives it.
     pub session: Option<Session>,
-    /// What is signed of a block, as `signed_bytes` tells it.
+    /// The signed octets of a block, as `signed_bytes` gives them.
     pub signed: Option<Bytes>,
 }
 
-/// What the message in `bytes` is, with its session and what is signed of it, by one parse.
+/// What the message in `bytes` is, with its session and its signed octets, by one parse.
 ///
-/// Errs only where memory runs out. It is taken as `classify`, `session_of` and `signed_bytes` take it, once.
+/// Errs only where memory runs out. Memory is taken as `classify`, `session_of` and `signed_bytes` take it, once.
 pub fn read_fully(alloc: Global, bytes: &[u8]) -> Result<FullReading, NoMemory>
     ensures reading { IfOk result (λ r. r.reading ≡ reading bytes.now) }
     ensures session { IfOk result (λ r. r.session ≡ session bytes.now) }

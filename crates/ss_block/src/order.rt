@@ -1,5 +1,5 @@
-//! The orders of what blocks hold: those of groups, hashes and causes are derived, that of sessions is by what their
-//! headers spell.
+//! The orders of what blocks hold. Those of groups, hashes and causes are derived; sessions rise by what their headers
+//! spell.
 ghost use Rattle.std.specs.Prelude.{◌≡◌, refl};
 ghost use Rattle.std.specs.Ordering.{as_partial_cmp, eq_by_cmp};
 ghost use Rattle.std.specs.Cmp.{eq_by_cmp_equiv, partial_equiv_from_equiv, partial_order_from_total};
@@ -10,7 +10,7 @@ use crate::session::Session;
 use ss_message::Field;
 use std::cmp::Ordering;
 
-// The octets that spell a field in a header.
+/// The octets that spell a field in a header.
 fn spelled(field: &Field) -> &[u8]
     ensures { result.now ≡ spelled field.now }
 {
@@ -20,6 +20,7 @@ fn spelled(field: &Field) -> &[u8]
     }
 }
 
+/// 0 for an absent field, and 1 for one that is there.
 fn presence(field: &Field) -> u8
     ensures { result ≡ presence field.now }
 {
@@ -29,7 +30,7 @@ fn presence(field: &Field) -> u8
     }
 }
 
-// By the octets that spell the fields; an absent one stands before the text `-`, which no message has.
+/// Compares two fields by the octets that spell them. An absent one stands before the text `-`, which no message has.
 fn compare_fields(a: &Field, b: &Field) -> Ordering
     ensures { result ≡ field_cmp a.now b.now }
 {

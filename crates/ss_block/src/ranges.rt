@@ -5,7 +5,7 @@ use ss_payload::LONGEST_PAYLOAD;
 /// The greatest number of ten digits.
 pub const LAST_NUMBER: u64 = 9_999_999_999;
 
-/// The number behind it, which no block can tell.
+/// The number after the last, which no block can state.
 pub const PAST_LAST_NUMBER: u64 = 10_000_000_000;
 
 /// The numbers from `least` to `most`.

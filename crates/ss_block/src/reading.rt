@@ -19,7 +19,7 @@ use std::alloc::Global;
 /// What a message holds (RFC 5848, sections 4 and 5).
 #[derive(Debug, Drop)]
 pub enum Reading {
-    /// A message without `ssign` and `ssign-cert`.
+    /// An ordinary message: one without `ssign` and `ssign-cert`.
     Plain,
     /// No message of RFC 5424: the part that fails first, and where, in octets from 0.
     Unparsed { part: Part, pos: usize },
@@ -27,10 +27,11 @@ pub enum Reading {
     Signature(SigBlock),
     /// One certificate block.
     Certificate(CertBlock),
-    /// A block element that is no block, with the first cause.
+    /// A spoilt block, with the first cause why its element is no block.
     Spoilt(Spoil),
 }
 
+/// What a message that was parsed holds: neither block element, a block, or a spoilt block with its first cause.
 pub(crate) fn message_reading(alloc: Global, message: &Message<'_>) -> Result<Reading, NoMemory>
     requires within { All (ElementIsWithin message.now.source.now) message.now.elements }
     requires raws { list_all has_raws (value_of message.now).elements ≡ true }
@@ -46,8 +47,8 @@ pub(crate) fn message_reading(alloc: Global, message: &Message<'_>) -> Result<Re
     }
 }
 
-// What the text in `bytes` is, and the message that it spells, if it spells one: the one parse of each call that reads
-// a text.
+/// What the text in `bytes` is, and the message that it spells, if it spells one. Each call that reads a text parses it
+/// here, once.
 pub(crate) fn read<'a>(
     alloc: Global,
     bytes: &'a [u8],
@@ -64,13 +65,12 @@ pub(crate) fn read<'a>(
     }
 }
 
-/// What the message in `bytes`, all of them, is: a block, an element that is no block with the first cause, a message
-/// without either element, or no message.
+/// What all of `bytes` are: a block, a spoilt block with its first cause, an ordinary message, or no message.
 ///
-/// Memory is taken as `parse` takes it, for the block's hashes, fragment and signature, and for a value while its
-/// escapes are taken off; no number inside a message reserves any.
+/// Errs only where memory runs out. Memory is taken as `parse` takes it, for the block's hashes, fragment and
+/// signature, and for a value while its escapes are taken off. No number inside a message reserves any.
 pub fn classify(alloc: Global, bytes: &[u8]) -> Result<Reading, NoMemory>
-    // What a text is is told by what the message in it says, and by nothing else.
+    // The answer depends on what the message in the text says, and on nothing else.
     ensures value { IfOk result (λ r. r ≡ reading bytes.now) }
 {
     let (reading, _) = read(alloc, bytes)?;

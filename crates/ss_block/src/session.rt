@@ -13,7 +13,7 @@ use ss_message::{Field, Message};
 use ss_octets::NoMemory;
 use std::alloc::Global;
 
-/// Who sent a block, and since which reboot: the header fields of its message and RSID (RFC 5848, section 4.2).
+/// Who sent a block, and since which reboot: fields of its message's header, and RSID (RFC 5848, section 4.2).
 #[derive(Debug, Drop)]
 pub struct Session {
     /// HOSTNAME.
@@ -29,7 +29,7 @@ pub struct Session {
 impl Session {
     /// The session of the blocks that are sent under this head since the reboot with this RSID.
     ///
-    /// Errs only where memory runs out. It is taken for the three fields.
+    /// Errs only where memory runs out, which is taken for the three fields.
     pub fn of_head(alloc: Global, head: &Head, rsid: u64) -> Result<Session, NoMemory>
         ensures { IfOk result (λ s. s ≡ head_session head.now rsid) }
     {
@@ -54,7 +54,7 @@ impl Session {
     }
 }
 
-// The field of the header that these octets spell; `-` is the absent one.
+/// The field of the header that these octets spell; `-` is the absent one.
 fn field(alloc: Global, octets: &[u8]) -> Result<Field, NoMemory>
     ensures { IfOk result (λ f. f ≡ field_from (field_of octets.now)) }
 {
@@ -64,7 +64,7 @@ fn field(alloc: Global, octets: &[u8]) -> Result<Field, NoMemory>
     Ok(Field::Text(copy_of(alloc, octets)?))
 }
 
-// The session of a message that was read as this; none unless that is a block.
+/// The session of a message with this reading, if the reading is a block.
 #[tactic(auto, unfolding(crate::specs::Session::session))]
 pub(crate) fn session_with(
     alloc: Global,
@@ -87,9 +87,9 @@ pub(crate) fn session_with(
     }))
 }
 
-/// What the message in `bytes` is, as `classify` tells it, and its session, as `session_of` does, by one reading.
+/// What the message in `bytes` is, as `classify` gives it, and its session, as `session_of` gives it, by one parse.
 ///
-/// Errs only where memory runs out. It is taken as those two take it.
+/// Errs only where memory runs out. Memory is taken as those two take it.
 pub fn classify_with_session(
     alloc: Global,
     bytes: &[u8],
@@ -108,7 +108,7 @@ pub fn classify_with_session(
 /// The session of a block message: its HOSTNAME, APP-NAME and PROCID, and RSID. None unless `bytes` are a message
 /// with a signature block or a certificate block, and not a spoilt one.
 ///
-/// Errs only where memory runs out. It is taken for the parse, the block and the three fields.
+/// Errs only where memory runs out, which is taken for the parse, the block and the three fields.
 pub fn session_of(alloc: Global, bytes: &[u8]) -> Result<Option<Session>, NoMemory>
     ensures { IfOk result (λ o. o ≡ session bytes.now) }
 {

@@ -37,7 +37,7 @@ pub struct SignatureNumbers {
     count: u64,
 }
 
-// RSID, SG, SPRI, GBC, FMN and CNT.
+/// Reads RSID, SG, SPRI, GBC, FMN and CNT, or gives the first cause why it can't.
 fn numbers(alloc: Global, source: &[u8], element: &Element) -> Result<SignatureNumbers, Refusal>
     requires { HasAll source.now element.now }
     ensures value { Tests spoils.Number (signature_numbers (signature_texts (element_value source.now element.now)))
@@ -59,7 +59,7 @@ fn numbers(alloc: Global, source: &[u8], element: &Element) -> Result<SignatureN
     })
 }
 
-// HB: the hashes, of which there have to be `count`, each of this algorithm.
+/// The hashes of HB, or the first cause why they aren't `count` hashes of this algorithm.
 fn hashes(
     alloc: Global,
     source: &[u8],
@@ -81,7 +81,7 @@ fn hashes(
     Ok(hashes_of(alloc, alg, text)?.ok_or(Spoil::Hash)?)
 }
 
-// The block of an element with the parameters of `ssign`.
+/// The signature block of an element that has the parameters of `ssign`, or the first cause why it holds none.
 fn named_block(alloc: Global, source: &[u8], element: &Element) -> Result<SigBlock, Refusal>
     requires all { HasAll source.now element.now }
     requires names { has_parameters signature_names (element_value source.now element.now) ≡ true }
@@ -100,10 +100,11 @@ fn named_block(alloc: Global, source: &[u8], element: &Element) -> Result<SigBlo
         hashes,
         signature,
     );
-    // All else was told to be in its range.
+    // All else was found to be in its range.
     block.ok_or(Refusal::Spoilt(Spoil::LastNumber))
 }
 
+/// The signature block of an element, or the first cause why it holds none.
 fn signature_block(alloc: Global, source: &[u8], element: &Element) -> Result<SigBlock, Refusal>
     requires { ElementIsWithin source.now element.now }
     ensures { Reads Signature result (signature_reading (element_value source.now element.now)) }
@@ -114,7 +115,7 @@ fn signature_block(alloc: Global, source: &[u8], element: &Element) -> Result<Si
     named_block(alloc, source, element)
 }
 
-/// The signature block of the element `ssign`, or the first cause why it holds none.
+/// What the element `ssign` is read as: a signature block, or a spoilt one with the first cause.
 pub fn read_signature(alloc: Global, source: &[u8], element: &Element) -> Result<Reading, NoMemory>
     requires { ElementIsWithin source.now element.now }
     ensures { IfOk result (λ r. r ≡ signature_reading (element_value source.now element.now)) }

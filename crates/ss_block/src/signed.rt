@@ -13,7 +13,7 @@ use ss_message::{Message, Parameter};
 use ss_octets::{Bytes, NoMemory};
 use std::alloc::Global;
 
-// The octets without those from `start` up to `end`.
+/// A copy of the octets without those from `start` on that stand before `end`.
 fn without(alloc: Global, octets: &[u8], start: usize, end: usize) -> Result<Bytes, NoMemory>
     requires in_order { start ≤ end }
     requires within { end ≤ length octets.now }
@@ -25,7 +25,7 @@ fn without(alloc: Global, octets: &[u8], start: usize, end: usize) -> Result<Byt
     Ok(Bytes::from_vec(left))
 }
 
-// The SIGN of the element with this SD-ID, if it is that of a block.
+/// The parameter SIGN of the element with this SD-ID; none if that has fewer parameters than a block's.
 fn sign_parameter(message: &Message<'_>, id: &[u8]) -> Option<Parameter>
     ensures { result ≡ sign_parameter message.now.source.now id.now message.now.elements }
 {
@@ -38,7 +38,7 @@ fn sign_parameter(message: &Message<'_>, id: &[u8]) -> Option<Parameter>
         .copied()
 }
 
-// A block message without the SIGN parameter of its block element, which has this SD-ID, and the SP before it.
+/// A block message without SIGN, of the block element with this SD-ID, and without the SP before it.
 fn without_sign(alloc: Global, message: &Message<'_>, id: &[u8]) -> Result<Option<Bytes>, NoMemory>
     requires read { IsRead message.now }
     requires block { block_id (value_reading (value_of message.now)) ≡ Some id.now }
@@ -53,7 +53,7 @@ fn without_sign(alloc: Global, message: &Message<'_>, id: &[u8]) -> Result<Optio
     Ok(Some(without(alloc, message.source, space, behind)?))
 }
 
-// What is signed of a message that was read as this; none unless that is a block.
+/// The signed octets of a message with this reading, if the reading is a block.
 pub(crate) fn signed_with(
     alloc: Global,
     message: &Message<'_>,
@@ -72,11 +72,11 @@ pub(crate) fn signed_with(
     without_sign(alloc, message, id)
 }
 
-/// The octets over which a block's signature is made: the whole message as it stands, but the SIGN parameter of its
-/// block element and the SP before it. None unless `bytes` are a message with a signature block or a certificate
+/// The octets over which a block's signature is made: the whole message as it stands, except SIGN of its block element
+/// and the SP before it. None unless `bytes` are a message with a signature block or a certificate
 /// block, and not a spoilt one.
 ///
-/// Errs only where memory runs out. It is taken for the parse, the block and the octets of the answer.
+/// Errs only where memory runs out, which is taken for the parse, the block and the octets of the answer.
 pub fn signed_bytes(alloc: Global, bytes: &[u8]) -> Result<Option<Bytes>, NoMemory>
     ensures value { IfOk result (λ o. o ≡ signed bytes.now) }
     ensures split { IfOk result (λ o. IfSome o (λ octets. IsWithoutSign bytes.now octets)) }

@@ -1,4 +1,4 @@
-//! What the types of octets and hashes say of each value, told to contracts.
+//! What the types of octets and hashes say about each value, for contracts. The calls do nothing else.
 ghost use Rattle.std.specs.Prelude.{◌≡◌, length};
 ghost use Rattle.std.specs.List.{All};
 ghost use Rattle.base64.specs.GeneralPurpose.{IsBytes};
@@ -7,11 +7,12 @@ ghost use Rattle.ss_block.specs.WritingLaws.{IsHash};
 use crate::hash::Hash;
 use crate::version::{SHA1_OCTETS, SHA256_OCTETS};
 
-/// Each octet is below 256.
+/// Assures that each octet is below 256.
 pub fn assure_octets(octets: &[u8])
     ensures { IsBytes octets.now }
 {}
 
+/// Assures that a hash by SHA-1 has 20 octets, each of them below 256.
 fn assure_sha1(octets: &[u8; SHA1_OCTETS])
     ensures count { length octets.now ≡ 20 }
     ensures octets { IsBytes octets.now }
@@ -19,6 +20,7 @@ fn assure_sha1(octets: &[u8; SHA1_OCTETS])
     assure_octets(octets);
 }
 
+/// Assures that a hash by SHA-256 has 32 octets, each of them below 256.
 fn assure_sha256(octets: &[u8; SHA256_OCTETS])
     ensures count { length octets.now ≡ 32 }
     ensures octets { IsBytes octets.now }
@@ -26,6 +28,7 @@ fn assure_sha256(octets: &[u8; SHA256_OCTETS])
     assure_octets(octets);
 }
 
+/// Assures that a hash has as many octets as its algorithm makes, each of them below 256.
 fn assure_hash(hash: &Hash)
     ensures { IsHash hash.now }
 {
@@ -35,7 +38,7 @@ fn assure_hash(hash: &Hash)
     }
 }
 
-/// Each hash has as many octets as its algorithm makes, each of them below 256.
+/// Assures that each hash has as many octets as its algorithm makes, each of them below 256.
 pub fn assure_hashes(hashes: &[Hash])
     ensures { All IsHash hashes.now }
 {

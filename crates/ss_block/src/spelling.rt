@@ -26,7 +26,7 @@ pub fn base64_text(alloc: Global, octets: &[u8]) -> Result<Bytes, NoMemory>
     Ok(Bytes::from_vec(text.into_bytes()))
 }
 
-// The octets of the hash.
+/// The octets of the hash.
 fn octets_of(hash: &Hash) -> &[u8]
     ensures { result.now ≡ hash_octets hash.now }
 {

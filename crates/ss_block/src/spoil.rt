@@ -1,6 +1,6 @@
 //! Why a message with a block element holds no block.
 
-/// Causes, in the order of their numbers: of those that apply, the first is told.
+/// Causes, in the order of their numbers: of those that apply, the first is reported.
 #[derive(Clone, Copy, Debug, PartialEq, Eq, PartialOrd, Ord)]
 pub enum Spoil {
     /// S1: both `ssign` and `ssign-cert` stand in the message.
@@ -17,7 +17,7 @@ pub enum Spoil {
     Hash,
     /// S7: SIGN isn't strict base64 of at least one octet.
     Sign,
-    /// S8: the fragment ends behind TPBL, or hasn't FLEN octets.
+    /// S8: the fragment ends after the payload's TPBL octets, or hasn't FLEN octets.
     Fragment,
     /// S9: the number of the last message of the block is over 9,999,999,999.
     LastNumber,

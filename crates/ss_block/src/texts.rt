@@ -58,6 +58,7 @@ pub fn meaning<'a>(alloc: Global, raw: &'a [u8]) -> Result<Meant<'a>, NoMemory>
     Ok(Meant::Unescaped(value(alloc, raw)?))
 }
 
+/// Whether the parameter has this name.
 fn is_named(source: &[u8], parameter: &Parameter, name: &[u8]) -> bool
     requires { ParameterIsWithin source.now parameter.now }
     ensures { result ≡ bytes_eq (part_of source.now parameter.now.name) name.now }
@@ -65,6 +66,7 @@ fn is_named(source: &[u8], parameter: &Parameter, name: &[u8]) -> bool
     parameter.name.of(source) == name
 }
 
+/// Whether the parameters have these names, in this order, and there are no others.
 fn are_named(source: &[u8], parameters: &[Parameter], names: &[BlockParameter]) -> bool
     requires { All (ParameterIsWithin source.now) parameters.now }
     ensures { result ≡ are_named source.now parameters.now names.now }
@@ -80,7 +82,7 @@ fn are_named(source: &[u8], parameters: &[Parameter], names: &[BlockParameter]) 
     true
 }
 
-/// Whether the parameters are these, in this order, and no others.
+/// Whether the element's parameters are these, in this order, and no others.
 pub fn has_parameters(source: &[u8], element: &Element, names: &[BlockParameter]) -> bool
     requires { ElementIsWithin source.now element.now }
     ensures { result ≡ has_parameters (names_in names.now) (element_value source.now element.now) }

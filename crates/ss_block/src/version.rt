@@ -19,6 +19,7 @@ const SHA1: &str = "0111";
 /// VER of SHA-256.
 const SHA256: &str = "0121";
 
+/// Both of them.
 static VERSIONS: [&str; 2] = [SHA1, SHA256];
 
 /// The versions of blocks, as VER spells them.

@@ -38,10 +38,9 @@ use Rattle.ss_review.specs.report.Entries.{same_group}
 use Rattle.ss_review.specs.report.Meaning.{Tells, first_number}
 use Rattle.ss_review.specs.report.Extract.{place_listed}
 use Rattle.ss_review.specs.report.Report.{session_report, report_of}
-use Rattle.ss_origin.proofs.Members.{Has, has_from_contains, contains_from_has, has-append_left, has-append_right, has-append_cases, has-map, from_has-map, from_has-flat_map}
+use Rattle.ss_octets.proofs.Members.{Has, has_from_contains, contains_from_has, has-append_left, has-append_right, has-append_cases, has-map, from_has-map, from_has-flat_map, has-filter, from_has-filter, has-flat_map, has-filter_map, from_has-filter_map}
 use Rattle.ss_review.proofs.of_reports.Leftovers.{takes, unlisted_are, refused_are}
 use Rattle.ss_review.proofs.of_reports.Listings.{listed_assigned, assigned_listed, gaps_are}
-use Rattle.ss_review.proofs.of_lists.Members.{has-filter, from_has-filter, has-flat_map, has-filter_map, from_has-filter_map}
 use Rattle.ss_review.proofs.of_assignment.OnePlaceOneKey.{one_key, assigned_cases, from_has-places_with}
 use Rattle.ss_parts.proofs.PartBlocks.{session_is, has-sessions}
 use Rattle.ss_review.proofs.of_lists.Rising.{has-in_order, from_has-in_order}
@@ -177,7 +176,7 @@ module _ (says : Answers) (log : Contents) (apart : AreApart log) where
       let p = and_parts (nat_le said.first (first_number e)) (nat_lt (first_number e) (said.first + length said.hashes)) f.1 in
       (entry_there b.session said.group e f.0, leb-true said.first (first_number e) p.0, ltb-true (first_number e) (said.first + length said.hashes) p.1)
 
-  -- what is told of an announced number stands under each block that announces it
+  -- the entry of an announced number stands under each block that announces it
   under_here : (k : Key) (h : Hash) (a : Announces says log.blocks k h) (e : Entry) → first_number e ≡ k.number → Tells (report_of says log) k.session k.group e
       → Has (entries_under (report_of says log) a.message) e
   under_here k h a e number t =

@@ -26,12 +26,12 @@ use Rattle.ss_review.specs.Ordered.{in_order}
 use Rattle.ss_parts.specs.Parts.{moved_entry, moved_group, moved_session, moved}
 use Rattle.ss_review.specs.sessions.Sessions.{same_session}
 use Rattle.ss_review.specs.report.Verdict.{is_joined}
-use Rattle.ss_origin.proofs.Members.{Has, has-map, from_has-map}
+use Rattle.ss_octets.proofs.Members.{Has, has-map, from_has-map, all-has}
 use Rattle.ss_review.proofs.of_lists.FilteredAlike.{one_test, flat_map-map}
 use Rattle.ss_review.proofs.of_lists.Keyed.{less, from_less}
 use Rattle.ss_review.proofs.of_lists.Mapped.{map-map, filter-map, map-flat_map, filter_agree}
 use Rattle.ss_parts.proofs.MovedBlocks.{moved_block}
-use Rattle.ss_review.proofs.of_lists.Rising.{below_all, all_below, same_members, rises-in_order, has-in_order, from_has-in_order}
+use Rattle.ss_review.proofs.of_lists.Rising.{all_below, same_members, rises-in_order, has-in_order, from_has-in_order}
 use Rattle.ss_report.specs.runs.Carrying as carrying
 use Rattle.ss_report.specs.runs.Carrying.{told_of, is_joined_in, entries_in, is_numbered, entries_said, entries_under, places_of, is_refused_in, is_verified_in, has_fragment_at, is_fragment_of, is_first_said, is_gap, is_unjudged, is_first_certificate, has_gap, carried_by}
 
@@ -150,7 +150,7 @@ module _ (f : ℕ → ℕ) where
       rise_moved (p ∷ ps) within up = (
         all_below (λ q. nat_cmp (f p) q ≡ Less) (map f ps) (λ q h.
             (let w : (k : ℕ) × Has ps k × (f k ≡ q) = from_has-map f ps q h in
-            less (f p) q (subst (λ k. f p < k) w.2 (rises p w.0 (from_less p w.0 (below_all (λ k. nat_cmp p k ≡ Less) ps w.0 up.0 w.1)) (within w.0 (inr w.1)))))),
+            less (f p) q (subst (λ k. f p < k) w.2 (rises p w.0 (from_less p w.0 (all-has (λ k. nat_cmp p k ≡ Less) ps w.0 up.0 w.1)) (within w.0 (inr w.1)))))),
         rise_moved ps (λ q h. within q (inr h)) up.1,
       )
 

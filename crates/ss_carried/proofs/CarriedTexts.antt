@@ -17,13 +17,12 @@ use Rattle.ss_review.specs.keep.Contents.{Contents, normals, blocks, contents}
 use Rattle.ss_parts.specs.Parts.{placed_of, messages_of, places_of}
 use Rattle.ss_review.specs.report.Report.{report_of}
 use Rattle.ss_review.specs.sessions.Verified.{Answers}
-use Rattle.ss_origin.proofs.Members.{Has, has-append_left, has-append_right, has-append_cases, has-map, from_has-map}
+use Rattle.ss_octets.proofs.Members.{Has, has-append_left, has-append_right, has-append_cases, has-map, from_has-map, has-filter, from_has-filter, all-has}
 use Rattle.ss_review.proofs.of_numbers.Announcements.{numbered_from, has-numbered}
 use Rattle.ss_review.proofs.of_lists.Keyed.{less}
 use Rattle.ss_review.proofs.of_lists.Mapped.{map-map}
-use Rattle.ss_review.proofs.of_lists.Members.{has-filter, from_has-filter}
 use Rattle.ss_review.proofs.of_kept_messages.NotesTold.{normal_noted, block_noted}
-use Rattle.ss_review.proofs.of_lists.Rising.{all_below, below_all, same_members, rises-in_order, from_has-in_order}
+use Rattle.ss_review.proofs.of_lists.Rising.{all_below, same_members, rises-in_order, from_has-in_order}
 use Rattle.ss_review.proofs.of_lists.Sections.{map_agree}
 use Rattle.ss_review.proofs.of_lists.Tests.{any_member, member_any}
 use Rattle.ss_report.specs.runs.Carrying as carrying
@@ -54,7 +53,7 @@ appended [] ys up vp f = vp
 appended (x ∷ xs) ys up vp f = (
   all_below (λ p. nat_cmp x p ≡ Less) (xs ++ ys) (λ p h.
       elim (has-append_cases xs ys p h) [
-        | inl i ↦ below_all (λ q. nat_cmp x q ≡ Less) xs p up.0 i
+        | inl i ↦ all-has (λ q. nat_cmp x q ≡ Less) xs p up.0 i
         | inr i ↦ less x p (f x p (inl refl) i)
       ]),
   appended xs ys up.1 vp (λ p q h i. f p q (inr h) i),
@@ -167,7 +166,7 @@ module _ (says : Answers) (file : ℕ → ℕ) (log : List (List ℕ)) (own : Ca
   part_is : (night place : ℕ) → is_reviewed x night place ≡ true → part night place ≡ 0
   part_is night place e = ap (λ b. cond b 0 1) e
 
-  -- the next night's places are those that are carried over, and behind them those of its file
+  -- the next night's places are those that are carried over, and after them those of its file
   next_places : (night : ℕ) → places_of (part (suc night)) 0 log ≡ over night ++ places_of file (suc night) log
   next_places night =
       same_members nat_cmp_total (places_of (part (suc night)) 0 log) (over night ++ places_of file (suc night) log)

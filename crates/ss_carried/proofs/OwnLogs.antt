@@ -20,14 +20,14 @@ use Rattle.ss_review.specs.keep.Contents.{said_in, block_with, block_in, block_a
 use Rattle.ss_parts.specs.Parts.{blocks_of, moved, placed_of, messages_of, places_of}
 use Rattle.ss_review.specs.report.Report.{report_of}
 use Rattle.ss_review.specs.sessions.Verified.{Answers}
-use Rattle.ss_origin.proofs.Members.{Has, has_from_contains, contains_from_has}
+use Rattle.ss_octets.proofs.Members.{Has, has_from_contains, contains_from_has, all-has}
 use Rattle.ss_review.proofs.of_reports.Leftovers.{refused_are}
 use Rattle.ss_review.proofs.of_lists.Keyed.{less, from_less, keys_rise-filter}
 use Rattle.ss_review.proofs.of_lists.Mapped.{map-map, filter-map}
 use Rattle.ss_parts.proofs.MovedBlocks.{moved_block}
 use Rattle.ss_review.proofs.of_kept_messages.NotesTold.{block_place, normal_noted, block_noted}
 use Rattle.ss_parts.proofs.PartLogs.{told_of_part}
-use Rattle.ss_review.proofs.of_lists.Rising.{all_below, below_all, from_has-in_order}
+use Rattle.ss_review.proofs.of_lists.Rising.{all_below, from_has-in_order}
 use Rattle.std.specs.Cmp.{nat_cmp_total}
 use Rattle.std.proofs.lemmas.Map.Lookups.{exact_unsigned}
 use Rattle.ss_review.proofs.of_lists.Tests.{from_in_range}
@@ -76,7 +76,7 @@ unfolding IsStrictlySortedBy
 index_rises [] up p q low high = absurd (omega (arith, high))
 index_rises (k ∷ ps) up p zero low high = absurd (omega (arith, low))
 index_rises (k ∷ ps) up zero (suc q) low high =
-    from_less k (slice_index ps q) (below_all (λ z. nat_cmp k z ≡ Less) ps (slice_index ps q) up.0 (member_at ps q (omega (arith, high))))
+    from_less k (slice_index ps q) (all-has (λ z. nat_cmp k z ≡ Less) ps (slice_index ps q) up.0 (member_at ps q (omega (arith, high))))
 index_rises (k ∷ ps) up (suc p) (suc q) low high = index_rises ps up.1 p q (omega (arith, low)) (omega (arith, high))
 
 module _ (part : ℕ → ℕ) (k : ℕ) (log : List (List ℕ)) where

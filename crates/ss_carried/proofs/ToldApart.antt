@@ -1,4 +1,4 @@
--- The places of a log tell its messages apart: one place has one message.
+-- Messages of a log differ in their places: one place has one message.
 use Rattle.std.proofs.Common.{◌≡◌, ℕ, Bool, List, map, sym, ap, ◌∙◌, subst}
 use Rattle.std.specs.Prelude.{Some, slice_get}
 use Rattle.std.specs.Ordering.{nat_cmp}
@@ -10,8 +10,7 @@ use Rattle.ss_review.specs.declared.keep.message.BlockMessage.{BlockMessage}
 use Rattle.ss_review.specs.declared.keep.spoilt.SpoiltPlace.{SpoiltPlace}
 use Rattle.ss_review.specs.keep.Notes.{Note, Normal, Block, Spoilt, notes}
 use Rattle.ss_review.specs.keep.Contents.{Contents, blocks, contents}
-use Rattle.ss_origin.proofs.Members.{Has}
-use Rattle.ss_review.proofs.of_lists.Members.{from_has-filter}
+use Rattle.ss_octets.proofs.Members.{Has, from_has-filter}
 use Rattle.ss_review.proofs.of_lists.Keyed.{one_of_key, keys_rise-filter}
 use Rattle.ss_review.proofs.of_kept_messages.NotesTold.{normal_noted, block_noted, spoilt_noted}
 use Rattle.ss_review.proofs.of_kept_messages.PlacesRise.{normals_rise, blocks_rise}

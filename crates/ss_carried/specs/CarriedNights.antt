@@ -68,7 +68,7 @@ abbrev pub nights_of : Answers → (ℕ → ℕ) → List (List ℕ) → Nights
 nights_of says file log = carried_nights says file (contents (notes log))
 
 -- These nights are those of the logs that a keeper makes: each night's log has the messages that the night reviews, in
--- their order. Each night leaves enough over, and its report tells the places in the whole.
+-- their order. Each night leaves enough over, and its report has the places in the whole.
 pub record AreNightsOfTexts (says : Answers) (file : ℕ → ℕ) (log : List (List ℕ)) : Type 0 where
   pub texts : (night : ℕ)
       → night_texts says file log night ≡ messages_of (reviewed_part (nights_of says file log) night) 0 log
@@ -77,7 +77,7 @@ pub record AreNightsOfTexts (says : Answers) (file : ℕ → ℕ) (log : List (L
       ≡ moved (slice_index (places_of (reviewed_part (nights_of says file log) night) 0 log))
       (report says (night_texts says file log night))
 
--- the messages of a file stand behind those of the files before
+-- the messages of a file stand after those of the files before
 abbrev pub NightsOfTexts : Type 0
 NightsOfTexts = (says : Answers) (file : ℕ → ℕ) (log : List (List ℕ)) → FilesFollow (nights_of says file log)
     → AreNightsOfTexts says file log

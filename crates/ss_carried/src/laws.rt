@@ -1,5 +1,4 @@
-//! What holds of every log that is reviewed night by night, where each night leaves over what is carried over of its
-//! log.
+//! Laws on a log that is reviewed night by night, where each night leaves over what is carried over of its log.
 ghost use Rattle.ss_carried.specs.CarriedNights.{CarriedIsEnough, CarriedNightsAreTheWhole, CarriedOfOwnLogs};
 ghost use Rattle.ss_carried.specs.CarriedNights.{NightsOfTexts};
 
@@ -15,8 +14,9 @@ pub fn carried_of_own_logs()
     ensures { CarriedOfOwnLogs }
 {}
 
-/// The logs that a keeper makes, each of what is carried over of the one before and of the night's file, are those of
-/// nights that leave enough over, and so are their reports. The premise is that each file stands behind those before.
+/// A keeper makes the log of a night from what is carried over of the log before, and from the night's file. These logs
+/// and their reports are those of nights that leave enough over. The premise is that each file stands after those
+/// before.
 pub fn nights_of_texts()
     ensures { NightsOfTexts }
 {

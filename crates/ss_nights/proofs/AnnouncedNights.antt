@@ -11,7 +11,7 @@ use Rattle.ss_review.specs.sessions.Sessions.{sessions, of_session}
 use Rattle.ss_review.specs.sessions.Verified.{Answers, joined, is_valid, is_valid_in, is_verified}
 use Rattle.ss_review.specs.announced.Announced.{Key}
 use Rattle.ss_review.specs.announced.Announcing.{Announces}
-use Rattle.ss_origin.proofs.Members.{Has, has_from_contains, contains_from_has}
+use Rattle.ss_octets.proofs.Members.{Has, has_from_contains, contains_from_has}
 use Rattle.ss_parts.proofs.PartBlocks.{has-sessions, from_has-sessions}
 use Rattle.ss_review.proofs.of_lists.Rising.{same_members, rises-in_order}
 use Rattle.ss_nights.specs.Nights.{Nights, night_log, so_far, IsJoined, LeaveEnough}

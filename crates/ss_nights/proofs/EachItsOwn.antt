@@ -17,7 +17,7 @@ use Rattle.ss_review.specs.announced.Announcing.{Announces}
 use Rattle.ss_review.specs.assign.Assigned.{has_hash, pair_of_bearer, places_with, wanted, rank, assigned, is_taken}
 use Rattle.ss_review.specs.assign.Listing.{Wants}
 use Rattle.ss_review.specs.report.Rows.{first, yes, sent_by}
-use Rattle.ss_origin.proofs.Members.{Has, has_from_contains}
+use Rattle.ss_octets.proofs.Members.{Has, has_from_contains}
 use Rattle.ss_review.proofs.of_numbers.Announcements.{has-rows, has-announced_key}
 use Rattle.ss_review.proofs.of_lists.Keyed.{has-slice_get}
 use Rattle.ss_review.proofs.of_assignment.OnePlaceOneKey.{wanted_key, assigned_cases, from_has-places_with}

@@ -14,8 +14,7 @@ use Rattle.ss_review.specs.declared.keep.message.BlockMessage.{BlockMessage}
 use Rattle.ss_review.specs.declared.keep.message.BlockContent.TheVariants.{Fragment}
 use Rattle.ss_review.specs.sessions.Payloads.{certificate_of, certificates, octets}
 use Rattle.ss_review.specs.sessions.States.{stated_by, StatesText}
-use Rattle.ss_origin.proofs.Members.{Has, has-map, from_has-map, from_has-flat_map}
-use Rattle.ss_review.proofs.of_lists.Members.{has-flat_map, has-filter_map, from_has-filter_map}
+use Rattle.ss_octets.proofs.Members.{Has, has-map, from_has-map, from_has-flat_map, has-flat_map, has-filter_map, from_has-filter_map}
 use Rattle.ss_review.proofs.of_lists.FilteredAlike.{one_test}
 use Rattle.ss_review.proofs.of_sessions.Stating.{IsStatedBy, stated_by-IsStatedBy}
 use Rattle.ss_review.proofs.of_sessions.StatesTold.{fragment_of}

@@ -17,7 +17,7 @@ use Rattle.ss_review.specs.sessions.Verified.{Answers, joined, is_valid_in, is_v
 use Rattle.ss_review.specs.announced.Announced.{Key, Row, row_cmp, rows, hashes_for}
 use Rattle.ss_review.specs.assign.Assigned.{wanted}
 use Rattle.ss_review.specs.announced.Announcing.{Announces}
-use Rattle.ss_origin.proofs.Members.{Has, has_from_contains, contains_from_has}
+use Rattle.ss_octets.proofs.Members.{Has, has_from_contains, contains_from_has}
 use Rattle.ss_review.proofs.of_numbers.Announcements.{announced_row, has-rows, rows-rise, from_has-hashes_for, has-hashes_for, hashes_for-rise}
 use Rattle.ss_review.proofs.of_assignment.OnePlaceOneKey.{only_one}
 use Rattle.ss_review.proofs.of_lists.Rising.{same_members}

@@ -8,7 +8,7 @@ use Rattle.ss_review.specs.announced.Announced.{Key}
 use Rattle.ss_review.specs.assign.Assigned.{has_hash}
 use Rattle.ss_review.specs.announced.Announcing.{Announces}
 use Rattle.ss_review.specs.report.Meaning.{IsListed}
-use Rattle.ss_origin.proofs.Members.{Has, has_from_contains}
+use Rattle.ss_octets.proofs.Members.{Has, has_from_contains}
 use Rattle.ss_review.proofs.of_reports.Listings.{listed_assigned}
 use Rattle.ss_nights.specs.Nights.{Nights, night_log, HasPair}
 use Rattle.ss_nights.specs.Reports.{night_report}

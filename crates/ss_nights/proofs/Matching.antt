@@ -10,7 +10,7 @@ use Rattle.std.specs.List.Sorted.{IsStrictlySortedBy}
 use Rattle.std.proofs.lemmas.Bool.{cases_eq, and_parts, and_from, cases_Bool, false_from_ne_true, lt-ltb, ltb-true, ltb-false, or_left, or_right, or_cases}
 use Rattle.std.proofs.lemmas.Cmp.{tied_itself}
 use Rattle.std.proofs.lemmas.List.{append_assoc}
-use Rattle.ss_origin.proofs.Members.{Has}
+use Rattle.ss_octets.proofs.Members.{Has}
 use Rattle.ss_review.proofs.of_lists.Rising.{not_less_itself}
 use Rattle.ss_review.proofs.of_lists.Counting.{count_by-cons, count_by-push, count_below}
 use Rattle.ss_review.proofs.of_lists.Sums.{count_by-same}
@@ -213,7 +213,7 @@ module _ {K : Type 0} {R : K → K → Ordering} (o : IsTotalOrder R) where
           | inr some ↦ (let fewer = new_later some in omega (arith, all, own, count-wants, messages, got_new, fewer))
         ]
 
-    -- ---- who gets one, where those that get none stand behind all settled ones
+    -- ---- who gets one, where those that get none stand after all settled ones
 
     module _ (lost_behind : (k : K) → wants k ≡ true → settled k ≡ false → gets R last later left k ≡ false → (j : K) → settled j ≡ true → R j k ≡ Less) where
       -- ---- each that gets one in the whole was settled, or gets one in the end

@@ -19,8 +19,7 @@ use Rattle.ss_review.specs.keep.Contents.{Contents, said_in, blocks}
 use Rattle.ss_review.specs.sessions.Sessions.{same_session, of_session}
 use Rattle.ss_review.specs.sessions.Verified.{Answers, signature_of, is_valid, joined, is_valid_in, is_verified}
 use Rattle.ss_review.specs.sessions.States.{HasValidOctet}
-use Rattle.ss_origin.proofs.Members.{Has, has_from_contains, contains_from_has}
-use Rattle.ss_review.proofs.of_lists.Members.{has-filter, from_has-filter}
+use Rattle.ss_octets.proofs.Members.{Has, has_from_contains, contains_from_has, has-filter, from_has-filter}
 use Rattle.ss_parts.proofs.PartBlocks.{session_is}
 use Rattle.ss_review.proofs.of_reports.Witnesses.{stored_block}
 use Rattle.ss_nights.specs.Nights.{Nights, is_reviewed, night_log, so_far, AreContents, HasVerifiedOctet, LeavesEnough, LeaveEnough}

@@ -1,4 +1,4 @@
--- What the nights together say of numbers and of unlisted messages: what one review of all files so far says.
+-- The nights together report the same numbers and unlisted messages as one review of all files so far.
 use Rattle.std.proofs.Common.{◌≡◌, ◌⊎◌, inl, inr, ℕ, ◌+◌, Bool, true, false, ◌||◌, List, refl, sym, ap, ◌∙◌, subst, arith}
 use Rattle.std.specs.Prelude.{◌↔◌, Option, Some, None, count_by}
 use Rattle.std.specs.declared.cmp.Ordering.{Ordering}
@@ -12,7 +12,7 @@ use Rattle.ss_review.specs.sessions.Verified.{Answers}
 use Rattle.ss_review.specs.announced.Announced.{Key, Row, key_cmp, rows, keys}
 use Rattle.ss_review.specs.assign.Assigned.{is_pair, wanted}
 use Rattle.ss_review.specs.announced.Announcing.{Announces, IsDisputedKey}
-use Rattle.ss_origin.proofs.Members.{Has, has_from_contains, contains_from_has}
+use Rattle.ss_octets.proofs.Members.{Has, has_from_contains, contains_from_has}
 use Rattle.ss_review.proofs.of_numbers.Announcements.{keys-rise}
 use Rattle.ss_review.proofs.of_assignment.OnePlaceOneKey.{wanted_key}
 use Rattle.ss_review.proofs.of_lists.Rising.{reversed}

@@ -13,7 +13,7 @@ use Rattle.ss_block.specs.declared.hash.HashPair.{HashPair}
 use Rattle.ss_review.specs.declared.keep.message.NormalMessage.{NormalMessage}
 use Rattle.ss_review.specs.announced.Announced.{Key, Row, key_cmp, keys}
 use Rattle.ss_review.specs.assign.Assigned.{same_pair, is_pair, places_with, wanted, rank, place_of, assigned, is_taken}
-use Rattle.ss_origin.proofs.Members.{Has}
+use Rattle.ss_octets.proofs.Members.{Has}
 use Rattle.ss_review.proofs.of_numbers.Announcements.{keys-rise}
 use Rattle.ss_review.proofs.of_lists.Counting.{same_pair-is, same_itself}
 use Rattle.ss_review.proofs.of_lists.EqualCounts.{count_by-parts}

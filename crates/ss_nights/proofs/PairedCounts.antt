@@ -6,9 +6,8 @@ use Rattle.std.specs.declared.cmp.Ordering.TheVariants.{Less}
 use Rattle.std.specs.Cmp.{IsTotalOrder}
 use Rattle.std.specs.List.Sorted.{IsStrictlySortedBy}
 use Rattle.std.proofs.lemmas.Bool.{cases_Bool}
-use Rattle.ss_origin.proofs.Members.{Has, has_split, has-append_left, has-append_right, has-map}
-use Rattle.ss_review.proofs.of_lists.Members.{has-append_cases}
-use Rattle.ss_review.proofs.of_lists.Rising.{below_all, not_less_itself}
+use Rattle.ss_octets.proofs.Members.{Has, has_split, has-append_left, has-append_right, has-map, has-append_cases, all-has}
+use Rattle.ss_review.proofs.of_lists.Rising.{not_less_itself}
 use Rattle.ss_review.proofs.of_lists.Counting.{count_by-cons}
 use Rattle.ss_review.proofs.of_lists.Sums.{count_by-append}
 use Rattle.ss_review.proofs.of_assignment.FullPlaces.{AreDistinct}
@@ -18,13 +17,13 @@ use Rattle.ss_review.proofs.of_assignment.FullPlaces.{AreDistinct}
 pub distinct_rising : {K : Type 0} {R : K → K → Ordering} (o : IsTotalOrder R) (ks : List K) → IsStrictlySortedBy R ks → AreDistinct ks
 unfolding IsStrictlySortedBy
 distinct_rising o [] up = tt
-distinct_rising {R = R} o (k ∷ ks) up = (λ h. not_less_itself o k (below_all (λ j. R k j ≡ Less) ks k up.0 h), distinct_rising o ks up.1)
+distinct_rising {R = R} o (k ∷ ks) up = (λ h. not_less_itself o k (all-has (λ j. R k j ≡ Less) ks k up.0 h), distinct_rising o ks up.1)
 
 pub distinct_by_key : {X K : Type 0} {R : K → K → Ordering} (o : IsTotalOrder R) (key : X → K) (xs : List X) → IsStrictlySortedBy R (map key xs) → AreDistinct xs
 unfolding IsStrictlySortedBy
 distinct_by_key o key [] up = tt
 distinct_by_key {R = R} o key (x ∷ xs) up =
-    (λ h. not_less_itself o (key x) (below_all (λ k. R (key x) k ≡ Less) (map key xs) (key x) up.0 (has-map key xs x h)), distinct_by_key o key xs up.1)
+    (λ h. not_less_itself o (key x) (all-has (λ k. R (key x) k ≡ Less) (map key xs) (key x) up.0 (has-map key xs x h)), distinct_by_key o key xs up.1)
 
 -- ---- counts
 

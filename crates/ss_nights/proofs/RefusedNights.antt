@@ -8,8 +8,7 @@ use Rattle.ss_review.specs.declared.keep.message.BlockMessage.{BlockMessage}
 use Rattle.ss_review.specs.declared.keep.spoilt.SpoiltPlace.{SpoiltPlace}
 use Rattle.ss_review.specs.sessions.Verified.{Answers, joined, is_verified}
 use Rattle.ss_review.specs.report.Report.{refused}
-use Rattle.ss_origin.proofs.Members.{Has, has_from_contains, contains_from_has, has-map, from_has-map}
-use Rattle.ss_review.proofs.of_lists.Members.{has-filter, from_has-filter}
+use Rattle.ss_octets.proofs.Members.{Has, has_from_contains, contains_from_has, has-map, from_has-map, has-filter, from_has-filter}
 use Rattle.ss_review.proofs.of_lists.FilteredAlike.{one_test}
 use Rattle.ss_review.proofs.of_lists.Sums.{sum_by-added, sum_by-same, count_by-same}
 use Rattle.ss_nights.specs.Nights.{Nights, is_reviewed, night_log, so_far, IsJoined, LeaveEnough}

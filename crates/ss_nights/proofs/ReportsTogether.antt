@@ -25,12 +25,11 @@ use Rattle.ss_review.specs.assign.Assigned.{same_pair, is_taken}
 use Rattle.ss_review.specs.announced.Announcing.{IsAnnounced, IsDisputedKey}
 use Rattle.ss_review.specs.report.Meaning.{IsHole, Tells, IsGap, IsTold}
 use Rattle.ss_review.specs.report.Report.{session_report, unlisted, report_of}
-use Rattle.ss_origin.proofs.Members.{Has, has_from_contains, contains_from_has, has-map}
+use Rattle.ss_octets.proofs.Members.{Has, has_from_contains, contains_from_has, has-map, from_has-map, has-filter, from_has-filter}
 use Rattle.ss_review.proofs.of_numbers.Announcements.{announced_key}
 use Rattle.ss_review.proofs.of_reports.EntriesMeant.{entry_told, entry_tells}
 use Rattle.ss_review.proofs.of_lists.FilteredAlike.{same_count}
 use Rattle.ss_review.proofs.of_reports.Listings.{listed_assigned, assigned_listed, gaps_are}
-use Rattle.ss_review.proofs.of_lists.Members.{from_has-map, has-filter, from_has-filter}
 use Rattle.ss_review.proofs.of_assignment.OnePlaceOneKey.{assigned_cases, wanted_key}
 use Rattle.ss_review.proofs.of_lists.OnesInOrder.{rise_by_key}
 use Rattle.ss_review.proofs.of_lists.Tests.{any_member, member_any}
@@ -45,7 +44,7 @@ use Rattle.ss_nights.proofs.SettledKeys.{from_night_normal, from_so_far_normal, 
 -- ---- the report of a log that is part of another
 
 module _ (says : Answers) (log : Contents) where
-  -- a number is told where it is announced
+  -- a number is reported where it is announced
   pub told_announced : (k : Key) → IsTold (report_of says log) k → IsAnnounced says log.blocks k
   told_announced k (inl l) =
       let a = assigned_cases log.normal (rows says log.blocks) k l.0 (listed_assigned says log k l.0 l.1) in
@@ -199,7 +198,7 @@ module _ (says : Answers) (x : Nights) (last : ℕ) (up : PlacesRise x.whole.nor
     λ t. (gap_disputed says all k).1 ((numbers.disputed k).1 ((gap_disputed says (night_log x last) k).0 t.0, t.1)),
   )
 
-  -- a number is told in the end exactly where the last night tells it or it was settled
+  -- a number is reported in the end exactly where the last night reports it, or it was settled
   told_put : (k : Key) → IsTold whole_report k ↔ (IsTold last_report k ⊎ IsSettledBefore says x last k)
   told_put k = (there, back)
     where

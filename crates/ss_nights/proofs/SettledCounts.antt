@@ -11,7 +11,7 @@ use Rattle.ss_review.specs.declared.keep.message.NormalMessage.{NormalMessage}
 use Rattle.ss_review.specs.sessions.Verified.{Answers}
 use Rattle.ss_review.specs.announced.Announced.{Key, rows, keys}
 use Rattle.ss_review.specs.assign.Assigned.{same_pair, is_pair}
-use Rattle.ss_origin.proofs.Members.{Has}
+use Rattle.ss_octets.proofs.Members.{Has}
 use Rattle.ss_review.proofs.of_numbers.Announcements.{keys-rise}
 use Rattle.ss_review.proofs.of_lists.Counting.{same_pair-is, same_itself}
 use Rattle.ss_review.proofs.of_lists.EqualCounts.{count_by-parts}

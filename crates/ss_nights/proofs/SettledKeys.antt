@@ -7,8 +7,7 @@ use Rattle.ss_review.specs.declared.keep.message.NormalMessage.{NormalMessage}
 use Rattle.ss_review.specs.sessions.Verified.{Answers}
 use Rattle.ss_review.specs.announced.Announced.{Key, Row, rows}
 use Rattle.ss_review.specs.assign.Assigned.{wanted, is_taken}
-use Rattle.ss_origin.proofs.Members.{Has, contains_from_has}
-use Rattle.ss_review.proofs.of_lists.Members.{has-filter, from_has-filter}
+use Rattle.ss_octets.proofs.Members.{Has, contains_from_has, has-filter, from_has-filter}
 use Rattle.ss_review.proofs.of_reports.Leftovers.{taken_by}
 use Rattle.ss_nights.specs.Nights.{Nights, is_reviewed, night_log, so_far, listed, LeavesEnough, LeaveEnough, IsSettled, IsSettledBefore, HasPair}
 use Rattle.ss_nights.specs.Together.{JoinedStay, HashesStay, NoneListedAgain, NoOtherWanted}

@@ -5,7 +5,7 @@ use Rattle.ss_review.specs.declared.keep.message.BlockMessage.{BlockMessage}
 use Rattle.ss_review.specs.declared.keep.message.BlockContent.TheVariants.{Hashes, Fragment}
 use Rattle.ss_review.specs.announced.Announced.{Key}
 use Rattle.ss_review.specs.report.Rows.{yes}
-use Rattle.ss_origin.proofs.Members.{Has, has_from_contains}
+use Rattle.ss_octets.proofs.Members.{Has, has_from_contains}
 use Rattle.ss_block.specs.Block as block
 use Rattle.ss_nights.specs.Nights.{Nights, night_log, IsKept}
 use Rattle.ss_nights.specs.NightRows.{number_of, disputed_later, another_hash, listed_again, lost_before, twins, twins_wanted}

@@ -13,12 +13,11 @@ use Rattle.ss_review.specs.announced.Announced.{Key, Row, rows, hashes_for}
 use Rattle.ss_review.specs.assign.Assigned.{same_pair, has_hash, pair_of_bearer, wanted_with, wanted}
 use Rattle.ss_review.specs.announced.Announcing.{Announces, IsDisputedKey}
 use Rattle.ss_review.specs.assign.Listing.{Wants}
-use Rattle.ss_origin.proofs.Members.{Has, has_from_contains, contains_from_has}
+use Rattle.ss_octets.proofs.Members.{Has, has_from_contains, contains_from_has, from_has-filter_map}
 use Rattle.ss_review.proofs.of_numbers.Announcements.{numbered_from}
 use Rattle.ss_review.proofs.of_lists.Counting.{same_pair-is}
 use Rattle.ss_review.proofs.of_lists.EqualCounts.{count_by-none}
 use Rattle.ss_review.proofs.of_lists.Finding.{find_some, find_least, bearer_of}
-use Rattle.ss_review.proofs.of_lists.Members.{from_has-filter_map}
 use Rattle.ss_review.proofs.of_kept_messages.NotesTold.{normal_place}
 use Rattle.ss_review.proofs.of_assignment.OnePlaceOneKey.{only_one}
 use Rattle.ss_review.proofs.of_kept_messages.PlacesRise.{normals_rise}

@@ -1,4 +1,4 @@
--- What holds of every log that is reviewed night by night.
+-- Laws on a log that is reviewed night by night.
 use Rattle.std.specs.Prelude.{◌≡◌, ◌↔◌, ◌<◌, ◌≤◌, ℕ, true, List, Contains, if◌then◌else◌}
 use Rattle.ss_block.specs.declared.hash.Hash.{Hash}
 use Rattle.ss_block.specs.declared.session.Session.{Session}
@@ -17,7 +17,7 @@ use Rattle.ss_nights.specs.Nights.{Nights, is_reviewed, night_log, so_far, AreCo
 abbrev pub reviewed_part : Nights → ℕ → ℕ → ℕ
 reviewed_part x night place = if is_reviewed x night place then 0 else 1
 
--- the report on a night's log is that of a log of its own, which tells the places in the whole
+-- the report on a night's log is that of a log of its own, with the places in the whole
 abbrev pub NightsAreLogs : Type 0
 NightsAreLogs =
     (says : Answers) (x : Nights) (night : ℕ) (log : List (List ℕ)) → x.whole ≡ contents (notes log)
@@ -37,8 +37,8 @@ StatesOfNights =
     × ((s : Session)
     → joined says (of_session (night_log x last).blocks s) ≡ joined says (of_session (so_far x last).blocks s))
 
--- a hash is announced for a key in the files up to a night's exactly where the session is joined there, and some night
--- up to this one announced it
+-- A hash is announced for a key in the files up to that of a night exactly under two conditions: the session is joined
+-- there, and some night up to this one announced it.
 abbrev pub AnnouncedOfNights : Type 0
 AnnouncedOfNights =
     (says : Answers) (x : Nights) (last : ℕ) → AreContents x.whole → LeaveEnough says x last → (k : Key) (h : Hash)

@@ -1,5 +1,5 @@
 -- Small logs of two nights: one that meets the premises, and for each premise one that doesn't, where the nights
--- together say something else than the whole.
+-- together report something else than the whole.
 use Rattle.std.specs.Prelude.{◌≡◌, ℕ, ◌==◌, nat_lt, List, [], ◌∷◌, if◌then◌else◌}
 use Rattle.std.specs.List.{list_any}
 use Rattle.ss_block.specs.declared.hash.Alg.TheVariants as algs
@@ -92,7 +92,7 @@ twins_wanted =
     ∷ hashes_of 5 (sent_by (104 ∷ []) 1) algs.Sha256 2 (hashes.Sha256 (103 ∷ []) ∷ [])
     ∷ number_at 6 (104 ∷ []) 3 1 ∷ [])
 
--- ---- what is told
+-- ---- what is reported
 
 -- the first night settles number 1 of the host with the message at place 1
 abbrev pub SettlesFirst : Nights → List ℕ → Type 0

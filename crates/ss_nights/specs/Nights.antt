@@ -1,4 +1,4 @@
--- A log that is reviewed night by night: each night reviews its own file, and in front of it what was left over before.
+-- A log that is reviewed night by night: each night reviews its own file, and before it what was left over.
 use Rattle.std.specs.Prelude.{◌≡◌, ◌+◌, ◌<◌, ◌≤◌, ◌==◌, ◌||◌, ◌&&◌, ℕ, zero, suc, nat_le, Bool, true, false, List}
 use Rattle.std.specs.Prelude.{length, filter, count_by, Contains, Option, Some, None, Ok}
 use Rattle.std.specs.List.{range_with_len}

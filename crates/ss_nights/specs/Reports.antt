@@ -48,8 +48,8 @@ SettledAreListed =
     (says : Answers) (x : Nights) (night : ℕ) (k : Key) (place : ℕ)
     → (listed says (night_log x night) k ≡ Some place) ↔ IsListed (night_report says x night) k place
 
--- whatever a night lists under a number, one review of all files so far has a hash of it announced for that number, if
--- it joins the session
+-- If one review of all files so far joins a session, it has a hash announced for each number of it that a night lists:
+-- a hash of the listed message.
 abbrev pub ListedAreAnnounced : Type 0
 ListedAreAnnounced =
     (says : Answers) (x : Nights) (last : ℕ) → AreContents x.whole → LeaveEnough says x last
@@ -59,7 +59,7 @@ ListedAreAnnounced =
 
 -- ---- one report of all
 
--- the report says what those of the nights up to the last one say together
+-- the report is that of the nights up to the last one together
 pub record IsPutTogether (says : Answers) (x : Nights) (last : ℕ) (r : Report) : Type 0 where
   -- sessions and states are those of the last report
   pub states : states_told r ≡ states_told (night_report says x last)
@@ -69,7 +69,7 @@ pub record IsPutTogether (says : Answers) (x : Nights) (last : ℕ) (r : Report)
   -- gaps are those of the last report but for settled numbers
   pub gaps : (k : Key) (why : Why)
       → IsGap r k why ↔ (IsGap (night_report says x last) k why × (¬ IsSettledBefore says x last k))
-  -- holes are the numbers, below one that is told or settled, that aren't
+  -- holes are the numbers, below one that is reported or settled, that aren't
   pub holes : (s : Session) (g : Group) (from to : ℕ) → Tells r s g (entry.Hole from to)
       ↔ IsHole (λ n. IsTold (night_report says x last) (record { session = s; group = g; number = n })
       ⊎ IsSettledBefore says x last (record { session = s; group = g; number = n })) from to

@@ -1,4 +1,4 @@
--- When the nights together say what one review of their files says.
+-- When the nights together report what one review of their files reports.
 use Rattle.std.specs.Prelude.{◌≡◌, ◌≢◌, ◌↔◌, ◌⊎◌, ◌+◌, ◌<◌, ◌≤◌, ◌&&◌, ℕ, not, true, false, count_by, Contains, Some}
 use Rattle.std.specs.Prelude.{None}
 use Rattle.std.specs.List.{sum_by, range_with_len}
@@ -26,7 +26,7 @@ pub record IsLost (says : Answers) (log : Contents) (k : Key) (h : Hash) : Type 
   pub undisputed : ¬ IsDisputedKey says log.blocks k
   pub unlisted : listed says log k ≡ None
 
--- the messages of a file stand behind those of the files before
+-- the messages of a file stand after those of the files before
 abbrev pub FilesFollow : Nights → Type 0
 FilesFollow x = (place other : ℕ) → place < other → other < x.whole.count → x.file place ≤ x.file other
 
@@ -83,7 +83,7 @@ pub record ReportsShow (says : Answers) (x : Nights) (last : ℕ) : Type 0 where
       → ¬ IsAnnounced says (night_log x later).blocks k
   pub none_lost : (k : Key) (h : Hash) → ¬ IsLost says (night_log x last) k h
 
--- ---- what the nights together say
+-- ---- what the nights together report
 
 -- the log lists the key with a message of these hashes
 abbrev pub IsListedWith : Answers → Contents → Key → HashPair → Type 0
@@ -111,7 +111,7 @@ abbrev pub left_count : Nights → ℕ → ℕ
 left_count x night =
     count_by (λ place. is_reviewed x night place && x.left night place) (range_with_len 0 x.whole.count)
 
--- each place of another kind is told by some night, and none twice
+-- each place of another kind is reported by some night, and none twice
 pub record TellPlaces (says : Answers) (x : Nights) (last : ℕ) : Type 0 where
   pub refused : (place : ℕ) → Contains (refused says (so_far x last).blocks) place ↔ IsRefusedInNights says x last place
   pub spoilt : (s : SpoiltPlace)

@@ -1,4 +1,4 @@
-//! What holds of every log that is reviewed night by night, where each night leaves enough over for the next one.
+//! Laws on a log that is reviewed night by night, where each night leaves enough over for the next one.
 ghost use Rattle.ss_nights.specs.NightLaws.{AnnouncedOfNights, FilesAreTheWhole, NightsAreLogs, StatesOfNights};
 ghost use Rattle.ss_nights.specs.NightLaws.{VerifiedStays};
 ghost use Rattle.ss_nights.specs.Together.{NumbersOfNights, PlacesOfNights, ReportsAreEnough, UnlistedOfNights};
@@ -7,8 +7,8 @@ ghost use Rattle.ss_nights.specs.Reports.{ListedAreAnnounced, NightsAreTheWhole,
 
 use ss_block::laws::readings::blocks_are_in_range;
 
-/// What is said of a night's log is what the report on it says: that of the messages that the night reviews, with the
-/// places as those in the whole.
+/// The report on the log of a night is that of the messages that the night reviews, with the places as those in the
+/// whole.
 pub fn nights_are_logs()
     ensures { NightsAreLogs }
 {}
@@ -39,16 +39,16 @@ pub fn announced_of_nights()
     blocks_are_in_range();
 }
 
-/// What one review of all files so far refuses, calls spoilt and counts is what the nights do, put together. The
-/// premise is that no session is disputed in the end of which a night left a verified block behind.
+/// One review of all files so far refuses, calls spoilt and counts what the nights do, put together. The premise is
+/// that in the end no session is disputed of which a night left a verified block behind.
 pub fn places_of_nights()
     ensures { PlacesOfNights }
 {
     blocks_are_in_range();
 }
 
-/// What one review of all files so far says of numbers and unlisted messages is what the nights say together. It lists
-/// a number exactly where the last night lists it or some night settled it, with an equal message. Its gaps are those
+/// One review of all files so far reports the same numbers and unlisted messages as the nights together. It lists a
+/// number exactly where the last night lists it or some night settled it, with an equal message. Its gaps are those
 /// of the last night that aren't settled, with the same reasons. As many copies of each message are unlisted as in the
 /// last night. The premises are that the files follow one another, and those of `AgreeLater`.
 pub fn numbers_of_nights()
@@ -70,7 +70,7 @@ pub fn unlisted_of_nights()
 }
 
 /// Reports alone show all premises of `numbers_of_nights` but that on two messages with one hash. For this each joined
-/// session has to stay joined, no settled number may be told again, and none may be lost in the end.
+/// session has to stay joined, no settled number may be reported again, and none may be lost in the end.
 pub fn reports_are_enough()
     ensures { ReportsAreEnough }
 {}
@@ -80,8 +80,8 @@ pub fn settled_are_listed()
     ensures { SettledAreListed }
 {}
 
-/// Whatever a night lists under a number, a hash of it is announced for that number in one review of all files so far,
-/// if this joins the session.
+/// If one review of all files so far joins a session, it has a hash announced for each number of it that a night lists:
+/// a hash of the listed message.
 pub fn listed_are_announced()
     ensures { ListedAreAnnounced }
 {
@@ -100,8 +100,8 @@ pub fn nights_are_the_whole()
     files_are_the_whole();
 }
 
-/// Small logs of two nights, and the reports on them, computed: one that meets the premises of the law on what the
-/// nights say together, and for each premise one that doesn't, and where they say something else than the whole.
+/// Small logs of two nights, and the reports on them, computed: one that meets the premises of the law on the nights
+/// together. For each premise there is one that doesn't, where the nights report something else than the whole.
 pub fn nights_are_these()
     ensures { NightsAreThese }
 {}

@@ -1,4 +1,4 @@
-//! What the reviews of a log say together that is reviewed night by night.
+//! What the reviews of a log that is reviewed night by night report together.
 #![tactic(auto)]
 
 pub mod laws;

@@ -1,4 +1,4 @@
--- Octets and their base64 tell each other, and base64 has none but its own octets in it.
+-- Octets and their base64 determine each other, and base64 has no octets but its own symbols in it.
 use Rattle.std.proofs.Common.{◌≡◌, ℕ, zero, suc, ◌/◌, ◌%◌, ◌*◌, ◌+◌, ◌≤◌, length, arith, ◌&&◌, Bool, true, false, not, eqb, List, [], ◌∷◌, ◌++◌, Some, Result, Ok, Err, ap, subst, ◌∙◌, replicate, slice_index, refl}
 use Rattle.std.specs.List.{All, AllByRecursion, list_all}
 use Rattle.std.proofs.lemmas.List.Elements.{All-from_recursion}
@@ -13,7 +13,7 @@ pub some_octets_of : (b : List ℕ) → 1 ≤ length b → some_octets b ≡ Som
 some_octets_of [] some = absurd (omega arith)
 some_octets_of (x ∷ b) some = refl
 
--- octets are told from their base64
+-- base64 determines the octets that it spells
 pub octets_in-base64 : (b : List ℕ) → IsBytes b → 1 ≤ length b → octets_in (base64 b) ≡ Some b
 unfolding octets_in base64
 octets_in-base64 b bytes some = ap octets_decoded (decode_of-encode_of standard b refl bytes) ∙ some_octets_of b some
@@ -23,7 +23,7 @@ decoded_some (Ok []) b e = absurd cc
 decoded_some (Ok (x ∷ octets)) b e = let same : x ∷ octets ≡ b = cc in (ap Ok same, subst (λ (l : List ℕ). 1 ≤ length l) same (omega arith))
 decoded_some (Err e) b h = absurd cc
 
--- what is told of a text that spells octets; each octet of the text is below 256
+-- what holds of a text that spells octets; each octet of the text is below 256
 pub record IsBase64 (text b : List ℕ) : Type 0 where
   pub spelled : text ≡ base64 b
   pub some : 1 ≤ length b

@@ -1,2 +1,3 @@
 pub mod Numbers
 pub mod Base64Text
+pub mod Members

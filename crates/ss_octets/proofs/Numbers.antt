@@ -1,4 +1,4 @@
--- A number is told from its one spelling.
+-- The one spelling of a number determines the number.
 use Rattle.std.proofs.Common.{◌≡◌, ℕ, ◌<◌, ◌≤◌, ◌^◌, true, List, Some, None, ap, sym, ◌∙◌, arith}
 use Rattle.std.specs.Fmt.{decimal}
 use Rattle.std.proofs.lemmas.Bool.{and_parts, and_from, leb-true, le-leb, cond-true, cond-false, false_from_ne_true}
@@ -11,7 +11,7 @@ pub number-decimal : (n : ℕ) → n < 2 ^ 64 → number (decimal n) ≡ n
 unfolding number
 number-decimal n small = (decimal_is_IsNumeral n small).1
 
--- what is told of a text that is a number's
+-- what holds of a text that spells a number
 pub record IsSpelled (least most : ℕ) (text : List ℕ) : Type 0 where
   pub spelled : text ≡ decimal (number text)
   pub low : least ≤ number text
@@ -39,6 +39,6 @@ pub number_in-decimal : (least most n : ℕ) (text : List ℕ) → n < 2 ^ 64 �
 number_in-decimal least most n text small low high e =
     ap (number_in least most) e ∙ cond-true (is_number least most (decimal n)) (Some (number (decimal n))) None (is_number-decimal least most n small low high) ∙ ap Some (number-decimal n small)
 
--- where a text is no number's, it tells none
+-- a text that isn't the spelling of a number has none
 pub number_in-none : (least most : ℕ) (text : List ℕ) → (IsSpelled least most text → ⊥) → number_in least most text ≡ None
 number_in-none least most text fails = cond-false (is_number least most text) (Some (number text)) None (false_from_ne_true (is_number least most text) (λ h. fails (is_spelled least most text h)))

@@ -6,7 +6,7 @@ use Rattle.ss_octets.specs.declared.code.Code.{Code}
 abbrev pub IsCode : Code → List ℕ × Option ℕ → Type 0
 IsCode code told = (code.name.now, code.place) ≡ told
 
--- how it is printed: behind the name a space and the place in decimal
+-- how it is printed: its name; if it has a place, a space and the place in decimal follow
 abbrev pub code_text : List ℕ × Option ℕ → List ℕ
 code_text (name, None) = name
 code_text (name, Some place) = name ++ codes " " ++ decimal place

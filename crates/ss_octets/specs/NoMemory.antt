@@ -1,4 +1,4 @@
--- The text of want of memory.
+-- The text of the fault "out of memory".
 use Rattle.std.specs.Prelude.{ℕ, List, codes}
 
 -- memory ran out

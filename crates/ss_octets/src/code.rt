@@ -4,13 +4,13 @@ ghost use Rattle.ss_octets.specs.Code.{code_text};
 
 use std::fmt;
 
-/// A fault's code, by which programs know it. It is printed as its name, and behind that a space and its place, where
-/// it has one.
+/// The code by which programs know a fault. It is printed as its name; if it has a place, a space and the place follow.
 #[derive(Clone, Copy, Debug, PartialEq, Eq)]
 pub struct Code {
     /// A letter, and a number that stays the same: `F2`.
     pub name: &'static str,
-    /// Where the fault is, where it says so: an octet or a message, from 0, or a line, from 1. Each fault says which.
+    /// Where the fault is, for a fault that has a place: an octet or a message, counted from 0, or a line, counted from
+    /// 1. Each fault says which.
     pub place: Option<u64>,
 }
 

@@ -1,5 +1,5 @@
-//! What several crates share: octets and lists that their holder owns, want of memory, the codes of faults, numbers in
-//! decimal, strict base64 (RFC 4648, section 4), and a text cut at an octet.
+//! What several crates share: octets and lists that their holder owns, the fault "out of memory", codes of faults,
+//! numbers in decimal, strict base64 (RFC 4648, section 4), and a text cut at an octet.
 #![tactic(auto)]
 
 mod code;

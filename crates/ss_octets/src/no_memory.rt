@@ -1,4 +1,4 @@
-//! Want of memory.
+//! The fault "out of memory".
 ghost use Rattle.std.specs.Prelude.{Some};
 ghost use Rattle.ss_octets.specs.NoMemory.{no_memory_text};
 

@@ -8,7 +8,11 @@ use base64::DecodeAllocError;
 use base64::engine::general_purpose::STANDARD;
 use std::alloc::{AllocError, Global};
 
-/// The octets that `text` spells, at least one, padded and with zero unused bits; `None` where it spells none.
+/// The octets that `text` spells in strict base64; `None` if it isn't strict base64, or spells no octet.
+///
+/// # Errors
+///
+/// `NoMemory` if memory runs out.
 #[tactic(auto, unfolding(crate::specs::StrictBase64::octets_in))]
 pub fn decoded(alloc: Global, text: &[u8]) -> Result<Option<Bytes>, NoMemory>
     ensures { IfOk result (λ o. o ≡ octets_in text.now) }
@@ -22,6 +26,10 @@ pub fn decoded(alloc: Global, text: &[u8]) -> Result<Option<Bytes>, NoMemory>
 }
 
 /// Writes the octets in base64 at the end of `out`.
+///
+/// # Errors
+///
+/// `AllocError` if memory runs out.
 #[tactic(auto, unfolding(crate::specs::StrictBase64::base64))]
 pub fn put_base64(alloc: Global, out: &mut Vec<u8>, octets: &[u8]) -> Result<(), AllocError>
     ensures { OnOk result (out.new.items ≡ out.old.items ++ base64 octets.now) }

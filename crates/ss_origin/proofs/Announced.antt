@@ -16,7 +16,7 @@ use Rattle.ss_origin.specs.CoverLaws.{IsInRun}
 use Rattle.ss_origin.specs.SentLaws.{HasSentBlock, OthersAreSent}
 use Rattle.ss_origin.proofs.Configs.{has_ranges}
 use Rattle.ss_origin.proofs.Covered.{others_are_in_runs}
-use Rattle.ss_origin.proofs.Members.{Has, has_from_contains, contains_from_has, has-append_right, has-map, has-enumerated, has-zipped, has-copies}
+use Rattle.ss_octets.proofs.Members.{Has, has_from_contains, contains_from_has, has-append_right, has-map, has-enumerated, has-zipped, has-copies}
 use Rattle.ss_origin.proofs.Numbering.{numbers_go_on}
 use Rattle.ss_origin.proofs.Sent.{turn_of, turns_of}
 

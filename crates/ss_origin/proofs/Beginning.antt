@@ -14,7 +14,7 @@ use Rattle.ss_origin.specs.ChainLaws.{BeginsFirst}
 use Rattle.ss_origin.proofs.CountersInRange.{none_first}
 use Rattle.ss_origin.proofs.Sent.{turn_of, turns_of}
 
--- behind an accepted call an originator has begun
+-- after an accepted call an originator has begun
 begun_behind : (c : Config) (start : Start) (calls : List Call) (call : Call) → fault_of c (state c start calls) call ≡ None → (state c start (call ∷ calls)).begun ≡ true
 begun_behind c start calls (Begin stamp) e = or_right start.begun true refl
 begun_behind c start calls (Submit message stamp) e =

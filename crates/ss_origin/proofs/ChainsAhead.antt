@@ -1,4 +1,4 @@
--- The blocks that a chain sent that goes on ahead.
+-- The blocks that were sent by a chain that goes on ahead.
 use Rattle.std.proofs.Common.{◌≡◌, inl, inr, ℕ, ◌+◌, ◌<◌, ◌≤◌, true, List, [], ◌∷◌, ◌++◌, length, refl, sym, ap, ◌∙◌, subst, arith}
 use Rattle.std.specs.List.{Contains, flat_map}
 use Rattle.ss_message.specs.Laws.{FaultsAreOfNoMessage}
@@ -16,7 +16,7 @@ use Rattle.ss_origin.specs.Ahead.{Life, AreAtLeast, BeginsBehind, GoOnAhead, IsC
 use Rattle.ss_origin.specs.AheadLaws.{ChainsGoOnAhead}
 use Rattle.ss_origin.specs.OneBlockLaws.{Covers, HaveOneBlockANumber, HaveOneBlockAGbc, NumbersAreInOneBlock, NumbersAheadAreInOneBlock}
 use Rattle.ss_origin.proofs.Frontiers.{Frontier, IsAtMost, at_most_itself, at_most_both, IsBetween, widened, Meet, meet_back, same_spri, apart, frontier_of, frontier_at, IsSentIn, from_start, between, one_of_turns}
-use Rattle.ss_origin.proofs.Members.{Has, has_from_contains, has-append_cases, from_has-flat_map}
+use Rattle.ss_octets.proofs.Members.{Has, has_from_contains, has-append_cases, from_has-flat_map}
 use Rattle.ss_origin.proofs.Numbering.{counters_tell}
 
 -- ---- exact chains
@@ -57,7 +57,7 @@ sent_block lives m b c read =
 abbrev pub at_first : Frontier
 at_first = record { gbc = 0; first = λ spri. 0 }
 
--- where the next originator may begin: behind all that these were given
+-- where the next originator may begin: after all that these were given
 abbrev pub behind_all : Config → List Life → Frontier
 behind_all c [] = at_first
 behind_all c (l ∷ before) = let end = state c l.start (calls_of l.turns) in record { gbc = end.gbc; first = λ spri. (end.groups spri).number }
@@ -137,7 +137,7 @@ module _ (read : FaultsAreOfNoMessage) (s : Setting) (is : is_config s.config �
   reach (l ∷ newer) rest are =
       at_most_both (behind_all s.config rest) (behind_all s.config (newer ++ rest)) (behind_all s.config (l ∷ (newer ++ rest))) (reach newer rest are.0) (reaches l (newer ++ rest) are)
 
-  -- the blocks of later originators lie behind all that those before them were given
+  -- the blocks of later originators lie after all that those before them were given
   pub all_after : (newer rest : List Life) (m : List ℕ) (b : block.Signature) → GoOnAhead s (newer ++ rest) → IsSentBlock newer m b → IsBetween s.config.grouping (behind_all s.config rest) (behind_all s.config (newer ++ rest)) b
   all_after [] rest m b are sent = absurd sent.of_chain
   all_after (l ∷ newer) rest m b are sent =
@@ -162,7 +162,7 @@ module _ (read : FaultsAreOfNoMessage) (s : Setting) (is : is_config s.config �
         let last : b.first + length b.hashes ≤ high.first spri = subst (λ k. b.first + length b.hashes ≤ high.first k) own is_between.last_high in
         omega (arith, last, most, covers.below)
 
-    -- nor does one from a frontier behind it on
+    -- nor does one from a frontier after it on
     pub above_number : (low high : Frontier) (b : block.Signature) → IsBetween s.config.grouping low high b → number < low.first spri → Covers b (group_of s.config.grouping spri) number → ⊥
     above_number low high b is_between least covers =
         let own : is_between.spri ≡ spri = same_spri s.config.grouping is_between.spri spri (sym is_between.group ∙ covers.own) in

@@ -1,4 +1,4 @@
--- The counters behind the originators of a chain are in their ranges.
+-- The counters after the originators of a chain are in their ranges.
 use Rattle.std.proofs.Common.{◌≡◌, ℕ, zero, suc, ◌+◌, ◌<◌, ◌≤◌, Bool, true, false, List, [], ◌∷◌, ◌++◌, length, refl, sym, ap, ◌∙◌, subst, arith}
 use Rattle.std.specs.Prelude.{◌==◌, ◌&&◌, ◌||◌, not, nat_le, nat_lt, if◌then◌else◌, Option, Some, None}
 use Rattle.std.specs.List.{flat_map, range_with_len, list_all}
@@ -34,7 +34,7 @@ none_first false fault rest e = (refl, e)
 
 -- ---- counters in range
 
--- a group that may be told
+-- a group that counters may name
 record IsCounted (grouping : Grouping) (spri : ℕ) (g : GroupState) : Type 0 where
   least : 1 ≤ g.number
   most : g.number ≤ 10000000000
@@ -44,7 +44,7 @@ record AreCounted (grouping : Grouping) (s : State) : Type 0 where
   gbc : s.gbc ≤ 10000000000
   groups : (spri : ℕ) → IsCounted grouping spri (s.groups spri)
 
--- ---- what they tell is counters
+-- ---- what they state is counters in range
 
 module _ (grouping : Grouping) (s : State) (groups : (spri : ℕ) → IsCounted grouping spri (s.groups spri)) where
   abbrev told_from : ℕ → ℕ → List NextNumber
@@ -146,7 +146,7 @@ at_start c start are =
           record { least = omega arith; most = omega arith; had = λ known. named.had (sym (or_right_false (names start.counters.groups spri)) ∙ known) });
     }
 
--- ---- behind a call
+-- ---- after a call
 
 module _ (c : Config) (s : State) (are : AreCounted c.grouping s) where
   counted_with : (message : List ℕ) (stamp : Option Moment) → has_group c.grouping (spri_in c.grouping message) ≡ true → (s.groups (spri_in c.grouping message)).number < 10000000000
@@ -184,7 +184,7 @@ module _ (c : Config) (s : State) (are : AreCounted c.grouping s) where
         groups = λ spri. record { least = (are.groups spri).least; most = (are.groups spri).most; had = (are.groups spri).had };
       }
 
--- ---- behind a chain
+-- ---- after a chain
 
 counted_behind : FaultsAreOfNoMessage → (s : Setting) → is_config s.config ≡ true → (start : Start) → are_counters s.config.grouping start.counters ≡ true
     → (turns : List Turn) → AreTurns s start turns → AreCounted s.config.grouping (state s.config start (calls_of turns))

@@ -1,4 +1,4 @@
--- The messages of a group fall into its runs, but for those that are pending.
+-- The messages of a group fall into its runs, except those that are pending.
 use Rattle.std.proofs.Common.{◌≡◌, inl, inr, ℕ, zero, suc, ◌+◌, ◌-◌, ◌%◌, ◌<◌, ◌≤◌, Bool, true, false, List, [], ◌∷◌, ◌++◌, length, map, filter, refl, sym, ap, ◌∙◌, subst, arith, append-nil, append_assoc, length-append}
 use Rattle.std.specs.Prelude.{Option, ◌==◌, if◌then◌else◌}
 use Rattle.std.specs.List.{Contains, flat_map, range_with_len}
@@ -52,7 +52,7 @@ hashes_if_any : (spri : ℕ) (hs : List Hash) → flat_map (λ (r : Run). r.hash
 hashes_if_any spri [] = refl
 hashes_if_any spri (h ∷ hs) = append-nil (h ∷ hs)
 
--- ---- messages behind a call
+-- ---- messages after a call
 
 module _ (c : Config) (calls : List Call) where
   -- a group that the message isn't in

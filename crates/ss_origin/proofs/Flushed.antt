@@ -1,4 +1,4 @@
--- A message behind which a flush was accepted isn't pending.
+-- A message after which a flush was accepted isn't pending.
 use Rattle.std.proofs.Common.{◌≡◌, ℕ, ◌%◌, ◌≤◌, List, [], ◌∷◌, ◌++◌, length, ap, ◌∙◌, arith, append_assoc, length-append}
 use Rattle.std.specs.Prelude.{Option}
 use Rattle.std.proofs.Math.Nat.{mod-le}
@@ -11,7 +11,7 @@ use Rattle.ss_origin.specs.Chain.{Turn, calls_of}
 use Rattle.ss_origin.specs.SignedLaws.{FlushedMessagesAreNotPending}
 use Rattle.ss_origin.proofs.Runs.{length-left_over}
 
--- those that came since a flush are among those behind it
+-- those that came since a flush are among those after it
 since_flush : (grouping : Grouping) (spri : ℕ) (newer rest between : List Call) (stamp : Option Moment)
     → length (messages_since_flush grouping spri (newer ++ Flush stamp ∷ rest)) ≤ length (messages_of grouping spri (newer ++ Flush stamp ∷ between))
 since_flush grouping spri [] rest between stamp = omega arith

@@ -25,7 +25,7 @@ use Rattle.ss_origin.specs.Refusals.{fault_of}
 use Rattle.ss_origin.specs.Chain.{Turn, calls_of, AreTurns}
 use Rattle.ss_origin.proofs.Configs.{has_ranges}
 use Rattle.ss_origin.proofs.Covered.{front_length}
-use Rattle.ss_origin.proofs.Members.{Has, all-has}
+use Rattle.ss_octets.proofs.Members.{Has, all-has}
 use Rattle.ss_origin.proofs.RunsClosed.{all-if_full, all_flushed, runs_have_small_spris}
 use Rattle.ss_origin.proofs.SentRuns.{IsSentRun, sent_run_of, sealed_message}
 use Rattle.ss_origin.proofs.Steps.{states_step}
@@ -218,7 +218,7 @@ same_place n a (x ∷ runs) k l q r rise (inr h) (inr i) e = same_place (n + 1) 
 -- ---- the blocks of a call
 
 module _ (s : Setting) (old : State) where
-  -- what a message says that is the sealed block of a run
+  -- what a message that is the sealed block of a run says
   pub record Says (gbc : ℕ) (run : Run) (b : block.Signature) : Type 0 where
     pub group : b.group ≡ group_of s.config.grouping run.spri
     pub gbc_is : b.gbc ≡ gbc
@@ -284,7 +284,7 @@ module _ (s : Setting) (old : State) where
         same_message (stamp_of call) old.gbc (runs_closed s.config (pending_in old) call) emits.sent.messages m p a b (zipped call emitted m one emits)
         (sealed_message s old m a read_m call emitted accepted emits h) (sealed_message s old p b read_p call emitted accepted emits i) read_m read_p gbc
 
-    -- and each lies between the states before and behind it
+    -- and each lies between the states before and after it
     pub between_states : FaultsAreOfNoMessage → is_config s.config ≡ true → ((spri : ℕ) → length (pending_in old spri) ≤ (old.groups spri).number)
         → (m : List ℕ) (b : block.Signature) → Has emitted m → reading m ≡ readings.Signature b → IsBetween s.config.grouping (frontier_of old) (frontier_of (after s.config old call)) b
     between_states read is fits m b h read_m =

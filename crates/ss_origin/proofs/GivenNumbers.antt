@@ -12,16 +12,17 @@ use Rattle.ss_origin.specs.Calls.{Submit, spri_in, messages_of}
 use Rattle.ss_origin.specs.Setting.{Setting}
 use Rattle.ss_origin.specs.Chain.{Turn, calls_of}
 use Rattle.ss_origin.specs.Ahead.{Life, GoOnAhead, IsChainAhead}
-use Rattle.ss_origin.specs.AheadLaws.{IsGiven, number_given, NumbersAreGivenOnce}
+use Rattle.ss_origin.specs.AheadLaws.{IsGiven, number_given, NumbersAreGivenOnce, CountersGoPast}
 use Rattle.ss_origin.proofs.ChainsAhead.{behind_all, begins_after, reach, older_of}
 use Rattle.ss_origin.proofs.Configs.{has_ranges}
 use Rattle.ss_origin.proofs.Groups.{spris_are_small}
+use Rattle.ss_origin.proofs.Numbering.{counters_tell}
 use Rattle.ss_origin.proofs.RunsClosed.{own_message}
 use Rattle.ss_origin.proofs.SignedMessages.{messages-append}
 
 -- ---- one list, cut at two places
 
--- the cut that has less behind it stands in what is behind the other
+-- the cut that has less after it stands in what is after the other
 longer_behind : {X : Type 0} (xs ys zs vs : List X) (x w : X) → xs ++ x ∷ ys ≡ zs ++ w ∷ vs → length ys < length vs → (mid : List X) × (vs ≡ mid ++ x ∷ ys)
 longer_behind [] ys [] vs x w e below = let same : ys ≡ vs = cc in let many = ap length same in absurd (omega (arith, many, below))
 longer_behind (a ∷ xs) ys [] vs x w e below = (xs, (let tail : xs ++ x ∷ ys ≡ vs = cc in sym tail))
@@ -31,7 +32,7 @@ longer_behind [] ys (b ∷ zs) vs x w e below =
     absurd (omega (arith, many, below))
 longer_behind (a ∷ xs) ys (b ∷ zs) vs x w e below = let tail : xs ++ x ∷ ys ≡ zs ++ w ∷ vs = cc in longer_behind xs ys zs vs x w tail below
 
--- with as much behind them the cuts are one
+-- with as much after them the cuts are one
 same_behind : {X : Type 0} (xs ys zs vs : List X) (x w : X) → xs ++ x ∷ ys ≡ zs ++ w ∷ vs → length ys ≡ length vs → (x ≡ w) × (ys ≡ vs)
 same_behind [] ys [] vs x w e many = (cc, cc)
 same_behind (a ∷ xs) ys [] vs x w e many =
@@ -47,7 +48,7 @@ same_behind (a ∷ xs) ys (b ∷ zs) vs x w e many = let tail : xs ++ x ∷ ys �
 
 -- ---- numbers of one originator
 
--- behind an accepted message its group has one more
+-- after an accepted message its group has one more
 more_given : (c : Config) (m : List ℕ) (stamp : Option Moment) (later earlier : List Turn) (t : Turn) → t.call ≡ Submit m stamp
     → let spri = spri_in c.grouping m in length (messages_of c.grouping spri (calls_of earlier)) < length (messages_of c.grouping spri (calls_of (later ++ t ∷ earlier)))
 more_given c m stamp later earlier t call =
@@ -75,7 +76,7 @@ module _ (read : FaultsAreOfNoMessage) (s : Setting) (lives : List Life) (is : I
   small : (m : List ℕ) → spri_in c.grouping m < 192
   small m = spris_are_small read c.grouping m (has_ranges c fits).grouping
 
-  -- a number is below where the originators behind may begin
+  -- a number is below where the originators after it may begin
   below_end : (m : List ℕ) (g : IsGiven lives m) → number_given c g < (behind_all c (g.life ∷ g.older)).first (spri_in c.grouping m)
   below_end m g =
       let more = more_given c m g.stamp g.later g.earlier g.turn g.call in
@@ -137,3 +138,15 @@ module _ (read : FaultsAreOfNoMessage) (s : Setting) (lives : List Life) (is : I
 
 pub numbers_are_given_once : FaultsAreOfNoMessage → NumbersAreGivenOnce
 numbers_are_given_once read s lives is m n g h same number = one_number read s lives is m n g h same number
+
+pub counters_go_past : FaultsAreOfNoMessage → CountersGoPast
+counters_go_past read s newest older is m g =
+    let fits = is.setting.fit.config in
+    let spri = spri_in s.config.grouping m in
+    let small : spri < 192 = spris_are_small read s.config.grouping m (has_ranges s.config fits).grouping in
+    let one = below_end read s (newest ∷ older) is m g in
+    let whole : GoOnAhead s (g.newer ++ g.life ∷ g.older) = subst (GoOnAhead s) g.lives_are is.chained in
+    let two : (behind_all s.config (g.life ∷ g.older)).first spri ≤ (behind_all s.config (newest ∷ older)).first spri
+    = subst (λ ls. (behind_all s.config (g.life ∷ g.older)).first spri ≤ (behind_all s.config ls).first spri) (sym g.lives_are) ((reach read s fits g.newer (g.life ∷ g.older) whole).first spri small) in
+    let told = counters_tell s.config newest.start (calls_of newest.turns) spri small in
+    omega (arith, one, two, told)

@@ -9,7 +9,6 @@ pub mod Numbered
 pub mod Covered
 pub mod RowsTold
 pub mod Sent
-pub mod Members
 pub mod SentRuns
 pub mod SignedMessages
 pub mod Frontiers

@@ -1,4 +1,4 @@
--- Counters tell the next numbers, which go on through a chain.
+-- Counters state the next numbers, which go on through a chain.
 use Rattle.std.proofs.Common.{◌≡◌, inl, inr, ℕ, zero, suc, ◌+◌, ◌<◌, ◌≤◌, Bool, true, false, List, [], ◌∷◌, ◌++◌, length, refl, sym, ap, ◌∙◌, subst, arith, length-append}
 use Rattle.std.specs.Prelude.{◌==◌, ◌||◌, not, if◌then◌else◌}
 use Rattle.std.specs.List.{flat_map, range_with_len}
@@ -11,7 +11,7 @@ use Rattle.ss_origin.specs.State.{State, state, next_number, counters_of}
 use Rattle.ss_origin.specs.Chain.{calls_of, start_behind, given_to}
 use Rattle.ss_origin.specs.ChainLaws.{NumbersGoOn}
 
--- ---- the numbers that counters tell
+-- ---- the numbers that counters state
 
 module _ (s : State) where
   abbrev told : ℕ → ℕ → List NextNumber

@@ -17,7 +17,7 @@ use Rattle.ss_origin.proofs.Groups.{spris_are_small}
 use Rattle.ss_origin.proofs.Numbering.{numbers_go_on}
 use Rattle.ss_origin.proofs.SignedMessages.{among_own}
 
--- the originators behind some of a chain
+-- the originators after some of a chain
 lives-append : (c : Config) (newer rest : List (List Turn)) → (front : List Life) × (lives_of c (newer ++ rest) ≡ front ++ lives_of c rest)
 lives-append c [] rest = ([], refl)
 lives-append c (turns ∷ newer) rest =

@@ -25,7 +25,7 @@ module _ (size copies : ℕ) where
   abbrev runs_at : State → ℕ → Hash → List Run
   runs_at s spri h = run_if_full size spri (pending_in s spri ++ h ∷ [])
 
-  -- the state behind a message of this group
+  -- the state after a message of this group
   abbrev with_message : State → ℕ → Hash → State
   with_message s spri h = record {
     begun = s.begun;

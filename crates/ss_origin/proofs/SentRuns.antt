@@ -20,7 +20,7 @@ use Rattle.ss_origin.specs.Setting.{Setting}
 use Rattle.ss_origin.specs.Emission.{certificate_of, block_of, AreDue, IsSealed, sent_first, EmitsFrom}
 use Rattle.ss_origin.specs.Refusals.{is_unparsed, is_plain, fault_of}
 use Rattle.ss_origin.proofs.CountersInRange.{none_first}
-use Rattle.ss_origin.proofs.Members.{Has, has-append_cases, from_has-map, from_has-copies, from_has-zipped}
+use Rattle.ss_octets.proofs.Members.{Has, has-append_cases, from_has-map, from_has-copies, from_has-zipped}
 
 -- the message is the sealed block of one of the runs
 pub record IsSentRun (s : Setting) (old : State) (call : Call) (m : List ℕ) : Type 0 where

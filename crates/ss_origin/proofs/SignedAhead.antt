@@ -30,7 +30,7 @@ use Rattle.ss_origin.proofs.Configs.{has_ranges}
 use Rattle.ss_origin.proofs.Covered.{others_are_in_runs}
 use Rattle.ss_origin.proofs.Frontiers.{same_spri, from_has-enumerated, says}
 use Rattle.ss_origin.proofs.Groups.{spris_are_small}
-use Rattle.ss_origin.proofs.Members.{Has, has_from_contains, has_split, all-has}
+use Rattle.ss_octets.proofs.Members.{Has, has_from_contains, has_split, all-has}
 use Rattle.ss_origin.proofs.RunsClosed.{runs_are_last}
 use Rattle.ss_origin.proofs.Sent.{turn_of}
 use Rattle.ss_origin.proofs.SentRuns.{sent_run_of}
@@ -82,7 +82,7 @@ run_of c start later earlier t r b last hashes first =
       first = omega (arith, first, before, pending);
     }
 
--- what the sealed block of a run says of itself
+-- what the sealed block of a run says about itself
 parts : (s : Setting) (old : State) (stamp : Option Moment) (gbc : ℕ) (r : Run) (m : List ℕ) (b : block.Signature) → (sealed : IsSealed s stamp (block_of s.config old (gbc, r)) m) → reading m ≡ readings.Signature b
     → (sealed.signature ≡ b.signature) × (b.alg ≡ s.config.alg) × (b.rsid ≡ s.config.rsid)
 parts s old stamp gbc r m b sealed read =

@@ -26,7 +26,7 @@ use Rattle.ss_origin.specs.SignedLaws.{IsPending, IsSigned, MessagesAreSigned}
 use Rattle.ss_origin.proofs.Announced.{others_are_sent}
 use Rattle.ss_origin.proofs.Configs.{has_ranges}
 use Rattle.ss_origin.proofs.Groups.{spris_are_small}
-use Rattle.ss_origin.proofs.Members.{Has, has_from_contains, has_split, all-has}
+use Rattle.ss_octets.proofs.Members.{Has, has_from_contains, has_split, all-has}
 use Rattle.ss_origin.proofs.Numbered.{given_behind}
 use Rattle.ss_origin.proofs.RunsClosed.{own_message}
 use Rattle.ss_origin.proofs.Sent.{turn_of, turns_of, sent_blocks_are_numbered}

@@ -1,4 +1,4 @@
--- The numbers that originators leave out which go on ahead are in no block.
+-- The numbers that are left out by originators that go on ahead are in no block.
 use Rattle.std.proofs.Common.{◌≡◌, inl, inr, ℕ, ◌<◌, ◌≤◌, true, List, ◌∷◌, ◌++◌, sym, subst, arith}
 use Rattle.ss_message.specs.Laws.{FaultsAreOfNoMessage}
 use Rattle.ss_block.specs.Block as block
@@ -13,7 +13,7 @@ use Rattle.ss_origin.specs.Ahead.{Life, ended_with, GoOnAhead}
 use Rattle.ss_origin.specs.AheadLaws.{SkippedNumbersAreInNoBlock}
 use Rattle.ss_origin.proofs.ChainsAhead.{IsSentBlock, sent_block, behind_all, ends_before, all_after, older_of, above_number, ended_below}
 use Rattle.ss_origin.proofs.Frontiers.{frontier_at, frontier_of, IsSentIn, from_start, between}
-use Rattle.ss_origin.proofs.Members.{Has, has-append_cases}
+use Rattle.ss_octets.proofs.Members.{Has, has-append_cases}
 use Rattle.ss_origin.proofs.Numbering.{counters_tell}
 
 module _ (read : FaultsAreOfNoMessage) (s : Setting) (is : is_config s.config ≡ true) (next last : Life) (older : List Life) (spri number : ℕ) (small : spri < 192)

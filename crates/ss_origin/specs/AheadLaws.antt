@@ -1,4 +1,4 @@
--- What holds of chains that go on ahead.
+-- What holds for chains that go on ahead.
 use Rattle.std.specs.Prelude.{◌≡◌, ℕ, ◌+◌, ◌<◌, ◌≤◌, List, ◌∷◌, ◌++◌, length, Option}
 use Rattle.ss_message.specs.Stamp.{Moment}
 use Rattle.ss_origin.specs.declared.config.Config.{Config}
@@ -17,7 +17,7 @@ ChainsGoOnAhead = (s : Setting) (chain : List (List Turn)) → IsChain s chain �
 
 -- ---- numbers that are given
 
--- One of the originators accepted the message, behind those before it and behind its own earlier turns.
+-- One of the originators accepted the message, after those before it and after its own earlier turns.
 pub record IsGiven (lives : List Life) (message : List ℕ) : Type 0 where
   pub newer : List Life
   pub life : Life
@@ -59,3 +59,9 @@ SkippedNumbersAreInNoBlock = (s : Setting) (newer older : List Life) (next last 
     → IsChainAhead s (newer ++ next ∷ last ∷ older) → spri < 192
     → number_in (ended_with s.config last).groups spri ≤ number → number < number_in next.start.counters.groups spri
     → HaveNoBlock (sent_by (newer ++ next ∷ last ∷ older)) (group_of s.config.grouping spri) number
+
+-- Each number that an originator of such a chain gave is below the counters with which the newest one ended.
+abbrev pub CountersGoPast : Type 0
+CountersGoPast = (s : Setting) (newest : Life) (older : List Life) → IsChainAhead s (newest ∷ older)
+    → (message : List ℕ) (g : IsGiven (newest ∷ older) message)
+    → number_given s.config g < number_in (ended_with s.config newest).groups (spri_in s.config.grouping message)

@@ -1,4 +1,4 @@
--- What a sealer that lists what it is asked has listed behind a call.
+-- What a sealer that lists what it is asked has listed after a call.
 use Rattle.std.specs.Prelude.{◌≡◌, ℕ, List, [], ◌∷◌, ◌++◌, map, Result}
 use Rattle.ss_origin.specs.declared.fault.OriginFault.{OriginFault}
 use Rattle.ss_origin.specs.declared.sealer.SealFault.{SealFault}
@@ -21,7 +21,7 @@ Lists {J} asked list =
 abbrev pub texts_of : Setting → Call → List Unsigned → List (List ℕ)
 texts_of s call blocks = map (unsigned_text s.config.head (stamp_of call)) blocks
 
--- Behind an accepted call it has listed what is signed of the blocks that are due, in order, each once.
+-- After an accepted call it has listed what is signed of the blocks that are due, in order, each once.
 abbrev pub ListsWhatIsDue : {J : Type 0} → Asking J → Type 0
 ListsWhatIsDue {J} asked =
     (list : J → List (List ℕ)) → Lists asked list
@@ -29,7 +29,7 @@ ListsWhatIsDue {J} asked =
     → SealsDue s asked state call emitted old new
     → (due : List Unsigned) × AreDue s state call due × (list new ≡ list old ++ texts_of s call due)
 
--- Behind a refused call it has listed that of the first of them, or nothing.
+-- After a refused call it has listed that of the first of them, or nothing.
 abbrev pub ListsTheFirstDue : {J : Type 0} → Asking J → Type 0
 ListsTheFirstDue {J} asked =
     (list : J → List (List ℕ)) → Lists asked list

@@ -16,8 +16,8 @@ pub record AreNumbered (c : Config) (messages : List (List ℕ)) (first : ℕ) (
   pub hashes_are : hashes ≡ map (hash_of c.alg) run
   pub first_is : first ≡ 1 + length front
 
--- A run that a turn of a chain closes holds the hashes of the messages that the chain was given for its group, from the
--- number that its block says is the first.
+-- A run that a turn of a chain closes holds the hashes of the messages that the chain was given for its group, from its
+-- block's FMN on.
 abbrev pub RunsAreNumbered : Type 0
 RunsAreNumbered = (c : Config) (newer older : List (List Turn)) (later earlier : List Turn) (t : Turn)
     → let s = state c (start_behind c older) (calls_of earlier) in

@@ -1,4 +1,4 @@
--- What holds of the numbers and counters of a chain.
+-- What holds for the numbers and counters of a chain.
 use Rattle.std.specs.Prelude.{◌≡◌, ℕ, ◌+◌, ◌<◌, true, List, [], ◌∷◌, ◌++◌, length, Option}
 use Rattle.ss_message.specs.Stamp.{Moment}
 use Rattle.ss_origin.specs.declared.config.Config.{Config}
@@ -9,7 +9,7 @@ use Rattle.ss_origin.specs.State.{state, counters_of}
 use Rattle.ss_origin.specs.Setting.{Setting}
 use Rattle.ss_origin.specs.Chain.{Turn, calls_of, AreTurns, start_behind, IsChain, given_to}
 
--- Behind the originators of a chain, the next number of a group is one more than how many messages they were given for
+-- After the originators of a chain, the next number of a group is one more than how many messages they were given for
 -- it.
 abbrev pub NumbersGoOn : Type 0
 NumbersGoOn = (c : Config) (chain : List (List Turn)) (spri : ℕ) → spri < 192
@@ -26,7 +26,7 @@ abbrev pub ChainsCanBeResumed : Type 0
 ChainsCanBeResumed = (s : Setting) (chain : List (List Turn)) → IsChain s chain
     → are_counters s.config.grouping (start_behind s.config chain).counters ≡ true
 
--- `begin` is accepted as the first call of the first originator alone.
+-- `begin` is accepted only as the first call of the first originator.
 abbrev pub BeginsFirst : Type 0
 BeginsFirst =
     (s : Setting) (newer older : List (List Turn)) (later earlier : List Turn) (t : Turn) (stamp : Option Moment)

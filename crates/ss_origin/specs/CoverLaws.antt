@@ -12,7 +12,7 @@ runs_of c spri [] = []
 runs_of c spri (call ∷ before) =
     runs_of c spri before ++ filter (λ r. r.spri == spri) (runs_closed c (pending_hashes c before) call)
 
--- The messages of a group are those of its runs, one behind the other, and then those that are pending. So each is in
+-- The messages of a group are those of its runs, one after the other, and then those that are pending. So each is in
 -- one run, or pending.
 abbrev pub MessagesFallIntoRuns : Type 0
 MessagesFallIntoRuns = (c : Config) (calls : List Call) (spri : ℕ) → 1 ≤ c.per_block → spri < 192
@@ -33,7 +33,7 @@ pub record IsInRun (c : Config) (calls : List Call) (spri j : ℕ) : Type 0 wher
   pub low : front ≤ j
   pub high : j < front + length run.hashes
 
--- All messages but those that are pending are in runs.
+-- All messages except those that are pending are in runs.
 abbrev pub OthersAreInRuns : Type 0
 OthersAreInRuns = (c : Config) (calls : List Call) (spri j : ℕ) → 1 ≤ c.per_block → spri < 192
     → j + length (pending_of c spri calls) < length (messages_of c.grouping spri calls) → IsInRun c calls spri j

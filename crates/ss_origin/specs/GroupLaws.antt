@@ -1,4 +1,4 @@
--- What holds of the groups of a configuration.
+-- What holds for the groups of a configuration.
 use Rattle.std.specs.Prelude.{◌≡◌, ℕ, ◌<◌, true, List}
 use Rattle.ss_origin.specs.declared.grouping.Grouping.{Grouping}
 use Rattle.ss_origin.specs.Groups.{is_grouping, has_group}

@@ -25,7 +25,7 @@ pub record AreTheRanges : Type 0 where
   pub sg : map sg_of (One 7 ∷ ByPri ∷ in_three ∷ []) ≡ 0 ∷ 1 ∷ 2 ∷ []
   pub groupings : map is_grouping (One 0 ∷ One 191 ∷ ByPri ∷ in_three ∷ Ranges (191 ∷ []) ∷ [])
       ≡ true ∷ true ∷ true ∷ true ∷ true ∷ []
-  -- an SPRI of 192; no bound; bounds that end before 191, end behind it, stand twice, and fall
+  -- an SPRI of 192; no bound; bounds that end before 191, end after it, stand twice, and fall
   pub no_groupings : map is_grouping (One 192 ∷ Ranges [] ∷ Ranges (15 ∷ 100 ∷ []) ∷ Ranges (15 ∷ 192 ∷ [])
       ∷ Ranges (15 ∷ 15 ∷ 191 ∷ []) ∷ Ranges (100 ∷ 15 ∷ 191 ∷ []) ∷ [])
       ≡ false ∷ false ∷ false ∷ false ∷ false ∷ false ∷ []

@@ -1,4 +1,4 @@
--- What holds of the runs that calls close.
+-- What holds for the runs that calls close.
 use Rattle.std.specs.Prelude.{◌≡◌, ℕ, ◌<◌, ◌≤◌, true, List, ◌∷◌, ◌++◌, length, map}
 use Rattle.std.specs.List.{AllByRecursion}
 use Rattle.ss_block.specs.declared.hash.Hash.{Hash}
@@ -8,7 +8,7 @@ use Rattle.ss_origin.specs.Groups.{is_grouping}
 use Rattle.ss_origin.specs.Calls.{Call, Run, messages_of, pending_of, pending_hashes}
 use Rattle.ss_origin.specs.State.{runs_closed}
 
--- A run that a call closes: the last messages of its group, behind those that weren't pending.
+-- A run that a call closes: the last messages of its group, after those that weren't pending.
 pub record IsLastRun (c : Config) (calls : List Call) (call : Call) (r : Run) : Type 0 where
   pub front : List (List ℕ)
   pub run : List (List ℕ)

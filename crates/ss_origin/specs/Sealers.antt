@@ -7,7 +7,7 @@ use Rattle.ss_origin.specs.declared.sealer.Sealer.{Sealer}
 abbrev pub scheme_of : {S F : Type 0} → Sealer S F → Bor S
 scheme_of s = s.scheme
 
--- what is said of its key
+-- the payload, which states its key
 abbrev pub key_of : {S F : Type 0} → Sealer S F → PayloadValue
 key_of s = s.payload
 

@@ -1,4 +1,4 @@
--- What the blocks say that a chain sent.
+-- What the blocks that a chain sent say.
 use Rattle.std.specs.Prelude.{◌≡◌, ℕ, ◌+◌, ◌<◌, ◌≤◌, List, ◌∷◌, ◌++◌, length}
 use Rattle.std.specs.List.{AllByRecursion, Contains}
 use Rattle.ss_block.specs.declared.reading.Reading.TheVariants as readings
@@ -40,7 +40,7 @@ pub record HasSentBlock (s : Setting) (turns : List Turn) (spri number : ℕ) : 
   pub below : number < block.first + length block.hashes
 
 -- Each message that an originator of a chain was given for a group, and that isn't pending at its end, has a hash in a
--- block that this originator sent. It is told by its number there, from 0.
+-- block that this originator sent. The message is given by its place among these messages, from 0.
 abbrev pub OthersAreSent : Type 0
 OthersAreSent = (s : Setting) (newer older : List (List Turn)) (turns : List Turn) → IsChain s (newer ++ turns ∷ older)
     → (spri j : ℕ) → spri < 192

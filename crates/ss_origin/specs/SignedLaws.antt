@@ -1,4 +1,4 @@
--- What stands behind each message that a chain was given: a validly signed block with its hash.
+-- Why each message that a chain was given is signed: a validly signed block has its hash.
 use Rattle.std.specs.Prelude.{◌≡◌, ℕ, ◌+◌, ◌<◌, true, List, ◌∷◌, ◌++◌, length, Option, Some}
 use Rattle.std.specs.List.{Contains}
 use Rattle.ss_message.specs.Stamp.{Moment}
@@ -17,12 +17,12 @@ use Rattle.ss_origin.specs.Calls.{Submit, Flush, spri_in, messages_of, pending_o
 use Rattle.ss_origin.specs.Setting.{Setting}
 use Rattle.ss_origin.specs.Chain.{Turn, calls_of, IsChain, given_to}
 
--- The number, in its group, of a message that an originator was given behind these turns of its own and these
+-- The number, in its group, of a message that an originator was given after these turns of its own and these
 -- originators: one more than how many messages they were given for the group.
 abbrev pub number_behind : Config → List (List Turn) → List Turn → List ℕ → ℕ
 number_behind c older earlier message = 1 + length (given_to c (spri_in c.grouping message) (earlier ∷ older))
 
--- More messages of its group are pending at the end of its originator than came behind it. Those that are pending are
+-- More messages of its group are pending at the end of its originator than came after it. Those that are pending are
 -- the last ones, so it is one of them.
 abbrev pub IsPending : Config → List Turn → Turn → List Turn → List ℕ → Type 0
 IsPending c later t earlier message =
@@ -60,7 +60,7 @@ MessagesAreSigned =
     → ¬ IsPending s.config later t earlier message
     → IsSigned s (later ++ t ∷ earlier) message (number_behind s.config older earlier message)
 
--- A message behind which a flush was accepted isn't pending, whatever came behind the flush.
+-- A message after which a flush was accepted isn't pending, whatever came after the flush.
 abbrev pub FlushedMessagesAreNotPending : Type 0
 FlushedMessagesAreNotPending =
     (c : Config) (newer between earlier : List Turn) (flush t : Turn) (message : List ℕ) (stamp : Option Moment)

@@ -26,7 +26,7 @@ use ss_block::{CertBlock, Cut, Group, Hash, Hashes, Payload, SigBlock, cut};
 use ss_octets::{Bytes, NoMemory};
 use std::alloc::Global;
 
-/// Where a signature block stands: its group, and its number among all blocks.
+/// Where a signature block stands: its group, and its GBC.
 #[derive(Clone, Copy)]
 pub struct BlockAt {
     /// SPRI of its group, 0 to 191 (RFC 5848, section 4.2.3).
@@ -35,7 +35,7 @@ pub struct BlockAt {
     pub gbc: u64,
 }
 
-// The certificate block of a piece of the payload's text, in this group.
+/// The certificate block of a piece of the payload's text, in this group.
 fn certificate(
     alloc: Global,
     config: &Config,
@@ -69,7 +69,7 @@ fn certificate(
     }
 }
 
-// The certificate blocks of these pieces.
+/// The certificate blocks of these pieces, in order.
 fn certificates_of(
     alloc: Global,
     config: &Config,
@@ -139,7 +139,7 @@ pub fn signature(
     }
 }
 
-// Puts the signature block of a group behind the others, where hashes are pending in it.
+/// Puts the signature block of a group after the others, where hashes are pending in it.
 fn push_pending(
     alloc: Global,
     config: &Config,

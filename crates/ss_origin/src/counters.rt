@@ -1,4 +1,4 @@
-//! Where an originator goes on behind another one.
+//! Where an originator goes on after another one.
 use ss_octets::List;
 
 /// The next number of a group.

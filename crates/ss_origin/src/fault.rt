@@ -9,8 +9,8 @@ use std::alloc::{AllocError, AllocFailed};
 use std::fmt;
 use thiserror::Error;
 
-/// Why an originator isn't made, or refuses a call. It is unchanged then, but for what its sealer knows of being asked,
-/// and emitted nothing.
+/// Why an originator isn't made, or refuses a call. It then emitted nothing and is unchanged, except that its sealer
+/// may know that it was asked.
 #[derive(Clone, Copy, Debug, PartialEq, Eq, Error)]
 pub enum OriginFault {
     /// O1: the configuration or the counters aren't allowed, or the payload's text is too long.
@@ -21,7 +21,7 @@ pub enum OriginFault {
     HasBlock,
     /// O4: `begin` wasn't accepted yet.
     NotBegun,
-    /// O5: `begin` was accepted before, or the originator goes on behind another one.
+    /// O5: `begin` was accepted before, or the originator goes on after another one.
     AlreadyBegun,
     /// O6: the sealer refused to sign a block message that is due.
     SealRefused,

@@ -19,7 +19,7 @@ pub enum Grouping {
     Ranges(Bounds),
 }
 
-// The least of rising bounds that isn't below a PRI; the last is 191.
+/// The least of rising bounds that isn't below a PRI; the last is 191.
 fn least_bound(pri: u8, bounds: &[u8]) -> u8
     ensures { result ≡ least_bound pri bounds.now }
 {
@@ -32,8 +32,8 @@ fn least_bound(pri: u8, bounds: &[u8]) -> u8
 }
 
 impl Grouping {
-    /// SG.
-    pub(crate) fn sg(&self) -> u8
+    /// The signature group type, 0 to 2: SG of the blocks (RFC 5848, section 4.2.3).
+    pub fn sg(&self) -> u8
         ensures { result ≡ sg_of self.now }
     {
         match self {
@@ -43,8 +43,8 @@ impl Grouping {
         }
     }
 
-    /// The SPRI of the group of a PRI.
-    pub(crate) fn spri(&self, pri: u8) -> u8
+    /// The SPRI of the group of a PRI of 0 to 191.
+    pub fn spri(&self, pri: u8) -> u8
         ensures { result ≡ spri_of self.now pri }
     {
         match self {

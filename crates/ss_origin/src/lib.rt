@@ -1,5 +1,5 @@
-//! The originator of signed messages (RFC 5848, section 4): messages go in, and the same messages come out in order,
-//! with the certificate blocks of a session in front and a signature block behind each run of a group.
+//! The originator of signed messages (RFC 5848, section 4). Messages go in, and the same messages come out in order.
+//! The certificate blocks of the session stand in front, and a signature block after each run of a group.
 #![tactic(auto)]
 
 mod blocks;
@@ -21,5 +21,6 @@ pub use counters::{Counters, NextNumber, NextNumbers};
 pub use fault::OriginFault;
 pub use grouping::{Bounds, Grouping};
 pub use originator::{Emitted, Originator};
-pub use ranges::are_bounds;
+pub use plain::plain_pri;
+pub use ranges::{are_bounds, has_group};
 pub use sealer::{SealFault, Sealer, Seals};

@@ -14,7 +14,7 @@ use crate::fault::OriginFault;
 use ss_message::{Fault, Message, parse};
 use std::alloc::Global;
 
-// Whether a message has a block element. What stands in the element makes no difference.
+/// Whether a message has a block element. What stands in the element makes no difference.
 fn has_block(message: &Message<'_>) -> bool
     requires { All (ElementIsWithin message.now.source.now) message.now.elements }
     ensures { result ≡ not (is_plain (value_reading (value_of message.now))) }

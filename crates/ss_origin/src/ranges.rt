@@ -24,6 +24,7 @@ pub fn are_bounds(bounds: &[u8]) -> bool
     }
 }
 
+/// Whether the SPRI of one group is at most 191, or the bounds of ranges are as they have to be.
 fn is_grouping(grouping: &Grouping) -> bool
     ensures { result ≡ is_grouping grouping.now }
 {
@@ -34,7 +35,7 @@ fn is_grouping(grouping: &Grouping) -> bool
     }
 }
 
-// Whether a configuration is in its ranges.
+/// Whether a configuration is in its ranges.
 #[tactic(auto, unfolding(crate::specs::Configs::is_config))]
 fn is_config(config: &Config) -> bool
     ensures { result ≡ is_config config.now }
@@ -59,8 +60,8 @@ pub fn is_fit(alloc: Global, config: &Config, payload: &Payload) -> Result<bool,
     Ok(text.as_slice().len() <= LONGEST_PAYLOAD as usize)
 }
 
-// Whether the grouping has a group of this SPRI.
-fn has_group(grouping: &Grouping, spri: u8) -> bool
+/// Whether the grouping has a group of this SPRI.
+pub fn has_group(grouping: &Grouping, spri: u8) -> bool
     ensures { result ≡ has_group grouping.now spri }
 {
     match grouping {
@@ -70,7 +71,7 @@ fn has_group(grouping: &Grouping, spri: u8) -> bool
     }
 }
 
-// Whether the groups are strictly rising by SPRI.
+/// Whether the groups are strictly rising by SPRI.
 fn rises(numbers: &[NextNumber]) -> bool
     ensures { result ≡ rises numbers.now }
 {
@@ -81,6 +82,7 @@ fn rises(numbers: &[NextNumber]) -> bool
     }
 }
 
+/// Whether the groups are all of the grouping, and their numbers 1 to 10,000,000,000.
 fn are_in_range(grouping: &Grouping, numbers: &[NextNumber]) -> bool
     ensures { result ≡ list_all (λ n.
         has_group grouping.now n.spri && is_between 1 past_last_number n.number) numbers.now }
@@ -93,7 +95,7 @@ fn are_in_range(grouping: &Grouping, numbers: &[NextNumber]) -> bool
     true
 }
 
-/// Whether counters are in their ranges, and those of groups of the grouping.
+/// Whether counters are in their ranges, and their groups are strictly rising ones of the grouping.
 #[tactic(auto, unfolding(crate::specs::Counting::are_counters))]
 pub fn are_counters(grouping: &Grouping, counters: &Counters) -> bool
     ensures { result ≡ are_counters grouping.now counters.now }

@@ -34,25 +34,25 @@ impl fmt::Display for SealFault {
     }
 }
 
-/// Whoever signs for an originator, with the key of its payload block (RFC 5848, sections 4.2.8 and 5.2). It may know
-/// what it was asked: it is another value behind each question, as `asked` says, and of the same key.
+/// Whoever signs for an originator, with the key of its payload (RFC 5848, sections 4.2.8 and 5.2). It may know what it
+/// was asked: after each question it is another value, as `asked` says, of the same key.
 pub trait Seals: Drop {
     /// It may be asked to sign anything, and the signatures that it gives are valid.
     ghost sound: { Self → Type 0 };
 
-    /// What the originator says of its key.
+    /// The payload, which states its key.
     ghost payload: { Self → PayloadValue };
 
     /// Which signatures are valid: of a payload's text, the octets that are signed, and the signature.
     ghost valid: { Self → List ℕ → List ℕ → List ℕ → Bool };
 
-    /// What it may answer of octets: a signature, or why there is none.
+    /// What it may answer when it is asked to sign octets: a signature, or why there is none.
     ghost answers: { Self → List ℕ → Result (List ℕ) SealFault → Type 0 };
 
-    /// How it goes on: asked to sign these octets, it may answer so, and be this one then.
+    /// How it goes on: asked to sign these octets, it may answer so, and then be this one.
     ghost asked: { Self → List ℕ → Result (List ℕ) SealFault → Self → Type 0 };
 
-    /// What the originator says of its key.
+    /// The payload, which states its key.
     fn payload_block(&self) -> &Payload
         ensures { result.now ≡ payload self.now };
 
@@ -66,9 +66,9 @@ pub trait Seals: Drop {
         ensures asked { asked self.old octets.now (answer_of result) self.new };
 }
 
-/// Signs for a scheme by a closure: it is given octets, and answers a signature of them. An originator asks that the
-/// closure may be called on any octets, and that what it gives is valid for them under the payload's text in the
-/// scheme.
+/// Signs for a scheme by a closure, which is given octets and answers a signature of them. An originator needs two
+/// things of it. The closure may be called on any octets. What it gives is valid for them under the payload's text in
+/// the scheme.
 #[derive(Drop)]
 pub struct Sealer<'s, S, F> {
     scheme: &'s S,
@@ -107,7 +107,7 @@ impl<'s, S: Scheme, F: Fn(Global, &[u8]) -> Result<Vec<u8>, SealFault> + Drop> S
     ghost answers = { λ s octets answer.
         (a p x : _) × F.post (closure_of s) a p x × (p.now ≡ octets) × (answer_of x ≡ answer) };
 
-    // A closure is the same behind each call.
+    // A closure is the same after each call.
     ghost asked = { λ old octets answer new.
         (new ≡ old) × ((a p x : _) × F.post (closure_of old) a p x × (p.now ≡ octets) × (answer_of x ≡ answer)) };
 

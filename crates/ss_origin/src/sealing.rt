@@ -18,7 +18,7 @@ use ss_message::Stamp;
 use ss_octets::Bytes;
 use std::alloc::Global;
 
-// A signature of the octets that may stand in a block message.
+/// Asks the sealer for a signature of the octets, which has to have 1 to 1,024 octets.
 fn signature<J: Seals>(alloc: Global, sealer: &mut J, octets: &[u8]) -> Result<Bytes, OriginFault>
     requires { J.sound sealer.old }
     ensures sound { J.sound sealer.new }
@@ -42,7 +42,7 @@ fn signature<J: Seals>(alloc: Global, sealer: &mut J, octets: &[u8]) -> Result<B
     }
 }
 
-// The message of a block, with a signature.
+/// The message of a block, with the signature that the sealer gives for it.
 fn sealed<J: Seals>(
     alloc: Global,
     sealer: &mut J,
@@ -79,7 +79,7 @@ fn sealed<J: Seals>(
     }
 }
 
-// Puts so many copies of a message behind the others, the last of which is the message itself.
+/// Puts so many copies of a message after the others, the last of which is the message itself.
 fn push_copies(
     alloc: Global,
     messages: &mut Vec<Bytes>,
@@ -105,7 +105,7 @@ pub struct Due {
     pub blocks: Vec<Unsigned>,
 }
 
-/// Puts the messages of all blocks that are due behind the others, each signed and as often as the configuration says.
+/// Puts the messages of all blocks that are due after the others, each signed and as often as the configuration says.
 /// The blocks are signed in their order, each once, up to the first that isn't, and the sealer is asked nothing else.
 pub fn seal_all<J: Seals>(
     alloc: Global,

@@ -14,7 +14,7 @@ use ss_octets::NoMemory;
 use std::alloc::Global;
 use std::marker::Model;
 
-// How many hashes can be pending in a group at most: one more fills the largest block.
+/// How many hashes can be pending in a group at most: one more fills the largest block.
 const MOST_PENDING: usize = 98;
 
 /// What is kept of a group. Contracts see the same. There is room for at most twice as many hashes as are pending.
@@ -37,14 +37,14 @@ impl Model for Slot {
     ghost invariant = { λ s. IsRoom (vec_capacity s.pending) (vec_len s.pending) };
 }
 
-// Whether the group is named.
+/// Whether the group is named.
 fn names(numbers: &[NextNumber], spri: u8) -> bool
     ensures { result ≡ names numbers.now spri }
 {
     numbers.iter().any(|next| next.spri == spri)
 }
 
-// The next number of a group; 1 where it isn't named.
+/// The next number of a group; 1 where it isn't named.
 fn number_in(numbers: &[NextNumber], spri: u8) -> u64
     ensures { result ≡ number_in numbers.now spri }
 {
@@ -56,7 +56,7 @@ fn number_in(numbers: &[NextNumber], spri: u8) -> u64
     1
 }
 
-// Makes room for one hash more. Room is doubled, so that a group's hashes are moved a few times and not at each one.
+/// Makes room for one hash more. Room is doubled, so that a group's hashes are moved a few times and not at each one.
 fn make_room(pending: &mut Vec<Hash>) -> Result<(), NoMemory>
     requires few { vec_len pending.old < 98 }
     requires room { IsRoom (vec_capacity pending.old) (vec_len pending.old) }
@@ -75,7 +75,7 @@ fn make_room(pending: &mut Vec<Hash>) -> Result<(), NoMemory>
 }
 
 impl Slot {
-    // A group that begins with the next number that is named for it, or 1.
+    /// A group that begins with the next number that is named for it, or 1.
     fn from_numbers(alloc: Global, numbers: &[NextNumber], spri: u8) -> Slot
         ensures { result ≡ slot_from numbers.now spri }
     {
@@ -107,7 +107,7 @@ impl Slot {
         self.pending.as_slice()
     }
 
-    // How many runs its hashes make that no block has yet: 1 or 0.
+    /// How many runs are made by its hashes that no block has yet: 1 or 0.
     fn pending_runs(&self) -> u64
         ensures { result ≡ (if length self.now.pending == 0 then 0 else 1) }
     {
@@ -118,7 +118,7 @@ impl Slot {
         }
     }
 
-    // Takes the hash of its next message. Where memory runs out, it stays as it is.
+    /// Takes the hash of its next message. Where memory runs out, it stays as it is.
     fn push(&mut self, hash: Hash) -> Result<(), NoMemory>
         requires number { self.old.number < past_last_number }
         requires few { length self.old.pending < 98 }
@@ -131,7 +131,7 @@ impl Slot {
         Ok(())
     }
 
-    // Takes its next message, with which all its hashes are in blocks.
+    /// Counts its next message, with which all its hashes are in blocks, and frees their room.
     fn close(&mut self)
         requires { self.old.number < past_last_number }
         ensures { self.new ≡ slot_with self.old [] }
@@ -141,7 +141,7 @@ impl Slot {
         self.number += 1;
     }
 
-    // Takes that all its hashes are in blocks, and gives their room back.
+    /// Notes that all its hashes are in blocks, and frees their room.
     fn clear(&mut self)
         ensures { self.new ≡ group_flushed self.old }
     {
@@ -223,7 +223,7 @@ impl Slots {
         self.slots[usize::from(spri)].push(hash)
     }
 
-    /// Takes the next message of a group, with which all its hashes are in blocks.
+    /// Counts the next message of a group, with which all its hashes are in blocks.
     pub fn close(&mut self, spri: u8)
         requires spri { spri < 192 }
         requires number { (slot_in self.old spri).number < past_last_number }
@@ -232,7 +232,7 @@ impl Slots {
         self.slots[usize::from(spri)].close();
     }
 
-    /// Takes that all hashes are in blocks.
+    /// Notes that all hashes are in blocks.
     pub fn clear(&mut self)
         ensures { self.new ≡ map group_flushed self.old }
     {
@@ -240,7 +240,7 @@ impl Slots {
     }
 }
 
-// Puts the next number of a group behind the others, where it is known.
+/// Puts the next number of a group after the others, where it is known.
 fn push_known(numbers: &mut Vec<NextNumber>, spri: u8, slot: &Slot) -> Result<(), NoMemory>
     ensures { OnOk result (numbers.new.items ≡ numbers.old.items ++ number_if_known spri slot.now) }
 {
@@ -252,6 +252,7 @@ fn push_known(numbers: &mut Vec<NextNumber>, spri: u8, slot: &Slot) -> Result<()
     Ok(())
 }
 
+/// Notes for each group that all its hashes are in blocks.
 fn clear_all(slots: &mut [Slot])
     ensures { slots.new ≡ map group_flushed slots.old }
 {

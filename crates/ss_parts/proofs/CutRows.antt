@@ -17,7 +17,7 @@ use Rattle.ss_parts.specs.Parts.{SessionsStayWhole, AnnouncedStayWithBlocks, Are
 use Rattle.ss_parts.specs.PartRows.{cut_off, halves_log}
 use Rattle.ss_review.specs.assign.Assigned.{has_hash}
 use Rattle.ss_review.specs.report.Rows.{first, second, yes, whole_log, two_sessions_log, two_hosts_payloads_log}
-use Rattle.ss_origin.proofs.Members.{Has, has_from_contains}
+use Rattle.ss_octets.proofs.Members.{Has, has_from_contains}
 
 -- ---- one session, and a message cut off
 
@@ -47,7 +47,7 @@ announcer_with_messages m k h a c has =
     message_at m (has_from_contains whole_log.normal m c)
     ∙ sym (announcer_at a.message (has_from_contains whole_log.blocks a.message a.stored) a.said a.says_so)
 
--- ---- two sessions, which RSID tell apart
+-- ---- two sessions, which differ in RSID
 
 by_rsid : (b : BlockMessage) → Has two_sessions_log.blocks b → cut_off (0 ∷ 2 ∷ 4 ∷ []) b.place ≡ b.session.rsid - 1
 by_rsid b (inl e) = subst (λ (d : BlockMessage). cut_off (0 ∷ 2 ∷ 4 ∷ []) d.place ≡ d.session.rsid - 1) e refl
@@ -62,7 +62,7 @@ message_from_two_sessions b d h i e =
     ∙ ap (λ (s : Session). s.rsid - 1) e
     ∙ sym (by_rsid d (has_from_contains two_sessions_log.blocks d i))
 
--- ---- two sessions, which hosts tell apart
+-- ---- two sessions, which differ in host
 
 -- the hosts are named `h` and `i`
 host_part : Field → ℕ

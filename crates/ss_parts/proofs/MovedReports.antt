@@ -1,4 +1,4 @@
--- A log whose messages stand at other places has the report that tells these places.
+-- A log whose messages stand at other places has the report with these places.
 use Rattle.std.proofs.Common.{◌≡◌, ℕ, ◌+◌, ◌-◌, ◌&&◌, Bool, true, false, cond, not, List, [], ◌∷◌, ◌++◌, map, filter, refl, sym, ap, ◌∙◌}
 use Rattle.std.specs.Prelude.{nat_lt, Option, Some, None, option_map, find, count_by, slice_get}
 use Rattle.std.specs.Ordering.{is_lt}
@@ -18,7 +18,7 @@ use Rattle.ss_review.specs.assign.Assigned.{same_pair, has_hash, is_pair, pair_o
 use Rattle.ss_review.specs.report.Entries.{group_keys, entry_with, entry_of, greatest_below, hole_between, entries}
 use Rattle.ss_review.specs.report.Report.{groups, group_report, session_report, unlisted, report_with, report_of}
 use Rattle.ss_parts.specs.Parts.{moved_entry, moved_group, moved_session, moved_spoilt, moved}
-use Rattle.ss_origin.proofs.Members.{Has}
+use Rattle.ss_octets.proofs.Members.{Has}
 use Rattle.ss_review.proofs.of_lists.FilteredAlike.{one_test, flat_map_agree}
 use Rattle.ss_review.proofs.of_lists.Finding.{mapped}
 use Rattle.ss_review.proofs.of_lists.Keyed.{has-slice_get}

@@ -13,8 +13,7 @@ use Rattle.ss_review.specs.announced.Announced.{Key, Row, key_cmp, keys, hashes_
 use Rattle.ss_review.specs.assign.Assigned.{same_pair, has_hash, is_pair, pair_of_bearer, places_with, wanted_with, wanted, rank, place_of, assigned}
 use Rattle.ss_review.specs.announced.Announcing.{Announces}
 use Rattle.ss_parts.specs.Parts.{normals_of, blocks_of, SessionsStayWhole, AnnouncedStayWithBlocks}
-use Rattle.ss_origin.proofs.Members.{Has, contains_from_has}
-use Rattle.ss_review.proofs.of_lists.Members.{from_has-filter}
+use Rattle.ss_octets.proofs.Members.{Has, contains_from_has, from_has-filter}
 use Rattle.ss_review.proofs.of_numbers.Announcements.{announced_row, keys-rise, from_has-hashes_for, has-announced_key}
 use Rattle.ss_review.proofs.of_lists.Counting.{same_pair-is}
 use Rattle.ss_review.proofs.of_lists.FilteredAlike.{filter_within, find_within, same_count}

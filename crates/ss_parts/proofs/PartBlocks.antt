@@ -13,8 +13,7 @@ use Rattle.ss_review.specs.announced.Announced.{Key}
 use Rattle.ss_review.specs.announced.Announcing.{Announces}
 use Rattle.ss_parts.specs.Parts.{blocks_of, SessionsStayWhole}
 use Rattle.ss_parts.specs.PartLaws.{HasItsBlocks}
-use Rattle.ss_origin.proofs.Members.{Has, has_from_contains, contains_from_has, has-map}
-use Rattle.ss_review.proofs.of_lists.Members.{from_has-map, has-filter, from_has-filter}
+use Rattle.ss_octets.proofs.Members.{Has, has_from_contains, contains_from_has, has-map, from_has-map, has-filter, from_has-filter}
 use Rattle.ss_review.proofs.of_lists.Rising.{has-in_order, from_has-in_order}
 use Rattle.ss_review.proofs.of_lists.FilteredAlike.{filter_within}
 

@@ -4,7 +4,7 @@ use Rattle.std.specs.Prelude.{sum_by, count_by}
 use Rattle.std.specs.List.{range_with_len}
 use Rattle.std.proofs.lemmas.Bool.{cases_eq, eq-eqb, eqb-true, false_from_ne_true}
 use Rattle.std.proofs.lemmas.List.Sums.{sum_by-cons}
-use Rattle.ss_origin.proofs.Members.{Has}
+use Rattle.ss_octets.proofs.Members.{Has}
 use Rattle.ss_review.proofs.of_lists.Counting.{count_by-cons}
 
 -- ---- sums

@@ -13,7 +13,7 @@ use Rattle.ss_review.specs.announced.Announced.{Key, Row, key_cmp, same_key, row
 use Rattle.ss_review.specs.report.Entries.{same_group, keys_in, group_keys}
 use Rattle.ss_review.specs.report.Report.{groups}
 use Rattle.ss_parts.specs.Parts.{blocks_of, SessionsStayWhole}
-use Rattle.ss_origin.proofs.Members.{Has}
+use Rattle.ss_octets.proofs.Members.{Has}
 use Rattle.ss_review.proofs.of_numbers.Announcements.{announced_row, has-rows, rows-rise, keys-rise, announced_key, has-announced_key}
 use Rattle.ss_review.proofs.of_lists.FilteredAlike.{same_kept}
 use Rattle.ss_parts.proofs.PartBlocks.{IsOwn, session_is, announced_up, announced_here, announced_own}

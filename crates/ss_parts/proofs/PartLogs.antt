@@ -32,7 +32,7 @@ use Rattle.ss_review.proofs.of_kept_messages.NotesTold.{normal_place, block_plac
 use Rattle.ss_review.proofs.of_lists.Rising.{all_below}
 use Rattle.ss_review.proofs.of_lists.Tests.{from_in_range}
 
--- ---- what notes are told as, at other places
+-- ---- what notes become, at other places
 
 module _ {Y : Type 0} (at : ℕ → Note → Option Y) (move : (ℕ → ℕ) → Y → Y) (place : Y → ℕ)
     (moves : (f : ℕ → ℕ) (p : ℕ) (n : Note) → option_map (move f) (at p n) ≡ at (f p) n)

@@ -24,8 +24,7 @@ use Rattle.ss_review.specs.announced.Announced.{Row, rows}
 use Rattle.ss_review.specs.assign.Assigned.{is_taken}
 use Rattle.ss_review.specs.report.Report.{session_report, unlisted, refused, report_of}
 use Rattle.ss_parts.specs.Parts.{normals_of, blocks_of, part_of, AreParts, together}
-use Rattle.ss_origin.proofs.Members.{Has, has-map}
-use Rattle.ss_review.proofs.of_lists.Members.{from_has-map, has-filter, from_has-filter, has-flat_map, from_has-flat_map}
+use Rattle.ss_octets.proofs.Members.{Has, has-map, from_has-map, has-filter, from_has-filter, has-flat_map, from_has-flat_map}
 use Rattle.ss_review.proofs.of_lists.Keyed.{keys_rise-filter}
 use Rattle.ss_review.proofs.of_kept_messages.NotesTold.{normal_noted, block_noted, spoilt_noted}
 use Rattle.ss_review.proofs.of_lists.OnesInOrder.{in_order_of_ones, rise_told, rise_by_key}

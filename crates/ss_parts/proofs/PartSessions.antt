@@ -1,4 +1,4 @@
--- What is told of a session of a part is what the whole tells of it.
+-- A part reports the same of a session as the whole.
 use Rattle.std.proofs.Common.{◌≡◌, ℕ, true, cond, List, [], ◌∷◌, ◌++◌, map, refl, sym, ap, ◌∙◌, subst}
 use Rattle.std.specs.Prelude.{Option, Some, None}
 use Rattle.std.specs.List.{flat_map}
@@ -15,7 +15,7 @@ use Rattle.ss_review.specs.assign.Assigned.{has_hash, places_with, rank, assigne
 use Rattle.ss_review.specs.report.Entries.{group_keys, entry_with, entry_of, greatest_below, hole_between, entries}
 use Rattle.ss_review.specs.report.Report.{groups, group_report, session_report}
 use Rattle.ss_parts.specs.Parts.{normals_of, part_of, SessionsStayWhole, AnnouncedStayWithBlocks}
-use Rattle.ss_origin.proofs.Members.{Has, contains_from_has}
+use Rattle.ss_octets.proofs.Members.{Has, contains_from_has}
 use Rattle.ss_review.proofs.of_lists.FilteredAlike.{one_test, flat_map_agree}
 use Rattle.ss_review.proofs.of_lists.Keyed.{has-slice_get}
 use Rattle.ss_review.proofs.of_reports.Leftovers.{taken_by, takes}

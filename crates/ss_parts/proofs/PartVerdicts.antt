@@ -12,7 +12,7 @@ use Rattle.ss_review.specs.sessions.Verified.{Answers}
 use Rattle.ss_review.specs.report.Report.{report_of}
 use Rattle.ss_parts.specs.Parts.{part_of, AreParts}
 use Rattle.ss_review.specs.report.Verdict.{is_joined, is_listed, is_none, is_clean}
-use Rattle.ss_origin.proofs.Members.{Has}
+use Rattle.ss_octets.proofs.Members.{Has}
 use Rattle.ss_review.proofs.of_lists.FilteredAlike.{one_test}
 use Rattle.ss_parts.proofs.PartReports.{own_report, session_there, session_back, unlisted_there, unlisted_back, refused_there, refused_back, spoilt_there, spoilt_back}
 use Rattle.ss_review.proofs.of_lists.Tests.{all_member, member_all, in_range}

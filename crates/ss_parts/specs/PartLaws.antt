@@ -1,4 +1,4 @@
--- What holds of the parts of every log.
+-- Laws on the parts of a log.
 use Rattle.std.specs.Prelude.{◌≡◌, ◌↔◌, ℕ, List, map, Contains}
 use Rattle.std.specs.List.{list_all, range_with_len}
 use Rattle.ss_block.specs.declared.hash.Hash.{Hash}
@@ -54,7 +54,7 @@ NumbersOfParts =
     → assigned (part_of part k log).normal (rows says (part_of part k log).blocks) j
     ≡ assigned log.normal (rows says log.blocks) j
 
--- a part tells of its sessions what the whole tells of them
+-- a part reports the same of its sessions as the whole
 abbrev pub SessionReportsOfParts : Type 0
 SessionReportsOfParts =
     (says : Answers) (log : Contents) (part : ℕ → ℕ)

@@ -101,7 +101,7 @@ moved_session f s = record { session = s.session; state = s.state; groups = map 
 abbrev pub moved_spoilt : (ℕ → ℕ) → SpoiltPlace → SpoiltPlace
 moved_spoilt f s = record { place = f s.place; cause = s.cause }
 
--- each place that it tells stands for another
+-- each place in it stands for another
 abbrev pub moved : (ℕ → ℕ) → Report → Report
 moved f r = record {
   sessions = map (moved_session f) r.sessions;
@@ -123,6 +123,6 @@ messages_of part k xs = map (λ n. n.1) (placed_of part k xs)
 abbrev pub places_of : {X : Type 0} → (ℕ → ℕ) → ℕ → List X → List ℕ
 places_of part k xs = map (λ n. n.0) (placed_of part k xs)
 
--- the report of a part, which tells the places in the whole
+-- the report of a part, with the places in the whole
 abbrev pub report_of_part : Answers → (ℕ → ℕ) → ℕ → List (List ℕ) → Report
 report_of_part says part k log = moved (slice_index (places_of part k log)) (report says (messages_of part k log))

@@ -1,4 +1,4 @@
-//! What holds of the parts of a log, where all blocks of a session are in one part, and with them each message that
+//! Laws on the parts of a log, where all blocks of a session are in one part, and with them each message that
 //! they announce.
 ghost use Rattle.ss_parts.specs.PartLaws.{
   CleanWherePartsAre,
@@ -21,14 +21,14 @@ pub fn numbers_of_parts()
     ensures { NumbersOfParts }
 {}
 
-/// A part tells of its sessions what the whole tells of them: state, groups, listed messages, gaps and holes. The
+/// A part reports the same of its sessions as the whole: state, groups, listed messages, gaps and holes. The
 /// premises are those of `numbers_of_parts`.
 pub fn session_reports_of_parts()
     ensures { SessionReportsOfParts }
 {}
 
 /// The report of a log is the reports of its parts put together: sessions, unlisted, refused and spoilt messages, and
-/// the count. A part is a log of its own, and its places are told as those in the whole. The premises are those of
+/// the count. A part is a log of its own, and its places are given as those in the whole. The premises are those of
 /// `numbers_of_parts`, and that each place belongs to one of the parts.
 pub fn parts_add_up()
     ensures { PartsAddUp }

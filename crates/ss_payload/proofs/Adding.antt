@@ -14,7 +14,7 @@ use Rattle.ss_payload.specs.Joining.{Stated, DisagreesWith, with_fragment}
 use Rattle.ss_payload.specs.Joiner.{TotalsStand, SlotStands, Stands}
 use Rattle.ss_payload.proofs.Standing.{totals_join, slots_join, slots_stay, other_total, same_total, other_octet, same_octet}
 
--- an index lies before a fragment, behind it or in it
+-- an index lies before a fragment, after it or in it
 pub place_of : (index count i : ℕ) → (i < index) ⊎ ((index + count ≤ i) ⊎ ((j : ℕ) × (j < count) × (i ≡ index + j)))
 place_of index count i = ⊎_elim
     (λ (h : i < index). inl h)

@@ -73,7 +73,7 @@ one_more index octets size c cuts rest at some most full = record {
         (omega arith, omega arith)
     last_more (b ∷ before) d e = rest.last before d (parts_same c b cuts (before ++ d ∷ []) e).1
 
--- what stands behind the first piece
+-- what stands after the first piece
 pub one_less : (index octets size : ℕ) (c : Cut) (cuts : List Cut) → AreFrom index octets size (c ∷ cuts) → AreFrom (index + c.len) (octets - c.len) size cuts
 one_less index octets size c cuts a = record {
   follow = λ before d after e. omega (arith, a.follow (c ∷ before) d after (ap (λ (t : List Cut). c ∷ t) e), more_octets c before);
@@ -122,7 +122,7 @@ joined_from index octets size text (c ∷ cuts) a =
     ap (λ (k : ℕ). take k (drop index text)) (sym most) ∙ take-add c.len (octets - c.len) (drop index text) in
     rw (at, rest, whole, drop-drop c.len index text) refl
 
--- The pieces so far cover the text up to `start`: with any pieces of the rest behind them they cover it all.
+-- The pieces so far cover the text up to `start`: with any pieces of the rest after them they cover it all.
 pub record AreBegun (octets size start : ℕ) (cuts : List Cut) : Type 0 where
   pub within : start ≤ octets
   pub whole : (rest : List Cut) → AreFrom (start + 1) (octets - start) size rest → AreFrom 1 octets size (cuts ++ rest)

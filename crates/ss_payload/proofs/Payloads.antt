@@ -141,7 +141,7 @@ kind_again U = refl
 
 -- ---- the blob
 
--- the text stands behind the letter of the blob's type; behind `N` it may be SP
+-- the text stands after the letter of the blob's type; after `N` it may be SP
 pub data Follows (kind : Kind) (blob : List ℕ) (text : List ℕ) : Type 0 where
   blob_alone : text ≡ blob_text kind blob → Follows kind blob text
   blob_space : kind ≡ N → text ≡ blob_text kind blob ++ 32 ∷ [] → Follows kind blob text
@@ -167,7 +167,7 @@ no_blob_again text (b ∷ blob) none follows = let e : length (b ∷ blob) ≡ 0
 no_blob_again text [] none (blob_alone e) = rw e refl
 no_blob_again text [] none (blob_space k e) = rw e refl
 
--- behind a letter other than `N`
+-- after a letter other than `N`
 only_alone : (kind : Kind) (blob text : List ℕ) → (kind ≡ N → ⊥) → Follows kind blob text → text ≡ blob_text kind blob
 only_alone kind blob text other (blob_alone e) = e
 only_alone kind blob text other (blob_space k e) = absurd (other k)
@@ -198,7 +198,7 @@ first_takes : (text : List ℕ) (x : ℕ × List ℕ) → first_in text ≡ Some
 first_takes [] x e = absurd cc
 first_takes (b ∷ rest) x e = let made : ℕ × List ℕ = (b, rest) in subst (λ (y : ℕ × List ℕ). b ∷ rest ≡ y.0 ∷ y.1) (some_is made x e) refl
 
--- what stands behind the letter, and so what the whole text spells
+-- what stands after the letter, and so what the whole text spells
 spells_with : (s : Option Moment) (kind : Kind) (blob follow text : List ℕ) → text ≡ timestamp_text s ++ 32 ∷ letter kind ∷ follow → Follows kind blob follow
     → Spells text (record { stamp = s; kind = kind; blob = blob })
 unfolding payload_text

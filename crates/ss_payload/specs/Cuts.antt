@@ -7,8 +7,8 @@ use Rattle.ss_payload.specs.declared.cuts.Cut.{Cut}
 abbrev pub octet_count : List Cut → ℕ
 octet_count cuts = sum_by (λ c. c.len) cuts
 
--- The pieces of a text of so many octets: they follow one another from index 1 to its end, each of `size` octets but
--- a shorter last one.
+-- The pieces of a text of so many octets: they follow one another from index 1 to its end, each of `size`
+-- octets, except a last one that may be shorter.
 pub record AreCuts (octets size : ℕ) (cuts : List Cut) : Type 0 where
   pub follow : (before : List Cut) (c : Cut) (after : List Cut) → cuts ≡ before ++ c ∷ after
       → c.index ≡ 1 + octet_count before

@@ -1,5 +1,5 @@
--- What a joiner stands for: it keeps whether one total was stated, or more, and at each index whether one octet was, or
--- more.
+-- What a joiner stands for. It keeps whether one total was stated, or more. At each index it keeps whether one octet
+-- was stated, or more.
 use Rattle.std.specs.Prelude.{◌≡◌, ◌≢◌, ℕ, ◌+◌, ◌<◌, true, false, eqb}
 use Rattle.std.specs.FinSet as set
 use Rattle.ss_payload.specs.declared.joiner.slot.Slot.{Slot}
@@ -36,7 +36,7 @@ pub record KeepsAll (joiner : Joiner) (total : ℕ) : Type 0 where
   pub marked : joiner.marked ≡ false
   pub said : (k : ℕ) → k < total → slot_at joiner.runs (k + 1) ≢ slot.Empty
 
--- not one total was stated, or no octet at some index from 1 to it
+-- no total or several were stated, or no octet at some index from 1 to the one total
 abbrev pub LacksSome : Totals → Runs → Type 0
 LacksSome totals.Unstated runs = Unit {0}
 LacksSome (totals.One total) runs = (k : ℕ) × (k < total) × (slot_at runs (k + 1) ≡ slot.Empty)

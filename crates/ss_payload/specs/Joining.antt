@@ -63,7 +63,7 @@ HasState stated Disputed = IsDisputed stated
 HasState stated Incomplete = (¬ IsDisputed stated) × HasGap stated
 HasState stated Whole = (¬ IsDisputed stated) × (¬ HasGap stated)
 
--- the payload: as many octets as the total, and behind `i` others the one that was stated at the index `i + 1`
+-- the payload: as many octets as the total, and after `i` others the one that was stated at the index `i + 1`
 pub record IsPayload (stated : Stated) (text : List ℕ) : Type 0 where
   pub total : HasTotal stated (length text)
   pub octets : (i : ℕ) → i < length text → HasOctet stated (i + 1) (slice_index text i)

@@ -38,13 +38,13 @@ OnePayload =
     (stated : Stated) (text other : List ℕ) → ¬ IsDisputed stated → IsPayload stated text → IsPayload stated other
     → text ≡ other
 
--- a total is stated by fragments where some fragment states it
+-- fragments state a total exactly if some fragment states it
 abbrev pub TotalsAreOfFragments : Type 0
 TotalsAreOfFragments =
     (fragments : List Fragment) (total : ℕ) → HasTotal (stated_by fragments) total
     ↔ Any (λ f. f.total ≡ total) fragments
 
--- and an octet where some fragment has it at the index
+-- and an octet at an index exactly if some fragment has it there
 abbrev pub OctetsAreOfFragments : Type 0
 OctetsAreOfFragments =
     (fragments : List Fragment) (index octet : ℕ) → HasOctet (stated_by fragments) index octet

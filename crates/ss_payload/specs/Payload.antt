@@ -22,7 +22,7 @@ letter K = 75
 letter N = 78
 letter U = 85
 
--- what stands behind the letter: for `N` nothing, else SP and the blob
+-- what stands after the letter: for `N` nothing, else SP and the blob
 abbrev pub blob_text : Kind → List ℕ → List ℕ
 blob_text C blob = sp ∷ base64 blob
 blob_text P blob = sp ∷ base64 blob
@@ -30,7 +30,7 @@ blob_text K blob = sp ∷ base64 blob
 blob_text N blob = []
 blob_text U blob = sp ∷ base64 blob
 
--- TIMESTAMP, SP, the letter, and what stands behind it
+-- TIMESTAMP, SP, the letter, and what stands after it
 unfoldable pub payload_text : PayloadValue → List ℕ
 payload_text p = timestamp_text p.stamp ++ sp ∷ letter p.kind ∷ blob_text p.kind p.blob
 
@@ -48,11 +48,11 @@ pub record IsPayload (p : PayloadValue) : Type 0 where
   pub blob : is_blob p.kind p.blob ≡ true
   pub octets : IsBytes p.blob
 
--- the payload, where its blob suits its type
+-- the payload, if its blob suits its type
 abbrev pub if_suited : PayloadValue → Option PayloadValue
 if_suited p = if is_blob p.kind p.blob then Some p else None
 
--- the text is that of the payload; behind `N` one SP may stand
+-- the text is that of the payload; after `N` one SP may stand
 pub data Spells (text : List ℕ) (p : PayloadValue) : Type 0 where
   exactly : text ≡ payload_text p → Spells text p
   with_space : p.kind ≡ N → text ≡ payload_text p ++ sp ∷ [] → Spells text p

@@ -15,6 +15,6 @@ HasNoRoom joiner = (number : ℕ) → ¬ HasRoom joiner number
 abbrev pub HasRoomFor : Joiner → ℕ → ℕ → Type 0
 HasRoomFor joiner index count = HasRuns joiner.runs index count
 
--- there is no room but what there was, and that of sixteen indexes of which one is of the fragment
+-- there is the room from before, and else only room for sixteen indexes of which the fragment has at least one
 abbrev pub GrowsFor : Joiner → Joiner → ℕ → ℕ → Type 0
 GrowsFor old new index count = (number : ℕ) → HasRoom new number → HasRoom old number ⊎ BelongsTo number index count

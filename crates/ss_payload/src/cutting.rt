@@ -9,8 +9,12 @@ use crate::cuts::{Cut, Cuts};
 use ss_octets::NoMemory;
 use std::alloc::Global;
 
-/// The pieces that cover `text` once, in order, each of `size` octets but a shorter last one. It wants a text of 1 to
-/// 99,999,999 octets, and pieces of 1 to 9,999.
+/// The pieces that cover `text` once, in order, each of `size` octets, except a last one that may be shorter. The text
+/// has 1 to 99,999,999 octets, and `size` is 1 to 9,999.
+///
+/// # Errors
+///
+/// `NoMemory` if memory runs out.
 pub fn cut(alloc: Global, text: &[u8], size: u16) -> Result<Cuts, NoMemory>
     requires some_octet { 1 ≤ length text.now }
     requires at_most_99999999_octets { length text.now ≤ longest_payload }

@@ -17,10 +17,10 @@ use ss_octets::{Bytes, NoMemory};
 use std::alloc::Global;
 use totals::Totals;
 
-/// What a fragment says against those before it.
+/// Whether a fragment agrees with those before it.
 #[derive(Clone, Copy, Debug, PartialEq, Eq)]
 pub enum Joined {
-    /// Nothing: it states their total, and their octet wherever they stated one.
+    /// It states their total, and their octet wherever they stated one.
     Agreed,
     /// Another total was stated before, or another octet at one of its indexes.
     Disagrees,
@@ -37,15 +37,16 @@ pub enum JoinState {
     Whole,
 }
 
-/// Joins the fragments of a payload, which may come in any order, overlap and come again. Nothing is reserved for a
-/// total that is stated: it keeps room for the octets that came, by sixteen indexes each. A fragment takes time by its
-/// octets, and for each sixteen of them by the logarithm of how many are kept.
+/// Joins the fragments of a payload, which may come in any order, overlap and come again.
+///
+/// Nothing is reserved for a total that is stated: room is kept for the octets that came, sixteen indexes at a time. A
+/// fragment takes time by its octets, and for each sixteen of them by the logarithm of how many are kept.
 #[derive(Drop)]
 pub struct Joiner {
     alloc: Global,
     totals: Totals,
     runs: Runs,
-    // Whether two octets were stated at some index.
+    /// Whether two octets were stated at some index.
     marked: bool,
 }
 
@@ -64,10 +65,12 @@ impl Joiner {
     }
 
     /// Adds a fragment: the octets of a payload of `total` octets (TPBL, 1 to 99,999,999) from the index `index` on
-    /// (INDEX, 1 to 99,999,999), of which there are 1 to 9,999 (FLEN), the last within the total. Whether it disagrees
-    /// with a fragment that was added before; it is added then too.
+    /// (INDEX, 1 to 99,999,999). There are 1 to 9,999 octets (FLEN), and the last lies within the total. The answer
+    /// says whether it disagrees with a fragment that was added before; it is added also if it does.
     ///
-    /// Where memory runs out, `NoMemory`, and the joiner stands for what it did before.
+    /// # Errors
+    ///
+    /// `NoMemory` if memory runs out; the joiner then stands for what it did before.
     pub fn add(&mut self, total: u32, index: u32, fragment: &[u8]) -> Result<Joined, NoMemory>
         requires total { (1 ≤ total) × (total ≤ longest_payload) }
         requires index { (1 ≤ index) × (index ≤ longest_payload) }
@@ -80,11 +83,11 @@ impl Joiner {
         ensures answer { (stated : Stated)
             → Stands self.old stated
             → IfOk result (λ joined. (joined ≡ Disagrees) ↔ DisagreesWith stated total index fragment.now) }
-        // It makes room for the octets of this fragment alone, also where memory runs out.
+        // It makes room for the octets of this fragment alone, even if memory runs out.
         ensures room { GrowsFor self.old self.new index (length fragment.now) }
         // Room that was made stays.
         ensures kept { (number : ℕ) → HasRoom self.old number → HasRoom self.new number }
-        // Where the runs of its octets are there, it takes no memory.
+        // If the runs of its octets exist, it takes no memory.
         ensures had { HasRoomFor self.old index (length fragment.now) → IsOk result }
     {
         self.runs.make_room(index, fragment.len())?;
@@ -99,7 +102,7 @@ impl Joiner {
         }
     }
 
-    /// The total, where the payload is whole.
+    /// The total, if the payload is whole.
     fn whole(&self) -> Option<u32>
         ensures some { IfSome result (KeepsAll self.now) }
         ensures none { IfNone result (self.now.marked ≡ false → LacksSome self.now.totals self.now.runs) }
@@ -132,9 +135,11 @@ impl Joiner {
         }
     }
 
-    /// The payload, where the state is `Whole`, and otherwise none.
+    /// The payload if the state is `Whole`, otherwise none.
     ///
-    /// Where memory runs out, `NoMemory`.
+    /// # Errors
+    ///
+    /// `NoMemory` if memory runs out.
     pub fn payload(&self) -> Result<Option<Bytes>, NoMemory>
         ensures payload { (stated : Stated)
             → Stands self.now stated

@@ -12,13 +12,13 @@ pub enum Kind {
     P,
     /// `K`: a public key.
     K,
-    /// `N`: nothing, since the key was distributed before.
+    /// `N`: nothing, because the key was distributed before.
     N,
     /// `U`: specific to the installation.
     U,
 }
 
-/// The letter of the type.
+/// The letter of the type, a capital.
 pub fn letter(kind: Kind) -> u8
     ensures { result ≡ letter kind }
 {
@@ -31,7 +31,7 @@ pub fn letter(kind: Kind) -> u8
     }
 }
 
-/// The type of the letter, a capital.
+/// The type that the letter, a capital, stands for; `None` if it is no letter of a type.
 pub fn kind_of(octet: u8) -> Option<Kind>
     ensures { result ≡ kind_in octet }
 {

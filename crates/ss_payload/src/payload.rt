@@ -15,8 +15,8 @@ use ss_octets::{Bytes, NoMemory};
 use std::alloc::Global;
 use std::marker::Model;
 
-/// What an originator says of its key, once in a session: when, the type of the key blob, and the blob. Contracts see
-/// these, which are in their ranges: the blob is empty exactly for `Kind::N`.
+/// What an originator states about its key, once in a session: a time, the type of the key blob, and the blob.
+/// Contracts see these three, which are in their ranges: the blob is empty exactly for `Kind::N`.
 #[derive(Debug, Drop)]
 pub struct Payload {
     stamp: Option<Stamp>,
@@ -35,7 +35,7 @@ impl Model for Payload {
 }
 
 impl Payload {
-    /// `None` where `Kind::N` comes with a blob, or another type with an empty one.
+    /// A payload of these parts; `None` if `Kind::N` comes with a blob, or another type with an empty one.
     pub fn new(stamp: Option<Stamp>, kind: Kind, blob: Bytes) -> Option<Payload>
         ensures value { result ≡ if_suited (record { stamp = stamp; kind = kind; blob = blob }) }
         ensures in_range { IfSome result IsPayload }
@@ -48,7 +48,7 @@ impl Payload {
         Some(Payload { stamp, kind, blob })
     }
 
-    /// TIMESTAMP, or none.
+    /// TIMESTAMP; none if it is `-`.
     pub fn stamp(&self) -> Option<Stamp>
         ensures { result ≡ self.now.stamp }
     {
@@ -69,27 +69,31 @@ impl Payload {
         &self.blob
     }
 
-    /// Every payload is in the ranges that `new` asks for.
+    /// Does nothing: its clause says that every payload is in the ranges that `new` asks for.
     pub fn assure_in_range(&self)
         ensures { IsPayload self.now }
     {
         let _kind = self.kind;
     }
 
-    /// The payload that the octets spell, all of them; `None` where they spell none. Behind `N` one SP is let pass.
+    /// The payload that all the octets spell together; `None` if they spell none. After `N` one SP may stand.
+    ///
+    /// # Errors
+    ///
+    /// `NoMemory` if memory runs out.
     pub fn parse(alloc: Global, bytes: &[u8]) -> Result<Option<Payload>, NoMemory>
         ensures value { IfOk result (λ o. o ≡ payload_in bytes.now) }
         // What is read is spelled so.
         ensures found { IfOk result (λ o. IfSome o (λ p. IsPayload p × Spells bytes.now p)) }
         // What is spelled so is read.
         ensures only { (p : PayloadValue) → IsPayload p → Spells bytes.now p → IfOk result (λ o. o ≡ Some p) }
-        // Whether a stamp stands in front, and the letter of a type behind it, is seen before memory is taken.
+        // Whether a stamp stands in front, and the letter of a type after it, is seen before memory is taken.
         ensures stamp_first { stamp_and_rest_in bytes.now ≡ None → result ≡ Ok None }
         ensures letter_first { (stamp : Option Moment) (rest : List ℕ)
             → stamp_and_rest_in bytes.now ≡ Some (stamp, rest)
             → option_and_then (λ first. kind_in first.0) (first_in rest) ≡ None
             → result ≡ Ok None }
-        // Behind `N` no memory is taken, and behind another letter none before SP is seen.
+        // After `N` no memory is taken, and after another letter none before SP is seen.
         ensures n_first { (stamp : Option Moment) (behind : List ℕ)
             → stamp_and_rest_in bytes.now ≡ Some (stamp, letter N ∷ behind)
             → result ≡ Ok (payload_in bytes.now) }
@@ -103,6 +107,10 @@ impl Payload {
     }
 
     /// The spelling of the payload, which `parse` reads as this payload again.
+    ///
+    /// # Errors
+    ///
+    /// `NoMemory` if memory runs out.
     pub fn write(&self, alloc: Global) -> Result<Bytes, NoMemory>
         ensures text { IfOk result (λ b. b ≡ payload_text self.now) }
         ensures in_range { IsPayload self.now }

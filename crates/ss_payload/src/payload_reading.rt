@@ -16,7 +16,7 @@ use ss_octets::strict_base64::decoded;
 use ss_octets::{Bytes, NoMemory, cut_first};
 use std::alloc::Global;
 
-/// The stamp that the octets spell, all of them.
+/// The stamp that all the octets spell together; `None` if they spell none.
 fn moment_of(text: &[u8]) -> Option<Stamp>
     ensures { result ≡ stamp_of text.now }
 {
@@ -25,7 +25,7 @@ fn moment_of(text: &[u8]) -> Option<Stamp>
     stamp
 }
 
-/// The stamp that the octets spell, all of them, or none for `-`. `None` where they spell neither.
+/// The stamp that all the octets spell together, or `Some(None)` for `-`; `None` if they spell neither.
 #[tactic(auto, unfolding(crate::specs::PayloadReading::stamp_in))]
 pub fn stamp_of(text: &[u8]) -> Option<Option<Stamp>>
     ensures { result ≡ stamp_in text.now }
@@ -36,6 +36,7 @@ pub fn stamp_of(text: &[u8]) -> Option<Option<Stamp>>
     }
 }
 
+/// The empty blob, if nothing or one SP stands after the letter `N`.
 fn no_blob_of(alloc: Global, text: &[u8]) -> Option<Bytes>
     ensures { result ≡ no_blob_in text.now }
 {
@@ -45,6 +46,7 @@ fn no_blob_of(alloc: Global, text: &[u8]) -> Option<Bytes>
     }
 }
 
+/// The blob that the base64 after SP spells; `None` if no SP stands first, or the rest spells no octet.
 fn some_blob_of(alloc: Global, text: &[u8]) -> Result<Option<Bytes>, NoMemory>
     ensures blob { IfOk result (λ o. o ≡ some_blob_in text.now) }
     ensures space_first { past sp text.now ≡ None → result ≡ Ok None }
@@ -55,7 +57,7 @@ fn some_blob_of(alloc: Global, text: &[u8]) -> Result<Option<Bytes>, NoMemory>
     }
 }
 
-/// The blob that stands behind the letter of its type.
+/// The blob that stands after the letter of its type.
 #[tactic(auto, unfolding(crate::specs::PayloadReading::blob_in))]
 fn blob_of(alloc: Global, kind: Kind, text: &[u8]) -> Result<Option<Bytes>, NoMemory>
     ensures blob { IfOk result (λ o. o ≡ blob_in kind text.now) }
@@ -78,7 +80,7 @@ fn stamp_and_rest(text: &[u8]) -> Option<(Option<Stamp>, &[u8])>
     Some((stamp, rest))
 }
 
-/// What the text says, all of it; `None` where it is no payload block.
+/// The payload that the whole text spells; `None` if it is no payload block.
 #[tactic(auto, unfolding(crate::specs::PayloadReading::payload_in))]
 pub fn payload_of(alloc: Global, text: &[u8]) -> Result<Option<Payload>, NoMemory>
     ensures value { IfOk result (λ o. o ≡ payload_in text.now) }

@@ -10,7 +10,7 @@ use ss_octets::strict_base64::put_base64;
 use ss_octets::{Bytes, NoMemory};
 use std::alloc::{AllocError, Global};
 
-// TIMESTAMP, or `-` for none.
+/// The text of TIMESTAMP, which is `-` for none.
 fn stamp_text(alloc: Global, stamp: &Option<Stamp>) -> Result<Vec<u8>, NoMemory>
     ensures { IfOk result (λ v. v.items ≡ timestamp_text stamp.now) }
 {
@@ -24,7 +24,7 @@ fn stamp_text(alloc: Global, stamp: &Option<Stamp>) -> Result<Vec<u8>, NoMemory>
     }
 }
 
-// Writes SP, the letter of the type and what stands behind it at the end of `out`.
+/// Writes SP, the letter of the type and what stands after it at the end of `out`.
 fn put_blob(alloc: Global, out: &mut Vec<u8>, kind: Kind, blob: &[u8]) -> Result<(), AllocError>
     ensures { OnOk result (out.new.items ≡ out.old.items ++ (sp ∷ letter kind ∷ blob_text kind blob.now)) }
 {

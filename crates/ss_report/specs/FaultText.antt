@@ -1,4 +1,4 @@
--- What a fault says: in words, and by its code.
+-- The text of a fault in words, and its code.
 use Rattle.std.specs.Prelude.{ℕ, List, Option, None, Some, ◌++◌, codes, decimal}
 use Rattle.ss_octets.specs.NoMemory.{no_memory_text}
 use Rattle.ss_frame.specs.FaultText.{frame_fault_code, frame_fault_text}
@@ -8,7 +8,7 @@ use Rattle.ss_report.specs.declared.runs.extraction.ExtractFault.TheVariants.{Ab
 use Rattle.ss_report.specs.declared.fault.RunFault.{RunFault}
 use Rattle.ss_report.specs.declared.fault.RunFault.TheVariants.{Frame, Review, Extract, Write, Memory}
 
--- what of a log keeps an extract from being written
+-- why an extract isn't written
 abbrev pub extract_fault_text : ExtractFault → List ℕ
 extract_fault_text (Absent place) = codes "the log has no message at place " ++ decimal place
 extract_fault_text (HoldsLf place) = codes "a message that is to be one line holds LF, at place " ++ decimal place

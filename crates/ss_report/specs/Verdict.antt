@@ -21,4 +21,4 @@ verdict_of settled = if settled then verdicts.Clean else verdicts.Findings
 
 -- clean where no line of the report on a log with this end leaves anything to look into
 abbrev pub report_verdict : Report → Tail → Verdict
-report_verdict report tail = verdict_of (list_all is_settled (lines details.Each report tail))
+report_verdict report tail = verdict_of (list_all is_settled (lines details.Itemized report tail))

@@ -1,4 +1,4 @@
--- What a verdict says of the report itself.
+-- What a verdict means for the report itself.
 use Rattle.std.specs.Prelude.{◌≡◌, ◌&&◌, Bool, List, ℕ, if◌then◌else◌}
 use Rattle.std.specs.List.{list_all}
 use Rattle.ss_frame.specs.declared.step.Tail.{Tail}
@@ -27,8 +27,8 @@ is_nothing_short short = list_all is_complete short.known && is_none short.absen
 abbrev pub verdict_where : Bool → Tail → Verdict
 verdict_where clean tail = if clean then end_verdict tail else verdicts.Findings
 
--- A verdict is clean exactly where the report is and the log has a clean end; and of a review that says what is missing
--- beside the report, where besides nothing is.
+-- A verdict is clean exactly where the report is and the log has a clean end. If a review reports what is missing, its
+-- verdict is clean exactly where nothing is missing either.
 pub record VerdictsAreOfReports : Type 0 where
   pub plain : (r : Report) (tail : Tail) → report_verdict r tail ≡ verdict_where (is_clean r) tail
   pub whole :

@@ -17,19 +17,19 @@ use thiserror::Error;
 pub enum RunFault {
     /// The log couldn't be read to its end: F1 to F5, or F9.
     Frame(FrameFault),
-    /// The messages couldn't be reviewed: V1, want of memory. V2 is never answered, since the log is refused with F5
+    /// The messages couldn't be reviewed: V1, out of memory. V2 is never answered, because the log is refused with F5
     /// before a message too many is reviewed.
     Review(ReviewFault),
     /// The messages couldn't be extracted: E1 or E2.
     Extract(ExtractFault),
     /// W1: a write or a flush failed. What was written is a prefix of the output.
     Write,
-    /// W2: want of memory.
+    /// W2: out of memory.
     Memory,
 }
 
 impl RunFault {
-    /// Its code, for programs, which of a fault of a lower layer is the code of that one.
+    /// Its code, for programs. A fault of a lower layer keeps the code that it has there.
     pub fn code(self) -> Code
         ensures { IsCode result (run_fault_code self) }
     {

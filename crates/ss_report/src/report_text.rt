@@ -13,9 +13,9 @@ use ss_review::Report;
 use std::alloc::Global;
 use std::io::Write;
 
-/// The text of a report on a log with this end, a line for each thing that it says, ended by LF: each session, and
-/// after it the entries of its groups; then the messages that are listed nowhere, the blocks that aren't verified and
-/// the spoilt messages; `torn` at a torn end, and `end` with the count of the messages. Each list stands in its order.
+/// The text of a report on a log with this end. Each line is ended by LF: each session, and after it the entries of its
+/// groups; then the unlisted messages, the unverified blocks and the spoilt ones; then `torn` at a torn end, and `end`
+/// with the count of the messages. Each list stands in the order that it has in the report.
 ///
 /// Errs only where memory runs out. It is taken for the text.
 pub fn report_text(alloc: Global, report: &Report, tail: Tail) -> Result<Bytes, NoMemory>
@@ -33,5 +33,5 @@ pub fn report_text(alloc: Global, report: &Report, tail: Tail) -> Result<Bytes, 
 pub(crate) fn write_report<W: Write>(writer: &mut Watched<W>, report: &Report, tail: Tail)
     ensures { Writes (sink_of W.contents writer.old) (sink_of W.contents writer.new) (report_lines report.now tail) }
 {
-    write_report_as(writer, report, tail, ReportForm::Text, Detail::Each);
+    write_report_as(writer, report, tail, ReportForm::Text, Detail::Itemized);
 }

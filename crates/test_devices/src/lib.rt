@@ -1,4 +1,4 @@
-//! Readers and writers for the tests of other crates: their octets are known, and they fail where they are told to.
+//! Readers and writers for the tests of other crates: their octets are known, and they fail where a test wants it.
 #![tactic(auto)]
 
 mod paper;

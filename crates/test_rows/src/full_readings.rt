@@ -1,4 +1,4 @@
-//! What one parse tells of a message: what it is, its session, and what is signed of it.
+//! What one parse finds of a message: what it is, its session, and what is signed of it.
 use ss_block::{FullReading, Reading, Session, read_fully};
 use ss_message::{Field, Part};
 use ss_octets::{Bytes, NoMemory};
@@ -87,7 +87,7 @@ fn fault_of(reading: &Reading) -> Option<(Part, usize)> {
     }
 }
 
-/// Whether a text is told to be no block, for this fault or else plain.
+/// Whether a text is reported to be no block, for this fault or else plain.
 fn is_no_block(told: &FullReading, fault: Option<(Part, usize)>) -> bool {
     fault_of(&told.reading) == fault
         && matches!(&told.reading, Reading::Plain) == fault.is_none()

@@ -1,5 +1,5 @@
-//! Calls of which `tests/memory.sh` refuses each allocation in turn: a call answers want of memory then, and its answer
-//! when it is made again.
+//! Calls of which `tests/memory.sh` refuses each allocation in turn: a call answers "out of memory" then, and its
+//! answer when it is made again.
 use crate::blocks::signing::{ESCAPED, ESCAPED_SIGNED};
 use crate::blocks::writing::is_each_written;
 use crate::messages::drafts::{FULL, full};
@@ -119,14 +119,14 @@ fn is_signed(signed: &Option<Bytes>) -> bool {
     }
 }
 
-/// Whether the text is told to be a certificate block, with its session and what is signed of it.
+/// Whether the text is reported to be a certificate block, with its session and what is signed of it.
 fn is_told(told: &FullReading) -> bool {
     matches!(&told.reading, Reading::Certificate(_))
         && is_session(&told.session)
         && is_signed(&told.signed)
 }
 
-/// Makes a call, and says whether it gives what it is to give.
+/// Makes a call, and reports whether it gives what it is to give.
 fn gives(alloc: Global, call: Call) -> Result<bool, NoMemory> {
     match call {
         Call::Parse => parses(alloc),
@@ -144,7 +144,7 @@ fn gives(alloc: Global, call: Call) -> Result<bool, NoMemory> {
 }
 
 /// `tests/memory.sh` refuses each allocation of this test in turn, and it passes each time. The other tests but those
-/// of a joiner and of a reader of frames take want of memory for a wrong answer.
+/// of a joiner and of a reader of frames take "out of memory" for a wrong answer.
 #[test]
 fn gives_the_answer_after_want_of_memory(rt: HostRuntime) {
     for call in CALLS {

@@ -147,8 +147,8 @@ const COUNTS: [(&[Text], u32, [u32; 3]); 6] = [
     (&[Text::Certificate, Text::OtherPayload], 0, [0, 0, 0]),
 ];
 
-/// Trusts every payload, says yes to each signature of so many octets at least, and counts how often it is asked about
-/// a payload, and about a signature.
+/// Trusts every payload, and says yes to each signature of so many octets at least. It counts how often it is asked
+/// about a payload, and about a signature.
 #[derive(Drop)]
 struct Counting {
     least: usize,

@@ -20,7 +20,7 @@ pub const PAYLOAD: &[u8] = b"2009-05-03T14:00:39Z K S0VZ";
 /// The signature that the blocks carry: `AAAA` in base64.
 pub const SIGN: &[u8] = b"\0\0\0";
 
-/// What is said of payloads and signatures.
+/// The answers on payloads and signatures.
 #[derive(Clone, Copy)]
 pub enum Who {
     /// Yes to everything.
@@ -180,7 +180,7 @@ pub(crate) fn signed_texts(alloc: Global, who: Who) -> Result<(Vec<u8>, Vec<u8>)
     }
 }
 
-/// The book that says so, where these octets are signed.
+/// The book with this answer, where these octets are signed.
 pub(crate) fn book_of<'b>(who: Who, signed: (&'b [u8], &'b [u8])) -> Book<'b> {
     Book {
         all: matches!(who, Who::All),

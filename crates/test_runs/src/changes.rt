@@ -32,7 +32,7 @@ fn wanted_of(alloc: Global, octets: &[u8]) -> Result<Bytes, RunFault> {
     plain_text(alloc, &log)
 }
 
-/// A review of the octets says the same as the plain one, or why they can't be read: F1 or F2.
+/// A review of the octets reports the same as the plain one, or why they can't be read: F1 or F2.
 fn sees(rt: &(impl Abort + AllocGlobal), octets: &[u8], at: usize) -> Result<(), Fail> {
     let wanted = wanted_of(rt.alloc(), octets);
     let source = Pieces::new(octets, 4_096);

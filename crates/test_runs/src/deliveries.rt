@@ -94,7 +94,7 @@ fn log_of(alloc: Global, sent: &[Bytes], numbers: &[usize]) -> Result<Vec<u8>, A
     Ok(writer.into_inner())
 }
 
-/// What a review writes of the log, where it is said yes to everything.
+/// What a review writes of the log, where each answer is yes.
 fn sees(
     rt: &(impl Abort + AllocGlobal),
     name: &str,

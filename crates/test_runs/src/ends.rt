@@ -91,7 +91,7 @@ fn sees_cuts(rt: &(impl Abort + AllocGlobal)) -> Result<(), AllocError> {
     Ok(())
 }
 
-/// Two octets behind the last frame are a frame that breaks off, and change nothing else.
+/// Two octets after the last frame are a frame that breaks off, and change nothing else.
 fn sees_torn_frames(rt: &(impl Abort + AllocGlobal)) -> Result<(), AllocError> {
     let octets = log_of(rt.alloc(), &TEXTS, Form::Frames, b"12")?;
     let log = Log {

@@ -15,7 +15,7 @@ pub const LOG: &[u8] =
         SIGN=\"AAAA\"]159 <110>1 - h s - - [ssign VER=\"0111\" RSID=\"1\" SG=\"0\" SPRI=\"0\" GBC=\"0\" FMN=\"1\" \
         CNT=\"2\" HB=\"qZk+NkcGgWq6PiVxeFDCbJzQ2J0= hJg+RBw70m66rkqh+VEp5eVGcPE=\" SIGN=\"AAAA\"]";
 
-/// What an inspection says of it, 102 octets.
+/// What an inspection writes of it, 102 octets.
 const INSPECTION: &[u8] =
     b"unparsed 0 M1 0\nunparsed 1 M1 0\ncertificate 2 h s - 1 0 0 27 1 27\nsignature 3 h s - 1 0 0 0 1 2\nend 4\n";
 
@@ -82,7 +82,7 @@ fn stops_at_read(rt: &(impl Abort + AllocGlobal), read: u64, kind: ErrorKind) {
     assert_eq!(rt; done, (read, 0), "at {read}");
 }
 
-/// Octet by octet, a write fails behind so many of them.
+/// Octet by octet, a write fails after so many of them.
 fn stops_at_write(rt: &(impl Abort + AllocGlobal), before: usize, refusal: Refusal) {
     let write = (before as u64).saturating_add(1);
     let paper = Paper::refusing(1, write, refusal);
@@ -103,8 +103,8 @@ fn stops_at_flush(rt: &(impl Abort + AllocGlobal)) {
     assert_eq!(rt; writer.into_inner().text(), INSPECTION);
 }
 
-/// A log that can't be read, and then octet by octet each read and each write that fails in turn, the read of the log's
-/// end among them, and the flush.
+/// A log can't be read. Then, octet by octet, each read and each write fails in turn, also the read of the log's end,
+/// and the flush.
 #[test]
 fn stops_with_nothing_else_written(rt: HostRuntime) -> Result<(), Fail> {
     for (log, (max_len, max_messages), fault) in &STOPS {
@@ -126,7 +126,7 @@ fn stops_with_nothing_else_written(rt: HostRuntime) -> Result<(), Fail> {
     Ok(())
 }
 
-/// Inspects the log octet by octet. Want of memory is answered before anything is written, and by no device.
+/// Inspects the log octet by octet. "Out of memory" is answered before anything is written, and by no device.
 fn inspect(rt: &(impl Abort + AllocGlobal)) -> Result<Verdict, RunFault> {
     let source = Pieces::new(LOG, 1);
     let limits = Limits::standard();
@@ -140,7 +140,7 @@ fn inspect(rt: &(impl Abort + AllocGlobal)) -> Result<Verdict, RunFault> {
     said
 }
 
-/// `tests/memory.sh` refuses each allocation of this test in turn, and it passes each time: after want of memory
+/// `tests/memory.sh` refuses each allocation of this test in turn, and it passes each time: after "out of memory"
 /// nothing is written, and the next call gives the output.
 #[test]
 fn wants_memory_or_says_what_there_is(rt: HostRuntime) {

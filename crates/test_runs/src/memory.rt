@@ -1,5 +1,5 @@
 //! Calls of a reviewer, of a questioner and of the runs with counters, of which `tests/memory.sh` refuses each
-//! allocation in turn: a call answers want of memory then, changes nothing, and gives its answer when it is made again.
+//! allocation in turn: a call answers "out of memory" then and changes nothing. Made again, it gives its answer.
 use crate::asking::{Asked, ROWS, Row, is_asked, is_signed};
 use crate::book::{PAYLOAD, SIGN, Yes};
 use crate::inspections::LOG;
@@ -189,7 +189,7 @@ enum Kind {
     Whole,
 }
 
-/// A run over the log of two messages and their blocks, and what it writes: a message was sent behind the two, and one
+/// A run over the log of two messages and their blocks, and what it writes: a message was sent after the two, and one
 /// block.
 const RUNS: [(Kind, &[u8], Verdict); 3] = [
     (
@@ -251,7 +251,7 @@ fn make(alloc: Global, kind: Kind) -> Result<Done, AllocError> {
     let said = match kind {
         Kind::Counters => run_counters(run, Yes, Notation::Plain),
         Kind::Tally => run_review_as(run, Yes, form, Detail::Tally),
-        Kind::Whole => run_review_whole(run, Yes, form, Detail::Each, &counters),
+        Kind::Whole => run_review_whole(run, Yes, form, Detail::Itemized, &counters),
     };
     Ok(Done {
         said,
@@ -261,7 +261,7 @@ fn make(alloc: Global, kind: Kind) -> Result<Done, AllocError> {
     })
 }
 
-/// Whether the run gave its output. Want of memory is answered before anything is written, and by no device.
+/// Whether the run gave its output. "Out of memory" is answered before anything is written, and by no device.
 fn is_made(rt: &(impl Abort + AllocGlobal), kind: Kind, text: &[u8], verdict: Verdict) -> bool {
     let Ok(done) = make(rt.alloc(), kind) else {
         return false;

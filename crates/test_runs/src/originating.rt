@@ -17,7 +17,7 @@ pub const D: &[u8] = b"<14>1 - - - - - - d";
 
 pub const E: &[u8] = b"<13>1 - - - - - - e";
 
-/// A call to an originator, or that another one goes on behind it.
+/// A call to an originator, or that another one goes on after it.
 #[derive(Clone, Copy, Debug)]
 pub enum Step {
     Begin,
@@ -83,7 +83,7 @@ fn sealer_of(alloc: Global, payload: &[u8]) -> Result<Zeros, OriginFault> {
     }
 }
 
-/// Makes the call; for `Resume` the originator goes on behind itself.
+/// Makes the call; for `Resume` the originator goes on after itself.
 fn play(
     alloc: Global,
     originator: &mut Originator<Zeros>,

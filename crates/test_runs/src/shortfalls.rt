@@ -134,7 +134,7 @@ fn counters_of(alloc: Global, row: &Row) -> Result<Vec<Counter>, NoMemory> {
     Ok(counters)
 }
 
-/// What a review says of the group.
+/// What a review reports of the group.
 fn group_reported(alloc: Global) -> Result<GroupReport, NoMemory> {
     let mut entries = Vec::new(alloc);
     entries.push(Entry::Listed {
@@ -151,7 +151,7 @@ fn group_reported(alloc: Global) -> Result<GroupReport, NoMemory> {
     })
 }
 
-/// What a review says of the session.
+/// What a review reports of the session.
 fn reported(alloc: Global) -> Result<Vec<SessionReport>, NoMemory> {
     let mut groups = Vec::new(alloc);
     groups.push(group_reported(alloc)?)?;

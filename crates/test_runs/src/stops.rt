@@ -138,7 +138,7 @@ fn stops_at_reads(
     Ok(())
 }
 
-/// Octet by octet, each write fails in turn, behind those before it.
+/// Octet by octet, each write fails in turn, after those before it.
 fn stops_at_writes(
     rt: &(impl Abort + AllocGlobal),
     job: Job,
@@ -247,7 +247,7 @@ fn stops(rt: HostRuntime) -> Result<(), Fail> {
     Ok(())
 }
 
-/// Runs over the log octet by octet. Want of memory is answered before anything is written, and by no device.
+/// Runs over the log octet by octet. "Out of memory" is answered before anything is written, and by no device.
 fn run_once(
     rt: &(impl Abort + AllocGlobal),
     job: Job,
@@ -263,7 +263,7 @@ fn run_once(
     Ok(done.said)
 }
 
-/// How a run answers want of memory.
+/// How a run answers "out of memory".
 pub const MEMORY: [RunFault; 3] = [
     RunFault::Memory,
     RunFault::Frame(FrameFault::Memory),
@@ -285,7 +285,7 @@ fn has_memory(
     }
 }
 
-/// `tests/memory.sh` refuses each allocation of this test in turn, and it passes each time: after want of memory
+/// `tests/memory.sh` refuses each allocation of this test in turn, and it passes each time: after "out of memory"
 /// nothing is written, and a run that is called again gives its output.
 #[test]
 fn wants_memory_or_gives_the_output(rt: HostRuntime) {

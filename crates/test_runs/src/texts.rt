@@ -38,7 +38,7 @@ pub enum Text {
     /// Announces the long message alone, for the same number.
     LongAlone,
     ShortAtLastNumber,
-    /// Announces a number behind the last one.
+    /// Announces a number after the last one.
     PastLastNumber,
     /// Announces the short message by its SHA-256.
     ShortBySha256,
@@ -179,7 +179,7 @@ fn put_text(log: &mut Vec<u8>, octets: &[u8], form: Form) -> Result<(), AllocErr
     }
 }
 
-/// The log of these messages in that form, and octets behind them.
+/// The log of these messages in that form, and octets after them.
 pub(crate) fn log_of(
     alloc: Global,
     texts: &[Text],

@@ -1,12 +1,12 @@
-//! Plays each script of standard input to an originator and prints what comes of it, so that a script of `tests/` can
-//! compare it with a second originator. A line is a call, its words separated by SP, and octets are hexadecimal:
+//! Plays each script of standard input to an originator, and prints what comes of it. A script of `tests/` compares it
+//! with a second originator. A line is a call, its words separated by SP, and octets are hexadecimal:
 //!
 //! - `config PRI HOST APP PROCID MSGID VER RSID GROUPS PER_BLOCK COPIES FRAG PAYLOAD`: of the originators that are made
 //!   next. GROUPS is `one:SPRI`, `pri`, or `ranges:` and bounds joined by `,`; PAYLOAD is the text of a payload block.
 //! - `new`, or `resume GBC SPRI:NUMBER ..`: an originator, which takes the place of the one before where it is made.
 //! - `behind`: one that is resumed at the counters of the one before.
 //! - `begin STAMP COUNT THEN`, `flush STAMP COUNT THEN`, `submit STAMP COUNT THEN MESSAGE`: the sealer signs so many
-//!   times in the call with 32 octets, and each further time answers as the letter says that `signer.rt` tells of.
+//!   times in the call with 32 octets. Each further time it answers as the letter says (`signer.rt` lists them).
 //! - `.`: the end of a script. The next begins without an originator.
 //!
 //! A call is answered by the messages that are sent or the number of its refusal, and how often the sealer was asked;
@@ -14,10 +14,10 @@
 //! answered by `none`, the end by `end`, and `config` by nothing.
 #![tactic(auto)]
 
+mod printing;
 mod script;
 mod setting;
 mod signer;
-mod told;
 
 use script::{Script, play};
 use signer::Desk;

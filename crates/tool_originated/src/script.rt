@@ -1,7 +1,7 @@
 //! A script that is played, call by call.
+use crate::printing::{print_counters, print_emitted, print_session};
 use crate::setting::{config_of, counters_of, payload_of, word};
 use crate::signer::{Desk, Signer};
-use crate::told::{print_counters, print_emitted, print_session};
 use ss_message::Stamp;
 use ss_origin::{Config, Counters, Emitted, OriginFault, Originator};
 use std::alloc::{AllocError, Global};
@@ -37,7 +37,7 @@ impl<'d, 't> Script<'d, 't> {
     }
 }
 
-/// Makes an originator, behind these counters where there are any.
+/// Makes an originator, after these counters where there are any.
 fn start<'d, 't, R: Print + AllocGlobal>(
     rt: &R,
     script: &mut Script<'d, 't>,
@@ -86,7 +86,7 @@ fn call(
     }
 }
 
-/// Tells the sealer what it has to do, makes the call, and prints what came of it.
+/// Orders what the sealer has to do, makes the call, and prints what came of it.
 fn print_call<R: Print + AllocGlobal>(
     rt: &R,
     script: &mut Script<'_, '_>,
@@ -94,7 +94,7 @@ fn print_call<R: Print + AllocGlobal>(
 ) -> io::Result<()> {
     let count = word(line, 2).parse::<u64>().unwrap_or(0);
     let then = word(line, 3).bytes().next().unwrap_or(b'r');
-    script.desk.tell(count, then);
+    script.desk.order(count, then);
     let Some(originator) = &mut script.originator else {
         println!(rt; "none")?;
         return Ok(());

@@ -1,4 +1,4 @@
-//! A sealer that answers as it is told.
+//! A sealer that answers as the script orders.
 ghost use Rattle.std.specs.Prelude.{true};
 
 use ss_block::{Payload, pair_of};
@@ -24,13 +24,13 @@ impl Desk {
     }
 
     /// From here on a signature of 32 octets, so many times, and then what the letter says.
-    pub(crate) fn tell(&self, count: u64, then: u8) {
+    pub(crate) fn order(&self, count: u64, then: u8) {
         self.asked.set(0);
         self.count.set(count);
         self.then.set(then);
     }
 
-    /// How often it was asked since it was told.
+    /// How often it was asked since its last order.
     pub(crate) fn asked(&self) -> u64 {
         self.asked.get()
     }

@@ -1,4 +1,4 @@
-//! What a signature checker says.
+//! The answers of a signature checker.
 ghost use Rattle.std.specs.Prelude.{◌≡◌, ◌&&◌, Bool, List, ℕ};
 ghost use Rattle.std.specs.List.{list_any};
 ghost use Rattle.std.specs.Str.{bytes_eq};

@@ -26,7 +26,7 @@ impl<'a> Case<'a> {
         }
     }
 
-    /// Takes a frame of this kind. Kinds that aren't told of at the head of `main.rt` are passed over.
+    /// Takes a frame of this kind. Kinds that the head of `main.rt` doesn't list are passed over.
     pub(crate) fn add(&mut self, kind: u8, octets: &'a [u8]) -> Result<(), AllocError> {
         match kind {
             b'm' => self.messages.push(octets)?,

@@ -1,5 +1,5 @@
-//! Reviews each log of standard input and prints what the review says, so that a script of `tests/` can compare it with
-//! another review of the log. The input is octet-counted frames, of which the first octet says what the others are:
+//! Reviews each log of standard input and prints its report, so that a script of `tests/` can compare it with another
+//! review of the log. The input is octet-counted frames, of which the first octet says what the others are:
 //!
 //! - `m`: the next message of the log.
 //! - `t`: a payload that is trusted.
@@ -7,27 +7,28 @@
 //!   payload and octets stay for the next signature.
 //! - `.`: the end of a log; the next frame begins another one.
 //!
-//! For each log a line `pairs` and what `Reviewer` says, and a line `whole` and what `plain::Reviewer` says: the report
-//! and the questions. Octets are hexadecimal, and an absent field is `-`.
+//! For each log a line `pairs` and what `Reviewer` gives, and a line `whole` and what `plain::Reviewer` gives: the
+//! report and the questions. Octets are hexadecimal, and an absent field is `-`.
 #![tactic(auto)]
 
 mod answers;
 mod case;
 mod frames;
-mod told;
+mod printing;
 
 use case::Case;
 use frames::split_frame;
+use printing::{print_questions, print_report};
 use ss_frame::MOST_MESSAGES;
 use ss_review::{Questions, Report, ReviewFault, Reviewer, plain};
 use std::io;
 use std::io::Read;
-use told::{print_questions, print_report};
 
-/// What a reviewer says of a log, or why it says nothing.
-type BlockContent = Result<(Report, Questions), ReviewFault>;
+/// The report and the questions of a reviewer, or why it gives none.
+type Reviewed = Result<(Report, Questions), ReviewFault>;
 
-fn said_of_pairs<R: AllocGlobal>(rt: &R, case: &Case<'_>) -> BlockContent {
+/// Reviews a log by the hashes of its messages.
+fn review_pairs<R: AllocGlobal>(rt: &R, case: &Case<'_>) -> Reviewed {
     let mut reviewer = Reviewer::new(rt.alloc(), MOST_MESSAGES);
     for message in case.messages.as_slice() {
         reviewer.feed(message)?;
@@ -35,7 +36,8 @@ fn said_of_pairs<R: AllocGlobal>(rt: &R, case: &Case<'_>) -> BlockContent {
     Ok((reviewer.finish(&case.answers)?, reviewer.questions()?))
 }
 
-fn said_of_whole<R: AllocGlobal>(rt: &R, case: &Case<'_>) -> BlockContent {
+/// Reviews a log by its whole messages.
+fn review_whole<R: AllocGlobal>(rt: &R, case: &Case<'_>) -> Reviewed {
     let mut reviewer = plain::Reviewer::new(rt.alloc(), MOST_MESSAGES);
     for message in case.messages.as_slice() {
         reviewer.feed(message)?;
@@ -43,8 +45,9 @@ fn said_of_whole<R: AllocGlobal>(rt: &R, case: &Case<'_>) -> BlockContent {
     Ok((reviewer.finish(&case.answers)?, reviewer.questions()?))
 }
 
-fn print_said<R: Print + AllocGlobal>(rt: &R, said: &BlockContent) -> io::Result<()> {
-    match said {
+/// Prints the report and the questions, or the code of the refusal.
+fn print_reviewed<R: Print + AllocGlobal>(rt: &R, reviewed: &Reviewed) -> io::Result<()> {
+    match reviewed {
         Ok((report, questions)) => {
             print_report(rt, report)?;
             print_questions(rt, questions)
@@ -59,9 +62,9 @@ fn print_said<R: Print + AllocGlobal>(rt: &R, said: &BlockContent) -> io::Result
 /// Reviews a log.
 fn review<R: Print + AllocGlobal>(rt: &R, case: &Case<'_>) -> io::Result<()> {
     println!(rt; "pairs")?;
-    print_said(rt, &said_of_pairs(rt, case))?;
+    print_reviewed(rt, &review_pairs(rt, case))?;
     println!(rt; "whole")?;
-    print_said(rt, &said_of_whole(rt, case))
+    print_reviewed(rt, &review_whole(rt, case))
 }
 
 /// Reviews each log of the input.
@@ -69,10 +72,10 @@ fn run<R: Print + AllocGlobal>(rt: &R, input: &[u8]) -> io::Result<()> {
     let mut case = Case::new(rt.alloc());
     let mut rest = input;
     for _ in 0..input.len() {
-        let Some((frame, behind)) = split_frame(rest) else {
+        let Some((frame, after)) = split_frame(rest) else {
             break;
         };
-        rest = behind;
+        rest = after;
         match frame.split_first() {
             Some((b'.', _)) => {
                 review(rt, &case)?;

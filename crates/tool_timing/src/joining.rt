@@ -32,7 +32,7 @@ impl Order {
         }
     }
 
-    /// The index of the fragment that comes behind `i` others of `count`.
+    /// The index of the fragment that comes after `i` others of `count`.
     fn index(self, i: u32, count: u32) -> u32 {
         let place = match self {
             Order::Rising | Order::Pieces | Order::Joiners => i,

@@ -1,4 +1,4 @@
-//! What holds of the orders.
+//! What holds for the orders.
 ghost use Rattle.std.specs.Prelude.{◌≡◌};
 ghost use Rattle.ss_block.specs.Order.{group_cmp, hash_cmp, pair_cmp, spoil_cmp};
 ghost use Rattle.ss_block.specs.OrderLaws.{OrdersAreExact};

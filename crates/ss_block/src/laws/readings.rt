@@ -1,12 +1,12 @@
-//! What holds of every text: each law is a call that does nothing, and its clause is the law.
+//! What holds for every text: each law is a call that does nothing, and its clause is the law.
 ghost use Rattle.ss_block.specs.Mark.{BlocksAreMarked};
 ghost use Rattle.ss_block.specs.ReadingLaws.{ReadingsAreOfValues, UnparsedTextsFail, BlocksAreInRange, BlocksAreSigned};
 ghost use Rattle.ss_block.specs.Stands.{ValuesStand};
 
 use ss_message::laws::{faults_are_of_no_message, faults_are_rows, one_text};
 
-/// What a text is is told by the one value whose text it is, and a text that is told to be no message is the text of
-/// no value.
+/// A text that is a message's is read as the one value says whose text it is. A text that is read as no message is the
+/// text of no value.
 pub fn readings_are_of_values()
     ensures { ReadingsAreOfValues }
 {
@@ -14,7 +14,7 @@ pub fn readings_are_of_values()
     one_text();
 }
 
-/// A text is told to be no message exactly where it fails by a row of the table of faults, with that row's part and
+/// A text is read as no message exactly where it fails by a row of the table of faults, with that row's part and
 /// position.
 pub fn unparsed_texts_fail()
     ensures { UnparsedTextsFail }
@@ -29,7 +29,7 @@ pub fn blocks_are_in_range()
     faults_are_of_no_message();
 }
 
-/// What is signed of a text, and its session, are there exactly where the text is that of a block.
+/// A text has signed octets and a session exactly where it is that of a block.
 pub fn blocks_are_signed()
     ensures { BlocksAreSigned }
 {}

@@ -1,4 +1,4 @@
-//! What holds of every block message that is written.
+//! What holds for every block message that is written.
 ghost use Rattle.ss_block.specs.WritingLaws.{UnsignedTextsHaveNoSignature, SignaturesAreRead, CertificatesAreRead};
 
 /// What is signed of a block is the same text whatever its signature is.

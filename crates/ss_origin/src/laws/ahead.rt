@@ -1,5 +1,6 @@
 //! The originators of a session, where counters may have been saved ahead of what was sent.
-ghost use Rattle.ss_origin.specs.AheadLaws.{ChainsGoOnAhead, MessagesAheadAreSigned, NumbersAreGivenOnce};
+ghost use Rattle.ss_origin.specs.AheadLaws.{ChainsGoOnAhead, CountersGoPast, MessagesAheadAreSigned};
+ghost use Rattle.ss_origin.specs.AheadLaws.{NumbersAreGivenOnce};
 ghost use Rattle.ss_origin.specs.AheadLaws.{SkippedNumbersAreInNoBlock};
 ghost use Rattle.ss_origin.specs.OneBlockLaws.{NumbersAheadAreInOneBlock};
 
@@ -37,6 +38,13 @@ pub fn skipped_numbers_are_in_no_block()
 /// number that it got.
 pub fn messages_are_signed()
     ensures { MessagesAheadAreSigned }
+{
+    faults_are_of_no_message();
+}
+
+/// Each number that an originator of such a chain gave is below the counters with which the newest one ended.
+pub fn counters_go_past()
+    ensures { CountersGoPast }
 {
     faults_are_of_no_message();
 }

@@ -9,7 +9,7 @@ ghost use Rattle.ss_origin.specs.SignedLaws.{FlushedMessagesAreNotPending, Messa
 
 use ss_message::laws::faults_are_of_no_message;
 
-/// Behind the originators of a chain, the next number of a group is one more than how many messages they were given for
+/// After the originators of a chain, the next number of a group is one more than how many messages they were given for
 /// it.
 pub fn numbers_go_on()
     ensures { NumbersGoOn }
@@ -22,21 +22,21 @@ pub fn counters_stay_in_range()
     faults_are_of_no_message();
 }
 
-/// The counters behind a chain are such as `resume` takes.
+/// The counters after a chain are such as `resume` takes.
 pub fn chains_can_be_resumed()
     ensures { ChainsCanBeResumed }
 {
     faults_are_of_no_message();
 }
 
-/// A run that a call closes holds the hashes of the messages that the chain was given for its group, from the number on
-/// that its block says is the first.
+/// A run that a call closes holds the hashes of the messages that the chain was given for its group, from its block's
+/// FMN on.
 pub fn runs_are_numbered()
     ensures { RunsAreNumbered }
 {}
 
-/// A message that a chain sent and that is read as a signature block is of its configuration, and has the hashes of the
-/// messages that the chain was given for the block's group, from the block's first number on.
+/// A message that a chain sent, and that is read as a signature block, is of the chain's configuration. It has the
+/// hashes of the messages that the chain was given for the block's group, from the block's FMN on.
 pub fn sent_blocks_are_numbered()
     ensures { SentBlocksAreNumbered }
 {
@@ -57,7 +57,7 @@ pub fn messages_are_signed()
     faults_are_of_no_message();
 }
 
-/// A message behind which a flush was accepted isn't pending.
+/// A message after which a flush was accepted isn't pending.
 pub fn flushed_messages_are_not_pending()
     ensures { FlushedMessagesAreNotPending }
 {}
@@ -82,7 +82,7 @@ pub fn sent_blocks_are_counted()
     ensures { SentBlocksAreCounted }
 {}
 
-/// `begin` is accepted as the first call of the first originator alone.
+/// `begin` is accepted only as the first call of the first originator.
 pub fn begins_first()
     ensures { BeginsFirst }
 {}

@@ -4,7 +4,7 @@ ghost use Rattle.ss_origin.specs.RunLaws.{RunsAreLast, RunsFitBlocks, RunsHaveSm
 
 use ss_message::laws::faults_are_of_no_message;
 
-/// A run that a call closes is the last messages of its group, behind those that weren't pending.
+/// A run that a call closes is the last messages of its group, after those that weren't pending.
 pub fn runs_are_last()
     ensures { RunsAreLast }
 {}
@@ -21,7 +21,7 @@ pub fn runs_have_small_spris()
     faults_are_of_no_message();
 }
 
-/// The messages of a group are those of its runs, one behind the other, and then those that are pending.
+/// The messages of a group are those of its runs, one after the other, and then those that are pending.
 pub fn messages_fall_into_runs()
     ensures { MessagesFallIntoRuns }
 {}

@@ -14,17 +14,18 @@ use std::collections::BTreeMap;
 /// How many indexes stand in a run.
 const RUN: u32 = 16;
 
-/// Octets by their indexes. A run has room for 16 indexes that follow each other, the first of them a multiple of 16,
-/// and its number is a sixteenth of that. There are runs only where octets came, or were to come when memory ran out,
-/// so the length of a payload takes no room. As the borders of runs are fixed, none is ever merged or cut. A run is
-/// found once for all of a fragment that lies in it, in time by the logarithm of how many runs there are, in whatever
-/// order octets come.
+/// Octets by their indexes. A run has room for 16 indexes that follow each other. The first of them is a multiple of
+/// 16, and the number of the run is a sixteenth of it.
+///
+/// There are runs only where octets came, or were to come when memory ran out, so the length of a payload takes no
+/// room. No run is ever merged or cut, because their borders are fixed. All octets of a fragment that lie in one run
+/// take one search, in time by the logarithm of how many runs there are. The order in which octets come doesn't matter.
 #[derive(Drop)]
 pub struct Runs {
     runs: BTreeMap<u32, [Slot; 16]>,
 }
 
-/// Says `octet` at the place `at` of a run. Whether another octet was said there.
+/// States `octet` at the place `at` of a run, and answers whether another octet was stated there before.
 fn say(run: &mut [Slot; 16], at: usize, octet: u8) -> bool
     requires { at < 16 }
     ensures here { slice_index_or run.new at Empty ≡ joined_slot (slice_index_or run.old at Empty) octet }
@@ -36,7 +37,8 @@ fn say(run: &mut [Slot; 16], at: usize, octet: u8) -> bool
     slot.differs(octet)
 }
 
-/// Says the octets of `piece` at the places of a run from `at` on. Whether another octet was said at one of them.
+/// States the octets of `piece` at the places of a run from `at` on, and answers whether another octet was stated at
+/// one of them before.
 fn write(run: &mut [Slot; 16], at: usize, piece: &[u8]) -> bool
     requires { at + length piece.now ≤ 16 }
     ensures written { IsWritten run.old run.new at piece.now (length piece.now) }
@@ -52,7 +54,7 @@ fn write(run: &mut [Slot; 16], at: usize, piece: &[u8]) -> bool
     differs
 }
 
-/// Whether something was said at each of `count` places of a run from `at` on.
+/// Whether something was stated at each of `count` places of a run from `at` on.
 fn are_said(run: &[Slot; 16], at: usize, count: usize) -> bool
     requires { at + count ≤ 16 }
     ensures yes { result ≡ true → (j : ℕ) → j < count → slice_index_or run.now (at + j) Empty ≢ Empty }
@@ -81,7 +83,7 @@ fn push(text: &mut Vec<u8>, run: &[Slot; 16], at: usize, count: usize) -> Result
 }
 
 impl Runs {
-    /// No octets. It takes no memory.
+    /// Runs without an octet. The call takes no memory.
     #[tactic(auto, unfolding(crate::specs::Slots::slot_at, crate::specs::Slots::HasRun))]
     pub fn new(alloc: Global) -> Runs
         ensures unsaid { (i : ℕ) → slot_at result i ≡ Empty }
@@ -92,7 +94,7 @@ impl Runs {
         }
     }
 
-    /// Makes the run with the number `number`, where there is none yet. It changes nothing of what was said.
+    /// Makes the run with the number `number`, if there is none yet. What was stated doesn't change.
     fn make_run(&mut self, number: u32) -> Result<(), NoMemory>
         ensures same { (i : ℕ) → slot_at self.new i ≡ slot_at self.old i }
         ensures made { OnOk result (HasRun self.new number) }
@@ -106,8 +108,8 @@ impl Runs {
         Ok(())
     }
 
-    /// Makes the runs of `length` indexes from `index` on, and no others. It changes nothing of what was said, also
-    /// where memory runs out.
+    /// Makes the runs of `length` indexes from `index` on, and no others. What was stated doesn't change, even if
+    /// memory runs out.
     pub fn make_room(&mut self, index: u32, length: usize) -> Result<(), NoMemory>
         requires some { 1 ≤ length }
         requires fits { index + length < 2 ^ 31 }
@@ -124,8 +126,8 @@ impl Runs {
         Ok(())
     }
 
-    /// Says the octets of `piece` at the indexes from `index` on, all of one run, which there is. Whether another octet
-    /// was said at one of them.
+    /// States the octets of `piece` at the indexes from `index` on, all of one run that was made. Answers whether
+    /// another octet was stated at one of them before.
     fn put(&mut self, index: u32, piece: &[u8]) -> bool
         requires one { index % 16 + length piece.now ≤ 16 }
         requires room { HasRun self.old (index / 16) }
@@ -141,8 +143,8 @@ impl Runs {
         }
     }
 
-    /// Says the octets of `fragment` at the indexes from `index` on, whose runs there are. Whether another octet was
-    /// said at one of them.
+    /// States the octets of `fragment` at the indexes from `index` on, whose runs were made. Answers whether another
+    /// octet was stated at one of them before.
     pub fn put_all(&mut self, index: u32, fragment: &[u8]) -> bool
         requires room { (j : ℕ) → j < length fragment.now → HasRun self.old ((index + j) / 16) }
         requires fits { index + length fragment.now < 2 ^ 31 }
@@ -165,7 +167,7 @@ impl Runs {
         differs
     }
 
-    /// Whether something was said at each of `count` indexes from `index` on, all of one run.
+    /// Whether something was stated at each of `count` indexes from `index` on, all of one run.
     fn covers_part(&self, index: u32, count: u32) -> bool
         requires some { 1 ≤ count }
         requires one { index % 16 + count ≤ 16 }
@@ -178,8 +180,8 @@ impl Runs {
         }
     }
 
-    /// Whether something was said at each index from 1 to `total`. It looks no further than the run of the first index
-    /// where nothing was, however large `total` is.
+    /// Whether something was stated at each index from 1 to `total`. It looks no further than the run of the first
+    /// index where nothing was stated, however large `total` is.
     pub fn covers(&self, total: u32) -> bool
         ensures yes { IsTrue result → (k : ℕ) → k < total → slot_at self.now (k + 1) ≢ Empty }
         ensures no { result ≡ false → (k : ℕ) × (k < total) × (slot_at self.now (k + 1) ≡ Empty) }
@@ -196,8 +198,8 @@ impl Runs {
         true
     }
 
-    /// Writes the octets at `count` indexes from `index` on, all of one run, at the end of `text`, which has those
-    /// before.
+    /// Writes the octets at `count` indexes from `index` on, all of one run, at the end of `text`, which has the octets
+    /// of the indexes before.
     fn push_part(&self, text: &mut Vec<u8>, index: u32, count: u32) -> Result<(), AllocError>
         requires { index % 16 + count ≤ 16 }
         ensures { (before : ℕ)
@@ -212,7 +214,7 @@ impl Runs {
         Ok(())
     }
 
-    /// The octets at the indexes from 1 to `total`, where one octet was said at each of them.
+    /// The octets at the indexes from 1 to `total`, if one octet was stated at each of them.
     pub fn text(&self, alloc: Global, total: u32) -> Result<Bytes, NoMemory>
         ensures { ((k : ℕ) → k < total → IsOne (slot_at self.now (k + 1)))
             → IfOk result (λ text. IsTextOf self.now text total) }

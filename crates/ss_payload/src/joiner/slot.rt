@@ -2,7 +2,7 @@
 ghost use Rattle.std.specs.Prelude.{◌≡◌};
 ghost use Rattle.ss_payload.specs.Slots.{joined_slot, slot_differs};
 
-/// What was said of the octet at one index.
+/// What was stated for the octet at one index.
 #[derive(Clone, Copy, Debug, PartialEq, Eq)]
 pub enum Slot {
     /// Nothing yet.
@@ -14,7 +14,7 @@ pub enum Slot {
 }
 
 impl Slot {
-    /// What was said once `octet` is said too.
+    /// What is stated after `octet` is stated too.
     pub fn joined(self, octet: u8) -> Slot
         ensures { result ≡ joined_slot self octet }
     {
@@ -25,7 +25,7 @@ impl Slot {
         }
     }
 
-    /// Whether another octet than `octet` was said.
+    /// Whether another octet than `octet` was stated.
     pub fn differs(self, octet: u8) -> bool
         ensures { result ≡ slot_differs self octet }
     {

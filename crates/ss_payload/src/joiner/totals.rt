@@ -2,7 +2,7 @@
 ghost use Rattle.std.specs.Prelude.{◌≡◌, eqb};
 ghost use Rattle.ss_payload.specs.Totals.{joined_total, total_differs};
 
-/// What was said of the length of a payload.
+/// What was stated for the length of a payload, in octets.
 #[derive(Clone, Copy, Debug, PartialEq, Eq)]
 pub enum Totals {
     /// Nothing yet.
@@ -14,7 +14,7 @@ pub enum Totals {
 }
 
 impl Totals {
-    /// What was said once `total` is said too.
+    /// What is stated after `total` is stated too.
     pub fn joined(self, total: u32) -> Totals
         ensures { result ≡ joined_total self total }
     {
@@ -25,7 +25,7 @@ impl Totals {
         }
     }
 
-    /// Whether another length than `total` was said.
+    /// Whether another length than `total` was stated.
     pub fn differs(self, total: u32) -> bool
         ensures { result ≡ total_differs self total }
     {

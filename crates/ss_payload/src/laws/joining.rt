@@ -27,12 +27,12 @@ pub fn one_payload()
     ensures { OnePayload }
 {}
 
-/// A total is stated by fragments where some fragment states it.
+/// Fragments state a total exactly if some fragment states it.
 pub fn totals_are_of_fragments()
     ensures { TotalsAreOfFragments }
 {}
 
-/// An octet is stated by fragments where some fragment has it at the index.
+/// Fragments state an octet at an index exactly if some fragment has it there.
 pub fn octets_are_of_fragments()
     ensures { OctetsAreOfFragments }
 {}

@@ -1,4 +1,4 @@
--- What a walk over the blocks of a log carries is what the log's definition says.
+-- A walk over the blocks of a log carries what the definition of the log names.
 use Rattle.std.proofs.Common.{◌≡◌, ◌⊎◌, inl, inr, ℕ, ◌<◌, ◌≤◌, ◌&&◌, ◌||◌, Bool, true, false, cond, not, List, [], ◌∷◌, ◌++◌, length, get_or, take, filter, ◌+◌, refl, sym, ap, ◌∙◌, subst, append_assoc, arith}
 use Rattle.std.specs.Prelude.{nat_lt, flat_map, filter_map, Option, Some, None}
 use Rattle.std.specs.List.{list_any, cons_option}
@@ -19,12 +19,11 @@ use Rattle.ss_review.specs.report.Extract.{place_listed}
 use Rattle.ss_review.specs.Ordered.{in_order}
 use Rattle.ss_review.specs.keep.Notes.{note, notes}
 use Rattle.ss_review.specs.keep.Contents.{block_at, blocks}
-use Rattle.ss_origin.proofs.Members.{Has, has-map, has-append_left, has-append_right}
+use Rattle.ss_octets.proofs.Members.{Has, has-map, has-append_left, has-append_right, has-append_cases, has-filter, from_has-filter, from_has-map, has-flat_map, from_has-flat_map, all-has}
 use Rattle.ss_review.proofs.of_kept_messages.Ends.{blocks_push}
 use Rattle.ss_review.proofs.of_lists.Keyed.{from_less}
 use Rattle.ss_review.proofs.of_lists.Lookups.{any_none}
-use Rattle.ss_review.proofs.of_lists.Members.{has-append_cases, has-filter, from_has-filter, from_has-map, has-flat_map, from_has-flat_map}
-use Rattle.ss_review.proofs.of_lists.Rising.{below_all, in_order_same}
+use Rattle.ss_review.proofs.of_lists.Rising.{in_order_same}
 use Rattle.ss_report.specs.runs.Carrying.{places_of, is_joined_in, is_refused_in, is_verified_in, is_fragment_of, is_first_said, is_gap, entries_said, entries_under, is_unjudged, is_first_certificate, has_gap}
 use Rattle.ss_report.specs.runs.Carrying.{unjudged, certificates, gaps, listed, carried_by}
 use Rattle.ss_report.specs.runs.CarriedSoFar.{carried_numbers, carried_verified, carried_with, carried_at, carried_along}
@@ -59,14 +58,14 @@ unfolding IsStrictlySortedBy
 all_before [] after b up o h = absurd h
 all_before (x ∷ before) after b up o (inl e) =
     let there : Has (places_of (before ++ b ∷ after)) b.place = has-map (λ (c : BlockMessage). c.place) (before ++ b ∷ after) b (has-append_right before (b ∷ after) b (inl refl)) in
-    subst (λ (c : BlockMessage). c.place < b.place) e (from_less x.place b.place (below_all (λ p. nat_cmp x.place p ≡ Less) (places_of (before ++ b ∷ after)) b.place up.0 there))
+    subst (λ (c : BlockMessage). c.place < b.place) e (from_less x.place b.place (all-has (λ p. nat_cmp x.place p ≡ Less) (places_of (before ++ b ∷ after)) b.place up.0 there))
 all_before (x ∷ before) after b up o (inr h) = all_before before after b up.1 o h
 
 none_before : (before after : List BlockMessage) (b : BlockMessage) → Rise (before ++ b ∷ after) → (o : BlockMessage) → Has (b ∷ after) o → b.place ≤ o.place
 unfolding IsStrictlySortedBy
 none_before [] after b up o (inl e) = subst (λ (c : BlockMessage). b.place ≤ c.place) e (omega arith)
 none_before [] after b up o (inr h) =
-    let less : b.place < o.place = from_less b.place o.place (below_all (λ p. nat_cmp b.place p ≡ Less) (places_of after) o.place up.0 (has-map (λ (c : BlockMessage). c.place) after o h)) in
+    let less : b.place < o.place = from_less b.place o.place (all-has (λ p. nat_cmp b.place p ≡ Less) (places_of after) o.place up.0 (has-map (λ (c : BlockMessage). c.place) after o h)) in
     omega arith
 none_before (x ∷ before) after b up o h = none_before before after b up.1 o h
 

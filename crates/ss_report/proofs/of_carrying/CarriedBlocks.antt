@@ -1,4 +1,4 @@
--- What is carried for one block, and what is known of the certificate blocks behind it.
+-- What is carried for one block, and what is known of the certificate blocks after it.
 use Rattle.std.proofs.Common.{◌≡◌, ℕ, ◌&&◌, ◌||◌, Bool, true, false, cond, not, List, [], ◌∷◌, ◌++◌, length, filter, refl, sym, ap, ◌∙◌, arith}
 use Rattle.std.specs.Prelude.{◌==◌, flat_map, Option, Some, None}
 use Rattle.std.specs.declared.cmp.Ordering.{Ordering}
@@ -36,13 +36,13 @@ use Rattle.ss_report.specs.declared.runs.carrying.Extent.{Extent}
 use Rattle.ss_report.specs.runs.Carrying.{is_joined_in, is_refused_in, is_verified_in, is_numbered, has_fragment_at, is_fragment_of, entries_said, entries_under}
 use Rattle.ss_report.specs.runs.CarriedSoFar.{IsToldJoined, KnowsExtents, carried_verified, carried_with, extent_cmp}
 
--- ---- what the report says of its session
+-- ---- the report on its session
 
 module _ (r : Report) (s : Session) (t : SessionReport) (told : IsToldJoined r s t) where
   pub is_joined_there : is_joined_in r s ≡ true
   is_joined_there = ap (list_any (λ (u : SessionReport). is_joined u.state)) told.told ∙ ap (λ b. b || false) told.joined
 
--- the entries of a signature block, from what the report says of its session
+-- the entries of a signature block, from the report on its session
 pub entries_are : (r : Report) (b : BlockMessage) (t : SessionReport) (h : Signature) → IsToldJoined r b.session t → b.said ≡ Hashes h
     → entries_under r b ≡ filter (is_numbered h.first (length h.hashes)) (flat_map (λ (g : GroupReport). g.entries) (filter (λ (g : GroupReport). same_group g.group h.group) t.groups))
 entries_are r b t h told said =
@@ -63,7 +63,7 @@ module _ (r : Report) (before : List BlockMessage) (b : BlockMessage) where
   pub carried_judged : is_joined_in r b.session ≡ true → is_refused_in r b ≡ false → carried_with r before b ≡ carried_verified r before b b.said
   carried_judged e t = λ i. cond (not (e i)) (b.place ∷ []) (cond (t i) [] (carried_verified r before b b.said))
 
--- ---- what is known behind it
+-- ---- what is known after it
 
 is_eq_nat : (a b : ℕ) → is_eq (nat_cmp a b) ≡ (a == b)
 is_eq_nat a b = by (nat_cmp a b) refl

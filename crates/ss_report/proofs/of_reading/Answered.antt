@@ -37,7 +37,7 @@ stops_before job limits before after run.Memory stops = stops
 stops_before job limits before after run.Write stops = stops
 stops_before job limits before after (run.Extract fault) stops = absurd stops
 
--- such a run never tells want of memory
+-- such a run never refuses with W2
 pub never_of_memory : (job : Job) (limits : Allowance) (before after : Source) (was is : Sink) (r : Result Verdict RunFault)
     → RunsOrFails job limits before after was is r → IfErr r (λ fault. fault ≢ run.Memory)
 never_of_memory job limits before after was is (Ok verdict) told = tt

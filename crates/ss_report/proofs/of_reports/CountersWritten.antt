@@ -53,7 +53,7 @@ module _ (ss : List SessionReport) (cs : List CountedSession) where
   all_counters notation a b n all so_far =
       writes_same a b _ _ so_far (ap (flat_map (counters_beside notation)) (take_all n (zip ss cs) (omega (arith, length-zip ss cs, all))))
 
--- what a review says of a log is in range
+-- the report of a review is in range
 pub report_in_range : CountedAreInRange → NextNumbersAreInRange → (says : Answers) (log : List (List ℕ)) (r : Report) (cs : List CountedSession)
     → r ≡ report says log → cs ≡ counted_sessions says (blocks (notes log)) → AreInRange r.sessions cs
 report_in_range counted numbers says log r cs r_is cs_is = record {

@@ -47,22 +47,22 @@ settled_entries s g (entry.Hole first last ∷ es) = refl
 abbrev are_listed : GroupReport → Bool
 are_listed g = list_all is_listed g.entries
 
-settled_groups : (s : Session) (gs : List GroupReport) → list_all is_settled (flat_map (group_lines details.Each s) gs) ≡ list_all are_listed gs
+settled_groups : (s : Session) (gs : List GroupReport) → list_all is_settled (flat_map (group_lines details.Itemized s) gs) ≡ list_all are_listed gs
 settled_groups s [] = refl
 settled_groups s (g ∷ gs) =
-    list_all-append is_settled (map (entry_line s g.group) g.entries) (flat_map (group_lines details.Each s) gs)
+    list_all-append is_settled (map (entry_line s g.group) g.entries) (flat_map (group_lines details.Itemized s) gs)
     ∙ (λ i. settled_entries s g.group g.entries i && settled_groups s gs i)
 
 abbrev is_whole : SessionReport → Bool
 is_whole s = is_joined s.state && list_all are_listed s.groups
 
-settled_session : (s : SessionReport) → list_all is_settled (session_lines details.Each s) ≡ is_whole s
+settled_session : (s : SessionReport) → list_all is_settled (session_lines details.Itemized s) ≡ is_whole s
 settled_session s = ap (λ b. is_joined s.state && b) (settled_groups s.session s.groups)
 
-settled_sessions : (ss : List SessionReport) → list_all is_settled (flat_map (session_lines details.Each) ss) ≡ list_all is_whole ss
+settled_sessions : (ss : List SessionReport) → list_all is_settled (flat_map (session_lines details.Itemized) ss) ≡ list_all is_whole ss
 settled_sessions [] = refl
 settled_sessions (s ∷ ss) =
-    list_all-append is_settled (session_lines details.Each s) (flat_map (session_lines details.Each) ss)
+    list_all-append is_settled (session_lines details.Itemized s) (flat_map (session_lines details.Itemized) ss)
     ∙ (λ i. settled_session s i && settled_sessions ss i)
 
 settled_unlisted : (ps : List ℕ) → list_all is_settled (map UnlistedLine ps) ≡ is_none ps
@@ -85,24 +85,24 @@ settled_end : (tail : Tail) (count : ℕ) → list_all is_settled (tail_lines ta
 settled_end tails.Clean count = refl
 settled_end (tails.Torn pos) count = refl
 
-settled_single : (r : Report) → list_all is_settled (single_lines details.Each r) ≡ ((is_none r.unlisted && is_none r.refused) && is_none r.spoilt)
+settled_single : (r : Report) → list_all is_settled (single_lines details.Itemized r) ≡ ((is_none r.unlisted && is_none r.refused) && is_none r.spoilt)
 unfolding single_lines
 settled_single r =
     list_all-append is_settled (map UnlistedLine r.unlisted ++ map RefusedLine r.refused) (map spoilt_place_line r.spoilt)
     ∙ (λ i. list_all-append is_settled (map UnlistedLine r.unlisted) (map RefusedLine r.refused) i && settled_spoilt r.spoilt i)
     ∙ (λ i. (settled_unlisted r.unlisted i && settled_refused r.refused i) && is_none r.spoilt)
 
-settled_others : (r : Report) (tail : Tail) → list_all is_settled (other_lines details.Each r tail) ≡ (((is_none r.unlisted && is_none r.refused) && is_none r.spoilt) && is_clean_end tail)
+settled_others : (r : Report) (tail : Tail) → list_all is_settled (other_lines details.Itemized r tail) ≡ (((is_none r.unlisted && is_none r.refused) && is_none r.spoilt) && is_clean_end tail)
 unfolding other_lines
 settled_others r tail =
-    list_all-append is_settled (single_lines details.Each r) (tail_lines tail ++ EndLine r.count ∷ [])
+    list_all-append is_settled (single_lines details.Itemized r) (tail_lines tail ++ EndLine r.count ∷ [])
     ∙ (λ i. settled_single r i && settled_end tail r.count i)
 
 settled_lines : (r : Report) (tail : Tail)
-    → list_all is_settled (lines details.Each r tail) ≡ (list_all is_whole r.sessions && (((is_none r.unlisted && is_none r.refused) && is_none r.spoilt) && is_clean_end tail))
+    → list_all is_settled (lines details.Itemized r tail) ≡ (list_all is_whole r.sessions && (((is_none r.unlisted && is_none r.refused) && is_none r.spoilt) && is_clean_end tail))
 unfolding lines
 settled_lines r tail =
-    list_all-append is_settled (flat_map (session_lines details.Each) r.sessions) (other_lines details.Each r tail)
+    list_all-append is_settled (flat_map (session_lines details.Itemized) r.sessions) (other_lines details.Itemized r tail)
     ∙ (λ i. settled_sessions r.sessions i && settled_others r tail i)
 
 verdict_by : (w u r s : Bool) (tail : Tail) → verdict_of (w && (((u && r) && s) && is_clean_end tail)) ≡ verdict_where (w && u && r && s) tail
@@ -141,13 +141,13 @@ both_by true false true d = refl
 both_by true false false d = refl
 
 settled_beside : (ss : List SessionReport) (fs : List Shortfall) → length ss ≡ length fs
-    → list_all is_settled (flat_map (lines_beside details.Each) (zip ss fs)) ≡ (list_all is_whole ss && list_all is_complete fs)
+    → list_all is_settled (flat_map (lines_beside details.Itemized) (zip ss fs)) ≡ (list_all is_whole ss && list_all is_complete fs)
 settled_beside [] [] e = refl
 settled_beside [] (f ∷ fs) e = absurd (omega (arith, e))
 settled_beside (s ∷ ss) [] e = absurd (omega (arith, e))
 settled_beside (s ∷ ss) (f ∷ fs) e =
-    list_all-append is_settled (lines_beside details.Each (s, f)) (flat_map (lines_beside details.Each) (zip ss fs))
-    ∙ (λ i. list_all-append is_settled (session_lines details.Each s) (shortfall_lines f) i && settled_beside ss fs (omega (arith, e)) i)
+    list_all-append is_settled (lines_beside details.Itemized (s, f)) (flat_map (lines_beside details.Itemized) (zip ss fs))
+    ∙ (λ i. list_all-append is_settled (session_lines details.Itemized s) (shortfall_lines f) i && settled_beside ss fs (omega (arith, e)) i)
     ∙ (λ i. (settled_session s i && settled_short f i) && (list_all is_whole ss && list_all is_complete fs))
     ∙ both_by (is_whole s) (is_complete f) (list_all is_whole ss) (list_all is_complete fs)
 
@@ -156,12 +156,12 @@ settled_absent [] = refl
 settled_absent (f ∷ fs) = refl
 
 settled_whole : (r : Report) (short : LogShortfalls) (tail : Tail) → length r.sessions ≡ length short.known
-    → list_all is_settled (lines_with details.Each r short tail)
+    → list_all is_settled (lines_with details.Itemized r short tail)
     ≡ (((list_all is_whole r.sessions && list_all is_complete short.known) && is_none short.absent) && (((is_none r.unlisted && is_none r.refused) && is_none r.spoilt) && is_clean_end tail))
 unfolding lines_with
 settled_whole r short tail e =
-    let known = flat_map (lines_beside details.Each) (zip r.sessions short.known) in
-    list_all-append is_settled (known ++ flat_map absent_lines short.absent) (other_lines details.Each r tail)
+    let known = flat_map (lines_beside details.Itemized) (zip r.sessions short.known) in
+    list_all-append is_settled (known ++ flat_map absent_lines short.absent) (other_lines details.Itemized r tail)
     ∙ (λ i. list_all-append is_settled known (flat_map absent_lines short.absent) i && settled_others r tail i)
     ∙ (λ i. (settled_beside r.sessions short.known e i && settled_absent short.absent i) && (((is_none r.unlisted && is_none r.refused) && is_none r.spoilt) && is_clean_end tail))
 

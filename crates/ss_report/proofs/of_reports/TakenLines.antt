@@ -1,4 +1,4 @@
--- What the lines of a report leave in those that take them.
+-- What the lines of a report leave in their visitors.
 use Rattle.std.proofs.Common.{◌≡◌, ℕ, Bool, true, false, List, [], ◌∷◌, ◌++◌, ◌&&◌, map, flat_map, filter_map, refl, sym, ap, ◌∙◌, subst, append-nil, append_assoc}
 use Rattle.std.specs.List.{list_all, cons_option}
 use Rattle.std.proofs.lemmas.List.Elements.{filter_map-append}
@@ -69,16 +69,16 @@ of_entries s g (entry.Listed number place ∷ es) = ap (λ xs. place ∷ xs) (of
 of_entries s g (entry.Gap number why ∷ es) = of_entries s g es
 of_entries s g (entry.Hole first last ∷ es) = of_entries s g es
 
-of_groups : (s : Session) (gs : List GroupReport) → filter_map place_in (flat_map (group_lines details.Each s) gs) ≡ flat_map (λ g. filter_map place_listed g.entries) gs
+of_groups : (s : Session) (gs : List GroupReport) → filter_map place_in (flat_map (group_lines details.Itemized s) gs) ≡ flat_map (λ g. filter_map place_listed g.entries) gs
 of_groups s [] = refl
 of_groups s (g ∷ gs) =
-    filter_map-append place_in (map (entry_line s g.group) g.entries) (flat_map (group_lines details.Each s) gs)
+    filter_map-append place_in (map (entry_line s g.group) g.entries) (flat_map (group_lines details.Itemized s) gs)
     ∙ (λ i. of_entries s g.group g.entries i ++ of_groups s gs i)
 
-of_sessions : (ss : List SessionReport) → filter_map place_in (flat_map (session_lines details.Each) ss) ≡ flat_map (λ s. flat_map (λ g. filter_map place_listed g.entries) s.groups) ss
+of_sessions : (ss : List SessionReport) → filter_map place_in (flat_map (session_lines details.Itemized) ss) ≡ flat_map (λ s. flat_map (λ g. filter_map place_listed g.entries) s.groups) ss
 of_sessions [] = refl
 of_sessions (s ∷ ss) =
-    filter_map-append place_in (flat_map (group_lines details.Each s.session) s.groups) (flat_map (session_lines details.Each) ss)
+    filter_map-append place_in (flat_map (group_lines details.Itemized s.session) s.groups) (flat_map (session_lines details.Itemized) ss)
     ∙ (λ i. of_groups s.session s.groups i ++ of_sessions ss i)
 
 none_unlisted : (ps : List ℕ) → filter_map place_in (map UnlistedLine ps) ≡ []
@@ -97,27 +97,27 @@ none_at_end : (tail : Tail) (count : ℕ) → filter_map place_in (tail_lines ta
 none_at_end tails.Clean count = refl
 none_at_end (tails.Torn pos) count = refl
 
-none_single : (r : Report) → filter_map place_in (single_lines details.Each r) ≡ []
+none_single : (r : Report) → filter_map place_in (single_lines details.Itemized r) ≡ []
 unfolding single_lines
 none_single r =
     filter_map-append place_in (map UnlistedLine r.unlisted ++ map RefusedLine r.refused) (map spoilt_place_line r.spoilt)
     ∙ (λ i. filter_map-append place_in (map UnlistedLine r.unlisted) (map RefusedLine r.refused) i ++ none_spoilt r.spoilt i)
     ∙ (λ i. (none_unlisted r.unlisted i ++ none_refused r.refused i) ++ [])
 
-none_behind : (r : Report) (tail : Tail) → filter_map place_in (other_lines details.Each r tail) ≡ []
+none_behind : (r : Report) (tail : Tail) → filter_map place_in (other_lines details.Itemized r tail) ≡ []
 unfolding other_lines
 none_behind r tail =
-    filter_map-append place_in (single_lines details.Each r) (tail_lines tail ++ EndLine r.count ∷ [])
+    filter_map-append place_in (single_lines details.Itemized r) (tail_lines tail ++ EndLine r.count ∷ [])
     ∙ (λ i. none_single r i ++ none_at_end tail r.count i)
 
 -- the lines of a report list its messages
-pub places_in_lines : (r : Report) (tail : Tail) → filter_map place_in (lines details.Each r tail) ≡ listed_places r
+pub places_in_lines : (r : Report) (tail : Tail) → filter_map place_in (lines details.Itemized r tail) ≡ listed_places r
 unfolding lines
 places_in_lines r tail =
-    filter_map-append place_in (flat_map (session_lines details.Each) r.sessions) (other_lines details.Each r tail)
+    filter_map-append place_in (flat_map (session_lines details.Itemized) r.sessions) (other_lines details.Itemized r tail)
     ∙ (λ i. of_sessions r.sessions i ++ none_behind r tail i)
     ∙ append-nil (listed_places r)
 
-pub all_kept : (a b : PlacesSoFar) (r : Report) (tail : Tail) → TakesAll KeepsPlace a b (lines details.Each r tail) → b.failed ≡ false → a.places.items ≡ [] → b.places.items ≡ listed_places r
+pub all_kept : (a b : PlacesSoFar) (r : Report) (tail : Tail) → TakesAll KeepsPlace a b (lines details.Itemized r tail) → b.failed ≡ false → a.places.items ≡ [] → b.places.items ≡ listed_places r
 all_kept a b r tail taken ready none =
-    (kept_from a b (lines details.Each r tail) taken ready).1 ∙ ap (λ xs. xs ++ filter_map place_in (lines details.Each r tail)) none ∙ places_in_lines r tail
+    (kept_from a b (lines details.Itemized r tail) taken ready).1 ∙ ap (λ xs. xs ++ filter_map place_in (lines details.Itemized r tail)) none ∙ places_in_lines r tail

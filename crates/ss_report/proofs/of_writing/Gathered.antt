@@ -2,7 +2,7 @@
 use Rattle.std.proofs.Common.{◌≡◌, ℕ, ◌+◌, ◌<◌, List, [], ◌∷◌, ◌++◌, length, get_or, take, sym, ap, ◌∙◌, append_assoc}
 use Rattle.std.proofs.lemmas.List.{take_more}
 
--- where two lists are gathered one behind the other, what the items so far give goes on with what the next one gives
+-- where two lists are gathered one after the other, what the items so far give goes on with what the next one gives
 pub gathers_next : {X Y : Type 0} (f : List X → List Y) → ((xs ys : List X) → f (xs ++ ys) ≡ f xs ++ f ys) → (xs : List X) (i : ℕ) (d : X) (start before given : List Y)
     → i < length xs → before ≡ start ++ f (take i xs) → given ≡ f (get_or xs i d ∷ []) → before ++ given ≡ start ++ f (take (i + 1) xs)
 gathers_next f splits xs i d start before given within so_far next =

@@ -28,7 +28,7 @@ found_case ws p false is =
 pub found_at : (ws : List (List ℕ)) (p : List ℕ) → position (bytes_eq p) ws ≡ cond (is_among ws p) (Some (index_among ws p)) None
 found_at ws p = found_case ws p (is_among ws p) refl
 
--- what the map says of the next payload
+-- what the map holds for the next payload
 abbrev pub IsMarked : BTreeMap (Bor (List ℕ)) ℕ → List (List ℕ) → List ℕ → (index : ℕ) → (is_new : Bool) → Type 0
 IsMarked m ps p index is_new = Knows m (with_payload ps p) × (index ≡ index_among (with_payload ps p) p) × (is_new ≡ not (is_among ps p))
 

@@ -1,17 +1,17 @@
--- Lines that are taken one behind the other.
+-- Lines that are visited one after the other.
 use Rattle.std.proofs.Common.{◌≡◌, ℕ, ◌+◌, ◌<◌, List, [], ◌∷◌, ◌++◌, length, get_or, take, map, flat_map, refl, sym, ap, ◌∙◌, subst, append-nil}
 use Rattle.std.proofs.lemmas.Grind.{flat_map-append}
 use Rattle.std.proofs.lemmas.List.{map-append, take_more}
 use Rattle.ss_report.specs.lines.Lines.{ReportLine}
 use Rattle.ss_report.specs.lines.Taken.{TakesAll}
 
--- lines, and others behind them
+-- lines, and others after them
 pub lines_then : {S : Type 0} (takes : S → S → ReportLine → Type 0) (a b c : S) (some others : List ReportLine)
     → TakesAll takes a b some → TakesAll takes b c others → TakesAll takes a c (some ++ others)
 lines_then takes a b c [] others first rest = subst (λ s. TakesAll takes s c others) first rest
 lines_then takes a b c (line ∷ some) others first rest = (first.0, first.1, lines_then takes first.0 b c some others first.2 rest)
 
--- a line, and the others behind it
+-- a line, and the others after it
 pub line_then : {S : Type 0} (takes : S → S → ReportLine → Type 0) (a b c : S) (line : ReportLine) (others : List ReportLine)
     → takes a b line → TakesAll takes b c others → TakesAll takes a c (line ∷ others)
 line_then takes a b c line others first rest = (b, first, rest)

@@ -21,7 +21,7 @@ pub record AreMarkedTo (m : BTreeMap (Bor (List ℕ)) ℕ) (ms : List Mark) (ss 
   pub known : Knows m (each_once (payloads (take i ss)))
   pub marked : ms ≡ marks_behind (each_once (payloads ss)) [] (payloads (take i ss))
 
--- a list in front of an item, the item, and the rest
+-- a list before an item, the item, and the rest
 cut : (ss : List AskedSession) (i : ℕ) (d : AskedSession) → i < length ss → (rest : List AskedSession) × (ss ≡ take i ss ++ get_or ss i d ∷ rest)
 cut [] i d within = absurd (omega (arith, within))
 cut (s ∷ ss) zero d within = (ss, refl)

@@ -14,7 +14,7 @@ use Rattle.ss_report.specs.texts.OnceLaws.{AsksTheSame, QuestionsOnceAskTheSame,
 use Rattle.ss_report.proofs.of_writing.PayloadIndexes.{among_once, at_index, distinct_once, index_behind, index_of_next, once_more, next_among}
 use Rattle.ss_report.proofs.of_writing.QuestionLines.{all_asked}
 
--- the lines of questions behind those about these payloads
+-- the lines of questions after those about these payloads
 abbrev pub lines_behind : (known before : List (List ℕ)) → List Asking → List OnceLine
 lines_behind known before qs = flat_map marked_lines (zip (marks_behind known before (map payload_of qs)) qs)
 

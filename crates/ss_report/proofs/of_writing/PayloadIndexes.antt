@@ -74,7 +74,7 @@ front_case : (x : List ℕ) (ws zs : List (List ℕ)) (p : List ℕ) (b : Bool) 
 front_case x ws zs p true among rest = refl
 front_case x ws zs p false among rest = ap (λ n. 1 + n) (rest among)
 
--- the index of a payload stays where others come behind
+-- the index of a payload stays where others come after it
 pub index_in_front : (ws zs : List (List ℕ)) (p : List ℕ) → is_among ws p ≡ true → index_among (ws ++ zs) p ≡ index_among ws p
 index_in_front [] zs p among = absurd cc
 index_in_front (x ∷ ws) zs p among = front_case x ws zs p (bytes_eq p x) among (index_in_front ws zs p)
@@ -85,7 +85,7 @@ missing_case : (ws zs : List (List ℕ)) (p : List ℕ) (b : Bool) → (b || is_
 missing_case ws zs p true among rest = absurd cc
 missing_case ws zs p false among rest = ap (λ n. 1 + n) (rest among)
 
--- behind others, of which none equals it, its index is their number
+-- after others, of which none equals it, its index is their number
 pub index_behind : (ws zs : List (List ℕ)) (p : List ℕ) → is_among ws p ≡ false → index_among (ws ++ p ∷ zs) p ≡ length ws
 index_behind [] zs p among = ap (λ b. cond (not b) (1 + index_among zs p) 0) (itself p)
 index_behind (x ∷ ws) zs p among = missing_case ws zs p (bytes_eq p x) among (index_behind ws zs p) ∙ omega arith
@@ -140,7 +140,7 @@ pub distinct_once : (xs : List (List ℕ)) → IsDistinct bytes_eq (each_once xs
 unfolding each_once
 distinct_once xs = distinct_folded [] xs nothing_distinct
 
--- with one more payload behind them
+-- with one more payload after them
 pub among_more : (ps : List (List ℕ)) (x p : List ℕ) → is_among (ps ++ x ∷ []) p ≡ (is_among ps p || bytes_eq p x)
 among_more ps x p = list_any-append (bytes_eq p) ps (x ∷ []) ∙ ap (λ b. is_among ps p || b) (or_false (bytes_eq p x))
 

@@ -78,7 +78,7 @@ sessions_known ws [] = refl
 sessions_known ws (s ∷ ss) =
     blocks_known (with_payload ws s.payload) s s.blocks (flat_map session_askings ss) (next_among ws s.payload) ∙ sessions_known (with_payload ws s.payload) ss
 
--- the lines of all that is asked are those of the sessions, one behind the other
+-- the lines of all that is asked are those of the sessions, one after the other
 pub lines_of_sessions : (ss : List AskedSession) → flat_map session_once (zip (marks (payloads ss)) ss) ≡ once_lines (askings ss)
 unfolding once_lines marks each_once askings
 lines_of_sessions ss =

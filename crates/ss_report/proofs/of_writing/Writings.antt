@@ -1,4 +1,4 @@
--- Texts that are written one behind the other.
+-- Texts that are written one after the other.
 use Rattle.std.proofs.Common.{◌≡◌, ℕ, ◌+◌, ◌<◌, Bool, true, false, List, [], ◌∷◌, ◌++◌, length, get_or, take, flat_map, refl, sym, ap, ◌∙◌, subst, append-nil, append_assoc, codes}
 use Rattle.std.specs.Prelude.{MatchBool}
 use Rattle.std.proofs.KnownBytes.{Appends-nil}
@@ -21,7 +21,7 @@ writes_prefix a b x prefix untouched = record {
   untouched = untouched;
 }
 
--- a writer that says whether all was written
+-- a writer that reports whether all was written
 pub writes_told : (a b : Sink) (r : Bool) (x : List ℕ) → MatchBool r (WritesWhole a b x) (WritesPrefix a b x) → (a.failed ≡ true → b ≡ a) → Writes a b x
 writes_told a b true x told untouched = writes_whole a b x told untouched
 writes_told a b false x told untouched = writes_prefix a b x told untouched
@@ -60,7 +60,7 @@ writes_then a b c x y first second = then a b c x y b.failed c.failed refl refl 
 pub writes_same : (a b : Sink) (x y : List ℕ) → Writes a b x → x ≡ y → Writes a b y
 writes_same a b x y w e = subst (λ t. Writes a b t) e w
 
--- where two lists are told one behind the other, the text of the items so far goes on with that of the next one
+-- where two lists are written one after the other, the text of the items so far goes on with that of the next one
 pub writes_next : {X : Type 0} (f : List X → List ℕ) → ((xs ys : List X) → f (xs ++ ys) ≡ f xs ++ f ys) → (xs : List X) (i : ℕ) (d : X) (a b c : Sink) (told : List ℕ)
     → i < length xs → Writes a b (f (take i xs)) → Writes b c told → told ≡ f (get_or xs i d ∷ []) → Writes a c (f (take (i + 1) xs))
 writes_next f splits xs i d a b c told within so_far next is =
@@ -75,6 +75,6 @@ pub writes_more : {X : Type 0} (f : X → List ℕ) (xs : List X) (i : ℕ) (d :
 writes_more f xs i d a b c told within so_far next is =
     writes_next (flat_map f) (flat_map-append f) xs i d a b c told within so_far next (is ∙ sym (append-nil (f (get_or xs i d))))
 
--- a word and the SP before it, between what stands in front and behind
+-- a word and the SP before it, between what stands before and after
 pub word_then : (front word is behind : List ℕ) → word ≡ is → front ++ (codes " " ++ word) ++ behind ≡ front ++ codes " " ++ is ++ behind
 word_then front word is behind e = rw e (simp append_assoc)

@@ -42,4 +42,4 @@ report_as form detail report tail = flat_map (line_as form) (lines detail report
 
 -- the text of the report
 abbrev pub report_lines : Report → Tail → List ℕ
-report_lines report tail = report_as forms.Text details.Each report tail
+report_lines report tail = report_as forms.Text details.Itemized report tail

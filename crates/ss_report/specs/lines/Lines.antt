@@ -1,5 +1,5 @@
 -- The lines of a report as data, in the order in which every form of it has them: one for each thing, or tallies. Those
--- of missing signature blocks, of tails and of absent sessions are told where they are asked for (`Whole.antt`).
+-- of missing signature blocks, of tails and of absent sessions come if they are asked for (`Whole.antt`).
 use Rattle.std.specs.Prelude.{ℕ, List, [], ◌∷◌, ◌++◌, length, map, flat_map}
 use Rattle.ss_frame.specs.declared.step.Tail.{Tail}
 use Rattle.ss_frame.specs.declared.step.Tail.TheVariants as tails
@@ -21,7 +21,7 @@ use Rattle.ss_report.specs.lines.Tally.{tally}
 use Rattle.ss_report.specs.declared.lines.line.Line.{Line}
 use Rattle.ss_report.specs.declared.lines.line.Line.TheVariants as line
 
--- a thing that a report says
+-- a line of a report
 pub data ReportLine : Type 0 where
   SessionLine : Session → SessionState → ReportLine
   OkLine : Session → Group → (number place : ℕ) → ReportLine
@@ -40,14 +40,14 @@ pub data ReportLine : Type 0 where
   TornLine : (offset : ℕ) → ReportLine
   EndLine : (count : ℕ) → ReportLine
 
--- what is said of a number, or of several
+-- the line of an entry: a number, or a hole
 abbrev pub entry_line : Session → Group → Entry → ReportLine
 entry_line s g (entries.Listed number place) = OkLine s g number place
 entry_line s g (entries.Gap number why) = GapLine s g number why
 entry_line s g (entries.Hole first last) = HoleLine s g first last
 
 abbrev pub group_lines : Detail → Session → GroupReport → List ReportLine
-group_lines details.Each s g = map (entry_line s g.group) g.entries
+group_lines details.Itemized s g = map (entry_line s g.group) g.entries
 group_lines details.Tally s g = TallyLine s g.group (tally g.entries) ∷ []
 
 -- the session's line, and those of its groups
@@ -64,17 +64,17 @@ tail_lines (tails.Torn pos) = TornLine pos ∷ []
 
 -- those of single messages
 unfoldable pub single_lines : Detail → Report → List ReportLine
-single_lines details.Each report =
+single_lines details.Itemized report =
     map UnlistedLine report.unlisted ++ map RefusedLine report.refused ++ map spoilt_place_line report.spoilt
 single_lines details.Tally report =
     UnlistedCountLine (length report.unlisted) ∷ RefusedCountLine (length report.refused)
     ∷ SpoiltCountLine (length report.spoilt) ∷ []
 
--- those behind the lines of the sessions
+-- those after the lines of the sessions
 unfoldable pub other_lines : Detail → Report → Tail → List ReportLine
 other_lines detail report tail = single_lines detail report ++ (tail_lines tail ++ EndLine report.count ∷ [])
 
--- all of a report that says nothing of missing signature blocks
+-- all of a report without missing signature blocks
 unfoldable pub lines : Detail → Report → Tail → List ReportLine
 lines detail report tail = flat_map (session_lines detail) report.sessions ++ other_lines detail report tail
 

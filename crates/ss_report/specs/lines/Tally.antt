@@ -1,4 +1,4 @@
--- The tally of a group: how many of its numbers are what, and how far they go.
+-- The tally of a group: how many of its numbers are listed, lost, disputed or in holes, and how far they go.
 use Rattle.std.specs.Prelude.{◌≡◌, ℕ, ◌+◌, ◌-◌, ◌*◌, ◌^◌, ◌≤◌, ◌==◌, List, fold, if◌then◌else◌}
 use Rattle.ss_review.specs.declared.report.entry.Why.TheVariants as whys
 use Rattle.ss_review.specs.declared.report.entry.Entry.{Entry}
@@ -9,7 +9,7 @@ use Rattle.ss_report.specs.declared.lines.tally.Tally.{Tally}
 abbrev pub of_none : Tally
 of_none = record { listed = 0; lost = 0; disputed = 0; holes = 0; first = 0; last = 0 }
 
--- with one more announced number, behind the others
+-- with one more announced number, after the others
 abbrev pub announcing : Tally → ℕ → Tally
 announcing t number = record t { first = if t.first == 0 then number else t.first; last = number }
 

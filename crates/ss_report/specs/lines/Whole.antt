@@ -1,6 +1,6 @@
--- The report of a log with what is missing beside it: of each session's signature blocks, which state their Global
--- Block Counter, GBC, how many were sent before them in their session over all groups (RFC 5848, section 4.2.4); and,
--- up to counters that somebody kept, of the messages of each group and of sessions that the log has no block of.
+-- The report of a log with what is missing beside it. Signature blocks are missing by their Global Block Counter, GBC:
+-- how many were sent before them in their session, in all groups (RFC 5848, section 4.2.4). Up to counters that were
+-- kept elsewhere, messages of each group are missing, and sessions of which the log has no block.
 use Rattle.std.specs.Prelude.{ℕ, List, ◌∷◌, ◌++◌, map, flat_map}
 use Rattle.std.specs.List.{list_all, zip}
 use Rattle.ss_frame.specs.declared.step.Tail.{Tail}
@@ -38,7 +38,7 @@ missing_line s r = BlocksLine s r.first r.last
 abbrev pub shortfall_lines : Shortfall → List ReportLine
 shortfall_lines f = map (tail_line f.session) f.tails ++ map (missing_line f.session) f.blocks
 
--- a session's lines, and behind its groups those of what is missing of it
+-- the lines of a session, and after those of its groups those of what is missing of it
 abbrev pub lines_beside : Detail → SessionReport × Shortfall → List ReportLine
 lines_beside detail p = session_lines detail p.0 ++ shortfall_lines p.1
 
@@ -56,7 +56,7 @@ lines_with detail report short tail =
 
 -- clean where no line of the report, or of what is missing beside it, leaves anything to look into
 abbrev pub verdict_with : Report → LogShortfalls → Tail → Verdict
-verdict_with report short tail = verdict_of (list_all is_settled (lines_with details.Each report short tail))
+verdict_with report short tail = verdict_of (list_all is_settled (lines_with details.Itemized report short tail))
 
 -- ---- of a log
 

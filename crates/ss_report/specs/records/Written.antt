@@ -27,7 +27,7 @@ written notation r = head_in notation r.kind ++ fields_in notation r.fields ++ e
 
 -- ---- questions
 
--- whether a notation says what a question is about, after what is asked
+-- whether a notation writes what a question is about, after what is asked
 abbrev pub says_about : Notation → Bool
 says_about notations.Plain = false
 says_about notations.Json = true

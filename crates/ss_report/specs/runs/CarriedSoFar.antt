@@ -20,7 +20,7 @@ use Rattle.ss_review.specs.report.Verdict.{is_joined}
 use Rattle.ss_report.specs.declared.runs.carrying.Extent.{Extent}
 use Rattle.ss_report.specs.runs.Carrying.{told_of, is_joined_in, is_refused_in, is_fragment_of, is_gap, entries_under}
 
--- ---- what a report says of a joined session
+-- ---- the report on a joined session
 
 -- the groups rise, and the entries of each
 pub record IsToldInOrder (t : SessionReport) : Type 0 where
@@ -33,7 +33,7 @@ pub record IsToldJoined (r : Report) (s : Session) (t : SessionReport) : Type 0 
   pub session_is : t.session ≡ s
   pub in_order : IsToldInOrder t
 
--- ---- what is carried for a block, behind the blocks before it
+-- ---- what is carried for a block, after the blocks before it
 
 -- a signature block and the messages of its numbers, where one of these is a gap
 abbrev pub carried_numbers : List Entry → ℕ → List ℕ
@@ -54,7 +54,7 @@ abbrev pub carried_at : Report → (before : List BlockMessage) → Option Block
 carried_at r before (Some b) = carried_with r before b
 carried_at r before None = []
 
--- for each of the blocks, behind these
+-- for each of the blocks, after these
 abbrev pub carried_along : Report → (before : List BlockMessage) → List BlockMessage → List ℕ
 carried_along r before [] = []
 carried_along r before (b ∷ bs) = carried_with r before b ++ carried_along r (before ++ b ∷ []) bs

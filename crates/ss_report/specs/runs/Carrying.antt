@@ -1,5 +1,5 @@
--- What of a log is carried over to the next one, where sessions go on from log to log: which places, by the report and
--- the blocks of the log.
+-- What is carried over from a log to the next one, where sessions go on from log to log: which places, by the report
+-- and the blocks of the log.
 use Rattle.std.specs.Prelude.{ℕ, ◌+◌, ◌==◌, nat_le, nat_lt, Bool, true, false, not, ◌&&◌, List, [], ◌++◌, length}
 use Rattle.std.specs.Prelude.{map, filter, filter_map, flat_map}
 use Rattle.std.specs.List.{list_any}
@@ -24,7 +24,7 @@ use Rattle.ss_review.specs.report.Meaning.{first_number}
 use Rattle.ss_review.specs.report.Extract.{place_listed}
 use Rattle.ss_review.specs.report.Report.{report}
 
--- ---- what the report says
+-- ---- the parts of the report
 
 -- of a session
 abbrev pub told_of : Report → Session → List SessionReport

@@ -87,8 +87,8 @@ counting notation says = record {
   refusal = nothing;
 }
 
--- the messages that are selected, in a form, whatever the form of the log; what the log hasn't is refused, and what is
--- no line of it
+-- the messages that are selected, in a form, whatever the form of the log; a place that the log hasn't is refused, and
+-- a message that is no line of the form
 abbrev pub extracting_as : Extraction → Answers → Job
 extracting_as e says = record {
   output = λ messages tail. units_in e.form (messages_at messages (selected e.selection says messages));

@@ -6,7 +6,7 @@ use Rattle.ss_report.specs.records.Record.{Number, field}
 use Rattle.ss_report.specs.records.Written.{written}
 use Rattle.ss_report.specs.declared.notation.Notation.{Notation}
 
--- a line that says one number
+-- a line with one number
 abbrev pub number_as : Notation → (kind key : List ℕ) → ℕ → List ℕ
 number_as notation kind key n = written notation (record { kind = kind; fields = field key (Number n) })
 

@@ -34,7 +34,7 @@ part_word parts.Value = codes "M10"
 part_word parts.RepeatedId = codes "M11"
 part_word parts.Msg = codes "M12"
 
--- what a block of either kind says first: its place, its session, where one is known, and its group
+-- the head of a block of either kind: its place, its session, where one is known, and its group
 abbrev pub head_fields : (place : ℕ) → Option Session → Group → List (List ℕ × Value)
 head_fields place s g = field (codes "place") (Number place) ++ known_session_fields s ++ group_fields g
 

@@ -11,7 +11,7 @@ use Rattle.ss_report.specs.declared.payloads.Payloads.TheVariants as payloads
 abbrev pub is_among : List (List ℕ) → List ℕ → Bool
 is_among ps p = list_any (bytes_eq p) ps
 
--- these payloads, and behind them this one, if it isn't one of them
+-- these payloads, and after them this one, if it isn't one of them
 abbrev pub with_payload : List (List ℕ) → List ℕ → List (List ℕ)
 with_payload ps p = if is_among ps p then ps else ps ++ p ∷ []
 
@@ -27,7 +27,7 @@ index_among ps p = position_or_len (bytes_eq p) ps
 abbrev pub mark : (known before : List (List ℕ)) → List ℕ → Mark
 mark known before p = record { index = index_among known p; is_new = not (is_among before p) }
 
--- the marks of payloads that come behind these
+-- the marks of payloads that come after these
 abbrev pub marks_behind : (known before : List (List ℕ)) → List (List ℕ) → List Mark
 marks_behind known before [] = []
 marks_behind known before (p ∷ ps) = mark known before p ∷ marks_behind known (before ++ p ∷ []) ps

@@ -1,6 +1,6 @@
 -- The text of the questions to a signature scheme: a line for each, a record whose fields are octets in strict base64.
--- A plain line that the scheme says yes to is a line of an answer file. A JSON object (RFC 8259) has these fields, and
--- then those of what the question is about.
+-- A plain line to which the scheme says yes is a line of an answers file. A JSON object (RFC 8259) has these fields,
+-- and then those of what the question is about.
 use Rattle.std.specs.Prelude.{ℕ, List, ◌++◌, codes, flat_map}
 use Rattle.ss_octets.specs.StrictBase64.{base64}
 use Rattle.ss_review.specs.declared.questions.asked.AskedSession.{AskedSession}

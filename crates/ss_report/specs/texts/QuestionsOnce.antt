@@ -1,6 +1,6 @@
 -- The questions to a signature scheme, of which each payload is written once. A line with the payload and its index
 -- stands before the first question about it, and each question has the index in place of the payload. A line is a
--- record, and as a JSON object (RFC 8259) it also says what the question is about.
+-- record, and as a JSON object (RFC 8259) it also has what the question is about.
 use Rattle.std.specs.Prelude.{ℕ, List, [], ◌∷◌, ◌++◌, codes, flat_map, map, zip, if◌then◌else◌}
 use Rattle.ss_octets.specs.StrictBase64.{base64}
 use Rattle.ss_block.specs.declared.session.Session.{Session}

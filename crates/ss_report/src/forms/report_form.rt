@@ -14,13 +14,13 @@ use std::io::Write;
 /// In which form a review writes its report, and an inspection its lines.
 #[derive(Clone, Copy, Debug, PartialEq, Eq)]
 pub enum ReportForm {
-    /// Plain text: a line for each thing that is said.
+    /// Plain text: a line for each item.
     Text,
-    /// The plain text without its `ok` lines, and its `plain` ones.
+    /// The plain text without its `ok` and `plain` lines.
     Findings,
     /// A JSON object (RFC 8259) for each line of the plain text.
     Json,
-    /// The JSON objects without those of these lines.
+    /// The JSON objects without those of the `ok` and `plain` lines.
     JsonFindings,
 }
 
@@ -56,7 +56,7 @@ pub(crate) fn write_line_as<W: Write>(writer: &mut Watched<W>, form: ReportForm,
     write_line(writer, form.notation(), line);
 }
 
-/// Whether the line says that a message is listed.
+/// Whether the line lists a message.
 fn is_ok(line: Line<'_>) -> bool
     ensures { result ≡ is_ok (seen line.entry) }
 {

@@ -1,10 +1,10 @@
-//! How much a report says.
+//! How much a report lists.
 
-/// What stands in a report in place of what it lists.
+/// Whether a report lists each item, or counts them.
 #[derive(Clone, Copy, Debug, PartialEq, Eq)]
 pub enum Detail {
     /// A line for each number or hole of a group, and one for each unlisted, refused or spoilt message.
-    Each,
+    Itemized,
     /// One line for each group, with its counts, and one for each list of messages, with its length.
     Tally,
 }

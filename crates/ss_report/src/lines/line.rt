@@ -3,7 +3,7 @@ use crate::lines::tally::Tally;
 use ss_block::{Group, Session, Spoil};
 use ss_review::{GroupTail, MissingRun, SessionState, Why};
 
-/// A thing that a report says. Places count the messages of the log from 0; numbers are 1 to 9,999,999,999.
+/// A line of a report. Places count the messages of the log from 0; numbers are 1 to 9,999,999,999.
 #[derive(Clone, Copy)]
 pub(crate) enum Line<'r> {
     /// A session and its state.
@@ -32,23 +32,23 @@ pub(crate) enum Line<'r> {
         first: u64,
         last: u64,
     },
-    /// None of these numbers of a group is announced, and they come behind all that are, though they were sent before
-    /// its counter was noted.
+    /// None of these numbers of a group is announced. They come after all announced ones, and were sent before the
+    /// counter was noted.
     Tail {
         session: &'r Session,
         tail: GroupTail,
     },
     /// No verified signature block of the session has a GBC (RFC 5848, section 4.2.4) of this run, though one has a
-    /// greater, or its counter is greater. The GBC count from 0.
+    /// greater GBC, or the counter is greater. GBC values count from 0.
     Blocks {
         session: &'r Session,
         run: MissingRun,
     },
-    /// A session that has a counter, and of which the log has no block.
+    /// A session that has a counter, and no block in the log.
     Absent {
         session: &'r Session,
     },
-    /// What is said of the numbers of a group.
+    /// The counts of the numbers of a group.
     Tally {
         session: &'r Session,
         group: Group,

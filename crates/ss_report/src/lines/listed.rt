@@ -5,7 +5,7 @@ ghost use Rattle.ss_report.specs.lines.Listed.{KeepsPlace};
 
 use crate::lines::detail::Detail;
 use crate::lines::line::Line;
-use crate::lines::taker::Taker;
+use crate::lines::visitor::LineVisitor;
 use crate::lines::walk::walk_lines;
 use ss_frame::Tail;
 use ss_octets::NoMemory;
@@ -20,7 +20,7 @@ pub(crate) fn listed_places(alloc: Global, report: &Report) -> Result<Places, No
         places: Vec::new(alloc),
         failed: false,
     };
-    walk_lines(&Listing, &mut so_far, report, Tail::Clean, Detail::Each);
+    walk_lines(&Listing, &mut so_far, report, Tail::Clean, Detail::Itemized);
     let PlacesSoFar { places, failed } = so_far;
     if failed {
         return Err(NoMemory);
@@ -37,10 +37,10 @@ struct PlacesSoFar {
 /// Keeps the place of each message that is listed.
 struct Listing;
 
-impl Taker<PlacesSoFar> for Listing {
+impl LineVisitor<PlacesSoFar> for Listing {
     ghost takes = { λ _. KeepsPlace };
 
-    fn take(&self, into: &mut PlacesSoFar, line: Line<'_>) {
+    fn visit(&self, into: &mut PlacesSoFar, line: Line<'_>) {
         if let Line::Ok { place, .. } = line {
             if !into.failed {
                 into.failed = into.places.push(place).is_err();

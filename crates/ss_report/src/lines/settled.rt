@@ -5,17 +5,17 @@ ghost use Rattle.ss_report.specs.lines.Lines.{seen};
 ghost use Rattle.ss_report.specs.lines.Settled.{is_settled};
 
 use crate::lines::line::Line;
-use crate::lines::taker::Taker;
 use crate::lines::tally::Tally;
+use crate::lines::visitor::LineVisitor;
 use crate::verdict::joined::is_joined;
 
 /// Notes whether each line leaves nothing to look into.
 pub(crate) struct Settling;
 
-impl Taker<bool> for Settling {
+impl LineVisitor<bool> for Settling {
     ghost takes = { λ _ before after line. after ≡ (before && is_settled line) };
 
-    fn take(&self, into: &mut bool, line: Line<'_>) {
+    fn visit(&self, into: &mut bool, line: Line<'_>) {
         *into = *into && is_settled(line);
     }
 }

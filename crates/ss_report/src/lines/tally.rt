@@ -1,16 +1,16 @@
-//! The tally of a group: how many of its numbers are what.
+//! The tally of a group: how many of its numbers are listed, lost, disputed or in holes.
 ghost use Rattle.std.specs.Prelude.{◌≡◌, ◌≤◌, ◌+◌, ◌-◌, ◌^◌};
 ghost use Rattle.ss_report.specs.lines.Tally.{announcing, tally, HasOneMore, IsWithin};
 
 use ss_review::{Entry, Why};
 
-/// How many numbers of a group are what. The numbers are 1 to 9,999,999,999; `first` and `last` are 0 where none is
-/// announced.
+/// How many numbers of a group are listed, lost, disputed or in holes. The numbers are 1 to 9,999,999,999; `first` and
+/// `last` are 0 where none is announced.
 #[derive(Clone, Copy)]
 pub(crate) struct Tally {
     /// How many are announced, and their messages are listed.
     pub(crate) listed: u64,
-    /// How many are announced, and no message is left for them.
+    /// How many are announced, and no message is listed for them.
     pub(crate) lost: u64,
     /// For how many two different hashes were announced.
     pub(crate) disputed: u64,

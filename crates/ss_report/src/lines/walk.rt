@@ -7,139 +7,147 @@ ghost use Rattle.ss_report.specs.lines.Lines.{tail_lines, other_lines, lines, se
 
 use crate::lines::detail::Detail;
 use crate::lines::line::Line;
-use crate::lines::taker::Taker;
 use crate::lines::tally::Tally;
+use crate::lines::visitor::LineVisitor;
 use ss_block::{Group, Session};
 use ss_frame::Tail;
 use ss_review::{Entry, GroupReport, Report, SessionReport, SpoiltPlace};
 
-/// Hands on the lines of a report on a log with this end, in their order. Nothing is allocated but by the taker.
+/// Hands on the lines of a report on a log with this end, in their order. Only the visitor may allocate.
 #[tactic(auto, unfolding(crate::specs::lines::Lines::lines))]
-pub(crate) fn walk_lines<S, T: Taker<S>>(
-    taker: &T,
+pub(crate) fn walk_lines<S, V: LineVisitor<S>>(
+    visitor: &V,
     into: &mut S,
     report: &Report,
     tail: Tail,
     detail: Detail,
 )
-    ensures { TakesAll (T.takes taker.now) into.old into.new (lines detail report.now tail) }
+    ensures { TakesAll (V.takes visitor.now) into.old into.new (lines detail report.now tail) }
 {
-    walk_sessions(taker, into, report.sessions.as_slice(), detail);
-    walk_others(taker, into, report, tail, detail);
+    walk_sessions(visitor, into, report.sessions.as_slice(), detail);
+    walk_others(visitor, into, report, tail, detail);
 }
 
-/// The lines behind those of the sessions.
+/// Hands on the lines that come after those of the sessions.
 #[tactic(auto, unfolding(crate::specs::lines::Lines::other_lines))]
-pub(crate) fn walk_others<S, T: Taker<S>>(
-    taker: &T,
+pub(crate) fn walk_others<S, V: LineVisitor<S>>(
+    visitor: &V,
     into: &mut S,
     report: &Report,
     tail: Tail,
     detail: Detail,
 )
-    ensures { TakesAll (T.takes taker.now) into.old into.new (other_lines detail report.now tail) }
+    ensures { TakesAll (V.takes visitor.now) into.old into.new (other_lines detail report.now tail) }
 {
-    walk_singles(taker, into, report, detail);
-    walk_end(taker, into, tail, report.count);
+    walk_singles(visitor, into, report, detail);
+    walk_end(visitor, into, tail, report.count);
 }
 
-/// What is said of single messages.
-fn walk_singles<S, T: Taker<S>>(taker: &T, into: &mut S, report: &Report, detail: Detail)
-    ensures { TakesAll (T.takes taker.now) into.old into.new (single_lines detail report.now) }
+/// Hands on the lines of single messages, or their counts.
+fn walk_singles<S, V: LineVisitor<S>>(visitor: &V, into: &mut S, report: &Report, detail: Detail)
+    ensures { TakesAll (V.takes visitor.now) into.old into.new (single_lines detail report.now) }
 {
     match detail {
-        Detail::Each => walk_each(taker, into, report),
-        Detail::Tally => walk_counts(taker, into, report),
+        Detail::Itemized => walk_items(visitor, into, report),
+        Detail::Tally => walk_counts(visitor, into, report),
     }
 }
 
-/// The lines of single messages.
+/// Hands on a line for each unlisted, refused and spoilt message.
 #[tactic(auto, unfolding(crate::specs::lines::Lines::single_lines))]
-fn walk_each<S, T: Taker<S>>(taker: &T, into: &mut S, report: &Report)
-    ensures { TakesAll (T.takes taker.now) into.old into.new (single_lines Detail.Each report.now) }
+fn walk_items<S, V: LineVisitor<S>>(visitor: &V, into: &mut S, report: &Report)
+    ensures { TakesAll (V.takes visitor.now) into.old into.new (single_lines Detail.Itemized report.now) }
 {
-    walk_unlisted(taker, into, report.unlisted.as_slice());
-    walk_refused(taker, into, report.refused.as_slice());
-    walk_spoilts(taker, into, report.spoilt.as_slice());
+    walk_unlisted(visitor, into, report.unlisted.as_slice());
+    walk_refused(visitor, into, report.refused.as_slice());
+    walk_spoilts(visitor, into, report.spoilt.as_slice());
 }
 
-/// How many single messages there are.
+/// Hands on how many messages are unlisted, refused and spoilt.
 #[tactic(auto, unfolding(crate::specs::lines::Lines::single_lines))]
-fn walk_counts<S, T: Taker<S>>(taker: &T, into: &mut S, report: &Report)
-    ensures { TakesAll (T.takes taker.now) into.old into.new (single_lines Detail.Tally report.now) }
+fn walk_counts<S, V: LineVisitor<S>>(visitor: &V, into: &mut S, report: &Report)
+    ensures { TakesAll (V.takes visitor.now) into.old into.new (single_lines Detail.Tally report.now) }
 {
     let unlisted = report.unlisted.as_slice().len() as u64;
     let refused = report.refused.as_slice().len() as u64;
     let spoilt = report.spoilt.as_slice().len() as u64;
-    taker.take(into, Line::UnlistedCount { count: unlisted });
-    taker.take(into, Line::RefusedCount { count: refused });
-    taker.take(into, Line::SpoiltCount { count: spoilt });
+    visitor.visit(into, Line::UnlistedCount { count: unlisted });
+    visitor.visit(into, Line::RefusedCount { count: refused });
+    visitor.visit(into, Line::SpoiltCount { count: spoilt });
 }
 
-fn walk_sessions<S, T: Taker<S>>(
-    taker: &T,
+/// Hands on the lines of the sessions.
+fn walk_sessions<S, V: LineVisitor<S>>(
+    visitor: &V,
     into: &mut S,
     sessions: &[SessionReport],
     detail: Detail,
 )
-    ensures { TakesAll (T.takes taker.now) into.old into.new (flat_map (session_lines detail) sessions.now) }
+    ensures { TakesAll (V.takes visitor.now) into.old into.new (flat_map (session_lines detail) sessions.now) }
 {
     for session in sessions {
-        walk_session(taker, into, session, detail);
+        walk_session(visitor, into, session, detail);
     }
 }
 
-/// The session's line, and those of its groups.
-pub(crate) fn walk_session<S, T: Taker<S>>(
-    taker: &T,
+/// Hands on the line of a session, and then those of its groups.
+pub(crate) fn walk_session<S, V: LineVisitor<S>>(
+    visitor: &V,
     into: &mut S,
     report: &SessionReport,
     detail: Detail,
 )
-    ensures { TakesAll (T.takes taker.now) into.old into.new (session_lines detail report.now) }
+    ensures { TakesAll (V.takes visitor.now) into.old into.new (session_lines detail report.now) }
 {
     let session = &report.session;
     let state = report.state;
-    taker.take(into, Line::Session { session, state });
-    walk_groups(taker, into, session, report.groups.as_slice(), detail);
+    visitor.visit(into, Line::Session { session, state });
+    walk_groups(visitor, into, session, report.groups.as_slice(), detail);
 }
 
-fn walk_groups<S, T: Taker<S>>(
-    taker: &T,
+/// Hands on the lines of the groups of a session.
+fn walk_groups<S, V: LineVisitor<S>>(
+    visitor: &V,
     into: &mut S,
     session: &Session,
     groups: &[GroupReport],
     detail: Detail,
 )
-    ensures { TakesAll (T.takes taker.now) into.old into.new (flat_map (group_lines detail session.now) groups.now) }
+    ensures { TakesAll (V.takes visitor.now) into.old into.new (flat_map (group_lines detail session.now) groups.now) }
 {
     for group in groups {
-        walk_group(taker, into, session, group, detail);
+        walk_group(visitor, into, session, group, detail);
     }
 }
 
-/// What is said of a group.
-fn walk_group<S, T: Taker<S>>(
-    taker: &T,
+/// Hands on the lines of a group, or its counts.
+fn walk_group<S, V: LineVisitor<S>>(
+    visitor: &V,
     into: &mut S,
     session: &Session,
     report: &GroupReport,
     detail: Detail,
 )
-    ensures { TakesAll (T.takes taker.now) into.old into.new (group_lines detail session.now report.now) }
+    ensures { TakesAll (V.takes visitor.now) into.old into.new (group_lines detail session.now report.now) }
 {
     match detail {
-        Detail::Each => walk_entries(taker, into, session, report),
-        Detail::Tally => walk_tally(taker, into, session, report),
+        Detail::Itemized => walk_entries(visitor, into, session, report),
+        Detail::Tally => walk_tally(visitor, into, session, report),
     }
 }
 
-fn walk_tally<S, T: Taker<S>>(taker: &T, into: &mut S, session: &Session, report: &GroupReport)
-    ensures { TakesAll (T.takes taker.now) into.old into.new (group_lines Detail.Tally session.now report.now) }
+/// Hands on the counts of a group.
+fn walk_tally<S, V: LineVisitor<S>>(
+    visitor: &V,
+    into: &mut S,
+    session: &Session,
+    report: &GroupReport,
+)
+    ensures { TakesAll (V.takes visitor.now) into.old into.new (group_lines Detail.Tally session.now report.now) }
 {
     let group = report.group;
     let tally = Tally::of(report.entries.as_slice());
-    taker.take(
+    visitor.visit(
         into,
         Line::Tally {
             session,
@@ -149,15 +157,21 @@ fn walk_tally<S, T: Taker<S>>(taker: &T, into: &mut S, session: &Session, report
     );
 }
 
-fn walk_entries<S, T: Taker<S>>(taker: &T, into: &mut S, session: &Session, report: &GroupReport)
-    ensures { TakesAll (T.takes taker.now) into.old into.new (group_lines Detail.Each session.now report.now) }
+/// Hands on a line for each entry of a group.
+fn walk_entries<S, V: LineVisitor<S>>(
+    visitor: &V,
+    into: &mut S,
+    session: &Session,
+    report: &GroupReport,
+)
+    ensures { TakesAll (V.takes visitor.now) into.old into.new (group_lines Detail.Itemized session.now report.now) }
 {
     for entry in report.entries.as_slice() {
-        taker.take(into, line_of_entry(session, report.group, *entry));
+        visitor.visit(into, line_of_entry(session, report.group, *entry));
     }
 }
 
-/// What is said of a number, or of several.
+/// The line of an entry.
 fn line_of_entry(session: &Session, group: Group, entry: Entry) -> Line<'_>
     ensures { seen result ≡ entry_line session.now group entry }
 {
@@ -183,45 +197,49 @@ fn line_of_entry(session: &Session, group: Group, entry: Entry) -> Line<'_>
     }
 }
 
-fn walk_unlisted<S, T: Taker<S>>(taker: &T, into: &mut S, places: &[u32])
-    ensures { TakesAll (T.takes taker.now) into.old into.new (map UnlistedLine places.now) }
+/// Hands on a line for each unlisted message.
+fn walk_unlisted<S, V: LineVisitor<S>>(visitor: &V, into: &mut S, places: &[u32])
+    ensures { TakesAll (V.takes visitor.now) into.old into.new (map UnlistedLine places.now) }
 {
     for place in places {
-        taker.take(into, Line::Unlisted { place: *place });
+        visitor.visit(into, Line::Unlisted { place: *place });
     }
 }
 
-fn walk_refused<S, T: Taker<S>>(taker: &T, into: &mut S, places: &[u32])
-    ensures { TakesAll (T.takes taker.now) into.old into.new (map RefusedLine places.now) }
+/// Hands on a line for each unverified block.
+fn walk_refused<S, V: LineVisitor<S>>(visitor: &V, into: &mut S, places: &[u32])
+    ensures { TakesAll (V.takes visitor.now) into.old into.new (map RefusedLine places.now) }
 {
     for place in places {
-        taker.take(into, Line::Refused { place: *place });
+        visitor.visit(into, Line::Refused { place: *place });
     }
 }
 
-fn walk_spoilts<S, T: Taker<S>>(taker: &T, into: &mut S, spoilts: &[SpoiltPlace])
-    ensures { TakesAll (T.takes taker.now) into.old into.new (map spoilt_place_line spoilts.now) }
+/// Hands on a line for each spoilt block.
+fn walk_spoilts<S, V: LineVisitor<S>>(visitor: &V, into: &mut S, spoilts: &[SpoiltPlace])
+    ensures { TakesAll (V.takes visitor.now) into.old into.new (map spoilt_place_line spoilts.now) }
 {
     for spoilt in spoilts {
         let place = spoilt.place;
         let cause = spoilt.cause;
-        taker.take(into, Line::Spoilt { place, cause });
+        visitor.visit(into, Line::Spoilt { place, cause });
     }
 }
 
-/// The torn end, and the count of the messages.
-fn walk_end<S, T: Taker<S>>(taker: &T, into: &mut S, tail: Tail, count: u32)
-    ensures { TakesAll (T.takes taker.now) into.old into.new (tail_lines tail ++ EndLine count ∷ []) }
+/// Hands on the torn end, if there is one, and the count of the messages.
+fn walk_end<S, V: LineVisitor<S>>(visitor: &V, into: &mut S, tail: Tail, count: u32)
+    ensures { TakesAll (V.takes visitor.now) into.old into.new (tail_lines tail ++ EndLine count ∷ []) }
 {
-    walk_tail(taker, into, tail);
-    taker.take(into, Line::End { count });
+    walk_tail(visitor, into, tail);
+    visitor.visit(into, Line::End { count });
 }
 
-fn walk_tail<S, T: Taker<S>>(taker: &T, into: &mut S, tail: Tail)
-    ensures { TakesAll (T.takes taker.now) into.old into.new (tail_lines tail) }
+/// Hands on the line of a torn end, if the log has one.
+fn walk_tail<S, V: LineVisitor<S>>(visitor: &V, into: &mut S, tail: Tail)
+    ensures { TakesAll (V.takes visitor.now) into.old into.new (tail_lines tail) }
 {
     match tail {
         Tail::Clean => {}
-        Tail::Torn { pos } => taker.take(into, Line::Torn { offset: pos }),
+        Tail::Torn { pos } => visitor.visit(into, Line::Torn { offset: pos }),
     }
 }

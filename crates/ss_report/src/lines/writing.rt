@@ -8,7 +8,7 @@ ghost use Rattle.ss_report.specs.lines.Whole.{lines_with};
 use crate::forms::report_form::{ReportForm, write_line_as};
 use crate::lines::detail::Detail;
 use crate::lines::line::Line;
-use crate::lines::taker::Taker;
+use crate::lines::visitor::LineVisitor;
 use crate::lines::walk::walk_lines;
 use crate::lines::walk_whole::walk_lines_with;
 use crate::lines::whole::WholeReport;
@@ -22,11 +22,11 @@ struct Writing {
     form: ReportForm,
 }
 
-impl<W: Write> Taker<Watched<W>> for Writing {
+impl<W: Write> LineVisitor<Watched<W>> for Writing {
     ghost takes = { λ t before after line.
         Writes (sink_of W.contents before) (sink_of W.contents after) (line_as t.form line) };
 
-    fn take(&self, into: &mut Watched<W>, line: Line<'_>) {
+    fn visit(&self, into: &mut Watched<W>, line: Line<'_>) {
         write_line_as(into, self.form, line);
     }
 }

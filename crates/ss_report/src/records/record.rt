@@ -49,7 +49,7 @@ pub(crate) fn end<W: Write>(writer: &mut Watched<W>, notation: Notation)
     }
 }
 
-/// Whether a notation says what a question is about, after what is asked.
+/// Whether a notation writes what a question is about, after what is asked.
 pub(crate) fn says_about(notation: Notation) -> bool
     ensures { result ≡ says_about notation }
 {

@@ -1,6 +1,6 @@
 //! The value of a field.
 
-/// What a field says.
+/// The value of a field.
 #[derive(Clone, Copy)]
 pub(crate) enum Value<'v> {
     /// A number in decimal.

@@ -1,4 +1,4 @@
-//! What of a log is carried over to the next one, where sessions go on from log to log.
+//! What is carried over from a log to the next one, where sessions go on from log to log.
 ghost use Rattle.std.specs.Prelude.{◌≡◌, ◌≤◌, ◌++◌, ◌∷◌, [], ℕ, true, List, length, IfOk, OnOk, if◌then◌else◌};
 ghost use Rattle.std.specs.List.{cons_option};
 ghost use Rattle.std.specs.BTreeSet.{Updates, contains};
@@ -13,8 +13,8 @@ ghost use Rattle.ss_report.specs.runs.Carrying.{carried_by, is_verified_in};
 ghost use Rattle.ss_report.specs.runs.CarriedSoFar.{KnowsExtents, carried_at, carried_numbers, carried_verified};
 ghost use Rattle.ss_report.specs.runs.CarriedSoFar.{carried_with, extent_cmp};
 
+use crate::runs::lookups::{entries_under, has_gap, is_refused, joined_session};
 use crate::runs::places::{add_of_entries, put_in_order};
-use crate::runs::told::{entries_under, has_gap, is_refused, told_joined};
 use ss_block::{CertBlock, FullReading, Reading, Session, SigBlock, may_hold_block, read_fully};
 use ss_octets::{Bytes, NoMemory};
 use ss_review::{Entry, Places, Report};
@@ -137,7 +137,7 @@ fn carry_signature(
           signed = octets;
         })) }
 {
-    let Some(told) = told_joined(report, session) else {
+    let Some(reported) = joined_session(report, session) else {
         places.push(place)?;
         return Ok(());
     };
@@ -145,11 +145,11 @@ fn carry_signature(
     if refused {
         return Ok(());
     }
-    carry_numbers(places, place, entries_under(told, block))
+    carry_numbers(places, place, entries_under(reported, block))
 }
 
-/// Adds the place of a verified signature block and those that are listed under its numbers, whose entries these are,
-/// if one of them is a gap.
+/// Adds the place of a verified signature block whose numbers have these entries, if one of them is a gap. The messages
+/// that the entries list are added too.
 fn carry_numbers(places: &mut Vec<u32>, place: u32, entries: &[Entry]) -> Result<(), NoMemory>
     ensures { OnOk result (places.new.items ≡ places.old.items ++ carried_numbers entries.now place) }
 {
@@ -189,17 +189,17 @@ fn carry_certificate<'a>(
           signed = octets;
         } ∷ []) carried.new.known) }
 {
-    let Some(told) = told_joined(report, session) else {
+    let Some(reported) = joined_session(report, session) else {
         carried.places.push(place)?;
         return Ok(());
     };
     if is_refused(report, place) {
         return Ok(());
     }
-    carry_verified(carried, place, &told.session, block)
+    carry_verified(carried, place, &reported.session, block)
 }
 
-/// Adds the place of a verified certificate block of this session, if none of its extent stands before it.
+/// Adds the place of a verified certificate block of this session, if no verified one before has its extent.
 fn carry_verified<'a>(
     carried: &mut Carried<'a>,
     place: u32,

@@ -16,9 +16,9 @@ pub enum Selection {
     Listed,
     /// The ordinary messages that the report doesn't list, by rising place.
     Unlisted,
-    /// What is carried over to the next log, where sessions go on from log to log: all blocks of sessions that aren't
-    /// joined, the certificate blocks and the signature blocks with a gap of those that are, the messages that are
-    /// listed under the numbers of the latter, and those that are unlisted. By rising place.
+    /// What is carried over to the next log, where sessions go on from log to log, by rising place. These are all
+    /// blocks of sessions that aren't joined, and the unlisted messages. Of joined sessions they are the certificate
+    /// blocks, the signature blocks with a gap, and the messages that are listed under the numbers of the latter.
     Carried,
     /// Those at these places, of any kind and in this order. No review is made.
     At(Places),
@@ -33,7 +33,7 @@ pub struct Extraction {
     pub form: Form,
 }
 
-/// What of a log keeps an extract from being written. Places count its messages from 0.
+/// Why an extract isn't written. Places count its messages from 0.
 #[derive(Clone, Copy, Debug, PartialEq, Eq, Error)]
 pub enum ExtractFault {
     /// E1: the first of the given places that the log hasn't.

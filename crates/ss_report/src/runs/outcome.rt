@@ -38,7 +38,7 @@ impl Outcome {
     }
 }
 
-/// Flushes the writer behind the output of a run, and answers the verdict. `RunFault::Write` exactly where a call of
+/// Flushes the writer after the output of a run, and answers the verdict. `RunFault::Write` exactly where a call of
 /// the writer has failed, in this call or before; what was written then is a prefix of the output.
 pub(crate) fn end_run<W: Write>(
     writer: &mut Watched<W>,

@@ -4,7 +4,7 @@ use std::alloc::Global;
 
 /// What a run over a log takes: a log, where its output goes, and what it may use.
 ///
-/// Where a contract speaks of a run's `exit`, `exit.0` is the reader as the run leaves it, and `exit.1.0` the writer.
+/// Where a contract has a run's `exit`, `exit.0` is the reader as the run leaves it, and `exit.1.0` the writer.
 #[derive(Drop)]
 pub struct Run<'r, R, W> {
     /// The log. It hasn't failed.

@@ -28,6 +28,7 @@ pub(crate) fn put_end(
     Ok(writer.into_inner())
 }
 
+/// Writes the line of a torn end, if there is one, and the count of the messages.
 fn write_end<W: Write>(writer: &mut Watched<W>, tail: Tail, count: u64, notation: Notation)
     ensures { Writes (sink_of W.contents writer.old) (sink_of W.contents writer.new) (end_lines notation tail count) }
 {
@@ -35,6 +36,7 @@ fn write_end<W: Write>(writer: &mut Watched<W>, tail: Tail, count: u64, notation
     write_number_as(writer, b"end", b"count", count, notation);
 }
 
+/// Writes the line of a torn end, if there is one.
 fn write_torn<W: Write>(writer: &mut Watched<W>, tail: Tail, notation: Notation)
     ensures { Writes (sink_of W.contents writer.old) (sink_of W.contents writer.new) (torn_line notation tail) }
 {
@@ -44,7 +46,7 @@ fn write_torn<W: Write>(writer: &mut Watched<W>, tail: Tail, notation: Notation)
     }
 }
 
-/// Writes a line that says one number.
+/// Writes a line with one number.
 fn write_number_as<W: Write>(
     writer: &mut Watched<W>,
     kind: &[u8],

@@ -1,4 +1,4 @@
-//! The line that says what a stored message is.
+//! The line of an inspection: what a stored message is.
 ghost use Rattle.std.specs.Prelude.{◌≡◌, ◌++◌, None, IfOk, OnOk};
 ghost use Rattle.ss_frame.specs.Watched.{sink_of};
 ghost use Rattle.ss_report.specs.log.Writing.{Writes};
@@ -129,7 +129,7 @@ fn put_unparsed<W: Write>(
     put(writer, notation, b"offset", Value::Number(pos as u64));
 }
 
-/// Writes what a signature block says: its head, GBC, FMN and CNT (RFC 5848, section 4.2).
+/// Writes the fields of a signature block: its head, GBC, FMN and CNT (RFC 5848, section 4.2).
 fn put_signature<W: Write>(
     writer: &mut Watched<W>,
     notation: Notation,
@@ -147,7 +147,7 @@ fn put_signature<W: Write>(
     put(writer, notation, b"count", Value::Number(count));
 }
 
-/// Writes what a certificate block says: its head, TPBL, INDEX and FLEN (RFC 5848, section 5.3.2).
+/// Writes the fields of a certificate block: its head, TPBL, INDEX and FLEN (RFC 5848, section 5.3.2).
 fn put_certificate<W: Write>(
     writer: &mut Watched<W>,
     notation: Notation,
@@ -175,7 +175,7 @@ fn put_certificate<W: Write>(
     put(writer, notation, b"length", Value::Number(length));
 }
 
-/// Writes what a block of either kind says first: its place, its session, where one is known, and its group.
+/// Writes the head of a block of either kind: its place, its session, where one is known, and its group.
 #[tactic(auto, using(crate::proofs::of_writing::Records::three_fields))]
 fn put_head<W: Write>(
     writer: &mut Watched<W>,

@@ -15,10 +15,10 @@ use ss_review::Report;
 #[derive(Clone, Copy, Debug, PartialEq, Eq)]
 pub enum Verdict {
     /// Of a review: each announced message is listed, each stored message is listed or a verified block, each session
-    /// is joined, and the log has a clean end. Of a review that says what is missing beside the report: besides,
-    /// nothing is. Of an inspection, of questions and of counters: the log has a clean end.
+    /// is joined, and the log has a clean end. Of a review that reports what is missing: nothing is missing either. Of
+    /// an inspection, of questions and of counters: the log has a clean end.
     Clean,
-    /// Something of that isn't so.
+    /// One of these conditions doesn't hold.
     Findings,
 }
 
@@ -37,7 +37,7 @@ pub(crate) fn report_verdict(report: &Report, tail: Tail) -> Verdict
     ensures { result ≡ report_verdict report.now tail }
 {
     let mut settled = true;
-    walk_lines(&Settling, &mut settled, report, tail, Detail::Each);
+    walk_lines(&Settling, &mut settled, report, tail, Detail::Itemized);
     verdict_of(settled)
 }
 
@@ -46,7 +46,7 @@ pub(crate) fn verdict_with(whole: &WholeReport) -> Verdict
     ensures { result ≡ verdict_with whole.now.report whole.now.short whole.now.tail }
 {
     let mut settled = true;
-    walk_lines_with(&Settling, &mut settled, whole, Detail::Each);
+    walk_lines_with(&Settling, &mut settled, whole, Detail::Itemized);
     verdict_of(settled)
 }
 

@@ -15,9 +15,8 @@ use Rattle.ss_review.specs.assign.Assigning.{bearer_wanted, is_at}
 use Rattle.ss_review.specs.assign.StoredHashes.{Lists, IsFoundFor, place_beside, counted_at, Tallies}
 use Rattle.ss_review.proofs.of_lists.Counting.{count_by-push}
 use Rattle.ss_review.proofs.of_lists.Keyed.{from_less}
-use Rattle.ss_review.proofs.of_lists.Rising.{below_all}
 use Rattle.ss_review.proofs.of_lists.Searching.{has_at}
-use Rattle.ss_origin.proofs.Members.{Has, has-map}
+use Rattle.ss_octets.proofs.Members.{Has, has-map, all-has}
 use Rattle.ss_review.proofs.of_assignment.StoredRuns.{PlacesRise, no_bearer, behind, bearer, bearer_found, at_place, place_with_number}
 
 -- ---- what is found for a key
@@ -86,7 +85,7 @@ last_is_greatest (x ∷ y ∷ zs) (suc n) d e up m (inl s) =
       arith,
       ap (λ (k : StoredMessage). k.place) s,
       from_less x.place (get_or (y ∷ zs) n d).place
-          (below_all (λ p. nat_cmp x.place p ≡ Less) (map (λ (k : StoredMessage). k.place) (y ∷ zs)) (get_or (y ∷ zs) n d).place up.0
+          (all-has (λ p. nat_cmp x.place p ≡ Less) (map (λ (k : StoredMessage). k.place) (y ∷ zs)) (get_or (y ∷ zs) n d).place up.0
           (has-map (λ (k : StoredMessage). k.place) (y ∷ zs) (get_or (y ∷ zs) n d) (has_at (y ∷ zs) n d (omega (arith, e))))),
     )
 last_is_greatest (x ∷ y ∷ zs) (suc n) d e up m (inr h) = last_is_greatest (y ∷ zs) n d (omega (arith, e)) up.1 m h

@@ -10,7 +10,7 @@ use Rattle.ss_review.specs.assign.Assigned.{has_hash, same_pair, is_pair, pair_o
 use Rattle.ss_review.specs.assign.Assigning.{pair_wanted, pairs_wanted, bearer_wanted, bearers_wanted, is_at, place_after}
 use Rattle.ss_review.proofs.of_lists.Counting.{count_by-cons, same_itself, same_pair-is}
 use Rattle.ss_review.proofs.of_lists.Finding.{find_some, find_least, finds}
-use Rattle.ss_origin.proofs.Members.{Has}
+use Rattle.ss_octets.proofs.Members.{Has}
 
 -- both hashes that a key wants are its bearer's
 pub pair_is : (ms : List NormalMessage) (h : Option Hash) → pair_wanted ms h ≡ option_map (λ m. m.pair) (bearer_wanted ms h)

@@ -27,9 +27,7 @@ use Rattle.ss_review.specs.keep.Keeping.{places_in, KeepsNormal}
 use Rattle.ss_review.proofs.of_kept_messages.Bounds.{with_itself}
 use Rattle.ss_review.proofs.of_lists.Counting.{same_pair-is}
 use Rattle.ss_review.proofs.of_lists.Keyed.{from_less, keys_rise-filter}
-use Rattle.ss_origin.proofs.Members.{Has, has_from_contains, contains_from_has}
-use Rattle.ss_review.proofs.of_lists.Members.{from_has-map, from_has-filter, has-filter_map, from_has-filter_map}
-use Rattle.ss_review.proofs.of_lists.Rising.{below_all}
+use Rattle.ss_octets.proofs.Members.{Has, has_from_contains, contains_from_has, from_has-map, from_has-filter, has-filter_map, from_has-filter_map, all-has}
 use Rattle.ss_review.proofs.of_lists.Searching.{not_eq, eq_itself}
 use Rattle.ss_review.proofs.of_lists.Finding.{finds, finds_none}
 
@@ -138,7 +136,7 @@ places_rise ms p up = keys_rise-filter (λ (m : NormalMessage). m.place) nat_cmp
 head_least : (ns : List ℕ) (n : ℕ) (k : ℕ) → IsStrictlySortedBy nat_cmp (n ∷ ns) → Has (n ∷ ns) k → n ≤ k
 unfolding IsStrictlySortedBy
 head_least ns n k up (inl e) = omega (arith, e)
-head_least ns n k up (inr h) = omega (arith, from_less n k (below_all (λ j. nat_cmp n j ≡ Less) ns k up.0 h))
+head_least ns n k up (inr h) = omega (arith, from_less n k (all-has (λ j. nat_cmp n j ≡ Less) ns k up.0 h))
 
 candidate_at : (h : Hash) (p : HashPair) (places : List ℕ) (c : NormalMessage) (b : Bool) → has_hash h p ≡ b → cond b (first_with p places) None ≡ Some c → (has_hash h p ≡ true) × (c.pair ≡ p) × Has places c.place
 candidate_at h p [] c true e f = absurd (cc)

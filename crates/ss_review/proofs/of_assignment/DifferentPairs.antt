@@ -8,7 +8,7 @@ use Rattle.ss_block.specs.Hashes.{pair}
 use Rattle.ss_review.specs.declared.keep.message.NormalMessage.{NormalMessage}
 use Rattle.ss_review.specs.assign.Assigned.{same_pair, places_with}
 use Rattle.ss_review.proofs.of_lists.Counting.{count_by-cons, same_pair-is}
-use Rattle.ss_origin.proofs.Members.{Has, contains_from_has}
+use Rattle.ss_octets.proofs.Members.{Has, contains_from_has}
 use Rattle.ss_review.proofs.of_lists.Sums.{sum_by-none, count_by-same}
 
 -- ---- texts whose pairs differ

@@ -23,11 +23,10 @@ use Rattle.ss_review.proofs.of_numbers.Announcements.{announced_row, has-rows, k
 use Rattle.ss_review.proofs.of_lists.Counting.{same_pair-is, same_itself}
 use Rattle.ss_review.proofs.of_lists.Finding.{find_some, find_least, finds, bearer_of}
 use Rattle.ss_review.proofs.of_lists.Keyed.{from_less, slice_get-has, has-slice_get}
-use Rattle.ss_origin.proofs.Members.{Has, has_from_contains, contains_from_has, has-map}
-use Rattle.ss_review.proofs.of_lists.Members.{has-filter, from_has-filter}
+use Rattle.ss_octets.proofs.Members.{Has, has_from_contains, contains_from_has, has-map, has-filter, from_has-filter, all-has}
 use Rattle.ss_review.proofs.of_assignment.OnePlaceOneKey.{wanted_key, assigned_cases, from_has-places_with, places_with-rise, only_one}
 use Rattle.ss_review.proofs.of_kept_messages.PlacesRise.{normals_rise}
-use Rattle.ss_review.proofs.of_lists.Rising.{below_all, same_members}
+use Rattle.ss_review.proofs.of_lists.Rising.{same_members}
 use Rattle.ss_review.proofs.of_lists.TotalOrders.{key_cmp_total, less_is}
 
 abbrev place_of_message : NormalMessage → ℕ
@@ -149,7 +148,7 @@ place_index (q ∷ ps) up zero place e =
     ap (λ b. length (cond b (q ∷ filter (λ r. nat_lt r place) ps) (filter (λ r. nat_lt r place) ps))) not_before
     ∙ none_below place q ps (omega (arith, here)) up.0
 place_index (q ∷ ps) up (suc i) place e =
-    let below : q < place = from_less q place (below_all (λ r. nat_cmp q r ≡ Less) ps place up.0 (has-slice_get ps i place e)) in
+    let below : q < place = from_less q place (all-has (λ r. nat_cmp q r ≡ Less) ps place up.0 (has-slice_get ps i place e)) in
     let rest : length (filter (λ r. nat_lt r place) ps) ≡ i = place_index ps up.1 i place e in
     ap (λ b. length (cond b (q ∷ filter (λ r. nat_lt r place) ps) (filter (λ r. nat_lt r place) ps))) (lt-ltb q place below)
     ∙ ap suc rest

@@ -5,8 +5,7 @@ use Rattle.std.specs.List.{flat_map, range_with_len}
 use Rattle.std.proofs.lemmas.Bool.{cases_eq, eqb-true, eq-eqb}
 use Rattle.std.proofs.lemmas.List.Sums.{length-filter}
 use Rattle.ss_review.proofs.of_lists.EqualCounts.{count_by-all}
-use Rattle.ss_origin.proofs.Members.{Has}
-use Rattle.ss_review.proofs.of_lists.Members.{has-filter, has-append_cases, from_has-map, from_has-flat_map}
+use Rattle.ss_octets.proofs.Members.{Has, has-filter, has-append_cases, from_has-map, from_has-flat_map}
 use Rattle.ss_review.proofs.of_assignment.OnePlaceOneKey.{count_by-fewer}
 use Rattle.ss_review.proofs.of_lists.Tests.{from_in_range}
 

@@ -24,15 +24,14 @@ use Rattle.ss_review.specs.declared.keep.message.NormalMessage.{NormalMessage}
 use Rattle.ss_review.specs.declared.keep.stored_message.StoredMessage.{StoredMessage}
 use Rattle.ss_review.specs.keep.Stored.{no_pair, message_in, Tells}
 use Rattle.ss_review.specs.assign.StoredHashes.{first_octets, start_of, BeginsAsItsHash, alg_place, start_cmp, entry_cmp, stored_hash, hash_of, listed, entry_of, is_by, needed_hashes, needed_entries, no_hashes, stored_cmp}
-use Rattle.ss_review.proofs.of_lists.Members.{has-append_cases, from_has-map}
 use Rattle.ss_review.proofs.of_lists.Keyed.{less}
 use Rattle.ss_review.proofs.of_assignment.NeededHashes.{stored_cmp_exact}
-use Rattle.ss_review.proofs.of_lists.Rising.{all_below, below_all}
+use Rattle.ss_review.proofs.of_lists.Rising.{all_below}
 use Rattle.ss_review.proofs.of_lists.Searching.{map_at}
 use Rattle.ss_review.proofs.of_lists.Sections.{map_agree}
 use Rattle.ss_review.proofs.of_assignment.StoredRuns.{stored_cmp_total}
 use Rattle.ss_review.proofs.of_lists.TotalOrders.{both_tie}
-use Rattle.ss_origin.proofs.Members.{Has, has_from_contains, contains_from_has, has-map}
+use Rattle.ss_octets.proofs.Members.{Has, has_from_contains, contains_from_has, has-map, has-append_cases, from_has-map, all-has}
 
 -- ---- a list in the order of what its items stand for
 
@@ -157,7 +156,7 @@ module _ (pairs : List HashPair) where
   unfolding IsStrictlySortedBy
   rise_by_hash [] begin up = tt
   rise_by_hash (e ∷ es) begin up = (
-    all_below (λ f. by_hash e f ≡ Less) es (λ f h. sym (as_hashes e f (begin e (inl refl)) (begin f (inr h))) ∙ below_all (λ g. entry_cmp pairs e g ≡ Less) es f up.0 h),
+    all_below (λ f. by_hash e f ≡ Less) es (λ f h. sym (as_hashes e f (begin e (inl refl)) (begin f (inr h))) ∙ all-has (λ g. entry_cmp pairs e g ≡ Less) es f up.0 h),
     rise_by_hash es (λ f h. begin f (inr h)) up.1,
   )
 

@@ -14,9 +14,8 @@ use Rattle.ss_block.specs.OrderLaws.{hash_cmp_exact}
 use Rattle.ss_review.specs.declared.keep.message.NormalMessage.{NormalMessage}
 use Rattle.ss_review.specs.declared.assign.stored_hash.StoredHash.{StoredHash}
 use Rattle.ss_review.specs.assign.StoredHashes.{stored_hash, alg_of, is_by, needed_hashes, stored_cmp, Lists}
-use Rattle.ss_review.proofs.of_lists.Members.{has-append_cases, from_has-map}
 use Rattle.ss_review.proofs.of_lists.TotalOrders.{both_tie}
-use Rattle.ss_origin.proofs.Members.{Has, has_from_contains, contains_from_has, has-append_left, has-append_right, has-map}
+use Rattle.ss_octets.proofs.Members.{Has, has_from_contains, contains_from_has, has-append_left, has-append_right, has-map, has-append_cases, from_has-map}
 
 pub stored_cmp_exact : CmpEqualImpliesEq stored_cmp
 stored_cmp_exact a b e =

@@ -16,8 +16,7 @@ use Rattle.ss_review.specs.assign.Assigned.{same_pair, is_pair, places_with, wan
 use Rattle.ss_review.proofs.of_numbers.Announcements.{has-keys, from_has-hashes_for}
 use Rattle.ss_review.proofs.of_lists.Counting.{count_by-cons, same_pair-is, same_itself}
 use Rattle.ss_review.proofs.of_lists.Keyed.{has-slice_get, one_index, one_of_key, keys_rise-filter}
-use Rattle.ss_origin.proofs.Members.{Has}
-use Rattle.ss_review.proofs.of_lists.Members.{from_has-map, from_has-filter}
+use Rattle.ss_octets.proofs.Members.{Has, from_has-map, from_has-filter}
 use Rattle.ss_review.proofs.of_lists.Rising.{reversed}
 use Rattle.ss_review.proofs.of_lists.TotalOrders.{key_cmp_total, key_cmp_exact, less_is}
 

@@ -19,10 +19,9 @@ use Rattle.ss_review.specs.declared.assign.stored_hash.StoredHash.{StoredHash}
 use Rattle.ss_review.specs.declared.assign.wanted_hash.WantedHash.{WantedHash}
 use Rattle.ss_review.specs.assign.StoredHashes.{stored_cmp, is_earlier, has_this, has_hash_at, IsBearerAt, FoundLast, IsNotBelow, IsFoundFor, Wanted, wanted_cmp}
 use Rattle.ss_review.proofs.of_lists.Keyed.{has-slice_get}
-use Rattle.ss_review.proofs.of_lists.Members.{has-append_cases}
-use Rattle.ss_review.proofs.of_lists.Rising.{below_all, not_less_itself, reversed}
+use Rattle.ss_review.proofs.of_lists.Rising.{not_less_itself, reversed}
 use Rattle.ss_review.proofs.of_lists.TotalOrders.{both_tie}
-use Rattle.ss_origin.proofs.Members.{Has, has_from_contains, contains_from_has, has-append_left, has-append_right}
+use Rattle.ss_octets.proofs.Members.{Has, has_from_contains, contains_from_has, has-append_left, has-append_right, has-append_cases, all-has}
 
 -- ---- the first elements of a list
 
@@ -144,7 +143,7 @@ module _ (h : Hash) where
   not_below_from [] start index up le first e at = absurd (cc)
   not_below_from (f ∷ fs) zero zero up le first e at = first e at
   not_below_from (f ∷ fs) zero (suc index) up le first e at =
-      stays_not_below f e (below_all (λ g. stored_cmp f g ≡ Less) fs e up.0 (has-slice_get fs index e at)) (first f refl)
+      stays_not_below f e (all-has (λ g. stored_cmp f g ≡ Less) fs e up.0 (has-slice_get fs index e at)) (first f refl)
   not_below_from (f ∷ fs) (suc start) zero up le first e at = absurd (omega arith)
   not_below_from (f ∷ fs) (suc start) (suc index) up le first e at = not_below_from fs start index up.1 (omega arith) first e at
 
@@ -157,7 +156,7 @@ module _ (h : Hash) where
   in_front (g ∷ gs) zero up above f (inl e) s =
       absurd (not_itself g Greater (above g refl) (λ t. cc) (ap (λ (k : StoredHash). k.hash) e ∙ s))
   in_front (g ∷ gs) zero up above f (inr i) s =
-      absurd (not_itself f Greater (stays_above g f (below_all (λ k. stored_cmp g k ≡ Less) gs f up.0 i) (above g refl)) (λ t. cc) s)
+      absurd (not_itself f Greater (stays_above g f (all-has (λ k. stored_cmp g k ≡ Less) gs f up.0 i) (above g refl)) (λ t. cc) s)
   in_front (g ∷ gs) (suc index) up above f (inl e) s = inl e
   in_front (g ∷ gs) (suc index) up above f (inr i) s = inr (in_front gs index up.1 above f i s)
 
@@ -350,7 +349,7 @@ has-drop (y ∷ ys) (suc i) x e = has-drop ys i x e
 behind_is : (ws : List WantedHash) (n : ℕ) (w v : WantedHash) → IsStrictlySortedBy wanted_cmp ws → slice_get ws n ≡ Some w → Has (drop (suc n) ws) v → wanted_cmp w v ≡ Less
 unfolding IsStrictlySortedBy
 behind_is [] n w v up at i = absurd (cc)
-behind_is (u ∷ us) zero w v up at i = let same : u ≡ w = cc in subst (λ k. wanted_cmp k v ≡ Less) same (below_all (λ k. wanted_cmp u k ≡ Less) us v up.0 i)
+behind_is (u ∷ us) zero w v up at i = let same : u ≡ w = cc in subst (λ k. wanted_cmp k v ≡ Less) same (all-has (λ k. wanted_cmp u k ≡ Less) us v up.0 i)
 behind_is (u ∷ us) (suc n) w v up at i = behind_is us n w v up.1 at i
 
 wanted_not_below : (w v : WantedHash) (c : Ordering) → hash_cmp w.hash v.hash ≡ c → ordering_then c (nat_cmp w.key v.key) ≡ Less → IsNotBelow v.hash (Some w.hash)

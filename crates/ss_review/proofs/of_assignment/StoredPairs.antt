@@ -16,7 +16,7 @@ use Rattle.ss_review.specs.deliveries.DeliveryLaws.{Case, normals_in, IsStored}
 use Rattle.ss_review.proofs.of_lists.Counting.{same_pair-is, same_itself}
 use Rattle.ss_review.proofs.of_assignment.DifferentPairs.{any_place}
 use Rattle.ss_review.proofs.of_lists.Keyed.{has-slice_get, slice_get-has}
-use Rattle.ss_origin.proofs.Members.{has_from_contains, contains_from_has}
+use Rattle.ss_octets.proofs.Members.{has_from_contains, contains_from_has}
 use Rattle.ss_review.proofs.of_kept_messages.NotesTold.{has-normal}
 use Rattle.ss_review.proofs.of_lists.Tests.{any_member, member_any}
 use Rattle.ss_review.proofs.of_reports.Witnesses.{stored_normal}

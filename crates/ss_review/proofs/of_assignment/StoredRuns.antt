@@ -23,10 +23,9 @@ use Rattle.ss_review.specs.assign.StoredHashes.{stored_hash, alg_of, stored_cmp,
 use Rattle.ss_review.proofs.of_lists.Counting.{same_itself, same_pair-is}
 use Rattle.ss_review.proofs.of_lists.Finding.{finds, finds_none}
 use Rattle.ss_review.proofs.of_lists.Keyed.{less, from_less, has-slice_get, keys_rise-filter}
-use Rattle.ss_review.proofs.of_lists.Members.{from_has-map, has-filter, from_has-filter}
-use Rattle.ss_review.proofs.of_lists.Rising.{below_all, all_below, same_members}
+use Rattle.ss_review.proofs.of_lists.Rising.{all_below, same_members}
 use Rattle.ss_review.proofs.of_lists.TotalOrders.{both_tie}
-use Rattle.ss_origin.proofs.Members.{Has, has_from_contains, contains_from_has, has-map}
+use Rattle.ss_octets.proofs.Members.{Has, has_from_contains, contains_from_has, has-map, from_has-map, has-filter, from_has-filter, all-has}
 
 -- ---- the orders
 
@@ -87,7 +86,7 @@ module _ (e : StoredHash) where
       yes t = ap is_eq (hashes_cmp_total.antisymm g e ∙ ap ordering_reverse t)
 
       behind : hashes_cmp e g ≡ Less → AllByRecursion (λ f. hashes_cmp e f ≡ Less) (g ∷ fs)
-      behind t = (t, all_below (λ f. hashes_cmp e f ≡ Less) fs (λ f h. apart g f t (below_all (λ f. stored_cmp g f ≡ Less) fs f up.0 h)))
+      behind t = (t, all_below (λ f. hashes_cmp e f ≡ Less) fs (λ f h. apart g f t (all-has (λ f. stored_cmp g f ≡ Less) fs f up.0 h)))
 
       by : (c : Ordering) → hashes_cmp e g ≡ c → (j : ℕ)
           → ((i : ℕ) → place_beside e (slice_get fs i) ≡ slice_get (map (λ (f : StoredHash). f.place) (filter same fs)) i)
@@ -114,7 +113,7 @@ module _ (e : StoredHash) where
 
   not_above_itself : (fs : List StoredHash) → AllByRecursion (λ f. stored_cmp e f ≡ Less) fs → AllByRecursion (λ f. hashes_cmp e f ≢ Greater) fs
   not_above_itself fs a = all_below (λ f. hashes_cmp e f ≢ Greater) fs (λ f h t.
-      (let r : ordering_then (hashes_cmp e f) (nat_cmp e.place f.place) ≡ Less = sym (by_hashes e f) ∙ below_all (λ f. stored_cmp e f ≡ Less) fs f a h in
+      (let r : ordering_then (hashes_cmp e f) (nat_cmp e.place f.place) ≡ Less = sym (by_hashes e f) ∙ all-has (λ f. stored_cmp e f ≡ Less) fs f a h in
       let no : Greater ≡ Less = sym (ap (λ c. ordering_then c (nat_cmp e.place f.place)) t) ∙ r in cc))
 
   tied : hashes_cmp e e ≢ Greater
@@ -132,7 +131,7 @@ module _ (e : StoredHash) where
       ap (λ n. place_beside e (slice_get (g ∷ fs) n)) (let z : 0 + k ≡ k = omega arith in z)
       ∙ run (g ∷ fs) up (first, not_above_itself fs (subst (λ f. AllByRecursion (λ k. stored_cmp f k ≡ Less) fs) is up.0)) k
   run_from (g ∷ fs) (suc i) up at least k =
-      let before : stored_cmp g e ≡ Less = below_all (λ f. stored_cmp g f ≡ Less) fs e up.0 (has-slice_get fs i e at) in
+      let before : stored_cmp g e ≡ Less = all-has (λ f. stored_cmp g f ≡ Less) fs e up.0 (has-slice_get fs i e at) in
       ap (λ n. place_beside e (slice_get (g ∷ fs) n)) (let z : suc i + k ≡ suc (i + k) = omega arith in z)
       ∙ run_from fs i up.1 at (λ f h. least f (inr h)) k
       ∙ sym (ap (λ b. slice_get (map (λ (f : StoredHash). f.place) (cond b (g ∷ filter same fs) (filter same fs))) k) (other (same g) refl before))
@@ -156,7 +155,7 @@ module _ (e : StoredHash) where
         all_below (λ p. nat_cmp g.place p ≡ Less) (map (λ (f : StoredHash). f.place) (filter same fs)) (λ p h.
             (let w = from_has-map (λ (f : StoredHash). f.place) (filter same fs) p h in
             let v = from_has-filter same fs w.0 w.1 in
-            subst (λ q. nat_cmp g.place q ≡ Less) w.2 (less g.place w.0.place (nearer g w.0 (alike w.0 s v.1) (below_all (λ f. stored_cmp g f ≡ Less) fs w.0 up.0 v.0))))),
+            subst (λ q. nat_cmp g.place q ≡ Less) w.2 (less g.place w.0.place (nearer g w.0 (alike w.0 s v.1) (all-has (λ f. stored_cmp g f ≡ Less) fs w.0 up.0 v.0))))),
         rest,
       )
       by false s rest = rest

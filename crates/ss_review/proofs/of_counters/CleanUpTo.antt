@@ -21,7 +21,7 @@ use Rattle.ss_review.specs.counted.KeptLaws.{IsToldOf, IsInTail, IsInRunOf, Noth
 use Rattle.ss_review.specs.report.Meaning.{Tells, IsListed}
 use Rattle.ss_review.specs.report.Report.{report}
 use Rattle.ss_review.specs.report.Verdict.{is_joined, is_listed, is_none, is_clean}
-use Rattle.ss_origin.proofs.Members.{has_from_contains}
+use Rattle.ss_octets.proofs.Members.{has_from_contains}
 use Rattle.ss_review.proofs.of_lists.Tests.{all_member}
 
 -- every entry of a clean report is a listed message

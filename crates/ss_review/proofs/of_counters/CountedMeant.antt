@@ -29,11 +29,10 @@ use Rattle.ss_review.specs.report.Report.{report}
 use Rattle.ss_review.specs.Laws.{AnnouncedAreTold, ReportsAreInOrder}
 use Rattle.ss_review.specs.counted.Counted.{gbc_said, gbcs_said, gbcs, next_after, number_announced, next_number}
 use Rattle.ss_review.specs.counted.CountedLaws.{IsCounted, IsNext, CountedAreVerified, CountedOrMissing, NextGbcFollows, NextNumbersFollow}
-use Rattle.ss_origin.proofs.Members.{Has, has-map, has_from_contains, contains_from_has}
+use Rattle.ss_octets.proofs.Members.{Has, has-map, has_from_contains, contains_from_has, from_has-map, has-filter, from_has-filter, has-flat_map, from_has-flat_map}
 use Rattle.ss_review.proofs.of_reports.EntriesMeant.{greatest_of}
 use Rattle.ss_review.proofs.of_reports.EntriesRise.{fold_max-member}
 use Rattle.ss_review.proofs.of_lists.Keyed.{one_of_key}
-use Rattle.ss_review.proofs.of_lists.Members.{from_has-map, has-filter, from_has-filter, has-flat_map, from_has-flat_map}
 use Rattle.ss_review.proofs.of_counters.MissingRuns.{are_missing}
 use Rattle.ss_review.proofs.of_lists.Rising.{rises-in_order, has-in_order, from_has-in_order}
 

@@ -20,11 +20,10 @@ use Rattle.ss_review.specs.sessions.Verified.{Answers}
 use Rattle.ss_review.specs.report.Report.{report}
 use Rattle.ss_review.specs.counted.Counted.{gbcs, counted_session, next_after, next_number}
 use Rattle.ss_review.specs.counted.CountedLaws.{IsInRange, NextNumbersFollow, CountedAreInRange, NextNumbersAreInRange}
-use Rattle.ss_origin.proofs.Members.{Has, has_from_contains, contains_from_has}
+use Rattle.ss_octets.proofs.Members.{Has, has_from_contains, contains_from_has, from_has-map}
 use Rattle.ss_review.proofs.of_counters.CountedMeant.{counted_are_verified}
 use Rattle.ss_review.proofs.of_reports.EntriesMeant.{greatest_of}
 use Rattle.ss_review.proofs.of_reports.EntriesRise.{all_map}
-use Rattle.ss_review.proofs.of_lists.Members.{from_has-map}
 use Rattle.ss_review.proofs.of_reports.Witnesses.{stored_block, said_signature}
 
 -- what a stored signature block says is in range

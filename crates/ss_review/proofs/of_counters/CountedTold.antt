@@ -28,8 +28,8 @@ use Rattle.ss_review.specs.sessions.Verified.{Answers, joined, is_verified}
 use Rattle.ss_review.specs.announced.Numbered.{session_with_joined, sessions_joined}
 use Rattle.ss_review.specs.counted.Counted.{gbc_said, gbcs_said, gbcs, counted_sessions}
 use Rattle.ss_review.specs.counted.CountedSoFar.{found_of, nothing_of, with_gbc, gbcs_added, with_block, found_among, counted_in_order}
-use Rattle.ss_origin.proofs.Members.{Has, has-map, contains_from_has, has_from_contains}
-use Rattle.ss_review.proofs.of_lists.Rising.{below_all, rises-in_order, in_order_by}
+use Rattle.ss_octets.proofs.Members.{Has, has-map, contains_from_has, has_from_contains, all-has}
+use Rattle.ss_review.proofs.of_lists.Rising.{rises-in_order, in_order_by}
 use Rattle.ss_review.proofs.of_sessions.Verifying.{searchable}
 
 abbrev session_of : SessionGbcs → Session
@@ -64,7 +64,7 @@ module _ (s : Session) (gbc : ℕ) where
   found_more (x ∷ xs) zero d y up below tie same more =
       let here : session_of x ≡ s = session_cmp_exact (session_of x) s tie in
       let rest = others_stay s gbc xs (λ z h. above_differs s (session_of z)
-      (session_cmp_total.antisymm (session_of z) s ∙ ap ordering_reverse (subst (λ t. session_cmp t (session_of z) ≡ Less) here (below_all (λ t. session_cmp (session_of x) t ≡ Less) (map session_of xs) (session_of z) up.0 (has-map session_of xs z h))))) in
+      (session_cmp_total.antisymm (session_of z) s ∙ ap ordering_reverse (subst (λ t. session_cmp t (session_of z) ≡ Less) here (all-has (λ t. session_cmp (session_of x) t ≡ Less) (map session_of xs) (session_of z) up.0 (has-map session_of xs z h))))) in
       let tied : same_session s (session_of x) ≡ true = ap (λ t. is_eq (session_cmp s t)) here ∙ ap is_eq (tied_itself session_cmp_total s) in
       let own : y.gbcs.items ≡ x.gbcs.items ++ (if same_session s (session_of x) then gbc ∷ [] else []) = more ∙ ap (λ b. x.gbcs.items ++ cond b (gbc ∷ []) []) (sym tied) in
       λ i. (same i, own i) ∷ rest i
@@ -72,7 +72,7 @@ module _ (s : Session) (gbc : ℕ) where
       let at = session_of (get_or xs k d) in
       let there : at ≡ s = session_cmp_exact at s tie in
       let less : session_cmp (session_of x) s ≡ Less
-      = subst (λ t. session_cmp (session_of x) t ≡ Less) there (below_all (λ t. session_cmp (session_of x) t ≡ Less) (map session_of xs) at up.0 (has-map session_of xs (get_or xs k d) (has_from_contains xs (get_or xs k d) (k, omega (arith, below), get_or_default xs k (get_or xs k d) d (omega (arith, below)))))) in
+      = subst (λ t. session_cmp (session_of x) t ≡ Less) there (all-has (λ t. session_cmp (session_of x) t ≡ Less) (map session_of xs) at up.0 (has-map session_of xs (get_or xs k d) (has_from_contains xs (get_or xs k d) (k, omega (arith, below), get_or_default xs k (get_or xs k d) d (omega (arith, below)))))) in
       let head = other_stays s gbc (found_of x) (below_differs s (session_of x) less) in
       let rest = found_more xs k d y up.1 (omega (arith, below)) tie same more in
       λ i. head i ∷ rest i

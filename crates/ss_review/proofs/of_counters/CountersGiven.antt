@@ -25,10 +25,9 @@ use Rattle.ss_review.specs.counted.Counted.{gbcs, counted_session, counted_sessi
 use Rattle.ss_review.specs.report.Entries.{same_group}
 use Rattle.ss_review.specs.counted.Kept.{counters_of, kept_sessions, blocks_said, number_said, gbc_in, number_in, groups_in, number_behind, tail_between, tails_in}
 use Rattle.ss_review.specs.counted.KeptLaws.{group_given, session_given, given_beside, counters_given, CountersGivenBack, LogCountersAddNothing}
-use Rattle.ss_origin.proofs.Members.{Has, has-map}
+use Rattle.ss_octets.proofs.Members.{Has, has-map, from_has-map, has-filter, from_has-filter, from_has-flat_map}
 use Rattle.ss_review.proofs.of_reports.EntriesMeant.{greatest_of}
 use Rattle.ss_review.proofs.of_reports.EntriesRise.{fold_max-member}
-use Rattle.ss_review.proofs.of_lists.Members.{from_has-map, has-filter, from_has-filter, from_has-flat_map}
 use Rattle.ss_review.proofs.of_lists.Rising.{all_below, from_has-in_order}
 use Rattle.ss_review.proofs.of_lists.Sections.{keeps_none, map_agree}
 use Rattle.ss_review.proofs.of_counters.Shortfalls.{zip-map, is_same, same_is, its_report, report_of_session, reports_are, all_told, known_of, known_are, is_absent, absent_of, absent_are}

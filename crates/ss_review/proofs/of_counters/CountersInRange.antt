@@ -36,10 +36,9 @@ use Rattle.ss_review.specs.counted.CountedLaws.{IsInRange, CountedAreInRange, Ne
 use Rattle.ss_review.specs.counted.CounterRange.{IsName, IsSession, IsNext, IsCounter}
 use Rattle.ss_review.specs.counted.KeptLaws.{LogCountersAreInRange}
 use Rattle.ss_review.specs.Laws.{KeysAreAnnounced}
-use Rattle.ss_origin.proofs.Members.{Has, has-map, contains_from_has}
+use Rattle.ss_octets.proofs.Members.{Has, has-map, contains_from_has, from_has-map}
 use Rattle.ss_review.proofs.of_counters.CountedRange.{said_in_range}
 use Rattle.ss_review.proofs.of_counters.CountersGiven.{IsGiven, given, given_by}
-use Rattle.ss_review.proofs.of_lists.Members.{from_has-map}
 use Rattle.ss_review.proofs.of_lists.Rising.{all_below, from_has-in_order}
 use Rattle.ss_review.proofs.of_counters.Shortfalls.{report_of_session, reports_are}
 use Rattle.ss_review.proofs.of_reports.Telling.{from_has-groups}

@@ -35,13 +35,12 @@ use Rattle.ss_review.specs.report.Report.{report}
 use Rattle.ss_review.specs.counted.Kept.{counters_of, kept_sessions, kept_number, number_said, group_said, number_in, groups_in, number_behind, tail_between, tails_in}
 use Rattle.ss_review.specs.counted.KeptLaws as fates
 use Rattle.ss_review.specs.counted.KeptLaws.{shortfalls_of, IsToldOf, IsInTail, IsInHole, Fate, HasFate, EveryNumberIsTold}
-use Rattle.ss_origin.proofs.Members.{Has, has-map, has_from_contains, contains_from_has}
+use Rattle.ss_octets.proofs.Members.{Has, has-map, has_from_contains, contains_from_has, from_has-map, has-filter, from_has-filter, has-flat_map, from_has-flat_map}
 use Rattle.ss_review.proofs.of_reports.EntriesMeant.{greatest_of}
 use Rattle.ss_review.proofs.of_reports.EntriesRise.{fold_max-from, fold_max-member}
 use Rattle.ss_review.proofs.of_reports.HoleAt.{hole_at}
 use Rattle.ss_review.proofs.of_lists.Keyed.{one_of_key}
 use Rattle.ss_review.proofs.of_counters.KeptBlocks.{has_kept, session_kept}
-use Rattle.ss_review.proofs.of_lists.Members.{from_has-map, has-filter, from_has-filter, has-flat_map, from_has-flat_map}
 use Rattle.ss_review.proofs.of_lists.Rising.{has-in_order}
 use Rattle.ss_review.proofs.of_counters.Shortfalls.{GroupsAre, reported, absent, IsOf, told_is, there}
 use Rattle.ss_review.proofs.of_lists.Tests.{any_member, member_any}

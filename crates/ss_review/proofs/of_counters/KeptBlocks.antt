@@ -14,9 +14,8 @@ use Rattle.ss_review.specs.counted.Counted.{gbcs, missing}
 use Rattle.ss_review.specs.counted.CountedLaws.{IsCounted, IsInRun, CountedAreVerified, CountedOrMissing}
 use Rattle.ss_review.specs.counted.Kept.{counters_of, kept_sessions, kept_gbc, gbc_in, blocks_said, end_of_blocks}
 use Rattle.ss_review.specs.counted.KeptLaws.{shortfalls_of, IsInRunOf, EveryBlockIsTold}
-use Rattle.ss_origin.proofs.Members.{Has, has-map}
+use Rattle.ss_octets.proofs.Members.{Has, has-map, from_has-map, from_has-filter}
 use Rattle.ss_review.proofs.of_reports.EntriesMeant.{greatest_of}
-use Rattle.ss_review.proofs.of_lists.Members.{from_has-map, from_has-filter}
 use Rattle.ss_review.proofs.of_lists.Rising.{has-in_order}
 use Rattle.ss_review.proofs.of_counters.Shortfalls.{IsOf, told_is, there, is_same}
 

@@ -20,9 +20,8 @@ use Rattle.ss_review.specs.counted.Counted.{next_number}
 use Rattle.ss_review.specs.counted.CountedLaws.{IsInRange}
 use Rattle.ss_review.specs.sessions.Sessions.{same_session}
 use Rattle.ss_review.specs.counted.Kept.{absent_among, AreGroups, AreReviewed}
-use Rattle.ss_origin.proofs.Members.{Has, has-map, has_from_contains}
+use Rattle.ss_octets.proofs.Members.{Has, has-map, has_from_contains, from_has-map}
 use Rattle.ss_review.proofs.of_lists.Lookups.{any_none, found_nowhere}
-use Rattle.ss_review.proofs.of_lists.Members.{from_has-map}
 use Rattle.ss_review.proofs.of_lists.Tests.{member_any}
 
 abbrev of : SessionReport → Session

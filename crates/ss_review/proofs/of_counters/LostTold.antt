@@ -24,10 +24,9 @@ use Rattle.ss_review.specs.counted.KeptLaws as fates
 use Rattle.ss_review.specs.counted.KeptLaws.{shortfalls_of, IsInTail, IsInHole, Fate, HasFate, EveryNumberIsTold, ReachTheEnd, number_kept, counters_kept, OwnCountersReachTheEnd, IsLost, LostAreTold}
 use Rattle.ss_review.specs.report.Meaning.{IsListed, IsGap}
 use Rattle.ss_review.specs.sessions.Sessions.{same_session}
-use Rattle.ss_origin.proofs.Members.{Has, has-map, contains_from_has}
+use Rattle.ss_octets.proofs.Members.{Has, has-map, contains_from_has, has-filter}
 use Rattle.ss_review.proofs.of_reports.EntriesRise.{fold_max-member}
 use Rattle.ss_review.proofs.of_lists.Keyed.{has-slice_get}
-use Rattle.ss_review.proofs.of_lists.Members.{has-filter}
 
 -- ---- the counters of a chain
 

@@ -12,10 +12,9 @@ use Rattle.std.proofs.lemmas.List.Kept.{AllPairs-cons}
 use Rattle.ss_review.specs.declared.counted.missing.MissingRun.{MissingRun}
 use Rattle.ss_review.specs.counted.Counted.{run_between, missing}
 use Rattle.ss_review.specs.counted.CountedLaws.{AreMissing}
-use Rattle.ss_origin.proofs.Members.{Has, has-append_left, has-append_right, has_from_contains, contains_from_has}
-use Rattle.ss_review.proofs.of_lists.Members.{from_has-filter, has-append_cases}
+use Rattle.ss_octets.proofs.Members.{Has, has-append_left, has-append_right, has_from_contains, contains_from_has, from_has-filter, has-append_cases, all-has}
 use Rattle.ss_review.proofs.of_lists.Keyed.{from_less}
-use Rattle.ss_review.proofs.of_lists.Rising.{below_all, all_below}
+use Rattle.ss_review.proofs.of_lists.Rising.{all_below}
 use Rattle.ss_review.proofs.of_lists.Sections.{keeps_none}
 use Rattle.ss_review.proofs.of_reports.EntriesTold.{flat_map_agree}
 
@@ -32,7 +31,7 @@ pub record RiseFrom (first : ℕ) (gs : List ℕ) : Type 0 where
 
 later : (first g : ℕ) (gs : List ℕ) → RiseFrom first (g ∷ gs) → (n : ℕ) → Has gs n → g < n
 unfolding IsStrictlySortedBy
-later first g gs up n h = from_less g n (below_all (λ m. nat_cmp g m ≡ Less) gs n up.rise.0 h)
+later first g gs up n h = from_less g n (all-has (λ m. nat_cmp g m ≡ Less) gs n up.rise.0 h)
 
 behind : (first g : ℕ) (gs : List ℕ) → RiseFrom first (g ∷ gs) → RiseFrom (g + 1) gs
 unfolding IsStrictlySortedBy

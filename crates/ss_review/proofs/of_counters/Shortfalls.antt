@@ -28,8 +28,7 @@ use Rattle.ss_review.specs.counted.Counted.{gbcs, counted_session}
 use Rattle.ss_review.specs.counted.CountedLaws.{CountedAreVerified}
 use Rattle.ss_review.specs.counted.Kept.{counters_of, kept_sessions, shortfall, shortfall_in, absent_among, log_shortfalls}
 use Rattle.ss_review.specs.counted.KeptLaws.{shortfalls_of, IsToldOf}
-use Rattle.ss_origin.proofs.Members.{Has, has-map, has_from_contains, contains_from_has}
-use Rattle.ss_review.proofs.of_lists.Members.{from_has-map, has-filter, from_has-filter}
+use Rattle.ss_octets.proofs.Members.{Has, has-map, has_from_contains, contains_from_has, from_has-map, has-filter, from_has-filter}
 use Rattle.ss_review.proofs.of_lists.Rising.{has-in_order}
 use Rattle.ss_review.proofs.of_lists.Tests.{any_member, member_any}
 

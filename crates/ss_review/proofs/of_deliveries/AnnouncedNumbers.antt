@@ -37,11 +37,11 @@ use Rattle.ss_review.specs.keep.Notes.{notes}
 use Rattle.ss_review.specs.sessions.Sessions.{of_session}
 use Rattle.ss_review.specs.sessions.Verified.{joined, state_in, is_valid_in, is_verified}
 use Rattle.ss_review.proofs.of_numbers.Announcements.{announced_row, announced_key, has-announced_key, from_has-hashes_for, has-hashes_for, hashes_for-rise, rows-rise, has-rows}
-use Rattle.ss_origin.proofs.Members.{Has, has_from_contains, contains_from_has}
+use Rattle.ss_octets.proofs.Members.{Has, has_from_contains, contains_from_has, all-has}
 use Rattle.ss_review.proofs.of_deliveries.Deliveries.{IsDelivery, of_case}
 use Rattle.ss_review.proofs.of_kept_messages.NotesTold.{block_read}
 use Rattle.ss_review.proofs.of_reports.OneReport.{is_report}
-use Rattle.ss_review.proofs.of_lists.Rising.{below_all, not_less_itself}
+use Rattle.ss_review.proofs.of_lists.Rising.{not_less_itself}
 use Rattle.ss_review.proofs.of_deliveries.OwnPayload.{JoinsPayload}
 use Rattle.ss_review.proofs.of_lists.Paired.{parted}
 use Rattle.ss_review.proofs.of_deliveries.SentMessages.{sent_by}
@@ -88,7 +88,7 @@ of_chain numbered s chain is m c b read =
     let whole : chain ≡ o.front ++ (t.front ++ sent.turn ∷ t.behind) ∷ o.behind = o.parts ∙ ap (λ turns. o.front ++ turns ∷ o.behind) t.parts in
     let all = numbered s o.front o.behind t.front t.behind sent.turn (subst (IsChain s) whole is) in
     subst (λ ts. IsOfChain s ts b) (sym whole)
-    (below_all (λ n. (d : block.Signature) → reading n ≡ readings.Signature d → IsOfChain s (o.front ++ (t.front ++ sent.turn ∷ t.behind) ∷ o.behind) d) sent.turn.emitted m all sent.sent b read)
+    (all-has (λ n. (d : block.Signature) → reading n ≡ readings.Signature d → IsOfChain s (o.front ++ (t.front ++ sent.turn ∷ t.behind) ∷ o.behind) d) sent.turn.emitted m all sent.sent b read)
 
 -- ---- one hash
 

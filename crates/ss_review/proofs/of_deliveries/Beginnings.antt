@@ -22,11 +22,10 @@ use Rattle.ss_origin.specs.Refusals.{fault_of}
 use Rattle.ss_origin.specs.Chain.{Turn, IsChain}
 use Rattle.ss_origin.specs.ChainLaws.{BeginsFirst}
 use Rattle.ss_review.specs.deliveries.Delivery.{is_begin}
-use Rattle.ss_origin.proofs.Members.{Has, contains_from_has, has-append_right}
-use Rattle.ss_review.proofs.of_lists.Members.{has-append_cases, has-flat_map, from_has-map}
-use Rattle.ss_review.proofs.of_lists.Paired.{parted, one_last, has-replicate, ArePaired, paired_left, paired_right, paired_holds, pair_of_left, pair_of_right, zip_of_map}
+use Rattle.ss_octets.proofs.Members.{Has, contains_from_has, has-append_right, has-append_cases, has-replicate, from_has-copies, has-flat_map, from_has-map}
+use Rattle.ss_review.proofs.of_lists.Paired.{parted, one_last, ArePaired, paired_left, paired_right, paired_holds, pair_of_left, pair_of_right, zip_of_map}
 use Rattle.ss_review.proofs.of_deliveries.PiecesStated.{IsPiece}
-use Rattle.ss_review.proofs.of_deliveries.SentMessages.{IsTurn, plain_first, from_has-copies}
+use Rattle.ss_review.proofs.of_deliveries.SentMessages.{IsTurn, plain_first}
 
 -- ---- the turn that begins
 

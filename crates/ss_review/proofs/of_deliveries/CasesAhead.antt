@@ -41,7 +41,7 @@ use Rattle.ss_review.specs.counted.KeptLaws.{shortfalls_of, IsInTail, IsInHole, 
 use Rattle.ss_review.specs.deliveries.AheadDelivery.{turns_in, IsCaseAhead, CasesGoOnAhead, NothingAheadIsDisputed, JoinedAheadByFragments, HasNumber, HasItsHashAhead, AnnouncedAheadByBlocks, ListedAheadHaveTheirHash, IsSkipped, SkippedNumbersAreInHoles, SkippedNumbersAreMissing}
 use Rattle.ss_origin.proofs.CountersInRange.{none_first}
 use Rattle.ss_origin.proofs.Frontiers.{IsSentIn}
-use Rattle.ss_origin.proofs.Members.{Has, has_from_contains, contains_from_has, has_split}
+use Rattle.ss_octets.proofs.Members.{Has, has_from_contains, contains_from_has, has_split, from_has-map, has-flat_map}
 use Rattle.ss_origin.proofs.Numbering.{counters_tell}
 use Rattle.ss_origin.proofs.Sent as origin
 use Rattle.ss_review.proofs.of_deliveries.AnnouncedNumbers.{block_sent, read_said, announced_has_block, announced_by}
@@ -50,7 +50,6 @@ use Rattle.ss_review.proofs.of_deliveries.Deliveries.{IsDelivery}
 use Rattle.ss_review.proofs.of_deliveries.GivenAhead.{given_in, hash_of_given}
 use Rattle.ss_review.proofs.of_reports.HoleAt.{hole_at}
 use Rattle.ss_review.proofs.of_deliveries.JoinedByFragments.{joined_where_arrived}
-use Rattle.ss_review.proofs.of_lists.Members.{from_has-map, has-flat_map}
 use Rattle.ss_review.proofs.of_deliveries.OwnKeys.{own_alg}
 use Rattle.ss_review.proofs.of_deliveries.OwnPayload.{Laws, OneBegins, joins_payload}
 use Rattle.ss_review.proofs.of_lists.Paired.{one_last}

@@ -6,8 +6,7 @@ use Rattle.ss_origin.specs.declared.config.Config.{Config}
 use Rattle.ss_origin.specs.Calls.{Call, Begin, Submit, Flush, spri_in, if_in, messages_of}
 use Rattle.ss_origin.specs.Chain.{Turn, calls_of, given_to}
 use Rattle.ss_review.specs.deliveries.Delivery.{submitted_in, submitted_to}
-use Rattle.ss_origin.proofs.Members.{Has, has-append_left, has-append_right}
-use Rattle.ss_review.proofs.of_lists.Members.{has-append_cases}
+use Rattle.ss_octets.proofs.Members.{Has, has-append_left, has-append_right, has-append_cases}
 
 -- what one originator was given
 abbrev pub submitted_by : List Turn → List (List ℕ)

@@ -16,7 +16,7 @@ use Rattle.ss_origin.specs.Setting.{Setting}
 use Rattle.ss_origin.specs.Chain.{Turn, calls_of, AreTurns}
 use Rattle.ss_origin.specs.RunLaws.{IsLastRun}
 use Rattle.ss_origin.proofs.Frontiers.{from_has-enumerated, says, IsSentIn}
-use Rattle.ss_origin.proofs.Members.{has_split, all-has}
+use Rattle.ss_octets.proofs.Members.{has_split, all-has}
 use Rattle.ss_origin.proofs.RunsClosed.{runs_are_last}
 use Rattle.ss_origin.proofs.Sent.{turn_of}
 use Rattle.ss_origin.proofs.SentRuns.{sent_run_of}

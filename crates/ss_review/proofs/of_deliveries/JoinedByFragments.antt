@@ -19,8 +19,7 @@ use Rattle.ss_review.specs.Laws.{OneReport}
 use Rattle.ss_review.specs.deliveries.Delivery.{own_session, HasPayload}
 use Rattle.ss_review.specs.deliveries.DeliveryLaws.{Case, says, report_in, IsListedAsJoined, JoinedByFragments}
 use Rattle.ss_review.specs.deliveries.Delivered.{JoinsOwnPayload}
-use Rattle.ss_origin.proofs.Members.{Has, contains_from_has}
-use Rattle.ss_review.proofs.of_lists.Members.{from_has-filter}
+use Rattle.ss_octets.proofs.Members.{Has, contains_from_has, from_has-filter}
 use Rattle.ss_review.proofs.of_deliveries.OwnPayload.{JoinsPayload}
 use Rattle.ss_review.proofs.of_sessions.Verifying.{unstated}
 

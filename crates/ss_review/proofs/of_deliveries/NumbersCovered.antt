@@ -12,8 +12,7 @@ use Rattle.ss_review.specs.deliveries.Delivered.{NumbersHaveBlocks}
 use Rattle.ss_review.specs.declared.keep.message.BlockContent.TheVariants.{Hashes}
 use Rattle.ss_review.specs.keep.Contents.{said_in}
 use Rattle.ss_review.proofs.of_deliveries.StoredBlocks.{block_not_normal}
-use Rattle.ss_origin.proofs.Members.{Has, has_from_contains, contains_from_has, has-append_right}
-use Rattle.ss_review.proofs.of_lists.Members.{has-flat_map}
+use Rattle.ss_octets.proofs.Members.{Has, has_from_contains, contains_from_has, has-append_right, has-flat_map}
 
 -- a message that a turn of an originator of a chain sent is one that the chain sent
 pub sent_by_turn : (chain : List (List Turn)) (turns : List Turn) (t : Turn) (m : List ℕ) → Has chain turns → Has turns t → Has t.emitted m → Has (emitted_by chain) m

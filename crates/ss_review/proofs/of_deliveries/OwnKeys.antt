@@ -23,7 +23,7 @@ use Rattle.ss_review.proofs.of_lists.Counting.{same_itself}
 use Rattle.ss_review.proofs.of_lists.Finding.{find_some, bearer_of}
 use Rattle.ss_review.proofs.of_deliveries.Given.{is_given}
 use Rattle.ss_review.proofs.of_lists.Keyed.{has-slice_get}
-use Rattle.ss_origin.proofs.Members.{Has, contains_from_has}
+use Rattle.ss_octets.proofs.Members.{Has, contains_from_has}
 use Rattle.ss_review.proofs.of_reports.Witnesses.{stored_normal, hash_is}
 
 -- ---- the bearer of a hash

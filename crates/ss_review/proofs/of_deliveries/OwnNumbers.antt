@@ -25,8 +25,7 @@ use Rattle.ss_review.proofs.of_lists.CountsWithin.{count_within}
 use Rattle.ss_review.proofs.of_assignment.DifferentPairs.{text_has_pair}
 use Rattle.ss_review.proofs.of_deliveries.Given.{is_given}
 use Rattle.ss_review.proofs.of_lists.Keyed.{has-slice_get}
-use Rattle.ss_origin.proofs.Members.{Has, has-map}
-use Rattle.ss_review.proofs.of_lists.Members.{has-flat_map}
+use Rattle.ss_octets.proofs.Members.{Has, has-map, has-flat_map}
 use Rattle.ss_review.proofs.of_assignment.OnePlaceOneKey.{count_by-fewer}
 use Rattle.ss_review.proofs.of_deliveries.OwnKeys.{same_session-is, its_hash}
 use Rattle.ss_review.proofs.of_lists.Sums.{sum_by-same, count_by-same, count_by-flat_map, count_by-numbered}

@@ -38,8 +38,7 @@ use Rattle.ss_review.specs.deliveries.DeliveryLaws.{Case, says}
 use Rattle.ss_review.specs.deliveries.Delivered.{OwnBlocksAreSent, SentBlocksAreStored, IsSentBlock, JoinsOwnPayload}
 use Rattle.ss_review.proofs.of_deliveries.Beginnings.{IsBeginning, one_beginning, Beginning, beginning, certificate_begins, piece_of_message, is_piece, block_of_piece, one_message}
 use Rattle.ss_review.proofs.of_deliveries.Deliveries.{IsDelivery, of_case}
-use Rattle.ss_origin.proofs.Members.{Has, has_from_contains, contains_from_has, has-map}
-use Rattle.ss_review.proofs.of_lists.Members.{has-filter, from_has-filter, has-flat_map, has-filter_map, from_has-filter_map}
+use Rattle.ss_octets.proofs.Members.{Has, has_from_contains, contains_from_has, has-map, has-filter, from_has-filter, has-flat_map, has-filter_map, from_has-filter_map}
 use Rattle.ss_review.proofs.of_kept_messages.NotesTold.{block_read}
 use Rattle.ss_review.proofs.of_lists.Paired.{ArePaired}
 use Rattle.ss_review.proofs.of_deliveries.PiecesStated.{IsPiece, cut_in, cut_is, undisputed, all_pieces, piece_there, covered, index_covered}

@@ -20,7 +20,7 @@ use Rattle.ss_review.specs.deliveries.DeliveryLaws.{Case, IsCase, normals_in, ro
 use Rattle.ss_review.specs.deliveries.Delivered.{KeysHaveBlocks}
 use Rattle.ss_review.proofs.of_lists.Counting.{same_pair-is}
 use Rattle.ss_review.proofs.of_lists.Keyed.{has-slice_get}
-use Rattle.ss_origin.proofs.Members.{Has, contains_from_has}
+use Rattle.ss_octets.proofs.Members.{Has, contains_from_has}
 use Rattle.ss_review.proofs.of_assignment.OnePlaceOneKey.{assigned_cases, from_has-places_with}
 use Rattle.ss_review.proofs.of_deliveries.OwnKeys.{same_session-is, its_hash, wants_own, wants_stored}
 use Rattle.ss_review.proofs.of_lists.Sums.{count_by-same}

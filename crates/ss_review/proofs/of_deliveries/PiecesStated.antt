@@ -15,8 +15,7 @@ use Rattle.ss_payload.specs.JoiningLaws.{DisputesStay, PiecesAreWhole}
 use Rattle.ss_block.specs.Block as block
 use Rattle.ss_review.specs.sessions.Payloads.{has_index, cover, lacks_some}
 use Rattle.ss_review.specs.sessions.Stated.{stated_after, stated_in_turn}
-use Rattle.ss_origin.proofs.Members.{Has, has_from_contains, contains_from_has, has-append_right}
-use Rattle.ss_review.proofs.of_lists.Members.{has-append_cases, from_has-map}
+use Rattle.ss_octets.proofs.Members.{Has, has_from_contains, contains_from_has, has-append_right, has-append_cases, from_has-map}
 use Rattle.ss_review.proofs.of_lists.Tests.{any_member, all_member, in_range}
 
 -- the fragment is a piece of the text, which is cut so

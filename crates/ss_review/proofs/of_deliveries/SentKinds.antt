@@ -11,9 +11,8 @@ use Rattle.ss_origin.specs.Emission.{sent_first}
 use Rattle.ss_origin.specs.Chain.{Turn, AreChained, emitted_by}
 use Rattle.ss_review.specs.keep.Notes.{Normal, Block, noted, note}
 use Rattle.ss_review.specs.deliveries.Delivery.{submitted_in, submitted_to, is_begin, HasBegun}
-use Rattle.ss_origin.proofs.Members.{Has, has_from_contains}
-use Rattle.ss_review.proofs.of_lists.Members.{has-append_cases, has-flat_map, from_has-flat_map}
-use Rattle.ss_review.proofs.of_deliveries.SentMessages.{IsTurn, turn_of_chain, sent_by, plain_first, from_has-copies, own_block}
+use Rattle.ss_octets.proofs.Members.{Has, has_from_contains, has-append_cases, has-flat_map, from_has-flat_map, from_has-copies}
+use Rattle.ss_review.proofs.of_deliveries.SentMessages.{IsTurn, turn_of_chain, sent_by, plain_first, own_block}
 use Rattle.ss_review.proofs.of_deliveries.StoredBlocks.{own_note}
 
 -- ---- one call

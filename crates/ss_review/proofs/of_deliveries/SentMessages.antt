@@ -1,5 +1,5 @@
 -- What a chain sent: a message that was submitted, and has no block, or a block of its session with a valid signature.
-use Rattle.std.proofs.Common.{◌≡◌, ◌⊎◌, inl, inr, ℕ, zero, suc, Bool, true, false, List, [], ◌∷◌, map, replicate, refl, sym, ap, ◌∙◌, subst}
+use Rattle.std.proofs.Common.{◌≡◌, ◌⊎◌, inl, inr, ℕ, Bool, true, false, List, [], ◌∷◌, map, replicate, refl, sym, ap, ◌∙◌, subst}
 use Rattle.std.specs.Prelude.{Option, Some, None}
 use Rattle.std.specs.List.{AllByRecursion, AllZip, Contains, flat_map, enumerate_from}
 use Rattle.std.proofs.lemmas.Bool.{not-false}
@@ -26,8 +26,7 @@ use Rattle.ss_review.specs.declared.keep.message.BlockContent.TheVariants.{Hashe
 use Rattle.ss_review.specs.keep.Contents.{said_in}
 use Rattle.ss_review.specs.sessions.Verified.{signature_of}
 use Rattle.ss_review.specs.deliveries.Delivery.{own_session}
-use Rattle.ss_origin.proofs.Members.{Has, has_from_contains}
-use Rattle.ss_review.proofs.of_lists.Members.{has-append_cases, from_has-map, from_has-flat_map}
+use Rattle.ss_octets.proofs.Members.{Has, has_from_contains, has-append_cases, from_has-map, from_has-flat_map, from_has-copies}
 
 -- ---- turns
 
@@ -136,17 +135,6 @@ zipped R P [] (z ∷ ys) y all f h = absurd all
 zipped R P (x ∷ xs) [] y all f h = absurd h
 zipped R P (x ∷ xs) (z ∷ ys) y all f (inl e) = f x (inl refl) (subst (R x) e all.0)
 zipped R P (x ∷ xs) (z ∷ ys) y all f (inr h) = zipped R P xs ys y all.1 (λ w i. f w (inr i)) h
-
--- a copy is one of the messages
-from_has-replicate : {X : Type 0} (n : ℕ) (x y : X) → Has (replicate n x) y → x ≡ y
-from_has-replicate zero x y h = absurd h
-from_has-replicate (suc n) x y (inl e) = e
-from_has-replicate (suc n) x y (inr h) = from_has-replicate n x y h
-
-pub from_has-copies : {X : Type 0} (n : ℕ) (xs : List X) (y : X) → Has (flat_map (λ x. replicate n x) xs) y → Has xs y
-from_has-copies {X} n xs y h =
-    let w = from_has-flat_map (λ (x : X). replicate n x) xs y h in
-    subst (Has xs) (from_has-replicate n w.0 y w.2) w.1
 
 module _ (s : Setting) (old : State) (m : List ℕ) where
   -- a sealed block that a call has to send is one of the session

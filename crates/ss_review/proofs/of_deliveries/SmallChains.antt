@@ -58,7 +58,7 @@ use Rattle.ss_review.specs.deliveries.SmallChains as chains
 use Rattle.ss_review.proofs.of_numbers.Announcements.{announced_key}
 use Rattle.ss_review.proofs.of_deliveries.DigestOctets.{AreOctets, hash_is_hash}
 use Rattle.ss_review.proofs.of_lists.Keyed.{has-slice_get}
-use Rattle.ss_origin.proofs.Members.{Has, has_from_contains, contains_from_has}
+use Rattle.ss_octets.proofs.Members.{Has, has_from_contains, contains_from_has}
 use Rattle.ss_origin.proofs.Numbering.{counters_tell}
 use Rattle.ss_review.proofs.of_kept_messages.NotesTold.{block_read}
 use Rattle.ss_review.proofs.of_deliveries.StoredBlocks.{plain_normal, block_not_normal}

@@ -21,9 +21,8 @@ use Rattle.ss_review.specs.keep.Notes.{notes}
 use Rattle.ss_review.specs.sessions.Sessions.{sessions}
 use Rattle.ss_review.specs.deliveries.AheadDelivery.{CasesGoOnAhead}
 use Rattle.ss_review.specs.deliveries.SmallChains.{message, accepting, whole, PremisesAreMet, WholeIsReported}
-use Rattle.ss_origin.proofs.Members.{Has, has_from_contains, contains_from_has}
+use Rattle.ss_octets.proofs.Members.{Has, has_from_contains, contains_from_has, from_has-map}
 use Rattle.ss_review.proofs.of_lists.Keyed.{has-slice_get}
-use Rattle.ss_review.proofs.of_lists.Members.{from_has-map}
 use Rattle.ss_review.proofs.of_deliveries.SmallChains.{Laws, block_whole, gbc_whole, message_whole}
 use Rattle.ss_review.proofs.of_reports.Witnesses.{stored_block, said_signature}
 

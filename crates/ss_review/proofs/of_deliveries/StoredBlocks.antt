@@ -20,7 +20,7 @@ use Rattle.ss_review.specs.deliveries.Delivery.{own_session, is_normal, is_spoil
 use Rattle.ss_review.specs.deliveries.DeliveryLaws.{Case, AcceptsSent, says}
 use Rattle.ss_review.specs.deliveries.Delivered.{IsSentBlock, IsStoredBlock, OwnBlocksAreSent, SentBlocksAreStored}
 use Rattle.ss_review.proofs.of_lists.Keyed.{has-slice_get, slice_get-has}
-use Rattle.ss_origin.proofs.Members.{has_from_contains, contains_from_has}
+use Rattle.ss_octets.proofs.Members.{has_from_contains, contains_from_has}
 use Rattle.ss_review.proofs.of_kept_messages.NotesTold.{IsBlockOf, has-block}
 use Rattle.ss_review.proofs.of_deliveries.SentMessages.{AreAllTurns, turns_of_chain, IsOwnBlock, sent_as}
 use Rattle.ss_review.proofs.of_reports.Witnesses.{stored_block}

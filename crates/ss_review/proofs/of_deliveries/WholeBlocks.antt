@@ -18,7 +18,7 @@ use Rattle.ss_review.specs.deliveries.Whole.{IsWhole, PayloadsArrive, BlocksAreV
 use Rattle.ss_review.proofs.of_deliveries.AnnouncedNumbers.{verified_by}
 use Rattle.ss_review.proofs.of_deliveries.Deliveries.{of_case}
 use Rattle.ss_review.proofs.of_lists.Keyed.{has-slice_get}
-use Rattle.ss_origin.proofs.Members.{Has, has_from_contains, contains_from_has}
+use Rattle.ss_octets.proofs.Members.{Has, has_from_contains, contains_from_has}
 use Rattle.ss_review.proofs.of_kept_messages.NotesTold.{block_read, block_noted, spoilt_noted}
 use Rattle.ss_review.proofs.of_deliveries.NumbersCovered.{sent_by_turn}
 use Rattle.ss_review.proofs.of_deliveries.SentKinds.{begun_note}

@@ -22,8 +22,7 @@ use Rattle.ss_review.proofs.of_lists.EqualCounts.{count_by-all}
 use Rattle.ss_review.proofs.of_assignment.FullPlaces.{AreDistinct, distinct-map, distinct-flat_map, distinct-range, all_taken}
 use Rattle.ss_review.proofs.of_lists.Keyed.{has-slice_get}
 use Rattle.ss_review.proofs.of_reports.Leftovers.{takes}
-use Rattle.ss_origin.proofs.Members.{Has, has_from_contains, has-map}
-use Rattle.ss_review.proofs.of_lists.Members.{from_has-map, from_has-flat_map}
+use Rattle.ss_octets.proofs.Members.{Has, has_from_contains, has-map, from_has-map, from_has-flat_map}
 use Rattle.ss_review.proofs.of_kept_messages.NormalCounts.{normal_counts}
 use Rattle.ss_review.proofs.of_assignment.OnePlaceOneKey.{assigned_cases, from_has-places_with, one_key}
 use Rattle.ss_review.proofs.of_deliveries.OwnNumbers.{grouping_of}

@@ -16,7 +16,7 @@ use Rattle.ss_review.specs.deliveries.DeliveryLaws.{Case, normals_in, rows_in, r
 use Rattle.ss_review.specs.deliveries.Delivered.{RanksAreBelowCounts, KeysHaveBlocks, EntriesAreByRank}
 use Rattle.ss_review.specs.deliveries.Whole.{IsWhole, BlocksAreVerified, MessagesAreStored, NumbersAreListed}
 use Rattle.ss_review.proofs.of_lists.EqualCounts.{same_counts}
-use Rattle.ss_origin.proofs.Members.{Has, has_from_contains, contains_from_has}
+use Rattle.ss_octets.proofs.Members.{Has, has_from_contains, contains_from_has}
 use Rattle.ss_review.proofs.of_lists.Rising.{not_less_itself}
 use Rattle.ss_review.proofs.of_kept_messages.NormalCounts.{normal_counts, length-places_with}
 use Rattle.ss_review.proofs.of_deliveries.SentKinds.{sent_kinds, submitted_note}

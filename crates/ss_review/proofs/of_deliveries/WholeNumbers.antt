@@ -15,7 +15,7 @@ use Rattle.ss_review.specs.deliveries.Whole.{IsWhole, PayloadsArrive, BlocksAreV
 use Rattle.ss_review.proofs.of_numbers.Announcements.{announced_key, has-announced_key}
 use Rattle.ss_review.proofs.of_deliveries.Given.{is_given}
 use Rattle.ss_review.proofs.of_lists.Keyed.{has-slice_get}
-use Rattle.ss_origin.proofs.Members.{Has, has_from_contains, contains_from_has}
+use Rattle.ss_octets.proofs.Members.{Has, has_from_contains, contains_from_has}
 use Rattle.ss_review.proofs.of_deliveries.OwnNumbers.{grouping_of}
 
 pub numbers_are_announced : PayloadsArrive → JoinedByFragments → KeysHaveBlocks → NumbersHaveBlocks → NumbersAreAnnounced

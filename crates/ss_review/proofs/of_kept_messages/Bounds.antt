@@ -11,8 +11,7 @@ use Rattle.ss_review.specs.keep.Contents.{normal_at, normals}
 use Rattle.ss_review.specs.assign.Assigned.{same_pair, places_with}
 use Rattle.ss_review.specs.keep.Keeping.{text_at, texts, note_octets, octets_noted, Keeps, octets_kept}
 use Rattle.ss_review.proofs.of_lists.Counting.{same_itself}
-use Rattle.ss_origin.proofs.Members.{Has, has-map}
-use Rattle.ss_review.proofs.of_lists.Members.{has-filter}
+use Rattle.ss_octets.proofs.Members.{Has, has-map, has-filter}
 
 sum_by-map : {X Y : Type 0} (f : Y → ℕ) (g : X → Y) (xs : List X) → sum_by f (map g xs) ≡ sum_by (λ x. f (g x)) xs
 sum_by-map f g [] = refl

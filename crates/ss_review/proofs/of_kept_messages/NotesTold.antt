@@ -15,8 +15,7 @@ use Rattle.ss_review.specs.keep.Notes.{Note, Normal, Block, Spoilt}
 use Rattle.ss_review.specs.questions.Shortened.{hash_count}
 use Rattle.ss_review.specs.keep.Contents.{said_in, block_with, block_in, normal_at, block_at, spoilt_at, normals, blocks, spoilts}
 use Rattle.ss_review.proofs.of_numbers.Announcements.{numbered_from, has-numbered}
-use Rattle.ss_origin.proofs.Members.{Has}
-use Rattle.ss_review.proofs.of_lists.Members.{has-filter_map, from_has-filter_map}
+use Rattle.ss_octets.proofs.Members.{Has, has-filter_map, from_has-filter_map}
 
 -- ---- messages without a block
 

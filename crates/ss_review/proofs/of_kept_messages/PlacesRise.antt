@@ -12,8 +12,7 @@ use Rattle.ss_review.specs.keep.Notes.{Note}
 use Rattle.ss_review.specs.keep.Contents.{normal_at, block_at, spoilt_at, normals, blocks, spoilts}
 use Rattle.ss_review.proofs.of_numbers.Announcements.{numbered_from}
 use Rattle.ss_review.proofs.of_lists.Keyed.{less}
-use Rattle.ss_origin.proofs.Members.{Has}
-use Rattle.ss_review.proofs.of_lists.Members.{from_has-map, from_has-filter_map}
+use Rattle.ss_octets.proofs.Members.{Has, from_has-map, from_has-filter_map}
 use Rattle.ss_review.proofs.of_kept_messages.NotesTold.{normal_place, block_place, spoilt_place}
 use Rattle.ss_review.proofs.of_lists.Rising.{all_below}
 

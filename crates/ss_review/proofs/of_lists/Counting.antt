@@ -23,8 +23,7 @@ use Rattle.ss_review.specs.announced.Announced.{Key, Row, key_cmp, keys}
 use Rattle.ss_review.specs.assign.Assigned.{same_pair, is_pair, places_with, wanted, rank, place_of, assigned}
 use Rattle.ss_review.specs.assign.Assigning.{pair_wanted, pairs_wanted, is_at, place_after, assigned_after, assigned_all, count_of, Counts}
 use Rattle.ss_review.proofs.of_numbers.Announcements.{keys-rise}
-use Rattle.ss_origin.proofs.Members.{has-append_right}
-use Rattle.ss_review.proofs.of_lists.Rising.{below_all}
+use Rattle.ss_octets.proofs.Members.{has-append_right, all-has}
 use Rattle.ss_block.specs.OrderLaws.{pair_cmp_exact, pair_cmp_total}
 use Rattle.ss_review.proofs.of_lists.TotalOrders.{key_cmp_total}
 
@@ -67,7 +66,7 @@ module _ {K : Type 0} {R : K → K → Ordering} (o : IsTotalOrder R) where
       ∙ ap (λ b. cond (b && q k) 1 0 + count_by (λ i. is_lt (R i k) && q i) back) (not_below k)
       ∙ (let none : count_by (λ i. is_lt (R i k) && q i) back ≡ 0 = none_above k q back up.0 in omega (arith, none))
   count_below (x ∷ front) k back q up =
-      let less : R x k ≡ Less = below_all (λ y. R x y ≡ Less) (front ++ k ∷ back) k up.0 (has-append_right front (k ∷ back) k (inl refl)) in
+      let less : R x k ≡ Less = all-has (λ y. R x y ≡ Less) (front ++ k ∷ back) k up.0 (has-append_right front (k ∷ back) k (inl refl)) in
       count_by-cons (λ i. is_lt (R i k) && q i) x (front ++ k ∷ back)
       ∙ ap (λ c. cond (is_lt c && q x) 1 0 + count_by (λ i. is_lt (R i k) && q i) (front ++ k ∷ back)) less
       ∙ ap (λ n. cond (q x) 1 0 + n) (count_below front k back q up.1)

@@ -6,10 +6,9 @@ use Rattle.std.specs.declared.cmp.Ordering.TheVariants.{Less}
 use Rattle.std.specs.Cmp.{IsTotalOrder}
 use Rattle.std.specs.List.Sorted.{IsStrictlySortedBy}
 use Rattle.ss_review.proofs.of_lists.Counting.{count_by-cons}
-use Rattle.ss_origin.proofs.Members.{Has, has-append_left, has-append_right}
-use Rattle.ss_review.proofs.of_lists.Members.{has-append_cases}
+use Rattle.ss_octets.proofs.Members.{Has, has-append_left, has-append_right, has-append_cases, all-has}
 use Rattle.ss_review.proofs.of_lists.Paired.{parted}
-use Rattle.ss_review.proofs.of_lists.Rising.{below_all, not_less_itself}
+use Rattle.ss_review.proofs.of_lists.Rising.{not_less_itself}
 use Rattle.ss_review.proofs.of_lists.Sums.{count_by-append}
 
 module _ {K : Type 0} {R : K → K → Ordering} (o : IsTotalOrder R) (f : K → Bool) where
@@ -32,7 +31,7 @@ module _ {K : Type 0} {R : K → K → Ordering} (o : IsTotalOrder R) (f : K →
   counted_at true x xs ys e up within rest =
       let w = parted ys x (within x (inl refl) e) in
       let fewer : count_by f xs ≤ count_by f (w.front ++ w.behind)
-      = rest (w.front ++ w.behind) (λ q h t. still_has w.front x w.behind q (below_all (λ y. R x y ≡ Less) xs q up.0 h) (subst (λ zs. Has zs q) w.parts (within q (inr h) t))) in
+      = rest (w.front ++ w.behind) (λ q h t. still_has w.front x w.behind q (all-has (λ y. R x y ≡ Less) xs q up.0 h) (subst (λ zs. Has zs q) w.parts (within q (inr h) t))) in
       omega (arith, fewer, ap (count_by f) w.parts, count_by-append f w.front (x ∷ w.behind), count_by-append f w.front w.behind, count_by-cons f x w.behind, count_by-cons f x xs, ap {B = ℕ} (λ b. cond b 1 0) e)
 
   -- the members that pass are no more than those of a list that has them

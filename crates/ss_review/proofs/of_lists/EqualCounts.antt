@@ -5,7 +5,7 @@ use Rattle.std.specs.Str.{bytes_eq}
 use Rattle.std.proofs.lemmas.Bool.{and_parts}
 use Rattle.std.proofs.lemmas.Slice.Eq.{bytes_eq-Decides}
 use Rattle.ss_review.proofs.of_lists.Counting.{count_by-cons}
-use Rattle.ss_origin.proofs.Members.{Has}
+use Rattle.ss_octets.proofs.Members.{Has}
 use Rattle.ss_review.proofs.of_lists.Sums.{sum_by-added, sum_by-same, sum_by-none, count_by-same}
 
 -- ---- tests

@@ -7,8 +7,7 @@ use Rattle.std.specs.List.{flat_map}
 use Rattle.std.specs.List.Sorted.{IsStrictlySortedBy}
 use Rattle.std.proofs.lemmas.List.Kept.{IsStrictlySortedBy-filter}
 use Rattle.std.proofs.lemmas.List.Sums.{length-filter}
-use Rattle.ss_origin.proofs.Members.{Has}
-use Rattle.ss_review.proofs.of_lists.Members.{has-filter, from_has-filter}
+use Rattle.ss_octets.proofs.Members.{Has, has-filter, from_has-filter}
 use Rattle.ss_review.proofs.of_lists.Rising.{same_members}
 
 -- ---- tests

@@ -10,8 +10,7 @@ use Rattle.ss_block.specs.declared.hash.HashPair.{HashPair}
 use Rattle.ss_review.specs.declared.keep.message.NormalMessage.{NormalMessage}
 use Rattle.ss_review.specs.assign.Assigned.{has_hash, pair_of_bearer}
 use Rattle.ss_review.proofs.of_lists.Keyed.{from_less}
-use Rattle.ss_origin.proofs.Members.{Has, has-map}
-use Rattle.ss_review.proofs.of_lists.Rising.{below_all}
+use Rattle.ss_octets.proofs.Members.{Has, has-map, all-has}
 
 -- ---- the first message that passes a test
 
@@ -34,7 +33,7 @@ find_least p (m ∷ ms) f up e n (inl same) t = elim (find_at p (p m) m ms f e r
   | inr w ↦ absurd (let no : true ≡ false = sym t ∙ ap p (sym same) ∙ w.0 in cc)
 ]
 find_least p (m ∷ ms) f up e n (inr h) t = elim (find_at p (p m) m ms f e refl) [
-  | inl w ↦ omega (arith, ap (λ (k : NormalMessage). k.place) w.1, from_less m.place n.place (below_all (λ k. nat_cmp m.place k ≡ Less) (map (λ (k : NormalMessage). k.place) ms) n.place up.0 (has-map (λ (k : NormalMessage). k.place) ms n h)))
+  | inl w ↦ omega (arith, ap (λ (k : NormalMessage). k.place) w.1, from_less m.place n.place (all-has (λ k. nat_cmp m.place k ≡ Less) (map (λ (k : NormalMessage). k.place) ms) n.place up.0 (has-map (λ (k : NormalMessage). k.place) ms n h)))
   | inr w ↦ find_least p ms f up.1 w.1 n h t
 ]
 
@@ -50,7 +49,7 @@ unfolding IsStrictlySortedBy
 finds p [] f up h t least = absurd h
 finds p (m ∷ ms) f up h t least =
     finds_at p (p m) m ms f refl t h
-    (λ s i. omega (arith, least m (inl refl) s, from_less m.place f.place (below_all (λ k. nat_cmp m.place k ≡ Less) (map (λ (k : NormalMessage). k.place) ms) f.place up.0 (has-map (λ (k : NormalMessage). k.place) ms f i))))
+    (λ s i. omega (arith, least m (inl refl) s, from_less m.place f.place (all-has (λ k. nat_cmp m.place k ≡ Less) (map (λ (k : NormalMessage). k.place) ms) f.place up.0 (has-map (λ (k : NormalMessage). k.place) ms f i))))
     (λ i. finds p ms f up.1 i t (λ n j s. least n (inr j) s))
 
 pub finds_none : (p : NormalMessage → Bool) (ms : List NormalMessage) → ((n : NormalMessage) → Has ms n → p n ≡ true → ⊥) → find p ms ≡ None

@@ -8,9 +8,8 @@ use Rattle.std.specs.Cmp.{IsTotalOrder, nat_cmp_is, ranked}
 use Rattle.std.specs.List.{AllByRecursion}
 use Rattle.std.specs.List.Sorted.{IsStrictlySortedBy}
 use Rattle.std.proofs.lemmas.Map.Lookups.{CmpEqualImpliesEq}
-use Rattle.ss_origin.proofs.Members.{Has, has-map}
-use Rattle.ss_review.proofs.of_lists.Members.{from_has-map, from_has-filter}
-use Rattle.ss_review.proofs.of_lists.Rising.{below_all, all_below, not_less_itself}
+use Rattle.ss_octets.proofs.Members.{Has, has-map, from_has-map, from_has-filter, all-has}
+use Rattle.ss_review.proofs.of_lists.Rising.{all_below, not_less_itself}
 
 -- ---- numbers
 
@@ -42,10 +41,10 @@ module _ {K : Type 0} {R : K → K → Ordering} (o : IsTotalOrder R) (exact : C
   one_index (y ∷ ys) up zero zero x e f = refl
   one_index (y ∷ ys) up zero (suc j) x e f =
       let here : y ≡ x = cc in
-      absurd (not_less_itself o x (subst (λ z. R z x ≡ Less) here (below_all (λ z. R y z ≡ Less) ys x up.0 (has-slice_get ys j x f))))
+      absurd (not_less_itself o x (subst (λ z. R z x ≡ Less) here (all-has (λ z. R y z ≡ Less) ys x up.0 (has-slice_get ys j x f))))
   one_index (y ∷ ys) up (suc i) zero x e f =
       let here : y ≡ x = cc in
-      absurd (not_less_itself o x (subst (λ z. R z x ≡ Less) here (below_all (λ z. R y z ≡ Less) ys x up.0 (has-slice_get ys i x e))))
+      absurd (not_less_itself o x (subst (λ z. R z x ≡ Less) here (all-has (λ z. R y z ≡ Less) ys x up.0 (has-slice_get ys i x e))))
   one_index (y ∷ ys) up (suc i) (suc j) x e f = ap suc (one_index ys up.1 i j x e f)
 
   -- elements with one key are one
@@ -54,9 +53,9 @@ module _ {K : Type 0} {R : K → K → Ordering} (o : IsTotalOrder R) (exact : C
   one_of_key key [] up x y h i e = absurd h
   one_of_key key (z ∷ zs) up x y (inl p) (inl q) e = sym p ∙ q
   one_of_key key (z ∷ zs) up x y (inl p) (inr i) e =
-      absurd (not_less_itself o (key y) (subst (λ k. R k (key y) ≡ Less) (ap key p ∙ e) (below_all (λ k. R (key z) k ≡ Less) (map key zs) (key y) up.0 (has-map key zs y i))))
+      absurd (not_less_itself o (key y) (subst (λ k. R k (key y) ≡ Less) (ap key p ∙ e) (all-has (λ k. R (key z) k ≡ Less) (map key zs) (key y) up.0 (has-map key zs y i))))
   one_of_key key (z ∷ zs) up x y (inr h) (inl q) e =
-      absurd (not_less_itself o (key x) (subst (λ k. R k (key x) ≡ Less) (ap key q ∙ sym e) (below_all (λ k. R (key z) k ≡ Less) (map key zs) (key x) up.0 (has-map key zs x h))))
+      absurd (not_less_itself o (key x) (subst (λ k. R k (key x) ≡ Less) (ap key q ∙ sym e) (all-has (λ k. R (key z) k ≡ Less) (map key zs) (key x) up.0 (has-map key zs x h))))
   one_of_key key (z ∷ zs) up x y (inr h) (inr i) e = one_of_key key zs up.1 x y h i e
 
 -- ---- what is left of it rises
@@ -74,5 +73,5 @@ module _ {X K : Type 0} (key : X → K) (R : K → K → Ordering) (p : X → Bo
       rises_at (p x) x (filter p xs)
       (all_below (λ k. R (key x) k ≡ Less) (map key (filter p xs)) (λ k h.
       (let w = from_has-map key (filter p xs) k h in
-      subst (λ q. R (key x) q ≡ Less) w.2 (below_all (λ q. R (key x) q ≡ Less) (map key xs) (key w.0) up.0 (has-map key xs w.0 (from_has-filter p xs w.0 w.1).0)))))
+      subst (λ q. R (key x) q ≡ Less) w.2 (all-has (λ q. R (key x) q ≡ Less) (map key xs) (key w.0) up.0 (has-map key xs w.0 (from_has-filter p xs w.0 w.1).0)))))
       (keys_rise-filter xs up.1)

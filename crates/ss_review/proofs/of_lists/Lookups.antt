@@ -11,8 +11,8 @@ use Rattle.std.proofs.lemmas.Bool.{cases_lt}
 use Rattle.std.proofs.lemmas.List.{get_or_default}
 use Rattle.std.proofs.lemmas.List.Sorted.{searchable_from_sorted}
 use Rattle.std.proofs.lemmas.Map.Lookups.{CmpEqualImpliesEq}
-use Rattle.ss_origin.proofs.Members.{Has, has-map, has_from_contains, contains_from_has}
-use Rattle.ss_review.proofs.of_lists.Rising.{below_all, all_below}
+use Rattle.ss_octets.proofs.Members.{Has, has-map, has_from_contains, contains_from_has, all-has}
+use Rattle.ss_review.proofs.of_lists.Rising.{all_below}
 use Rattle.ss_review.proofs.of_lists.Sections.{keeps_none}
 
 -- ---- none passes
@@ -47,14 +47,14 @@ module _ {K : Type 0} {R : K → K → Ordering} (o : IsTotalOrder R) (exact : C
       let here : key x ≡ k = exact (key x) k tie in
       let none : filter (λ y. is_eq (R (key y) k)) xs ≡ []
       = keeps_none (λ y. is_eq (R (key y) k)) xs (all_below (λ y. is_eq (R (key y) k) ≡ false) xs (λ y h.
-      more_differs (key y) k (subst (λ q. R q (key y) ≡ Less) here (below_all (λ q. R (key x) q ≡ Less) (map key xs) (key y) up.0 (has-map key xs y h))))) in
+      more_differs (key y) k (subst (λ q. R q (key y) ≡ Less) here (all-has (λ q. R (key x) q ≡ Less) (map key xs) (key y) up.0 (has-map key xs y h))))) in
       ap (λ b. cond b (x ∷ filter (λ y. is_eq (R (key y) k)) xs) (filter (λ y. is_eq (R (key y) k)) xs)) (ap is_eq tie)
       ∙ ap (λ ys. x ∷ ys) none
   found_alone k (x ∷ xs) (suc i) d up below tie =
       let at = get_or xs i d in
       let there : key at ≡ k = exact (key at) k tie in
       let has : Has xs at = has_from_contains xs at (i, omega (arith, below), get_or_default xs i at d (omega (arith, below))) in
-      let less : R (key x) k ≡ Less = subst (λ q. R (key x) q ≡ Less) there (below_all (λ q. R (key x) q ≡ Less) (map key xs) (key at) up.0 (has-map key xs at has)) in
+      let less : R (key x) k ≡ Less = subst (λ q. R (key x) q ≡ Less) there (all-has (λ q. R (key x) q ≡ Less) (map key xs) (key at) up.0 (has-map key xs at has)) in
       ap (λ b. cond b (x ∷ filter (λ y. is_eq (R (key y) k)) xs) (filter (λ y. is_eq (R (key y) k)) xs)) (less_differs (key x) k less)
       ∙ found_alone k xs i d up.1 (omega (arith, below)) tie
 

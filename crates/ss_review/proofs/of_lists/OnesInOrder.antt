@@ -7,8 +7,8 @@ use Rattle.std.specs.Cmp.{IsTotalOrder}
 use Rattle.std.specs.List.{AllByRecursion}
 use Rattle.std.specs.List.Sorted.{IsStrictlySortedBy}
 use Rattle.ss_review.specs.Ordered.{with_member, in_order}
-use Rattle.ss_origin.proofs.Members.{Has}
-use Rattle.ss_review.proofs.of_lists.Rising.{below_all, all_below, reversed, same_members}
+use Rattle.ss_octets.proofs.Members.{Has, all-has}
+use Rattle.ss_review.proofs.of_lists.Rising.{all_below, reversed, same_members}
 
 module _ {K : Type 0} {R : K → K → Ordering} (o : IsTotalOrder R) where
   -- elements of a list that rises which tie are one
@@ -17,9 +17,9 @@ module _ {K : Type 0} {R : K → K → Ordering} (o : IsTotalOrder R) where
   one_tied [] up x y h i e = absurd h
   one_tied (z ∷ zs) up x y (inl p) (inl q) e = sym p ∙ q
   one_tied (z ∷ zs) up x y (inl p) (inr i) e =
-      let less : R x y ≡ Less = ap (λ w. R w y) (sym p) ∙ below_all (λ w. R z w ≡ Less) zs y up.0 i in absurd (cc)
+      let less : R x y ≡ Less = ap (λ w. R w y) (sym p) ∙ all-has (λ w. R z w ≡ Less) zs y up.0 i in absurd (cc)
   one_tied (z ∷ zs) up x y (inr h) (inl q) e =
-      let less : R y x ≡ Less = ap (λ w. R w x) (sym q) ∙ below_all (λ w. R z w ≡ Less) zs x up.0 h in
+      let less : R y x ≡ Less = ap (λ w. R w x) (sym q) ∙ all-has (λ w. R z w ≡ Less) zs x up.0 h in
       let more : R y x ≡ Equal = o.antisymm y x ∙ ap ordering_reverse e in absurd (cc)
   one_tied (z ∷ zs) up x y (inr h) (inr i) e = one_tied zs up.1 x y h i e
 
@@ -49,10 +49,10 @@ module _ {K : Type 0} {R : K → K → Ordering} (o : IsTotalOrder R) where
 
   rises_at : (c : Ordering) (k x : K) (xs ws : List K) → R k x ≡ c → IsStrictlySortedBy R (x ∷ xs) → IsStrictlySortedBy R ws → ((q : K) → Has ws q → (k ≡ q) ⊎ Has xs q) → IsStrictlySortedBy R (match_ordering c (k ∷ x ∷ xs) (x ∷ xs) (x ∷ ws))
   unfolding IsStrictlySortedBy
-  rises_at Less k x xs ws t up w f = ((t, all_below (λ y. R k y ≡ Less) xs (λ y h. o.trans k x y t (below_all (λ z. R x z ≡ Less) xs y up.0 h))), up)
+  rises_at Less k x xs ws t up w f = ((t, all_below (λ y. R k y ≡ Less) xs (λ y h. o.trans k x y t (all-has (λ z. R x z ≡ Less) xs y up.0 h))), up)
   rises_at Equal k x xs ws t up w f = up
   rises_at Greater k x xs ws t up w f =
-      (all_below (λ y. R x y ≡ Less) ws (λ y h. elim (f y h) [ inl e ↦ subst (λ z. R x z ≡ Less) e (reversed o k x t) | inr i ↦ below_all (λ z. R x z ≡ Less) xs y up.0 i ]), w)
+      (all_below (λ y. R x y ≡ Less) ws (λ y h. elim (f y h) [ inl e ↦ subst (λ z. R x z ≡ Less) e (reversed o k x t) | inr i ↦ all-has (λ z. R x z ≡ Less) xs y up.0 i ]), w)
 
   rises-with_member : (k : K) (xs : List K) → IsStrictlySortedBy R xs → IsStrictlySortedBy R (with_member R k xs)
   unfolding IsStrictlySortedBy

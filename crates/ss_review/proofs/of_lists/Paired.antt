@@ -1,9 +1,9 @@
 -- Lists whose elements stand in pairs, and where an element stands in a list.
-use Rattle.std.proofs.Common.{◌≡◌, ◌⊎◌, inl, inr, ℕ, zero, suc, ◌≤◌, List, [], ◌∷◌, ◌++◌, map, replicate, refl, sym, ap, ◌∙◌, subst, arith}
+use Rattle.std.proofs.Common.{◌≡◌, ◌⊎◌, inl, inr, List, [], ◌∷◌, ◌++◌, map, refl, sym, ap, ◌∙◌, subst}
 use Rattle.std.specs.Prelude.{Option, Some, None}
 use Rattle.std.specs.List.{AllZip, last_or}
 use Rattle.std.proofs.lemmas.Option.{same_Some}
-use Rattle.ss_origin.proofs.Members.{Has}
+use Rattle.ss_octets.proofs.Members.{Has}
 
 -- ---- members
 
@@ -26,10 +26,6 @@ last_at o (y ∷ front) x = last_at (Some y) front x
 pub one_last : {X : Type 0} (xs front other : List X) (x y : X) → xs ≡ front ++ x ∷ [] → xs ≡ other ++ y ∷ [] → x ≡ y
 one_last xs front other x y e d =
     same_Some x y (sym (last_at None front x) ∙ ap (last_or None) (sym e ∙ d) ∙ last_at None other y)
-
-pub has-replicate : {X : Type 0} (n : ℕ) (x : X) → 1 ≤ n → Has (replicate n x) x
-has-replicate zero x some = absurd (omega arith)
-has-replicate (suc n) x some = inl refl
 
 -- ---- pairs
 

@@ -12,15 +12,9 @@ use Rattle.std.proofs.lemmas.Cmp.{tied_itself, on_total}
 use Rattle.std.proofs.lemmas.List.Sums.{fold-append}
 use Rattle.std.proofs.lemmas.Map.Lookups.{CmpEqualImpliesEq}
 use Rattle.ss_review.specs.Ordered.{with_member, in_order}
-use Rattle.ss_origin.proofs.Members.{Has, has_from_contains, contains_from_has, has-map}
-use Rattle.ss_review.proofs.of_lists.Members.{from_has-map}
+use Rattle.ss_octets.proofs.Members.{Has, has_from_contains, contains_from_has, has-map, from_has-map, all-has}
 
--- ---- what stands behind a member
-
-pub below_all : {X : Type 0} (P : X → Type 0) (xs : List X) (x : X) → AllByRecursion P xs → Has xs x → P x
-below_all P [] x a h = absurd h
-below_all P (y ∷ ys) x a (inl e) = subst P e a.0
-below_all P (y ∷ ys) x a (inr h) = below_all P ys x a.1 h
+-- ---- what holds of each member
 
 pub all_below : {X : Type 0} (P : X → Type 0) (xs : List X) → ((x : X) → Has xs x → P x) → AllByRecursion P xs
 all_below P [] f = tt
@@ -64,11 +58,11 @@ module _ {K : Type 0} {R : K → K → Ordering} (o : IsTotalOrder R) where
   first_is x y xs ys up vp (inl e) h = sym e
   first_is x y xs ys up vp (inr g) (inl e) = e
   first_is x y xs ys up vp (inr g) (inr h) =
-      absurd (not_less_itself x (o.trans x y x (below_all (λ z. R x z ≡ Less) xs y up.0 h) (below_all (λ z. R y z ≡ Less) ys x vp.0 g)))
+      absurd (not_less_itself x (o.trans x y x (all-has (λ z. R x z ≡ Less) xs y up.0 h) (all-has (λ z. R y z ≡ Less) ys x vp.0 g)))
 
   rest_has : (x q : K) (xs ys : List K) → IsStrictlySortedBy R (x ∷ xs) → Has xs q → Has (x ∷ ys) q → Has ys q
   unfolding IsStrictlySortedBy
-  rest_has x q xs ys up h (inl e) = absurd (not_less_itself x (subst (λ z. R x z ≡ Less) (sym e) (below_all (λ z. R x z ≡ Less) xs q up.0 h)))
+  rest_has x q xs ys up h (inl e) = absurd (not_less_itself x (subst (λ z. R x z ≡ Less) (sym e) (all-has (λ z. R x z ≡ Less) xs q up.0 h)))
   rest_has x q xs ys up h (inr g) = g
 
   pub same_members : (xs ys : List K) → IsStrictlySortedBy R xs → IsStrictlySortedBy R ys → ((q : K) → Has xs q → Has ys q) → ((q : K) → Has ys q → Has xs q) → xs ≡ ys
@@ -114,10 +108,10 @@ module _ {K : Type 0} {R : K → K → Ordering} (o : IsTotalOrder R) (exact : C
 
   rises_at : (c : Ordering) (k x : K) (xs ws : List K) → R k x ≡ c → IsStrictlySortedBy R (x ∷ xs) → IsStrictlySortedBy R ws → ((q : K) → Has ws q → (k ≡ q) ⊎ Has xs q) → IsStrictlySortedBy R (match_ordering c (k ∷ x ∷ xs) (x ∷ xs) (x ∷ ws))
   unfolding IsStrictlySortedBy
-  rises_at Less k x xs ws t up w f = ((t, all_below (λ y. R k y ≡ Less) xs (λ y h. o.trans k x y t (below_all (λ z. R x z ≡ Less) xs y up.0 h))), up)
+  rises_at Less k x xs ws t up w f = ((t, all_below (λ y. R k y ≡ Less) xs (λ y h. o.trans k x y t (all-has (λ z. R x z ≡ Less) xs y up.0 h))), up)
   rises_at Equal k x xs ws t up w f = up
   rises_at Greater k x xs ws t up w f =
-      (all_below (λ y. R x y ≡ Less) ws (λ y h. elim (f y h) [ inl e ↦ subst (λ z. R x z ≡ Less) e (reversed o k x t) | inr i ↦ below_all (λ z. R x z ≡ Less) xs y up.0 i ]), w)
+      (all_below (λ y. R x y ≡ Less) ws (λ y h. elim (f y h) [ inl e ↦ subst (λ z. R x z ≡ Less) e (reversed o k x t) | inr i ↦ all-has (λ z. R x z ≡ Less) xs y up.0 i ]), w)
 
   pub rises-with_member : (k : K) (xs : List K) → IsStrictlySortedBy R xs → IsStrictlySortedBy R (with_member R k xs)
   unfolding IsStrictlySortedBy

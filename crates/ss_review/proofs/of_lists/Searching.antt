@@ -8,9 +8,9 @@ use Rattle.std.specs.List.{HoldsAt}
 use Rattle.std.specs.List.Sorted.{IsStrictlySortedBy, IsNonDecreasingBy, IsPartitionPoint}
 use Rattle.std.proofs.lemmas.Cmp.{tied_itself}
 use Rattle.std.proofs.lemmas.Map.Lookups.{CmpEqualImpliesEq}
-use Rattle.ss_origin.proofs.Members.{Has}
+use Rattle.ss_octets.proofs.Members.{Has, all-has}
 use Rattle.ss_review.proofs.of_lists.Sections.{map_agree}
-use Rattle.ss_review.proofs.of_lists.Rising.{below_all, not_less_itself, reversed}
+use Rattle.ss_review.proofs.of_lists.Rising.{not_less_itself, reversed}
 
 pub has_at : {X : Type 0} (xs : List X) (i : ℕ) (d : X) → i < length xs → Has xs (get_or xs i d)
 has_at [] i d below = absurd (omega arith)
@@ -39,7 +39,7 @@ module _ {K : Type 0} {R : K → K → Ordering} (o : IsTotalOrder R) (exact : C
   answers_rise [] x up i j d le below = absurd (omega arith)
   answers_rise (w ∷ ws) x up zero zero d le below = omega arith
   answers_rise (w ∷ ws) x up zero (suc j) d le below =
-      index_at (R w x) w (get_or ws j d) x (below_all (λ z. R w z ≡ Less) ws (get_or ws j d) up.0 (has_at ws j d (omega arith))) refl
+      index_at (R w x) w (get_or ws j d) x (all-has (λ z. R w z ≡ Less) ws (get_or ws j d) up.0 (has_at ws j d (omega arith))) refl
   answers_rise (w ∷ ws) x up (suc i) zero d le below = absurd (omega arith)
   answers_rise (w ∷ ws) x up (suc i) (suc j) d le below = answers_rise ws x up.1 i j d (omega arith) (omega arith)
 
@@ -77,10 +77,10 @@ module _ {K : Type 0} {R : K → K → Ordering} (o : IsTotalOrder R) (exact : C
   change_at f g [] i d x v up below e at others = absurd (omega arith)
   change_at f g (w ∷ ws) zero d x v up below e at others =
       let here : v ≡ g w = at ∙ ap g (sym e) in
-      let rest : map f ws ≡ map g ws = map_agree f g ws (λ y h. others y (λ same. not_equal w y (below_all (λ z. R w z ≡ Less) ws y up.0 h) (e ∙ sym same))) in
+      let rest : map f ws ≡ map g ws = map_agree f g ws (λ y h. others y (λ same. not_equal w y (all-has (λ z. R w z ≡ Less) ws y up.0 h) (e ∙ sym same))) in
       λ k. here k ∷ rest k
   change_at f g (w ∷ ws) (suc i) d x v up below e at others =
-      let here : f w ≡ g w = others w (λ same. not_equal w (get_or ws i d) (below_all (λ z. R w z ≡ Less) ws (get_or ws i d) up.0 (has_at ws i d (omega arith))) (same ∙ sym e)) in
+      let here : f w ≡ g w = others w (λ same. not_equal w (get_or ws i d) (all-has (λ z. R w z ≡ Less) ws (get_or ws i d) up.0 (has_at ws i d (omega arith))) (same ∙ sym e)) in
       let rest : slice_set (map f ws) i v ≡ map g ws = change_at f g ws i d x v up.1 (omega arith) e at others in
       λ k. here k ∷ rest k
 

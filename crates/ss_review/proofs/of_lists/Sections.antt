@@ -12,9 +12,8 @@ use Rattle.std.proofs.lemmas.List.{append-nil}
 use Rattle.std.proofs.lemmas.List.Elements.{filter-append}
 use Rattle.std.proofs.lemmas.Map.Lookups.{CmpEqualImpliesEq}
 use Rattle.ss_review.specs.Ordered.{in_order}
-use Rattle.ss_origin.proofs.Members.{Has, has-map, has-append_right}
-use Rattle.ss_review.proofs.of_lists.Members.{from_has-map, has-append_cases}
-use Rattle.ss_review.proofs.of_lists.Rising.{below_all, all_below, rises-in_order, has-in_order, from_has-in_order, in_order_is}
+use Rattle.ss_octets.proofs.Members.{Has, has-map, has-append_right, from_has-map, has-append_cases, all-has}
+use Rattle.ss_review.proofs.of_lists.Rising.{all_below, rises-in_order, has-in_order, from_has-in_order, in_order_is}
 
 -- ---- filters that keep all, or none
 
@@ -87,7 +86,7 @@ module _ {X K : Type 0} (key : X → K) {R : K → K → Ordering} (o : IsTotalO
   back_at k true x xs bs e g up a = a
   back_at k false x xs bs e g up a =
       let less : R k (key x) ≡ Less = apart k x g e in
-      (less, all_below (λ y. R k (key y) ≡ Less) xs (λ y h. beyond (R (key x) (key y)) k (key x) (key y) less refl (below_all (λ z. is_gt (R (key x) (key z)) ≡ false) xs y up.0 h)))
+      (less, all_below (λ y. R k (key y) ≡ Less) xs (λ y h. beyond (R (key x) (key y)) k (key x) (key y) less refl (all-has (λ z. is_gt (R (key x) (key z)) ≡ false) xs y up.0 h)))
 
   pub back_above : (k : K) (xs : List X) → KeysRise xs → AllByRecursion (λ y. is_gt (R k (key y)) ≡ false) xs → AllByRecursion (λ y. R k (key y) ≡ Less) (back k xs)
   back_above k [] up g = tt
@@ -118,7 +117,7 @@ module _ {X K : Type 0} (key : X → K) {R : K → K → Ordering} (o : IsTotalO
   keys_rise x xs up = (
     all_below (λ q. R (key x) q ≡ Less) (in_order R (map key (back (key x) xs))) (λ q h.
         (let w : (y : X) × Has (back (key x) xs) y × (key y ≡ q) = from_has-map key (back (key x) xs) q (from_has-in_order o exact q (map key (back (key x) xs)) h) in
-        subst (λ p. R (key x) p ≡ Less) w.2 (below_all (λ z. R (key x) (key z) ≡ Less) (back (key x) xs) w.0 (back_above (key x) xs up.1 up.0) w.1))),
+        subst (λ p. R (key x) p ≡ Less) w.2 (all-has (λ z. R (key x) (key z) ≡ Less) (back (key x) xs) w.0 (back_above (key x) xs up.1 up.0) w.1))),
     rises-in_order o exact (map key (back (key x) xs)),
   )
 
@@ -136,7 +135,7 @@ module _ {X K : Type 0} (key : X → K) {R : K → K → Ordering} (o : IsTotalO
       back_again q (inr h) =
           let w : (y : X) × Has xs y × (key y ≡ q) = from_has-map key xs q h in
           elim (has_split (key x) xs w.0 w.1) [
-            | inl l ↦ inl (sym (key_is (key x) w.0 (below_all (λ z. same (key x) z ≡ true) (front (key x) xs) w.0 (front_same (key x) xs) l)) ∙ w.2)
+            | inl l ↦ inl (sym (key_is (key x) w.0 (all-has (λ z. same (key x) z ≡ true) (front (key x) xs) w.0 (front_same (key x) xs) l)) ∙ w.2)
             | inr r ↦ inr (has-in_order o exact q (map key (back (key x) xs)) (subst (Has (map key (back (key x) xs))) w.2 (has-map key (back (key x) xs) w.0 r)))
           ]
 
@@ -158,7 +157,7 @@ module _ {X K : Type 0} (key : X → K) {R : K → K → Ordering} (o : IsTotalO
       ∙ filter-append (same (key x)) (front (key x) xs) (back (key x) xs)
       ∙ ap (λ ys. ys ++ filter (same (key x)) (back (key x) xs)) (keeps_all (same (key x)) (front (key x) xs) (front_same (key x) xs))
       ∙ ap (λ ys. front (key x) xs ++ ys)
-      (keeps_none (same (key x)) (back (key x) xs) (all_below (λ y. same (key x) y ≡ false) (back (key x) xs) (λ y h. not_same (key x) y (below_all (λ z. R (key x) (key z) ≡ Less) (back (key x) xs) y (back_above (key x) xs up.1 up.0) h))))
+      (keeps_none (same (key x)) (back (key x) xs) (all_below (λ y. same (key x) y ≡ false) (back (key x) xs) (λ y h. not_same (key x) y (all-has (λ z. R (key x) (key z) ≡ Less) (back (key x) xs) y (back_above (key x) xs up.1 up.0) h))))
       ∙ append-nil (front (key x) xs))
 
   -- an element with a smaller key isn't of a section
@@ -171,7 +170,7 @@ module _ {X K : Type 0} (key : X → K) {R : K → K → Ordering} (o : IsTotalO
       ∙ ap (filter (same q)) (sym (split_is (key x) xs))
       ∙ filter-append (same q) (front (key x) xs) (back (key x) xs)
       ∙ ap (λ ys. ys ++ filter (same q) (back (key x) xs))
-      (keeps_none (same q) (front (key x) xs) (all_below (λ y. same q y ≡ false) (front (key x) xs) (λ y h. other_key (key x) q y (below_all (λ z. same (key x) z ≡ true) (front (key x) xs) y (front_same (key x) xs) h) l)))
+      (keeps_none (same q) (front (key x) xs) (all_below (λ y. same q y ≡ false) (front (key x) xs) (λ y h. other_key (key x) q y (all-has (λ z. same (key x) z ≡ true) (front (key x) xs) y (front_same (key x) xs) h) l)))
 
   -- each key with its elements
   abbrev pub sections : List X → List (K × List X)
@@ -185,4 +184,4 @@ module _ {X K : Type 0} (key : X → K) {R : K → K → Ordering} (o : IsTotalO
       later : (q : K) → Has (in_order R (map key (back (key x) xs))) q → ◌≡◌ {A = K × List X} (q, filter (same q) (x ∷ xs)) (q, filter (same q) (back (key x) xs))
       later q h =
           let w : (y : X) × Has (back (key x) xs) y × (key y ≡ q) = from_has-map key (back (key x) xs) q (from_has-in_order o exact q (map key (back (key x) xs)) h) in
-          ap (λ ys. (q, ys)) (later_section x xs q (subst (λ p. R (key x) p ≡ Less) w.2 (below_all (λ z. R (key x) (key z) ≡ Less) (back (key x) xs) w.0 (back_above (key x) xs up.1 up.0) w.1)))
+          ap (λ ys. (q, ys)) (later_section x xs q (subst (λ p. R (key x) p ≡ Less) w.2 (all-has (λ z. R (key x) (key z) ≡ Less) (back (key x) xs) w.0 (back_above (key x) xs up.1 up.0) w.1)))

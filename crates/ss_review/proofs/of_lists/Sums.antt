@@ -5,7 +5,7 @@ use Rattle.std.specs.List.{sum_by, flat_map, enumerate_from, range_with_len}
 use Rattle.std.proofs.lemmas.Bool.{cases_eq, eq-eqb, ne_eqb}
 use Rattle.std.proofs.lemmas.List.Sums.{sum_by-cons, sum_by-append}
 use Rattle.ss_review.proofs.of_lists.Counting.{count_by-cons}
-use Rattle.ss_origin.proofs.Members.{Has}
+use Rattle.ss_octets.proofs.Members.{Has}
 
 -- ---- sums
 

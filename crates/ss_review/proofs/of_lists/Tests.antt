@@ -2,7 +2,7 @@
 use Rattle.std.proofs.Common.{◌≡◌, ℕ, zero, suc, ◌+◌, ◌<◌, ◌≤◌, inl, inr, Bool, true, false, List, [], ◌∷◌, refl, sym, ap, ◌∙◌, arith}
 use Rattle.std.specs.List.{list_any, list_all, range_with_len}
 use Rattle.std.proofs.lemmas.Bool.{cases_eq, and_cases, and_from, and_parts, or_cases, or_left, or_right}
-use Rattle.ss_origin.proofs.Members.{Has}
+use Rattle.ss_octets.proofs.Members.{Has}
 
 -- ---- some member
 

@@ -17,9 +17,8 @@ use Rattle.ss_block.specs.Order.{hash_cmp}
 use Rattle.ss_review.specs.sessions.Verified.{Answers, is_verified}
 use Rattle.ss_review.specs.announced.Announced.{Key, Row, key_cmp, row_cmp, same_key, rows_said, rows, keys, hashes_for, is_disputed_key}
 use Rattle.ss_review.specs.announced.Announcing.{Announces, IsAnnounced, IsDisputedKey}
-use Rattle.ss_origin.proofs.Members.{Has, has_from_contains, contains_from_has, has-map}
-use Rattle.ss_review.proofs.of_lists.Members.{from_has-map, has-filter, from_has-filter, has-flat_map, from_has-flat_map}
-use Rattle.ss_review.proofs.of_lists.Rising.{below_all, all_below, rises-in_order, has-in_order, from_has-in_order}
+use Rattle.ss_octets.proofs.Members.{Has, has_from_contains, contains_from_has, has-map, from_has-map, has-filter, from_has-filter, has-flat_map, from_has-flat_map, all-has}
+use Rattle.ss_review.proofs.of_lists.Rising.{all_below, rises-in_order, has-in_order, from_has-in_order}
 use Rattle.ss_block.specs.OrderLaws.{hash_cmp_total}
 use Rattle.ss_review.proofs.of_lists.TotalOrders.{key_cmp_total, key_cmp_exact, row_cmp_total, row_cmp_exact}
 
@@ -143,7 +142,7 @@ hashes_at k [] up a = tt
 hashes_at k (r ∷ rs) up a = (
   all_below (λ h. hash_cmp r.hash h ≡ Less) (map (λ (s : Row). s.hash) rs) (λ h i.
       (let w : (s : Row) × Has rs s × (s.hash ≡ h) = from_has-map (λ (s : Row). s.hash) rs h i in
-      subst (λ g. hash_cmp r.hash g ≡ Less) w.2 (hash_below k r w.0 (below_all (λ s. row_cmp r s ≡ Less) rs w.0 up.0 w.1) a.0 (below_all (λ (s : Row). s.key ≡ k) rs w.0 a.1 w.1)))),
+      subst (λ g. hash_cmp r.hash g ≡ Less) w.2 (hash_below k r w.0 (all-has (λ s. row_cmp r s ≡ Less) rs w.0 up.0 w.1) a.0 (all-has (λ (s : Row). s.key ≡ k) rs w.0 a.1 w.1)))),
   hashes_at k rs up.1 a.1,
 )
 

@@ -13,7 +13,8 @@ use Rattle.ss_review.specs.declared.announced.announced_hash.AnnouncedHash as ro
 use Rattle.ss_review.specs.Ordered.{in_order}
 use Rattle.ss_review.specs.announced.Announced.{Key, Row, key_cmp, row_cmp, same_key, keys}
 use Rattle.ss_review.specs.announced.Numbered.{row_of, only_hash, only_hashes, is_more_of, hash_before}
-use Rattle.ss_review.proofs.of_lists.Rising.{below_all, all_below}
+use Rattle.ss_octets.proofs.Members.{all-has}
+use Rattle.ss_review.proofs.of_lists.Rising.{all_below}
 use Rattle.ss_review.proofs.of_lists.Sections.{KeysRise, front, back, sections, keys_step, sections_step}
 use Rattle.ss_review.proofs.of_lists.TotalOrders.{key_cmp_total, key_cmp_exact, then_first}
 
@@ -26,7 +27,7 @@ RowsRise rs = KeysRise key_in key_cmp_total key_cmp_exact rs
 pub rows_rise : (rs : List Row) → IsStrictlySortedBy row_cmp rs → RowsRise rs
 unfolding IsStrictlySortedBy
 rows_rise [] up = tt
-rows_rise (r ∷ rs) up = (all_below (λ s. is_gt (key_cmp r.key s.key) ≡ false) rs (λ s h. then_first (key_cmp r.key s.key) (hash_cmp r.hash s.hash) (below_all (λ s. row_cmp r s ≡ Less) rs s up.0 h)), rows_rise rs up.1)
+rows_rise (r ∷ rs) up = (all_below (λ s. is_gt (key_cmp r.key s.key) ≡ false) rs (λ s h. then_first (key_cmp r.key s.key) (hash_cmp r.hash s.hash) (all-has (λ s. row_cmp r s ≡ Less) rs s up.0 h)), rows_rise rs up.1)
 
 -- ---- the rows of one key, and those behind them
 

@@ -8,8 +8,7 @@ use Rattle.ss_review.specs.declared.announced.announced_hash.AnnouncedHash as ro
 use Rattle.ss_review.specs.announced.Announced.{Row, row_cmp}
 use Rattle.ss_review.specs.announced.Numbered.{row_of}
 use Rattle.ss_review.specs.Ordered.{in_order}
-use Rattle.ss_origin.proofs.Members.{Has, has_from_contains, contains_from_has}
-use Rattle.ss_review.proofs.of_lists.Members.{has-flat_map, from_has-flat_map}
+use Rattle.ss_octets.proofs.Members.{Has, has_from_contains, contains_from_has, has-flat_map, from_has-flat_map}
 use Rattle.ss_review.proofs.of_lists.Rising.{in_order_same}
 use Rattle.ss_review.proofs.of_lists.TotalOrders.{row_cmp_total, row_cmp_exact}
 

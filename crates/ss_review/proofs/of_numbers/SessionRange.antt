@@ -16,8 +16,7 @@ use Rattle.ss_review.specs.announced.Announced.{Key, key_cmp}
 use Rattle.ss_review.specs.sessions.Sessions.{same_session}
 use Rattle.ss_review.specs.announced.Numbered.{key_of}
 use Rattle.ss_review.specs.report.Grouped.{Rise, numbers_of_session}
-use Rattle.ss_origin.proofs.Members.{Has, has_from_contains, has-map}
-use Rattle.ss_review.proofs.of_lists.Rising.{below_all}
+use Rattle.ss_octets.proofs.Members.{Has, has_from_contains, has-map, all-has}
 use Rattle.ss_review.proofs.of_lists.TotalOrders.{less_is, then_first}
 
 -- ---- filters that keep a part
@@ -55,7 +54,7 @@ rise_at (n ∷ ns) up zero zero d le below = ap is_gt (tied_itself session_cmp_t
 rise_at (n ∷ ns) up zero (suc j) d le below =
     let m = get_or ns j d in
     let h : Has ns m = has_from_contains ns m (j, omega arith, get_or_default ns j m d (omega arith)) in
-    then_first (session_cmp (session_of n) (session_of m)) _ (below_all (λ k. key_cmp (numbered_key n) k ≡ Less) (map numbered_key ns) (numbered_key m) up.0 (has-map numbered_key ns m h))
+    then_first (session_cmp (session_of n) (session_of m)) _ (all-has (λ k. key_cmp (numbered_key n) k ≡ Less) (map numbered_key ns) (numbered_key m) up.0 (has-map numbered_key ns m h))
 rise_at (n ∷ ns) up (suc i) zero d le below = absurd (omega arith)
 rise_at (n ∷ ns) up (suc i) (suc j) d le below = rise_at ns up.1 i j d (omega arith) (omega arith)
 

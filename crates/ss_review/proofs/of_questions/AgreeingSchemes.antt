@@ -16,7 +16,7 @@ use Rattle.ss_review.specs.sessions.Verified.{Answers, is_valid, is_accepted, ju
 use Rattle.ss_review.specs.announced.Announced.{row_cmp, rows_said, rows}
 use Rattle.ss_review.specs.questions.Questions.{question_about, asked, questions, answer}
 use Rattle.ss_review.specs.report.Report.{groups, group_report, session_report, unlisted, refused, report_of}
-use Rattle.ss_origin.proofs.Members.{Has, contains_from_has, has-map}
+use Rattle.ss_octets.proofs.Members.{Has, contains_from_has, has-map}
 use Rattle.ss_review.proofs.of_lists.Sections.{map_agree}
 use Rattle.ss_review.proofs.of_questions.AskableBlocks.{has-questions, has-sessions, has-own}
 

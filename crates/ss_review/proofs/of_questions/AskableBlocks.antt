@@ -17,8 +17,7 @@ use Rattle.ss_review.specs.sessions.Payloads.{certificates, stated_payload}
 use Rattle.ss_review.specs.sessions.Verified.{Answers, is_accepted, judged, joined}
 use Rattle.ss_review.specs.announced.Numbered.{session_with_joined, sessions_joined}
 use Rattle.ss_review.specs.questions.Questions.{question_about, asked, questions, AreAskable, IsAskableIn}
-use Rattle.ss_origin.proofs.Members.{Has, has_from_contains, contains_from_has, has-append_left, has-append_right, has-map}
-use Rattle.ss_review.proofs.of_lists.Members.{from_has-map, has-filter, has-flat_map}
+use Rattle.ss_octets.proofs.Members.{Has, has_from_contains, contains_from_has, has-append_left, has-append_right, has-map, from_has-map, has-filter, has-flat_map}
 use Rattle.ss_review.proofs.of_lists.Rising.{has-in_order}
 
 -- ---- the questions about a block stand among those about its log

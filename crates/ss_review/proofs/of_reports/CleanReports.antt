@@ -26,7 +26,7 @@ use Rattle.ss_review.specs.announced.Announcing.{IsAnnounced}
 use Rattle.ss_review.specs.report.Meaning.{IsHole, IsEntry, IsUnlisted, IsRefused, IsReport}
 use Rattle.ss_review.proofs.of_numbers.Announcements.{has-announced_key}
 use Rattle.ss_review.proofs.of_reports.Leftovers.{taken_by}
-use Rattle.ss_origin.proofs.Members.{Has, contains_from_has}
+use Rattle.ss_octets.proofs.Members.{Has, contains_from_has}
 use Rattle.ss_review.proofs.of_lists.Tests.{member_all}
 
 -- ---- parts

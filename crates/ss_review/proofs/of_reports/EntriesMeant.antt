@@ -19,8 +19,7 @@ use Rattle.ss_review.specs.report.Meaning.{IsHole, Tells, IsEntry}
 use Rattle.ss_review.proofs.of_numbers.Announcements.{announced_key, has-announced_key, disputed_key, has-disputed_key}
 use Rattle.ss_review.proofs.of_reports.EntriesRise.{not_above_greatest}
 use Rattle.ss_review.proofs.of_reports.Listings.{given_cases, key_of, listed_assigned, assigned_listed, gap_told, tells_gap}
-use Rattle.ss_origin.proofs.Members.{Has, has-append_left}
-use Rattle.ss_review.proofs.of_lists.Members.{from_has-map, from_has-filter}
+use Rattle.ss_octets.proofs.Members.{Has, has-append_left, from_has-map, from_has-filter}
 use Rattle.ss_review.proofs.of_reports.Telling.{from_has-group_keys, has-group_keys, told_by, tells}
 
 -- ---- the greatest number below another

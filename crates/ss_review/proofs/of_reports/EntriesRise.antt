@@ -31,10 +31,9 @@ use Rattle.ss_review.specs.report.Meaning.{first_number, IsInOrder}
 use Rattle.ss_review.proofs.of_numbers.Announcements.{keys-rise}
 use Rattle.ss_review.proofs.of_lists.Keyed.{less, from_less, keys_rise-filter}
 use Rattle.ss_review.proofs.of_reports.Listings.{given_cases, entry_number}
-use Rattle.ss_origin.proofs.Members.{Has, has-map}
-use Rattle.ss_review.proofs.of_lists.Members.{from_has-map, has-filter, has-append_cases, from_has-flat_map}
+use Rattle.ss_octets.proofs.Members.{Has, has-map, from_has-map, has-filter, has-append_cases, from_has-flat_map, all-has}
 use Rattle.ss_review.proofs.of_kept_messages.PlacesRise.{normals_rise, blocks_rise, spoilts_rise}
-use Rattle.ss_review.proofs.of_lists.Rising.{below_all, all_below, rises-in_order}
+use Rattle.ss_review.proofs.of_lists.Rising.{all_below, rises-in_order}
 use Rattle.ss_review.proofs.of_reports.Telling.{given, from_has-group_keys}
 use Rattle.ss_block.specs.OrderLaws.{session_cmp_total, session_cmp_exact, group_cmp_total, group_cmp_exact}
 
@@ -58,7 +57,7 @@ rises-append key (x ∷ xs) ys up vp l = (
       (let w = from_has-map key (xs ++ ys) n h in
       subst (λ m. nat_cmp (key x) m ≡ Less) w.2
       (elim (has-append_cases xs ys w.0 w.1) [
-        | inl i ↦ below_all (λ m. nat_cmp (key x) m ≡ Less) (map key xs) (key w.0) up.0 (has-map key xs w.0 i)
+        | inl i ↦ all-has (λ m. nat_cmp (key x) m ≡ Less) (map key xs) (key w.0) up.0 (has-map key xs w.0 i)
         | inr i ↦ less (key x) (key w.0) (l x w.0 (inl refl) i)
       ]))),
   rises-append key xs ys up.1 vp (λ y z h i. l y z (inr h) i),
@@ -115,7 +114,7 @@ module _ (ms : List NormalMessage) (rs : List Row) (ks : List Key) where
       rises-append first_number (given ms rs ks k) (flat_map (given ms rs ks) xs) (given_rises k) (along xs (λ j h. within j (inr h)) up.1)
       (λ x y h i.
       (let w = from_has-flat_map (given ms rs ks) xs y i in
-      let below : k.number < w.0.number = from_less k.number w.0.number (below_all (λ n. nat_cmp k.number n ≡ Less) (map (λ (j : Key). j.number) xs) w.0.number up.0 (has-map (λ (j : Key). j.number) xs w.0 w.1)) in
+      let below : k.number < w.0.number = from_less k.number w.0.number (all-has (λ n. nat_cmp k.number n ≡ Less) (map (λ (j : Key). j.number) xs) w.0.number up.0 (has-map (λ (j : Key). j.number) xs w.0 w.1)) in
       omega (arith, (first_within k x h).0, (first_within w.0 y w.2).1 k (within k (inl refl)) below)))
 
   pub entries_rise : IsStrictlySortedBy nat_cmp (map (λ (k : Key). k.number) ks) → IsStrictlySortedBy nat_cmp (map first_number (entries ms rs ks))
@@ -136,8 +135,8 @@ numbers_at s g [] up a = tt
 numbers_at s g (k ∷ xs) up a = (
   all_below (λ n. nat_cmp k.number n ≡ Less) (map (λ (j : Key). j.number) xs) (λ n h.
       (let w = from_has-map (λ (j : Key). j.number) xs n h in
-      let of_group = below_all (λ (j : Key). (j.session ≡ s) × (j.group ≡ g)) xs w.0 a.1 w.1 in
-      subst (λ m. nat_cmp k.number m ≡ Less) w.2 (number_below k w.0 (below_all (λ j. key_cmp k j ≡ Less) xs w.0 up.0 w.1) (a.0.0 ∙ sym of_group.0) (a.0.1 ∙ sym of_group.1)))),
+      let of_group = all-has (λ (j : Key). (j.session ≡ s) × (j.group ≡ g)) xs w.0 a.1 w.1 in
+      subst (λ m. nat_cmp k.number m ≡ Less) w.2 (number_below k w.0 (all-has (λ j. key_cmp k j ≡ Less) xs w.0 up.0 w.1) (a.0.0 ∙ sym of_group.0) (a.0.1 ∙ sym of_group.1)))),
   numbers_at s g xs up.1 a.1,
 )
 

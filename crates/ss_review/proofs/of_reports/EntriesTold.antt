@@ -20,8 +20,8 @@ use Rattle.ss_review.specs.announced.Numbered.{key_of, only_hash, only_hashes}
 use Rattle.ss_review.specs.report.Grouped.{entry_from, numbered, with_entry, with_entries, entries_after}
 use Rattle.ss_review.proofs.of_numbers.Announcements.{from_has-keys, has-hashes_for}
 use Rattle.ss_review.proofs.of_lists.Keyed.{from_less}
-use Rattle.ss_origin.proofs.Members.{Has, has-map}
-use Rattle.ss_review.proofs.of_lists.Rising.{below_all, all_below}
+use Rattle.ss_octets.proofs.Members.{Has, has-map, all-has}
+use Rattle.ss_review.proofs.of_lists.Rising.{all_below}
 use Rattle.ss_review.proofs.of_lists.Sections.{keeps_none}
 
 -- ---- the entry of a number
@@ -77,7 +77,7 @@ greatest_first a k ks up =
     (keeps_none (λ m. nat_lt m k.number) (map (λ (j : Key). j.number) (k ∷ ks)) (
       le-ltb k.number k.number (omega arith),
       all_below (λ m. nat_lt m k.number ≡ false) (map (λ (j : Key). j.number) ks) (λ m h.
-          le-ltb m k.number (omega (arith, from_less k.number m (below_all (λ n. nat_cmp k.number n ≡ Less) (map (λ (j : Key). j.number) ks) m up h)))),
+          le-ltb m k.number (omega (arith, from_less k.number m (all-has (λ n. nat_cmp k.number n ≡ Less) (map (λ (j : Key). j.number) ks) m up h)))),
     ))
 
 -- below a later key the first one stands in for what is before it
@@ -95,7 +95,7 @@ module _ (ms : List NormalMessage) (rs : List Row) where
   unfolding IsStrictlySortedBy
   told_along a [] least up = refl
   told_along a (k ∷ ks) least up =
-      let above : (j : Key) → Has ks j → k.number < j.number = λ j h. from_less k.number j.number (below_all (λ n. nat_cmp k.number n ≡ Less) (map (λ (i : Key). i.number) ks) j.number up.0 (has-map (λ (i : Key). i.number) ks j h)) in
+      let above : (j : Key) → Has ks j → k.number < j.number = λ j h. from_less k.number j.number (all-has (λ n. nat_cmp k.number n ≡ Less) (map (λ (i : Key). i.number) ks) j.number up.0 (has-map (λ (i : Key). i.number) ks j h)) in
       let rest : entries_after k.number (with_entries ms rs ks) ≡ flat_map (told k.number ks) ks = told_along k.number ks (λ j h. (let l = above j h in omega arith)) up.1 in
       let later : flat_map (told k.number ks) ks ≡ flat_map (told a (k ∷ ks)) ks
       = flat_map_agree (told k.number ks) (told a (k ∷ ks)) ks (λ j h. ap (λ last. hole_between last j.number ++ entry_of ms rs j ∷ []) (sym (greatest_later a k ks j.number (least k (inl refl)) (above j h)))) in

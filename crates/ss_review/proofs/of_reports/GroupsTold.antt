@@ -32,10 +32,9 @@ use Rattle.ss_review.proofs.of_numbers.Announcements.{keys-rise}
 use Rattle.ss_review.proofs.of_reports.EntriesRise.{numbers_rise}
 use Rattle.ss_review.proofs.of_reports.EntriesTold.{entries_told}
 use Rattle.ss_review.proofs.of_lists.Keyed.{keys_rise-filter}
-use Rattle.ss_origin.proofs.Members.{has-map}
-use Rattle.ss_review.proofs.of_lists.Members.{from_has-filter}
+use Rattle.ss_octets.proofs.Members.{has-map, from_has-filter, all-has}
 use Rattle.ss_review.proofs.of_assignment.NotTaken.{filter_map_is}
-use Rattle.ss_review.proofs.of_lists.Rising.{below_all, all_below}
+use Rattle.ss_review.proofs.of_lists.Rising.{all_below}
 use Rattle.ss_review.proofs.of_lists.Sections as sectioned
 use Rattle.ss_review.proofs.of_lists.Sections.{map_agree}
 use Rattle.ss_review.proofs.of_numbers.SessionRange.{numbered_key, session_of}
@@ -116,8 +115,8 @@ unfolding IsStrictlySortedBy
 groups_rise s [] up a = tt
 groups_rise s (n ∷ ns) up a = (
   all_below (λ m. is_gt (group_cmp n.number.group m.number.group) ≡ false) ns (λ m h.
-      not_above (numbered_key n) (numbered_key m) (below_all (λ k. key_cmp (numbered_key n) k ≡ Less) (map numbered_key ns) (numbered_key m) up.0 (has-map numbered_key ns m h))
-      (a.0 ∙ sym (below_all (λ m. session_of m ≡ s) ns m a.1 h))),
+      not_above (numbered_key n) (numbered_key m) (all-has (λ k. key_cmp (numbered_key n) k ≡ Less) (map numbered_key ns) (numbered_key m) up.0 (has-map numbered_key ns m h))
+      (a.0 ∙ sym (all-has (λ m. session_of m ≡ s) ns m a.1 h))),
   groups_rise s ns up.1 a.1,
 )
 

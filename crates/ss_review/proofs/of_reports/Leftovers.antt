@@ -11,8 +11,7 @@ use Rattle.ss_review.specs.announced.Announced.{Key, Row, keys, rows}
 use Rattle.ss_review.specs.assign.Assigned.{is_place, assigned, is_taken}
 use Rattle.ss_review.specs.report.Report.{unlisted, refused, report_of}
 use Rattle.ss_review.specs.report.Meaning.{IsUnlisted, IsRefused}
-use Rattle.ss_origin.proofs.Members.{Has, has_from_contains, contains_from_has, has-map}
-use Rattle.ss_review.proofs.of_lists.Members.{from_has-map, has-filter, from_has-filter}
+use Rattle.ss_octets.proofs.Members.{Has, has_from_contains, contains_from_has, has-map, from_has-map, has-filter, from_has-filter}
 use Rattle.ss_review.proofs.of_assignment.OnePlaceOneKey.{assigned_cases, wanted_key}
 use Rattle.ss_review.proofs.of_lists.Tests.{any_member, member_any}
 

@@ -17,8 +17,7 @@ use Rattle.ss_review.specs.report.Report.{report_of}
 use Rattle.ss_review.specs.announced.Announcing.{IsAnnounced}
 use Rattle.ss_review.specs.report.Meaning.{IsListed, IsGap}
 use Rattle.ss_review.proofs.of_numbers.Announcements.{announced_key, has-announced_key}
-use Rattle.ss_origin.proofs.Members.{Has, has-append_right}
-use Rattle.ss_review.proofs.of_lists.Members.{has-append_cases}
+use Rattle.ss_octets.proofs.Members.{Has, has-append_right, has-append_cases}
 use Rattle.ss_review.proofs.of_assignment.OnePlaceOneKey.{assigned_cases, wanted_key}
 use Rattle.ss_review.proofs.of_reports.Telling.{given, told_by, tells}
 

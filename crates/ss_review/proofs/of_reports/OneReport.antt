@@ -20,8 +20,7 @@ use Rattle.ss_review.specs.report.Meaning.{IsReport}
 use Rattle.ss_review.proofs.of_reports.EntriesRise.{all_map, in_order_report}
 use Rattle.ss_review.proofs.of_reports.EntriesMeant.{entry_told, entry_tells}
 use Rattle.ss_review.proofs.of_reports.Leftovers.{unlisted_are, refused_are}
-use Rattle.ss_origin.proofs.Members.{Has, has_from_contains, contains_from_has, has-map, has-append_right}
-use Rattle.ss_review.proofs.of_lists.Members.{from_has-map, has-flat_map}
+use Rattle.ss_octets.proofs.Members.{Has, has_from_contains, contains_from_has, has-map, has-append_right, from_has-map, has-flat_map}
 use Rattle.ss_review.proofs.of_lists.Rising.{all_below, has-in_order, from_has-in_order}
 use Rattle.ss_review.proofs.of_reports.Telling.{given, from_has-groups, has-group_keys}
 

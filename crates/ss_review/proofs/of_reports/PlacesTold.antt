@@ -33,8 +33,7 @@ use Rattle.ss_review.specs.Laws.{EveryPlaceIsTold}
 use Rattle.ss_review.proofs.of_lists.Keyed.{has-slice_get, one_of_key}
 use Rattle.ss_review.proofs.of_reports.Leftovers.{taken_by, takes, unlisted_are, refused_are}
 use Rattle.ss_review.proofs.of_reports.Listings.{listed_assigned, assigned_listed}
-use Rattle.ss_origin.proofs.Members.{Has, has_from_contains, contains_from_has, has-map}
-use Rattle.ss_review.proofs.of_lists.Members.{from_has-map}
+use Rattle.ss_octets.proofs.Members.{Has, has_from_contains, contains_from_has, has-map, from_has-map}
 use Rattle.ss_review.proofs.of_kept_messages.NotesTold.{block_place, normal_noted, block_noted, spoilt_noted, has-normal, has-block, has-spoilt}
 use Rattle.ss_review.proofs.of_assignment.OnePlaceOneKey.{assigned_cases, from_has-places_with}
 use Rattle.ss_review.proofs.of_kept_messages.PlacesRise.{blocks_rise}

@@ -17,8 +17,8 @@ use Rattle.ss_review.specs.sessions.Sessions.{of_session}
 use Rattle.ss_review.specs.sessions.Verified.{Answers, joined, state_in}
 use Rattle.ss_review.specs.report.Meaning.{Tells, first_number, IsReport}
 use Rattle.ss_review.proofs.of_lists.Keyed.{one_of_key}
-use Rattle.ss_origin.proofs.Members.{Has, has_from_contains, contains_from_has}
-use Rattle.ss_review.proofs.of_lists.Rising.{below_all, same_members, same_keyed}
+use Rattle.ss_octets.proofs.Members.{Has, has_from_contains, contains_from_has, all-has}
+use Rattle.ss_review.proofs.of_lists.Rising.{same_members, same_keyed}
 
 some_member : {X : Type 0} (xs : List X) → xs ≢ [] → (x : X) × Has xs x
 some_member [] n = absurd (n refl)
@@ -32,7 +32,7 @@ whose t = t.session
 module _ (says : Answers) (log : Contents) where
   groups_up : (r : Report) (t : SessionReport) → IsReport says log r → Has r.sessions t → IsStrictlySortedBy group_cmp (map (λ (g : GroupReport). g.group) t.groups)
   groups_up r t is h =
-      below_all (λ (s : SessionReport). IsStrictlySortedBy group_cmp (map (λ (g : GroupReport). g.group) s.groups)) r.sessions t
+      all-has (λ (s : SessionReport). IsStrictlySortedBy group_cmp (map (λ (g : GroupReport). g.group) s.groups)) r.sessions t
       (recursion_from_All (λ (s : SessionReport). IsStrictlySortedBy group_cmp (map (λ (g : GroupReport). g.group) s.groups)) r.sessions is.in_order.groups) h
 
   abbrev EntriesRise : GroupReport → Type 0
@@ -40,9 +40,9 @@ module _ (says : Answers) (log : Contents) where
 
   entries_up : (r : Report) (t : SessionReport) (g : GroupReport) → IsReport says log r → Has r.sessions t → Has t.groups g → EntriesRise g
   entries_up r t g is h i =
-      below_all EntriesRise t.groups g
+      all-has EntriesRise t.groups g
       (recursion_from_All EntriesRise t.groups
-      (below_all (λ (s : SessionReport). All EntriesRise s.groups) r.sessions t (recursion_from_All (λ (s : SessionReport). All EntriesRise s.groups) r.sessions is.in_order.entries) h)) i
+      (all-has (λ (s : SessionReport). All EntriesRise s.groups) r.sessions t (recursion_from_All (λ (s : SessionReport). All EntriesRise s.groups) r.sessions is.in_order.entries) h)) i
 
   abbrev HasEntry : GroupReport → Type 0
   HasEntry g = g.entries ≢ []
@@ -50,13 +50,13 @@ module _ (says : Answers) (log : Contents) where
   some_entry : (r : Report) (t : SessionReport) (g : GroupReport) → IsReport says log r → Has r.sessions t → Has t.groups g → (e : Entry) × Has g.entries e
   some_entry r t g is h i =
       some_member g.entries
-      (below_all HasEntry t.groups g
+      (all-has HasEntry t.groups g
       (recursion_from_All HasEntry t.groups
-      (below_all (λ (s : SessionReport). All HasEntry s.groups) r.sessions t (recursion_from_All (λ (s : SessionReport). All HasEntry s.groups) r.sessions is.no_empty_group) h)) i)
+      (all-has (λ (s : SessionReport). All HasEntry s.groups) r.sessions t (recursion_from_All (λ (s : SessionReport). All HasEntry s.groups) r.sessions is.no_empty_group) h)) i)
 
   state_of : (r : Report) (t : SessionReport) → IsReport says log r → Has r.sessions t → t.state ≡ state_in (joined says (of_session log.blocks t.session))
   state_of r t is h =
-      below_all (λ (s : SessionReport). s.state ≡ state_in (joined says (of_session log.blocks s.session))) r.sessions t
+      all-has (λ (s : SessionReport). s.state ≡ state_in (joined says (of_session log.blocks s.session))) r.sessions t
       (recursion_from_All (λ (s : SessionReport). s.state ≡ state_in (joined says (of_session log.blocks s.session))) r.sessions is.states) h
 
   -- an entry of a group of a session in one report is in the other, under the same session and in the same group

@@ -19,8 +19,7 @@ use Rattle.ss_review.specs.report.Entries.{same_group, keys_in, group_keys, entr
 use Rattle.ss_review.specs.report.Report.{groups, group_report, session_report, report_of}
 use Rattle.ss_review.specs.report.Meaning.{Tells}
 use Rattle.ss_review.proofs.of_numbers.Announcements.{announced_key}
-use Rattle.ss_origin.proofs.Members.{Has, has_from_contains, contains_from_has, has-map}
-use Rattle.ss_review.proofs.of_lists.Members.{from_has-map, has-filter, from_has-filter, has-flat_map, from_has-flat_map}
+use Rattle.ss_octets.proofs.Members.{Has, has_from_contains, contains_from_has, has-map, from_has-map, has-filter, from_has-filter, has-flat_map, from_has-flat_map}
 use Rattle.ss_review.proofs.of_lists.Rising.{has-in_order, from_has-in_order}
 use Rattle.ss_block.specs.OrderLaws.{session_cmp_total, session_cmp_exact, group_cmp_total, group_cmp_exact}
 

@@ -20,7 +20,7 @@ use Rattle.ss_review.specs.Laws.{OneReport, ListedAreAssigned, GapsAreUnassigned
 use Rattle.ss_review.specs.deliveries.DeliveryLaws.{Case, says, report_in, normals_in, rows_in, rank_in, NothingIsDisputed, HasItsHash, AnnouncedByBlocks, HasMessage, ListedByRank}
 use Rattle.ss_review.specs.deliveries.Delivered.{HasOneHash, KeysHaveBlocks, EntriesAreByRank}
 use Rattle.ss_review.proofs.of_numbers.Announcements.{announced_row, announced_key, has-announced_key, disputed_key, has-disputed_key, from_has-hashes_for, has-hashes_for, has-rows}
-use Rattle.ss_origin.proofs.Members.{Has, has_from_contains, contains_from_has}
+use Rattle.ss_octets.proofs.Members.{Has, has_from_contains, contains_from_has}
 use Rattle.ss_review.proofs.of_assignment.OnePlaceOneKey.{assigned_cases, wanted_key}
 use Rattle.ss_review.proofs.of_deliveries.SentMessages.{turns_of_chain}
 use Rattle.ss_review.proofs.of_deliveries.StoredBlocks.{none_spoilt}

@@ -34,7 +34,7 @@ use Rattle.ss_review.specs.announced.Announcing.{Announces}
 use Rattle.ss_review.specs.report.Witness.{IsWitnessed}
 use Rattle.ss_review.proofs.of_numbers.Announcements.{announced_row, from_has-hashes_for}
 use Rattle.ss_review.proofs.of_lists.Keyed.{has-slice_get}
-use Rattle.ss_origin.proofs.Members.{Has, has_from_contains}
+use Rattle.ss_octets.proofs.Members.{Has, has_from_contains}
 use Rattle.ss_review.proofs.of_kept_messages.NotesTold.{IsBlockOf, normal_noted, block_noted}
 use Rattle.ss_review.proofs.of_assignment.OnePlaceOneKey.{assigned_cases, from_has-places_with, only_one}
 use Rattle.ss_review.proofs.of_lists.Tests.{all_member}

@@ -15,8 +15,7 @@ use Rattle.ss_block.specs.OrderLaws.{session_cmp_total, session_cmp_exact}
 use Rattle.ss_review.specs.declared.keep.message.BlockMessage.{BlockMessage}
 use Rattle.ss_review.specs.sessions.Sessions.{same_session, sessions, of_session}
 use Rattle.ss_review.specs.sessions.Sectioned.{sections, referred, front, SessionsRise, EndsSection}
-use Rattle.ss_origin.proofs.Members.{Has, has_from_contains, contains_from_has}
-use Rattle.ss_review.proofs.of_lists.Members.{from_has-map}
+use Rattle.ss_octets.proofs.Members.{Has, has_from_contains, contains_from_has, from_has-map}
 use Rattle.ss_review.proofs.of_lists.Rising.{in_order_same, from_has-in_order}
 use Rattle.ss_review.proofs.of_lists.Sections as sectioned
 use Rattle.ss_review.proofs.of_lists.Sections.{map_agree}

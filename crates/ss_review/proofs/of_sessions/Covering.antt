@@ -19,7 +19,7 @@ use Rattle.ss_review.specs.declared.keep.message.BlockMessage.{BlockMessage}
 use Rattle.ss_review.specs.sessions.Payloads.{certificate_of, certificates, has_index, cover}
 use Rattle.ss_review.specs.sessions.Verified.{Answers, is_valid}
 use Rattle.ss_review.specs.sessions.Covering.{span_of, spans_of, is_within, covers, IsFirstUncovered, accepted_span}
-use Rattle.ss_origin.proofs.Members.{Has, contains_from_has}
+use Rattle.ss_octets.proofs.Members.{Has, contains_from_has}
 use Rattle.ss_review.proofs.of_lists.Tests.{any_member, member_all, all_member, in_range, from_in_range}
 
 covers_is : (cs : List block.Certificate) (i : ℕ) → covers (spans_of cs) i ≡ has_index cs i

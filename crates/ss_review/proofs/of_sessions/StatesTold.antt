@@ -16,8 +16,7 @@ use Rattle.ss_review.specs.declared.report.session_report.SessionState.TheVarian
 use Rattle.ss_review.specs.sessions.Payloads.{certificate_of, certificates, octets, is_disputed, has_index, cover, lacks_some, octet_at, joined_text, payload_or_malformed, stated_payload}
 use Rattle.ss_review.specs.sessions.Verified.{Answers, signature_of, is_valid, is_accepted, judged, joined, state_in}
 use Rattle.ss_review.specs.sessions.States.{stated_by, StatesText, HasValidOctet, IsCovered, IsPayloadBlock, IsJoinedUnder, IsInState}
-use Rattle.ss_origin.proofs.Members.{Has, has_from_contains, contains_from_has}
-use Rattle.ss_review.proofs.of_lists.Members.{has-filter, from_has-filter, has-filter_map, from_has-filter_map}
+use Rattle.ss_octets.proofs.Members.{Has, has_from_contains, contains_from_has, has-filter, from_has-filter, has-filter_map, from_has-filter_map}
 use Rattle.ss_review.proofs.of_lists.Tests.{any_member, member_any, all_member, member_all, in_range, from_in_range}
 use Rattle.ss_review.proofs.of_sessions.Stating.{IsStatedBy, disputed_from, disputed_to, lacks_from_gap, gap_from_lacks, octet_from_index, found, stated_by-IsStatedBy}
 use Rattle.ss_review.proofs.of_sessions.SessionStates.{disputed_payload, incomplete_payload, text_payload}

@@ -23,8 +23,7 @@ use Rattle.ss_review.specs.declared.keep.message.BlockMessage.{BlockMessage}
 use Rattle.ss_review.specs.declared.report.session_report.SessionState.TheVariants as states
 use Rattle.ss_review.specs.sessions.Payloads.{certificate_of, certificates, octets, clash, is_disputed, has_index, cover, lacks_some, octet_found, octet_at, joined_text, payload_or_malformed, stated_payload}
 use Rattle.ss_review.specs.sessions.Stated.{stated_after, stated_in_turn, unjoined}
-use Rattle.ss_origin.proofs.Members.{Has, has-map}
-use Rattle.ss_review.proofs.of_lists.Members.{from_has-map, has-flat_map, from_has-flat_map}
+use Rattle.ss_octets.proofs.Members.{Has, has-map, from_has-map, has-flat_map, from_has-flat_map}
 use Rattle.ss_review.proofs.of_lists.Tests.{any_member, member_any, all_member, not_all, in_range, from_in_range}
 use Rattle.ss_review.specs.sessions.States.{stated_by}
 

@@ -21,8 +21,7 @@ use Rattle.ss_review.specs.sessions.Sessions.{same_session, sessions, of_session
 use Rattle.ss_review.specs.sessions.Payloads.{is_disputed, stated_payload}
 use Rattle.ss_review.specs.sessions.Verified.{Answers, joined, is_valid_in, is_verified}
 use Rattle.ss_review.specs.announced.Numbered.{session_with_joined, sessions_joined}
-use Rattle.ss_origin.proofs.Members.{Has, contains_from_has, has_from_contains, has-map}
-use Rattle.ss_review.proofs.of_lists.Members.{from_has-map}
+use Rattle.ss_octets.proofs.Members.{Has, contains_from_has, has_from_contains, has-map, from_has-map}
 use Rattle.ss_review.proofs.of_lists.Rising.{all_below, rises-in_order, has-in_order}
 use Rattle.ss_review.proofs.of_lists.Sections.{keeps_none}
 

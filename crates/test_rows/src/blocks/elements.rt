@@ -35,7 +35,7 @@ pub(crate) fn kind_of(alloc: Global, text: &[u8]) -> Option<Kind> {
 /// The header of each text.
 pub const HEAD: &[u8] = b"<110>1 - h s - - ";
 
-/// A name and the value behind it, as it stands.
+/// A name and the value after it, as it stands.
 pub type Named = (&'static [u8], &'static [u8]);
 
 /// The parameters of a signature block.

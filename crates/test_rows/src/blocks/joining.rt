@@ -230,7 +230,7 @@ fn sequences(rt: HostRuntime) -> Result<(), Fail> {
     Ok(())
 }
 
-/// Adds a fragment, and says whether it agrees and leaves this state.
+/// Adds a fragment, and reports whether it agrees and leaves this state.
 fn agrees(
     joiner: &mut Joiner,
     at: (u32, u32),
@@ -268,7 +268,7 @@ fn is_payload(joiner: &Joiner, text: &[u8]) -> Result<bool, NoMemory> {
     }
 }
 
-/// Joiners of the longest payload with one octet each, from behind.
+/// Joiners of the longest payload with one octet each, from the last to the first.
 fn joiners(alloc: Global) -> Result<Option<Vec<Joiner>>, NoMemory> {
     let mut joiners = Vec::new(alloc);
     for i in 0..1_000 {

@@ -39,7 +39,7 @@ fn marks(rt: HostRuntime) -> Result<(), Fail> {
     Ok(())
 }
 
-/// Octets before and behind, so many of them that the search can't look at all at once.
+/// Octets before and after, so many of them that the search can't look at all at once.
 const ROUNDS: [(usize, usize); 12] = [
     (0, 0),
     (1, 0),
@@ -55,7 +55,7 @@ const ROUNDS: [(usize, usize); 12] = [
     (65_533, 0),
 ];
 
-/// The octets behind so many of one octet, and before so many of it.
+/// The octets after so many of one octet, and before so many of it.
 fn surrounded(
     alloc: Global,
     octets: &[u8],

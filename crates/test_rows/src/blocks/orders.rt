@@ -46,7 +46,7 @@ fn session(
     Ok(Session::of_head(alloc, &head, rsid)?)
 }
 
-/// The session comes behind those that rise up to its place, and before the others.
+/// The session comes after those that rise up to its place, and before the others.
 fn sees_order(rt: &(impl Abort + AllocGlobal), session_a: &Session, i: usize) -> Result<(), Fail> {
     for (j, b) in RISING.iter().enumerate() {
         let session_b = session(rt.alloc(), b.0, b.1, b.2, b.3)?;

@@ -6,7 +6,7 @@ use ss_octets::NoMemory;
 use std::alloc::{AllocError, Global};
 use std::test::Fail;
 
-/// A text, its kind and its blob, and what is written of it again: the same, but for an SP behind the `N` of a
+/// A text, its kind and its blob, and what is written of it again: the same, but for an SP after the `N` of a
 /// predistributed key.
 const ACCEPTED: [(&[u8], (Kind, &[u8]), &[u8]); 11] = [
     (

@@ -182,7 +182,7 @@ enum Piece {
     Element(&'static [u8], &'static [Named], &'static [Edit]),
 }
 
-/// Texts put together behind the header, and what they are.
+/// Texts put together after the header, and what they are.
 const PUT_TOGETHER: [(&str, &[Piece], Kind); 4] = [
     (
         "both elements",

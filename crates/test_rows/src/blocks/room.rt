@@ -109,8 +109,8 @@ fn peak<R: Files + AllocGlobal>(rt: &R) -> Result<u64, Fail> {
     Ok(peak_of(&status).ok_or("no VmPeak")?)
 }
 
-/// The first call that has more than 32 octets at once for an octet of the text and a quarter of a mebibyte, with how
-/// many KiB it had.
+/// The first call that has more memory at once than 32 octets for an octet of the text and a quarter of a mebibyte. It
+/// comes with how many KiB it had.
 fn first_over<R: Files + AllocGlobal>(rt: &R, text: &[u8]) -> Result<Option<(Call, u64)>, Fail> {
     let allowed = 256 + text.len() as u64 / 32;
     for call in &CALLS {
@@ -124,7 +124,7 @@ fn first_over<R: Files + AllocGlobal>(rt: &R, text: &[u8]) -> Result<Option<(Cal
     Ok(None)
 }
 
-/// Elements one behind another, whose names begin with these octets.
+/// Elements one after another, whose names begin with these octets.
 fn put_elements(text: &mut Vec<u8>, first: u8, second: u8) -> Result<(), AllocError> {
     for third in b'a'..=b'z' {
         text.extend_from_slice(&[b'[', first, second, third, b']'])?;

@@ -34,7 +34,7 @@ const AMONG_OTHERS_SIGNED: &[u8] =
     b"<110>1 - h s - - [x@1 SIGN=\"AAAA\"][ssign VER=\"0111\" RSID=\"1\" SG=\"0\" SPRI=\"0\" GBC=\"0\" FMN=\"1\" \
         CNT=\"1\" HB=\"qZk+NkcGgWq6PiVxeFDCbJzQ2J0=\"][y@1 a=\"\\]\"] hello SIGN=\"AAAA\"";
 
-/// The same with an empty MSG, and an element with a SIGN behind the block.
+/// The same with an empty MSG, and an element with a SIGN after the block.
 const BEFORE_OTHERS: &[u8] =
     b"<110>1 - h s - - [ssign VER=\"0111\" RSID=\"1\" SG=\"0\" SPRI=\"0\" GBC=\"0\" FMN=\"1\" CNT=\"1\" \
         HB=\"qZk+NkcGgWq6PiVxeFDCbJzQ2J0=\" SIGN=\"AAAA\"][y@1 SIGN=\"BBBB\"] ";

@@ -261,7 +261,7 @@ const CERTIFICATE_VALUES: [(&[u8], &[u8], Kind); 58] = [
 
 /// Blocks that are edited at several parameters.
 const EDITED: [(Block, &[Edit], Kind); 3] = [
-    // One hash is told, and HB, which is empty, is one piece.
+    // One hash is announced, and HB, which is empty, is one piece.
     (
         Block::Signature,
         &[(b"CNT", Some(b"1")), (b"HB", Some(b""))],

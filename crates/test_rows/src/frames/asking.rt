@@ -8,7 +8,7 @@ use test_devices::Pieces;
 pub enum Want<'w> {
     /// This message.
     Message(&'w [u8]),
-    /// The end behind a frame.
+    /// The end after a frame.
     Done,
     /// The end inside the frame that begins at this offset.
     Torn(u64),

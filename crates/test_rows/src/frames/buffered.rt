@@ -40,7 +40,7 @@ fn sees_message<R: Read>(
     assert!(rt; is_given, "{answer:?}, read {read}");
 }
 
-/// The next answer is this fault, behind a read that has failed where it isn't the read's own.
+/// The next answer is this fault, after a read that has failed where it isn't the read's own.
 fn sees_fault<R: Read>(
     rt: &impl Abort,
     frames: &mut FrameReader,
@@ -57,7 +57,7 @@ fn sees_fault<R: Read>(
 }
 
 /// Reads the units of `row` up to the octets that come before the read that fails. All of them are used, and the fault
-/// is told once.
+/// is reported once.
 fn sees_row(
     rt: &(impl Abort + AllocGlobal),
     row: &Row,
@@ -79,8 +79,8 @@ fn sees_row(
     Ok(())
 }
 
-/// Reads the units of `row` through a buffer, where a read behind it takes at most `most` octets and the read of
-/// the number `read`, from 1, fails. Nothing is read after it. A read that the stream doesn't need is passed over.
+/// Reads the units of `row` through a buffer. A read behind the buffer takes at most `most` octets, and the read of the
+/// number `read`, from 1, fails. Nothing is read after it. A read that the stream doesn't need is passed over.
 fn fails_at(
     rt: &(impl Abort + AllocGlobal),
     row: &Row,

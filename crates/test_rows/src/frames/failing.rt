@@ -64,7 +64,7 @@ const FAILING: [Failing; 5] = [
     },
 ];
 
-/// The read behind so many octets fails in each way.
+/// The read after so many octets fails in each way.
 fn stops_at(
     rt: &(impl Abort + AllocGlobal),
     row: &Failing,
@@ -116,7 +116,7 @@ fn sees_frames(rt: &(impl Abort + AllocGlobal)) {
     sees_stream(rt, frames, &stream, &[usize::MAX, 1_000], &wants);
 }
 
-/// The octets of a line are stored in parts, and the last of them behind its LF.
+/// The octets of a line are stored in parts, and the last of them after its LF.
 fn sees_lines(rt: &(impl Abort + AllocGlobal)) {
     let mut stream = [b'x'; 10_005];
     stream[3] = b'\n';

@@ -75,7 +75,7 @@ fn write_on(writer: &mut Watched<Paper>) -> ([Result<(), WriteFault>; 3], [bool;
     )
 }
 
-/// A writer that has failed is left alone, and a message without an octet is still told first.
+/// A writer that has failed is left alone, and a message without an octet is still reported first.
 fn sees_failed(rt: &impl Abort, refusal: Refusal) {
     let mut writer = Watched::new(Paper::refusing(1, 2, refusal));
     let (frames, octets) = write_on(&mut writer);

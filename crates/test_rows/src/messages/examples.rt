@@ -172,7 +172,7 @@ fn elements(rt: HostRuntime) -> Result<(), Fail> {
     Ok(())
 }
 
-/// What a message says of itself: its length, its elements by name, and its host.
+/// What a message has: its length, its elements by name, and its host.
 fn sees_names(rt: &impl Abort, m: &Message<'_>) {
     let places = (m.element(b"ssign"), m.element(b"z"));
     assert_eq!(rt; (m.source.len(), places), (177, (Some(1), None)));

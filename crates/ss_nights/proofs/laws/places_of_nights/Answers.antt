@@ -1,6 +1,6 @@
 use Rattle.std.proofs.Common.{sym, ◌∙◌}
 use Rattle.ss_review.specs.report.Report.{refused}
-use Rattle.ss_origin.proofs.Members.{has_from_contains, contains_from_has}
+use Rattle.ss_octets.proofs.Members.{has_from_contains, contains_from_has}
 use Rattle.ss_nights.specs.Nights.{night_log, so_far}
 use Rattle.ss_nights.proofs.NightBlocks.{all_in_range}
 use Rattle.ss_nights.proofs.RefusedNights.{refused_in_nights, from_refused_in_nights, spoilt_in_night, from_spoilt_in_night, spoilt_file, counts}

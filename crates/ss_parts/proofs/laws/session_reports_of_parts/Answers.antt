@@ -1,6 +1,6 @@
 use Rattle.ss_review.specs.sessions.Sessions.{sessions}
 use Rattle.ss_parts.specs.Parts.{blocks_of}
-use Rattle.ss_origin.proofs.Members.{has_from_contains}
+use Rattle.ss_octets.proofs.Members.{has_from_contains}
 use Rattle.ss_parts.proofs.PartBlocks.{is_own}
 use Rattle.ss_parts.proofs.PartSessions.{same_session_report}
 use Rattle.ss_parts.proofs.laws.session_reports_of_parts.Goals as goal

@@ -1,7 +1,7 @@
 use Rattle.std.proofs.Common.{refl, sym, ◌∙◌}
 use Rattle.ss_review.specs.sessions.Sessions.{sessions}
 use Rattle.ss_parts.specs.Parts.{blocks_of}
-use Rattle.ss_origin.proofs.Members.{has_from_contains, contains_from_has}
+use Rattle.ss_octets.proofs.Members.{has_from_contains, contains_from_has}
 use Rattle.ss_parts.proofs.PartBlocks.{from_own, has-own, is_own, its_own, part_is, has_its_blocks}
 use Rattle.ss_parts.proofs.laws.sessions_of_parts.Goals as goal
 

@@ -6,11 +6,11 @@ use Rattle.ss_report.proofs.lines.walk.walk_counts.Goals as goal
 pub returns : goal.returns
 unfolding single_lines
 returns g c =
-    let takes = g.T.Taker.takes c.args.taker.now in
+    let takes = g.V.LineVisitor.takes c.args.visitor.now in
     let report = c.args.report.now in
-    let unlisted = rw c.as_slice.ensures at c.take.ensures in
-    let refused = rw c.as_slice-2.ensures at c.take-2.ensures in
-    let spoilt = rw c.as_slice-3.ensures at c.take-3.ensures in
+    let unlisted = rw c.as_slice.ensures at c.visit.ensures in
+    let refused = rw c.as_slice-2.ensures at c.visit-2.ensures in
+    let spoilt = rw c.as_slice-3.ensures at c.visit-3.ensures in
     let third = SpoiltCountLine (length report.spoilt) in
     let second = RefusedCountLine (length report.refused) in
     let behind = line_then takes _ _ _ second (third ∷ []) refused (one_line takes _ _ third spoilt) in

@@ -5,6 +5,6 @@ use Rattle.ss_report.proofs.lines.walk.walk_end.Goals as goal
 
 pub returns : goal.returns
 returns g c =
-    let takes = g.T.Taker.takes c.args.taker.now in
+    let takes = g.V.LineVisitor.takes c.args.visitor.now in
     let count = EndLine c.args.count in
-    lines_then takes _ _ _ (tail_lines c.args.tail) (count ∷ []) c.walk_tail.ensures (one_line takes _ _ count c.take.ensures)
+    lines_then takes _ _ _ (tail_lines c.args.tail) (count ∷ []) c.walk_tail.ensures (one_line takes _ _ count c.visit.ensures)

@@ -4,4 +4,4 @@ use Rattle.ss_report.specs.lines.Lines.{group_lines}
 use Rattle.ss_report.proofs.lines.walk.walk_groups.Given as goal
 
 abbrev pub invariant-loop-group : goal.invariant-loop-group
-invariant-loop-group g l = TakesAll (g.T.Taker.takes l.taker) l.initial.into l.into (flat_map (group_lines l.detail l.session) (take l.group-index l.groups))
+invariant-loop-group g l = TakesAll (g.V.LineVisitor.takes l.visitor) l.initial.into l.into (flat_map (group_lines l.detail l.session) (take l.group-index l.groups))

@@ -6,7 +6,7 @@ use Rattle.ss_report.proofs.lines.walk.walk_lines.Goals as goal
 pub returns : goal.returns
 unfolding lines
 returns g c =
-    let takes = g.T.Taker.takes c.args.taker.now in
+    let takes = g.V.LineVisitor.takes c.args.visitor.now in
     let report = c.args.report.now in
     let sessions = rw c.as_slice.ensures at c.walk_sessions.ensures in
     lines_then takes _ _ _ (flat_map (session_lines c.args.detail) report.sessions) (other_lines c.args.detail report c.args.tail) sessions c.walk_others.ensures

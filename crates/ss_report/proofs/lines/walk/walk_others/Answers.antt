@@ -7,4 +7,4 @@ pub returns : goal.returns
 unfolding other_lines
 returns g c =
     let report = c.args.report.now in
-    lines_then (g.T.Taker.takes c.args.taker.now) _ _ _ (single_lines c.args.detail report) (tail_lines c.args.tail ++ EndLine report.count ∷ []) c.walk_singles.ensures c.walk_end.ensures
+    lines_then (g.V.LineVisitor.takes c.args.visitor.now) _ _ _ (single_lines c.args.detail report) (tail_lines c.args.tail ++ EndLine report.count ∷ []) c.walk_singles.ensures c.walk_end.ensures

@@ -7,4 +7,4 @@ pub returns : goal.returns
 returns g c =
     let report = c.args.report.now in
     let groups = rw c.as_slice.ensures at c.walk_groups.ensures in
-    line_then (g.T.Taker.takes c.args.taker.now) _ _ _ (SessionLine report.session report.state) (flat_map (group_lines c.args.detail report.session) report.groups) c.take.ensures groups
+    line_then (g.V.LineVisitor.takes c.args.visitor.now) _ _ _ (SessionLine report.session report.state) (flat_map (group_lines c.args.detail report.session) report.groups) c.visit.ensures groups

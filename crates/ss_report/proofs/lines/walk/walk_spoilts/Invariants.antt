@@ -4,4 +4,4 @@ use Rattle.ss_report.specs.lines.Lines.{spoilt_place_line}
 use Rattle.ss_report.proofs.lines.walk.walk_spoilts.Given as goal
 
 abbrev pub invariant-loop-spoilt : goal.invariant-loop-spoilt
-invariant-loop-spoilt g l = TakesAll (g.T.Taker.takes l.taker) l.initial.into l.into (map spoilt_place_line (take l.spoilt-index l.spoilts))
+invariant-loop-spoilt g l = TakesAll (g.V.LineVisitor.takes l.visitor) l.initial.into l.into (map spoilt_place_line (take l.spoilt-index l.spoilts))

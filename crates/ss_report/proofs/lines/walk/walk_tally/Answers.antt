@@ -7,4 +7,4 @@ pub returns : goal.returns
 returns g c =
     let report = c.args.report.now in
     let line = TallyLine c.args.session.now report.group (tally report.entries) in
-    one_line (g.T.Taker.takes c.args.taker.now) _ _ line (rw (c.of-tally.ensures, c.as_slice.ensures) at c.take.ensures)
+    one_line (g.V.LineVisitor.takes c.args.visitor.now) _ _ line (rw (c.of-tally.ensures, c.as_slice.ensures) at c.visit.ensures)

@@ -5,4 +5,4 @@ use Rattle.ss_report.proofs.lines.walk.walk_unlisted.Goals as goal
 
 pub loop-place-preserved : goal.loop-place-preserved
 loop-place-preserved g c =
-    line_more (g.T.Taker.takes c.args.taker.now) UnlistedLine c.args.places.now c.loop-place.place-index 0 _ _ _ _ c.loop-place-test.true c.loop-place.invariant c.take.ensures refl
+    line_more (g.V.LineVisitor.takes c.args.visitor.now) UnlistedLine c.args.places.now c.loop-place.place-index 0 _ _ _ _ c.loop-place-test.true c.loop-place.invariant c.visit.ensures refl

@@ -4,4 +4,4 @@ use Rattle.ss_report.specs.lines.Lines.{UnlistedLine}
 use Rattle.ss_report.proofs.lines.walk.walk_unlisted.Given as goal
 
 abbrev pub invariant-loop-place : goal.invariant-loop-place
-invariant-loop-place g l = TakesAll (g.T.Taker.takes l.taker) l.initial.into l.into (map UnlistedLine (take l.place-index l.places))
+invariant-loop-place g l = TakesAll (g.V.LineVisitor.takes l.visitor) l.initial.into l.into (map UnlistedLine (take l.place-index l.places))

@@ -5,5 +5,5 @@ use Rattle.ss_report.proofs.lines.walk_whole.walk_absent.Goals as goal
 
 pub loop-short-preserved : goal.loop-short-preserved
 loop-short-preserved g c =
-    lines_more (g.T.Taker.takes c.args.taker.now) absent_lines c.args.absent.now c.loop-short.short-index _ _ _ _ _ c.loop-short-test.true c.loop-short.invariant c.walk_absent_session.ensures
+    lines_more (g.V.LineVisitor.takes c.args.visitor.now) absent_lines c.args.absent.now c.loop-short.short-index _ _ _ _ _ c.loop-short-test.true c.loop-short.invariant c.walk_absent_session.ensures
     (ap absent_lines c.short-item.is)

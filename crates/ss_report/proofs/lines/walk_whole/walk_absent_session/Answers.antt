@@ -5,4 +5,4 @@ use Rattle.ss_report.proofs.lines.walk_whole.walk_absent_session.Goals as goal
 
 pub returns : goal.returns
 returns g c =
-    line_then (g.T.Taker.takes c.args.taker.now) _ _ _ (AbsentLine c.args.short.now.session) (shortfall_lines c.args.short.now) c.take.ensures c.walk_shortfall.ensures
+    line_then (g.V.LineVisitor.takes c.args.visitor.now) _ _ _ (AbsentLine c.args.short.now.session) (shortfall_lines c.args.short.now) c.visit.ensures c.walk_shortfall.ensures

@@ -8,7 +8,7 @@ use Rattle.ss_report.proofs.lines.walk_whole.walk_lines_with.Goals as goal
 pub returns : goal.returns
 unfolding lines_with
 returns g c =
-    let takes = g.T.Taker.takes c.args.taker.now in
+    let takes = g.V.LineVisitor.takes c.args.visitor.now in
     let report = c.args.whole.now.report in
     let short = c.args.whole.now.short in
     let known = flat_map (lines_beside c.args.detail) (zip report.sessions short.known) in

@@ -5,4 +5,4 @@ use Rattle.ss_report.proofs.lines.walk_whole.walk_missing.Goals as goal
 
 pub loop-run-preserved : goal.loop-run-preserved
 loop-run-preserved g c =
-    line_more (g.T.Taker.takes c.args.taker.now) (missing_line c.args.session.now) c.args.runs.now c.loop-run.run-index _ _ _ _ _ c.loop-run-test.true c.loop-run.invariant c.take.ensures refl
+    line_more (g.V.LineVisitor.takes c.args.visitor.now) (missing_line c.args.session.now) c.args.runs.now c.loop-run.run-index _ _ _ _ _ c.loop-run-test.true c.loop-run.invariant c.visit.ensures refl

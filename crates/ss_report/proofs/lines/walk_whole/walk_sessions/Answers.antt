@@ -11,7 +11,7 @@ loop-session-preserved g c =
     let short = c.in-Some.short in
     let n = length c.loop-session.yielded in
     let turn = zip_turn ss ms c.loop-session.yielded c.into_iter-session-iterator.result c.loop-session.session-iterator c.next.new.self c.next.result (search rules) (search rules) c.loop-session.yielded_by (s, short) c.in-Some.is c.next.ensures.steps in
-    sessions_more c.args.detail (g.T.Taker.takes c.args.taker.now) ss ms _ _ _ n (length (c.loop-session.yielded ++ (s, short) ∷ [])) s.now short.now turn.0 turn.1 (turn.2 s.now) (turn.3 short.now)
+    sessions_more c.args.detail (g.V.LineVisitor.takes c.args.visitor.now) ss ms _ _ _ n (length (c.loop-session.yielded ++ (s, short) ∷ [])) s.now short.now turn.0 turn.1 (turn.2 s.now) (turn.3 short.now)
     (length-append c.loop-session.yielded ((s, short) ∷ [])) c.loop-session.invariant c.walk_whole_session.ensures
 
 pub returns : goal.returns
@@ -19,4 +19,4 @@ returns g c =
     let ss = c.args.sessions.now in
     let ms = c.args.known.now in
     let all = zip_end ss ms c.loop-session.yielded c.into_iter-session-iterator.result c.loop-session.session-iterator c.next.new.self c.next.result (search rules) (search rules) c.loop-session.yielded_by c.in-None.is c.next.ensures.steps in
-    all_sessions c.args.detail (g.T.Taker.takes c.args.taker.now) ss ms _ _ (length c.loop-session.yielded) all c.loop-session.invariant
+    all_sessions c.args.detail (g.V.LineVisitor.takes c.args.visitor.now) ss ms _ _ (length c.loop-session.yielded) all c.loop-session.invariant

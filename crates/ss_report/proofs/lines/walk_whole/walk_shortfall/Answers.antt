@@ -8,4 +8,4 @@ returns g c =
     let short = c.args.short.now in
     let tails = rw c.as_slice.ensures at c.walk_tails.ensures in
     let missing = rw c.as_slice-2.ensures at c.walk_missing.ensures in
-    lines_then (g.T.Taker.takes c.args.taker.now) _ _ _ (map (tail_line short.session) short.tails) (map (missing_line short.session) short.blocks) tails missing
+    lines_then (g.V.LineVisitor.takes c.args.visitor.now) _ _ _ (map (tail_line short.session) short.tails) (map (missing_line short.session) short.blocks) tails missing

@@ -17,7 +17,7 @@ returns-then-is_refused-clause-known c = λ before octets knows.
     let r = c.args.report.now in
     let s = c.args.session.now in
     let b : BlockMessage = record { place = c.args.place; count = 0; session = s; said = Fragment c.args.block.now; signed = octets } in
-    let joined = is_joined_there r s c.in-Some.told.now (rw c.in-Some.told-is at c.in-Some.ensures) in
+    let joined = is_joined_there r s c.in-Some.reported.now (rw c.in-Some.reported-is at c.in-Some.ensures) in
     let refused = sym c.is_refused.ensures ∙ c.if-is_refused.true in
     knows_unverified r before c.args.carried.now.known knows b (λ i. joined i && not (refused i))
 
@@ -26,8 +26,8 @@ returns-clause-carried c = λ before octets knows.
     let r = c.args.report.now in
     let s = c.args.session.now in
     let b : BlockMessage = record { place = c.args.place; count = 0; session = s; said = Fragment c.args.block.now; signed = octets } in
-    let told = rw c.in-Some.told-is at c.in-Some.ensures in
-    let joined = is_joined_there r s c.in-Some.told.now told in
+    let told = rw c.in-Some.reported-is at c.in-Some.ensures in
+    let joined = is_joined_there r s c.in-Some.reported.now told in
     let kept = sym c.is_refused.ensures ∙ c.if-is_refused.false in
     IfOk-weaker c.carry_verified.result _ _
     (λ done is. is ∙ ap (λ ps. c.args.carried.now.places.items ++ ps) (sym (carried_judged r before b joined kept)))
@@ -38,7 +38,7 @@ returns-clause-known c = λ before octets knows.
     let r = c.args.report.now in
     let s = c.args.session.now in
     let b : BlockMessage = record { place = c.args.place; count = 0; session = s; said = Fragment c.args.block.now; signed = octets } in
-    let told = rw c.in-Some.told-is at c.in-Some.ensures in
-    let joined = is_joined_there r s c.in-Some.told.now told in
+    let told = rw c.in-Some.reported-is at c.in-Some.ensures in
+    let joined = is_joined_there r s c.in-Some.reported.now told in
     let kept = sym c.is_refused.ensures ∙ c.if-is_refused.false in
     c.carry_verified.ensures.known r before b knows (sym told.session_is) refl (λ i. joined i && not (kept i))

@@ -1,6 +1,6 @@
 use Rattle.std.proofs.Common.{◌≢◌, ◌-◌, length, sym, arith}
 use Rattle.std.proofs.lemmas.Bool.{eqb-false}
-use Rattle.ss_origin.proofs.Members.{has_from_contains, contains_from_has}
+use Rattle.ss_octets.proofs.Members.{has_from_contains, contains_from_has}
 use Rattle.ss_review.proofs.of_assignment.AssignedPlaces.{last_is_greatest}
 use Rattle.ss_review.proofs.of_lists.Searching.{has_at}
 use Rattle.ss_review.proofs.assign.counters.room_for.Goals as goal

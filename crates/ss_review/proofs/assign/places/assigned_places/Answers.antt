@@ -10,7 +10,7 @@ use Rattle.ss_review.specs.assign.StoredHashes.{listed, Lists}
 use Rattle.ss_review.proofs.of_lists.Counting.{assigned_at}
 use Rattle.ss_review.proofs.of_lists.Searching.{has_at}
 use Rattle.ss_review.proofs.of_kept_messages.StoredTold.{places_told, room_told}
-use Rattle.ss_origin.proofs.Members.{contains_from_has}
+use Rattle.ss_octets.proofs.Members.{contains_from_has}
 use Rattle.ss_review.proofs.assign.places.assigned_places.Goals as goal
 
 pub loop-at-init : goal.loop-at-init

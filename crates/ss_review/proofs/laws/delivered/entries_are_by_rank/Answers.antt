@@ -1,6 +1,6 @@
 use Rattle.ss_review.specs.announced.Announced.{keys}
 use Rattle.ss_review.specs.deliveries.DeliveryLaws.{rows_in}
-use Rattle.ss_origin.proofs.Members.{has_from_contains}
+use Rattle.ss_octets.proofs.Members.{has_from_contains}
 use Rattle.ss_review.proofs.of_deliveries.OwnKeys.{is_submitted}
 use Rattle.ss_review.proofs.of_deliveries.OwnRanks.{listed_by_its_rank}
 use Rattle.ss_review.proofs.laws.delivered.entries_are_by_rank.Goals as goal

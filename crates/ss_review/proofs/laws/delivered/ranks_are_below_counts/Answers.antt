@@ -4,7 +4,7 @@ use Rattle.ss_review.specs.announced.Announced.{keys}
 use Rattle.ss_review.specs.assign.Assigned.{is_pair}
 use Rattle.ss_review.specs.deliveries.DeliveryLaws.{rows_in, pair_of}
 use Rattle.ss_review.proofs.of_lists.Counting.{same_itself}
-use Rattle.ss_origin.proofs.Members.{has_from_contains}
+use Rattle.ss_octets.proofs.Members.{has_from_contains}
 use Rattle.ss_review.proofs.of_deliveries.OwnNumbers.{rank_below_count}
 use Rattle.ss_review.proofs.laws.delivered.ranks_are_below_counts.Goals as goal
 

@@ -7,7 +7,7 @@ use Rattle.ss_review.specs.assign.Assigned.{has_hash}
 use Rattle.ss_review.specs.assign.Listing.{IsDue}
 use Rattle.ss_review.specs.deliveries.Delivery.{is_normal}
 use Rattle.ss_review.specs.deliveries.DeliveryLaws.{says, HasItsHash}
-use Rattle.ss_origin.proofs.Members.{has_from_contains}
+use Rattle.ss_octets.proofs.Members.{has_from_contains}
 use Rattle.ss_review.proofs.of_deliveries.OwnKeys.{own_alg}
 use Rattle.ss_review.proofs.of_reports.Witnesses.{stored_normal, hash_is}
 use Rattle.ss_review.proofs.laws.deliveries.listed_have_their_hash.Goals as goal

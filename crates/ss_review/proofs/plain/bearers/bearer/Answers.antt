@@ -1,7 +1,7 @@
 use Rattle.std.proofs.Common.{get_or, ap, ◌∙◌}
 use Rattle.std.specs.Prelude.{None}
 use Rattle.ss_block.specs.OrderLaws.{hash_cmp_total, hash_cmp_exact}
-use Rattle.ss_origin.proofs.Members.{has_from_contains}
+use Rattle.ss_octets.proofs.Members.{has_from_contains}
 use Rattle.ss_review.proofs.of_lists.Searching.{map_at, found_at, not_found}
 use Rattle.ss_review.proofs.plain.bearers.bearer.Goals as goal
 

@@ -3,7 +3,7 @@ use Rattle.std.specs.Prelude.{None, Some, Contains, option_and_then}
 use Rattle.std.proofs.lemmas.List.{map_more}
 use Rattle.ss_block.specs.declared.hash.Hash.{Hash}
 use Rattle.ss_review.specs.assign.Bearing.{bearer_among}
-use Rattle.ss_origin.proofs.Members.{Has, contains_from_has}
+use Rattle.ss_octets.proofs.Members.{Has, contains_from_has}
 use Rattle.ss_review.proofs.of_lists.Searching.{has_at}
 use Rattle.ss_review.proofs.plain.bearers.bearers.Goals as goal
 

@@ -7,8 +7,7 @@ use Rattle.std.proofs.lemmas.List.{take_more, take_all}
 use Rattle.std.proofs.lemmas.List.Elements.{filter_map-append}
 use Rattle.ss_block.specs.declared.hash.Hash.{Hash}
 use Rattle.ss_block.specs.OrderLaws.{hash_cmp_exact}
-use Rattle.ss_origin.proofs.Members.{Has, has_from_contains, contains_from_has}
-use Rattle.ss_review.proofs.of_lists.Members.{has-filter_map, from_has-filter_map}
+use Rattle.ss_octets.proofs.Members.{Has, has_from_contains, contains_from_has, has-filter_map, from_has-filter_map}
 use Rattle.ss_review.proofs.plain.bearers.distinct.Goals as goal
 
 pub loop-hash-preserved : goal.loop-hash-preserved

@@ -4,7 +4,7 @@ use Rattle.ss_block.specs.OrderLaws.{hash_cmp_total, hash_cmp_exact}
 use Rattle.ss_review.specs.assign.Bearing.{earlier}
 use Rattle.ss_review.proofs.of_assignment.Bearings.{with_one, told_itself, untold}
 use Rattle.ss_review.proofs.of_lists.Searching.{map_at, change_at, found_at, not_found}
-use Rattle.ss_origin.proofs.Members.{Has}
+use Rattle.ss_octets.proofs.Members.{Has}
 use Rattle.ss_review.proofs.of_lists.Sections.{map_agree}
 use Rattle.ss_review.proofs.plain.bearers.tell_hash.Goals as goal
 

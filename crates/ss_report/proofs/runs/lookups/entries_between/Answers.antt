@@ -2,7 +2,7 @@ use Rattle.std.proofs.Common.{rules, sym, subst, ◌∙◌}
 use Rattle.std.specs.List.Sorted.{IsPartitionedBy}
 use Rattle.std.proofs.lemmas.List.Sorted.{IsPartitionPoint-from_clause}
 use Rattle.ss_report.proofs.of_carrying.EntriesBetween.{Parts, below, first_parted, end_parted, range_is}
-use Rattle.ss_report.proofs.runs.told.entries_between.Goals as goal
+use Rattle.ss_report.proofs.runs.lookups.entries_between.Goals as goal
 
 pub returns : goal.returns
 returns c =

@@ -1,6 +1,7 @@
 -- Members of lists.
-use Rattle.std.proofs.Common.{◌≡◌, ◌⊎◌, inl, inr, ℕ, zero, suc, ◌+◌, ◌<◌, ◌≤◌, List, [], ◌∷◌, ◌++◌, length, get_or, map, replicate, refl, ap, subst, arith}
-use Rattle.std.specs.List.{AllByRecursion, Contains, AllZip, flat_map, enumerate_from}
+use Rattle.std.proofs.Common.{◌≡◌, ◌⊎◌, inl, inr, ℕ, zero, suc, ◌+◌, ◌<◌, ◌≤◌, Bool, true, false, cond, List, [], ◌∷◌, ◌++◌, length, get_or, map, filter, replicate, refl, sym, ap, ◌∙◌, subst, arith}
+use Rattle.std.specs.List.{AllByRecursion, Contains, AllZip, flat_map, filter_map, cons_option, enumerate_from}
+use Rattle.std.specs.Prelude.{Option, Some, None}
 
 abbrev pub Has : {X : Type 0} → List X → X → Type 0
 Has [] x = ⊥
@@ -44,13 +45,13 @@ has-zipped R (a ∷ xs) [] x zip h = absurd zip
 has-zipped R (a ∷ xs) (b ∷ ys) x zip (inl e) = (b, inl refl, subst (λ c. R c b) e zip.0)
 has-zipped R (a ∷ xs) (b ∷ ys) x zip (inr h) = let w = has-zipped R xs ys x zip.1 h in (w.0, inr w.1, w.2)
 
-first_copy : {X : Type 0} (n : ℕ) (x : X) → 1 ≤ n → Has (replicate n x) x
-first_copy zero x some = absurd (omega arith)
-first_copy (suc n) x some = inl refl
+pub has-replicate : {X : Type 0} (n : ℕ) (x : X) → 1 ≤ n → Has (replicate n x) x
+has-replicate zero x some = absurd (omega arith)
+has-replicate (suc n) x some = inl refl
 
 pub has-copies : {X : Type 0} (n : ℕ) (xs : List X) (x : X) → 1 ≤ n → Has xs x → Has (flat_map (λ y. replicate n y) xs) x
 has-copies n [] x some h = absurd h
-has-copies n (y ∷ ys) x some (inl e) = has-append_left (replicate n y) (flat_map (λ z. replicate n z) ys) x (subst (Has (replicate n y)) e (first_copy n y some))
+has-copies n (y ∷ ys) x some (inl e) = has-append_left (replicate n y) (flat_map (λ z. replicate n z) ys) x (subst (Has (replicate n y)) e (has-replicate n y some))
 has-copies n (y ∷ ys) x some (inr h) = has-append_right (replicate n y) (flat_map (λ z. replicate n z) ys) x (has-copies n ys x some h)
 
 -- ---- what has a member
@@ -105,3 +106,55 @@ pub all-has : {X : Type 0} (P : X → Type 0) (xs : List X) (x : X) → AllByRec
 all-has P [] x all h = absurd h
 all-has P (y ∷ ys) x all (inl e) = subst P e all.0
 all-has P (y ∷ ys) x all (inr h) = all-has P ys x all.1 h
+
+-- ---- filters
+
+has-cond : {X : Type 0} (b : Bool) (z : X) (xs : List X) (x : X) → Has xs x → Has (cond b (z ∷ xs) xs) x
+has-cond true z xs x h = inr h
+has-cond false z xs x h = h
+
+pub has-filter : {X : Type 0} (p : X → Bool) (xs : List X) (x : X) → Has xs x → p x ≡ true → Has (filter p xs) x
+has-filter p [] x h t = absurd h
+has-filter p (z ∷ xs) x (inl e) t =
+    let pass : p z ≡ true = ap p e ∙ t in
+    subst (λ b. Has (cond b (z ∷ filter p xs) (filter p xs)) x) (sym pass) (inl e)
+has-filter p (z ∷ xs) x (inr h) t = has-cond (p z) z (filter p xs) x (has-filter p xs x h t)
+
+kept : {X : Type 0} (p : X → Bool) (b : Bool) (z : X) (xs ys : List X) (x : X) → p z ≡ b → (Has ys x → Has xs x × (p x ≡ true)) → Has (cond b (z ∷ ys) ys) x → Has (z ∷ xs) x × (p x ≡ true)
+kept p true z xs ys x t rest (inl e) = (inl e, ap p (sym e) ∙ t)
+kept p true z xs ys x t rest (inr h) = (inr (rest h).0, (rest h).1)
+kept p false z xs ys x t rest h = (inr (rest h).0, (rest h).1)
+
+pub from_has-filter : {X : Type 0} (p : X → Bool) (xs : List X) (x : X) → Has (filter p xs) x → Has xs x × (p x ≡ true)
+from_has-filter p [] x h = absurd h
+from_has-filter p (z ∷ xs) x h = kept p (p z) z xs (filter p xs) x refl (from_has-filter p xs x) h
+
+-- ---- joins of images
+
+pub has-flat_map : {X Y : Type 0} (f : X → List Y) (xs : List X) (x : X) (y : Y) → Has xs x → Has (f x) y → Has (flat_map f xs) y
+has-flat_map f [] x y h i = absurd h
+has-flat_map f (z ∷ xs) x y (inl e) i = has-append_left (f z) (flat_map f xs) y (subst (λ w. Has (f w) y) (sym e) i)
+has-flat_map f (z ∷ xs) x y (inr h) i = has-append_right (f z) (flat_map f xs) y (has-flat_map f xs x y h i)
+
+-- ---- options
+
+has-cons_option : {Y : Type 0} (o : Option Y) (ys : List Y) (y : Y) → Has ys y → Has (cons_option o ys) y
+has-cons_option None ys y h = h
+has-cons_option (Some w) ys y h = inr h
+
+some_here : {Y : Type 0} (o : Option Y) (ys : List Y) (y : Y) → o ≡ Some y → Has (cons_option o ys) y
+some_here {Y} o ys y e = subst (λ (p : Option Y). Has (cons_option p ys) y) (sym e) (inl refl)
+
+pub has-filter_map : {X Y : Type 0} (f : X → Option Y) (xs : List X) (x : X) (y : Y) → Has xs x → f x ≡ Some y → Has (filter_map f xs) y
+has-filter_map f [] x y h e = absurd h
+has-filter_map f (z ∷ xs) x y (inl i) e = some_here (f z) (filter_map f xs) y (ap f i ∙ e)
+has-filter_map f (z ∷ xs) x y (inr h) e = has-cons_option (f z) (filter_map f xs) y (has-filter_map f xs x y h e)
+
+told : {X Y : Type 0} (f : X → Option Y) (o : Option Y) (z : X) (xs : List X) (ys : List Y) (y : Y) → f z ≡ o → (Has ys y → (x : X) × Has xs x × (f x ≡ Some y)) → Has (cons_option o ys) y → (x : X) × Has (z ∷ xs) x × (f x ≡ Some y)
+told f None z xs ys y t rest h = ((rest h).0, inr (rest h).1, (rest h).2)
+told f (Some w) z xs ys y t rest (inl e) = (z, inl refl, t ∙ ap Some e)
+told f (Some w) z xs ys y t rest (inr h) = ((rest h).0, inr (rest h).1, (rest h).2)
+
+pub from_has-filter_map : {X Y : Type 0} (f : X → Option Y) (xs : List X) (y : Y) → Has (filter_map f xs) y → (x : X) × Has xs x × (f x ≡ Some y)
+from_has-filter_map f [] y h = absurd h
+from_has-filter_map f (z ∷ xs) y h = told f (f z) z xs (filter_map f xs) y refl (from_has-filter_map f xs y) h

@@ -1,4 +1,4 @@
-//! What comes of calls, as lines.
+//! Prints what comes of calls, as lines.
 use crate::signer::Signer;
 use ss_message::Field;
 use ss_origin::{Counters, Emitted, Originator};

@@ -2,7 +2,7 @@ use Rattle.std.proofs.Common.{◌∙◌}
 use Rattle.std.proofs.lemmas.List.Sorted.{searched}
 use Rattle.std.proofs.lemmas.Map.Keys.{non_decreasing_from_sorted}
 use Rattle.ss_review.proofs.of_assignment.NotTaken.{among_is}
-use Rattle.ss_report.proofs.runs.told.is_refused.Goals as goal
+use Rattle.ss_report.proofs.runs.lookups.is_refused.Goals as goal
 
 pub returns : goal.returns
 returns c =

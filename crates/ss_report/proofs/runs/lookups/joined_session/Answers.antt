@@ -5,7 +5,7 @@ use Rattle.ss_review.specs.declared.report.session_report.SessionReport.{Session
 use Rattle.ss_review.specs.report.Verdict.{is_joined}
 use Rattle.ss_report.specs.runs.CarriedSoFar.{IsToldJoined}
 use Rattle.ss_report.proofs.of_carrying.ToldSessions.{told_joined, told_unjoined, told_nowhere}
-use Rattle.ss_report.proofs.runs.told.told_joined.Goals as goal
+use Rattle.ss_report.proofs.runs.lookups.joined_session.Goals as goal
 
 pub returns-then-is_joined : goal.returns-then-is_joined
 returns-then-is_joined c =

@@ -1,12 +1,12 @@
 use Rattle.std.proofs.Common.{map, ◌++◌}
 use Rattle.ss_report.specs.lines.Lines.{UnlistedLine, RefusedLine, spoilt_place_line, single_lines}
 use Rattle.ss_report.proofs.of_writing.LinesTaken.{lines_then}
-use Rattle.ss_report.proofs.lines.walk.walk_each.Goals as goal
+use Rattle.ss_report.proofs.lines.walk.walk_items.Goals as goal
 
 pub returns : goal.returns
 unfolding single_lines
 returns g c =
-    let takes = g.T.Taker.takes c.args.taker.now in
+    let takes = g.V.LineVisitor.takes c.args.visitor.now in
     let report = c.args.report.now in
     let unlisted = rw c.as_slice.ensures at c.walk_unlisted.ensures in
     let refused = rw c.as_slice-2.ensures at c.walk_refused.ensures in

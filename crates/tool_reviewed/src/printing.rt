@@ -1,4 +1,4 @@
-//! What a review says, as lines.
+//! Prints what a review reports, as lines.
 use ss_block::Spoil;
 use ss_message::Field;
 use ss_review::{Entry, Question, Questions, Report, SessionReport, SessionState, Why};
@@ -37,7 +37,7 @@ fn print_session<R: Print + AllocGlobal>(rt: &R, report: &SessionReport) -> io::
     Ok(())
 }
 
-/// Prints a field and a space behind it.
+/// Prints a field and a space after it.
 fn print_field<R: Print + AllocGlobal>(rt: &R, field: &Field) -> io::Result<()> {
     match field {
         Field::Nil => print!(rt; "- ")?,

@@ -1,4 +1,4 @@
-//! What a report says of a session, of a group of it, and of some of its numbers.
+//! Lookups in a report: of a session, of a group, and of the entries of some numbers.
 ghost use Rattle.std.specs.Prelude.{◌≡◌, ◌==◌, ◌&&◌, false, [], nat_le, nat_lt, length, map, filter, flat_map};
 ghost use Rattle.std.specs.Prelude.{MatchOption};
 ghost use Rattle.std.specs.List.{list_any};
@@ -13,8 +13,8 @@ use crate::verdict::joined::is_joined;
 use ss_block::{Group, Session, SigBlock};
 use ss_review::{Entry, Report, SessionReport};
 
-/// What a report says of a session, if it is joined.
-pub(crate) fn told_joined<'a>(report: &'a Report, session: &Session) -> Option<&'a SessionReport>
+/// The report on a session, if the session is joined.
+pub(crate) fn joined_session<'a>(report: &'a Report, session: &Session) -> Option<&'a SessionReport>
     requires { IsInOrder report.now }
     ensures { MatchOption result (is_joined_in report.now session.now ≡ false) (λ t.
         IsToldJoined report.now session.now t.now) }
@@ -22,9 +22,9 @@ pub(crate) fn told_joined<'a>(report: &'a Report, session: &Session) -> Option<&
     let sessions = report.sessions.as_slice();
     match sessions.binary_search_by(|known| known.session.cmp(session)) {
         Ok(index) => {
-            let told = &sessions[index];
-            if is_joined(told.state) {
-                Some(told)
+            let reported = &sessions[index];
+            if is_joined(reported.state) {
+                Some(reported)
             } else {
                 None
             }
@@ -33,7 +33,7 @@ pub(crate) fn told_joined<'a>(report: &'a Report, session: &Session) -> Option<&
     }
 }
 
-/// Whether a report has the block at this place among the refused ones.
+/// Whether the report has the block at this place among the refused ones.
 pub(crate) fn is_refused(report: &Report, place: u32) -> bool
     requires { IsInOrder report.now }
     ensures { result ≡ list_any (λ p. p == place) report.now.refused }
@@ -41,24 +41,28 @@ pub(crate) fn is_refused(report: &Report, place: u32) -> bool
     report.refused.as_slice().binary_search(&place).is_ok()
 }
 
-/// What a report says of the numbers of a signature block, from what it says of the session.
-pub(crate) fn entries_under<'a>(told: &'a SessionReport, block: &SigBlock) -> &'a [Entry]
-    requires { IsToldInOrder told.now }
+/// The entries of the numbers that a signature block announces, from the report on its session.
+pub(crate) fn entries_under<'a>(reported: &'a SessionReport, block: &SigBlock) -> &'a [Entry]
+    requires { IsToldInOrder reported.now }
     ensures { result.now ≡ filter (is_numbered block.now.first (length block.now.hashes))
-        (flat_map (λ h. h.entries) (filter (λ h. same_group h.group block.now.group) told.now.groups)) }
+        (flat_map (λ h. h.entries) (filter (λ h. same_group h.group block.now.group) reported.now.groups)) }
 {
     block.assure_in_range();
     let end = block.first() + block.hashes().as_slice().len() as u64;
-    entries_between(entries_of_group(told, block.group()), block.first(), end)
+    entries_between(
+        entries_of_group(reported, block.group()),
+        block.first(),
+        end,
+    )
 }
 
-/// What a report says of a group of a session.
-fn entries_of_group(told: &SessionReport, group: Group) -> &[Entry]
-    requires { IsToldInOrder told.now }
-    ensures told { result.now ≡ flat_map (λ h. h.entries) (filter (λ h. same_group h.group group) told.now.groups) }
+/// The entries of a group, from the report on its session.
+fn entries_of_group(reported: &SessionReport, group: Group) -> &[Entry]
+    requires { IsToldInOrder reported.now }
+    ensures told { result.now ≡ flat_map (λ h. h.entries) (filter (λ h. same_group h.group group) reported.now.groups) }
     ensures rising { IsStrictlySortedBy nat_cmp (map first_number result.now) }
 {
-    let groups = told.groups.as_slice();
+    let groups = reported.groups.as_slice();
     match groups.binary_search_by(|known| known.group.cmp(&group)) {
         Ok(index) => groups[index].entries.as_slice(),
         Err(_) => &[],
@@ -95,6 +99,7 @@ pub(crate) fn has_gap(entries: &[Entry]) -> bool
     entries.iter().any(|entry| is_gap(entry))
 }
 
+/// Whether the entry is a gap.
 fn is_gap(entry: &Entry) -> bool
     ensures { result ≡ is_gap entry.now }
 {
