@@ -16,7 +16,7 @@ use Rattle.ss_answers.proofs.CounterWords.{Clear-decimal, Clear-text, is_text-wo
 use Rattle.ss_answers.proofs.LineLaws as laws
 use Rattle.ss_answers.proofs.LineLaws.{AreSpelt}
 
--- a line by its words, one behind the other
+-- a line by its words, one after the other
 regroup : (c q h a p r n : List ℕ) → c ++ (q ++ h ++ q ++ a ++ q ++ p ++ (q ++ r)) ++ (q ++ n) ≡ c ++ (q ++ (h ++ (q ++ (a ++ (q ++ (p ++ (q ++ (r ++ (q ++ n)))))))))
 regroup c q h a p r n = simp append_assoc
 
@@ -45,7 +45,7 @@ spells_counter {text} {fields} {rest} {s} {counts} {next} e b n =
       spelt = e ∙ ap (λ t. codes "count " ++ t) (b.spelt ∙ ap (session_text s) n.spelt) ∙ sym (text_cut s counts next);
     }
 
--- what a counter's line begins with behind its first word
+-- what the line of a counter has after its first word
 session_of : {text fields : List ℕ} → text ≡ codes "count " ++ fields → (c : Counter) → IsCounter c → text ≡ counter_line c
     → BeginsWithSession fields c.session (next_text c.counts c.next)
 session_of {text} {fields} e c good spelt =

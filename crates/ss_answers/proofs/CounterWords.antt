@@ -93,7 +93,7 @@ field_word-injective limit (Text o) (Text q) h k e = ap Text e
 pub decimal-injective : (m n : ℕ) → m < 2 ^ 64 → n < 2 ^ 64 → decimal m ≡ decimal n → m ≡ n
 decimal-injective m n small little e = sym (number-decimal m small) ∙ ap number e ∙ number-decimal n little
 
--- what a text that spells a number says
+-- the number that a text spells
 number_is-true : (least most : ℕ) (text : List ℕ) (n : ℕ) (b : Bool) → is_number least most text ≡ b → cond b (Some (number text)) None ≡ Some n
     → text ≡ decimal n
 number_is-true least most text n true is e = (is_spelled least most text is).spelled ∙ ap decimal cc
@@ -116,9 +116,9 @@ no_number least most text n small none low high e =
     let some = number_in-decimal least most n text (omega arith) low high e in
     absurd cc
 
--- ---- the rest behind a word
+-- ---- the rest after a word
 
--- behind words of one text the same rest stands
+-- after words of one text the same rest stands
 rest_once : (w r v q text : List ℕ) → Clear sp w → Clear sp v → text ≡ w ++ sp ∷ r → text ≡ v ++ sp ∷ q → (w ≡ v) × (r ≡ q)
 rest_once w r v q text h k e f = cut_clear sp w r v q h k (sym e ∙ f)
 
@@ -290,7 +290,7 @@ spri_of b = record { low = omega arith; high = b.in_range.0.spri; spelt = refl }
 same_group : (g h : Group) → g.sg ≡ h.sg → g.spri ≡ h.spri → g ≡ h
 same_group g h sg spri = ap (λ n. record { sg = n; spri = g.spri }) sg ∙ ap (λ n. record { sg = h.sg; spri = n }) spri
 
--- a text says one thing of what is counted
+-- a text names one thing that is counted
 pub next_once : {text : List ℕ} (j k : Counts) {m n : ℕ} → SpellsNext text j m → SpellsNext text k n → (j ≡ k) × (m ≡ n)
 next_once Blocks Blocks {m} {n} b c =
     let low = b.in_range in

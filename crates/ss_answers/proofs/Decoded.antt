@@ -1,4 +1,4 @@
--- A text that was decoded behind octets is a field.
+-- A text that was decoded after octets is a field.
 use Rattle.std.proofs.Common.{◌≡◌, ℕ, ◌+◌, ◌<◌, ◌≤◌, List, length, ◌++◌, take, drop, Ok, Err, sym, refl, ap, ◌∙◌, arith, length-append}
 use Rattle.std.proofs.lemmas.List.{take-append-drop}
 use Rattle.base64.specs.Engines.{standard}

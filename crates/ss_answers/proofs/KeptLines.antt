@@ -1,4 +1,4 @@
--- Lines by the places of their fields: what a place tells, and that octets put behind change no line.
+-- Lines by the places of their fields: what a place gives, and that octets put after them change no line.
 use Rattle.std.proofs.Common.{◌≡◌, ℕ, ◌+◌, ◌-◌, ◌<◌, ◌≤◌, true, false, eqb, codes, Option, List, [], ◌∷◌, ◌++◌, length, take, drop, get_or, Some, None, nat_le, sym, refl, ap, ◌∙◌, arith, length-append, length-drop, inl, inr}
 use Rattle.std.specs.List.{AllByRecursion, IsAmong, slice_range}
 use Rattle.std.proofs.lemmas.List.{append-nil, append_assoc, take-append-le, drop-append-le}
@@ -70,7 +70,7 @@ part-middle a p b from to starts ends =
     let size : to - from ≡ length p = omega arith in
     rw (t, v, size, starts, drop-append_seam) (take-append_seam p b)
 
--- the octets behind the others, and the octets from the beginning to itself
+-- the octets after the others, and the octets from the beginning to itself
 pub part-last : (old new field : List ℕ) (from to : ℕ) → new ≡ old ++ field → from ≡ length old → to ≡ length new → part new from to ≡ field
 part-last old new field from to appended starts ends =
     let long = length-append old field in
@@ -82,7 +82,7 @@ part-none : (octets : List ℕ) → part octets 0 0 ≡ []
 unfolding part
 part-none octets = let t : nat_le 0 (length octets) ≡ true = grind (arith, nat_tests) in rw t refl
 
--- octets put behind don't change a line whose fields end before
+-- octets put after don't change a line whose fields end before
 answer_at-append : (a b : List ℕ) (place : Place) → IsWithin (length a) place → answer_at (a ++ b) place ≡ answer_at a place
 unfolding answer_at
 answer_at-append a b place within =
@@ -96,7 +96,7 @@ answers_at-append : (a b : List ℕ) (places : List Place) → AllByRecursion (I
 answers_at-append a b [] within = refl
 answers_at-append a b (x ∷ places) within = rw (answer_at-append a b x within.0, answers_at-append a b places within.1) refl
 
--- ---- more octets come behind the others
+-- ---- more octets come after the others
 
 pub Grows-none : (octets : List ℕ) (most : ℕ) → Grows octets octets most
 Grows-none octets most = record { more = []; appended = sym (append-nil octets); size = omega arith }
@@ -208,7 +208,7 @@ KeepsLine-trust old new text rest known spelt kept =
       grows = Grows-more old new (length rest) (length text) kept.grows (omega (arith, ap length spelt, length-append (codes "trust ") rest));
     }
 
--- the signature stands behind the octets
+-- the signature stands after the octets
 second_here : (new right : List ℕ) (first second : Span) (two : HasField new right second) → first.end ≡ second.start → part new first.end second.end ≡ two.field
 second_here new right first second two seam = ap (λ n. part new n second.end) seam ∙ two.here
 

@@ -9,3 +9,4 @@ mod KeptLines
 mod LineLaws
 mod OrderedLines
 mod ReadLines
+mod Starts

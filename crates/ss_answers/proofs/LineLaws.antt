@@ -18,18 +18,18 @@ pub record AreSpelt {A : Type 0} (good : A → Type 0) (spell : A → List ℕ) 
 ended-cons : {A : Type 0} (spell : A → List ℕ) (line : A) (lines : List A) → ended spell (line ∷ lines) ≡ spell line ++ lf ∷ ended spell lines
 ended-cons spell line lines = append_assoc (spell line) (lf ∷ []) (ended spell lines)
 
--- so does a text that goes on behind them
+-- so does a text that goes on after them
 ended-behind : {A : Type 0} (spell : A → List ℕ) (line : A) (lines : List A) (rest : List ℕ)
     → ended spell (line ∷ lines) ++ rest ≡ spell line ++ lf ∷ (ended spell lines ++ rest)
 ended-behind spell line lines rest =
     ap (λ t. t ++ rest) (ended-cons spell line lines) ∙ append_assoc (spell line) (lf ∷ ended spell lines) rest
 
--- a line feed behind a text doesn't change its first line
+-- a line feed after a text doesn't change its first line
 first_line-push : (text : List ℕ) → first_line (text ++ lf ∷ []) ≡ first_line text
 first_line-push [] = refl
 first_line-push (x ∷ text) = ap (λ t. cond (eqb x lf) [] (x ∷ t)) (first_line-push text)
 
--- what stands behind lines, in a text of lines, begins with a line
+-- what stands after lines, in a text of lines, begins with a line
 next_is_line : {A : Type 0} (good : A → Type 0) (spell : A → List ℕ) → AreSpelt good spell → (before lines : List A) (rest : List ℕ)
     → AllByRecursion good before → AllByRecursion good lines → ended spell before ++ rest ≡ ended spell lines → 0 < length rest
     → (line : A) × (good line) × (first_line rest ≡ spell line)
@@ -59,7 +59,7 @@ pub none_good_and_bad : {A : Type 0} (good : A → Type 0) (spell : A → List �
     → (text : List ℕ) (lines : List A) (number : ℕ) → AreLines good spell text lines → IsFirstBad good spell text number → ⊥
 none_good_and_bad good spell are text lines number has bad = good_or_bad good spell are text lines number has bad has.spelt
 
--- what stands behind a line, in a text that begins with one
+-- what stands after a line, in a text that begins with one
 first_line-behind : {A : Type 0} (good : A → Type 0) (spell : A → List ℕ) → AreSpelt good spell → (line : A) (lines : List A) (rest : List ℕ)
     → good line → first_line (ended spell (line ∷ lines) ++ rest) ≡ spell line
 first_line-behind good spell are line lines rest g =

@@ -31,7 +31,7 @@ pub good-push : {A : Type 0} (good : A → Type 0) (lines : List A) (line : A) �
 good-push good [] line h k = (k, tt)
 good-push good (x ∷ lines) line h k = (h.0, good-push good lines line h.1 k)
 
--- with something left, the text goes on behind its lines
+-- with something left, the text goes on after its lines
 pub reached_some : {A : Type 0} (spell : A → List ℕ) (text : List ℕ) (lines : List A) (rest : List ℕ)
     → IsUpTo spell text lines rest → 0 < length rest → text ≡ ended spell lines ++ rest
 reached_some spell text lines rest (inl h) some = h
@@ -52,7 +52,7 @@ IsUpTo-more spell text lines rest first after line h (inr cut) spelt =
           ∙ append_assoc (ended spell lines) (spell line) (lf ∷ []) ∙ sym (ended-push spell lines line),
     )
 
--- what a line and the rest behind it are shorter than
+-- what a line and the rest after it are shorter than
 pub cut_sizes : (text line after : List ℕ) → IsCutAfterLine text line after → length line + length after ≤ length text
 cut_sizes text line after (inl cut) = omega (arith, ap length cut, length-append line (lf ∷ after))
 cut_sizes text line after (inr cut) = omega (arith, ap length cut.0, ap length cut.1)

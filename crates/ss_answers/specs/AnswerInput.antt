@@ -46,7 +46,7 @@ pub record IsBadLine (old new : Option (List ℕ)) (max : ℕ) (line : ℕ) : Ty
   pub all : GivesAll old new max text
   pub first : HasFirstBadLine text line
 
--- what each fault says; that the reader failed is stated apart
+-- what each fault says; a failed reader is stated apart
 abbrev pub IsAnswerFault : Option (List ℕ) → Option (List ℕ) → ℕ → AnswerFault → Type 0
 IsAnswerFault old new max (BadLine line) = IsBadLine old new max line
 IsAnswerFault old new max Read = Unit {0}

@@ -1,4 +1,4 @@
--- The order in which the lines of an answer file are kept.
+-- The order in which the lines of an answers file are kept.
 use Rattle.std.specs.Prelude.{ℕ, List, []}
 use Rattle.std.specs.Cmp.Lexicographic.{slice_cmp}
 use Rattle.std.specs.Ordering.{nat_cmp, on, then_cmp}

@@ -1,4 +1,4 @@
--- A line of an answer file as it is read, and as the program keeps it.
+-- A line of an answers file as it is read, and as the program keeps it.
 use Rattle.std.specs.Prelude.{◌≡◌, ℕ, ◌≤◌, Bool, ◌&&◌, nat_le, if◌then◌else◌, List, [], ◌∷◌, ◌++◌, length, map}
 use Rattle.std.specs.Prelude.{slice_range, Option, Some, None}
 use Rattle.std.specs.List.{All, AllByRecursion}
@@ -90,12 +90,12 @@ pub record KeepsField (old new text : List ℕ) (span : Span) : Type 0 where
   pub start : span.start ≡ length old
   pub end : span.end ≡ length new
 
--- a payload that is known stands where it is said to
+-- a payload that is known stands at its place
 abbrev pub IsKnown : List ℕ → Option Known → Type 0
 IsKnown octets None = Unit {0}
 IsKnown octets (Some known) = HasField octets known.text.now known.span
 
--- payloads that are known stand where they are said to
+-- payloads that are known stand at their places
 abbrev pub AreKnown : List ℕ → List Known → Type 0
 AreKnown octets payloads = All (λ known. HasField octets known.text.now known.span) payloads
 

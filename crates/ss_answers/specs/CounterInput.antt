@@ -45,7 +45,7 @@ pub record IsBadCounter (old new : Option (List ℕ)) (max : ℕ) (line : ℕ) :
   pub all : GivesAll old new max text
   pub first : HasFirstBadCounter text line
 
--- what each fault says; that the reader failed is stated apart
+-- what each fault says; a failed reader is stated apart
 abbrev pub IsCounterFault : Option (List ℕ) → Option (List ℕ) → ℕ → CounterFault → Type 0
 IsCounterFault old new max (BadLine line) = IsBadCounter old new max line
 IsCounterFault old new max Read = Unit {0}

@@ -90,7 +90,7 @@ pub record BeginsWithSession (text : List ℕ) (s : Session) (rest : List ℕ) :
 abbrev pub BeginsWithNoSession : List ℕ → Type 0
 BeginsWithNoSession text = (s : Session) (rest : List ℕ) → BeginsWithSession text s rest → ⊥
 
--- a text says what is counted, and it doesn't
+-- a text names what is counted, and it doesn't
 pub record SpellsNext (text : List ℕ) (counts : Counts) (next : ℕ) : Type 0 where
   pub in_range : IsNext counts next
   pub spelt : text ≡ next_text counts next

@@ -1,12 +1,14 @@
--- What a fault says: in words, and by its code.
+-- The text of a fault in words, and its code.
 use Rattle.std.specs.Prelude.{ℕ, List, Option, None, Some, ◌++◌, codes, decimal}
 use Rattle.ss_octets.specs.NoMemory.{no_memory_text}
 use Rattle.ss_answers.specs.declared.fault.AnswerFault.{AnswerFault}
 use Rattle.ss_answers.specs.declared.fault.AnswerFault.TheVariants as answers
 use Rattle.ss_answers.specs.declared.counters.fault.CounterFault.{CounterFault}
 use Rattle.ss_answers.specs.declared.counters.fault.CounterFault.TheVariants as counters
+use Rattle.ss_answers.specs.declared.counters.start_fault.StartFault.{StartFault}
+use Rattle.ss_answers.specs.declared.counters.start_fault.StartFault.TheVariants as starts
 
--- why a file of answers wasn't taken
+-- why a file of answers wasn't read
 abbrev pub answer_fault_text : AnswerFault → List ℕ
 answer_fault_text (answers.BadLine line) = codes "a line isn't an answer, at line " ++ decimal line
 answer_fault_text answers.Read = codes "the answers file couldn't be opened or read"
@@ -20,7 +22,7 @@ answer_fault_code answers.Read = (codes "A2", None)
 answer_fault_code answers.TooBig = (codes "A3", None)
 answer_fault_code answers.Memory = (codes "A4", None)
 
--- why a file of counters wasn't taken
+-- why a file of counters wasn't read
 abbrev pub counter_fault_text : CounterFault → List ℕ
 counter_fault_text (counters.BadLine line) = codes "a line isn't a counter, at line " ++ decimal line
 counter_fault_text counters.Read = codes "the counters file couldn't be opened or read"
@@ -33,3 +35,15 @@ counter_fault_code (counters.BadLine line) = (codes "C1", Some line)
 counter_fault_code counters.Read = (codes "C2", None)
 counter_fault_code counters.TooBig = (codes "C3", None)
 counter_fault_code counters.Memory = (codes "C4", None)
+
+-- why no originator goes on at counters
+abbrev pub start_fault_text : StartFault → List ℕ
+start_fault_text starts.NoSession = codes "no counter is of the signature blocks of this session"
+start_fault_text (starts.OtherGroup line) = codes "a counter is of a group that isn't there, at line " ++ decimal line
+start_fault_text starts.Memory = no_memory_text
+
+-- its code
+abbrev pub start_fault_code : StartFault → List ℕ × Option ℕ
+start_fault_code starts.NoSession = (codes "C5", None)
+start_fault_code (starts.OtherGroup line) = (codes "C6", Some line)
+start_fault_code starts.Memory = (codes "C4", None)

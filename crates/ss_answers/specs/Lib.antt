@@ -7,4 +7,5 @@ pub mod AnswerInput
 pub mod Seals
 pub mod CounterLine
 pub mod CounterInput
+pub mod Start
 pub mod FaultText

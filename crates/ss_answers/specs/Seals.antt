@@ -12,7 +12,7 @@ use Rattle.ss_answers.specs.Answers.{Answer, seal_of}
 abbrev pub file_of : GivenSeals → Option (List Answer)
 file_of s = s.answers
 
--- what is said of its key
+-- its key
 abbrev pub key_of : GivenSeals → PayloadValue
 key_of s = s.payload
 

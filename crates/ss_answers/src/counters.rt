@@ -1,6 +1,8 @@
-//! Files that hold counters, which somebody kept apart from the log.
+//! Files that hold counters, which were kept apart from the log, and where an originator goes on by them.
 pub mod fault;
 pub mod file;
 mod line;
 mod lines;
+pub mod start;
+pub mod start_fault;
 mod words;

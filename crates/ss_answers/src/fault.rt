@@ -8,7 +8,7 @@ use ss_octets::Code;
 use std::fmt;
 use thiserror::Error;
 
-/// Why a file of answers wasn't taken.
+/// Why a file of answers wasn't read.
 #[derive(Clone, Copy, Debug, Drop, PartialEq, Eq, Error)]
 pub enum AnswerFault {
     /// A1: a line that isn't an answer, an empty one too.

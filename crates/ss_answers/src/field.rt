@@ -26,7 +26,7 @@ impl Span {
     }
 }
 
-/// Why a line wasn't taken.
+/// Why a line wasn't read.
 #[derive(Clone, Copy, Debug)]
 pub enum LineFault {
     /// It is not spelt as an answer.

@@ -1,4 +1,4 @@
-//! What lines of an answer file are kept in order by, and looked up by.
+//! The keys by which the lines of an answers file are kept in order and looked up.
 ghost use Rattle.std.specs.Prelude.{◌≡◌};
 ghost use Rattle.std.specs.Cmp.Lexicographic.{slice_cmp};
 ghost use Rattle.std.specs.Ordering.{nat_cmp, ordering_then};
@@ -32,7 +32,7 @@ impl<'a> Key<'a> {
 
     /// Whether under a payload octets have a valid signature. The signature is compared first, because signatures
     /// differ in their first octets. The signed octets of the blocks of a session begin alike. The payload is compared
-    /// last, because it may be as long as a log, and all blocks of a session are asked about with the same.
+    /// last, because it may be as long as a log, and all blocks of a session have the same one.
     pub fn yes(payload: &'a [u8], bytes: &'a [u8], signature: &'a [u8]) -> Key<'a>
         ensures { sort_key result ≡ yes_key payload.now bytes.now signature.now }
     {

@@ -1,4 +1,4 @@
-//! What holds of every text of answers, and of every text of counters.
+//! Laws on all texts of answers, and on all texts of counters.
 ghost use Rattle.ss_answers.specs.Answers.{BadLineIsDetermined, LinesAreDetermined, NoTextIsGoodAndBad};
 ghost use Rattle.ss_answers.specs.CounterLine.{BadCounterIsDetermined, CountersAreDetermined};
 ghost use Rattle.ss_answers.specs.CounterLine.{LinesHaveTheirCounters, NoCountersAreGoodAndBad};

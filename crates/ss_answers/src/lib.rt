@@ -18,6 +18,8 @@ mod table;
 
 pub use counters::fault::CounterFault;
 pub use counters::file::{open_counters, read_counters};
+pub use counters::start::start_of;
+pub use counters::start_fault::StartFault;
 pub use fault::AnswerFault;
 pub use file::{open_answers, read_answers};
 pub use seals::GivenSeals;

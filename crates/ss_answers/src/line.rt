@@ -1,4 +1,4 @@
-//! One line of an answer file.
+//! One line of an answers file.
 ghost use Rattle.std.specs.Prelude.{◌≡◌, ◌++◌, ◌∷◌, ◌+◌, ◌<◌, ◌^◌, List, ℕ, length, codes, IfOk, IfErr, OnOk};
 ghost use Rattle.std.specs.Prelude.{MatchOption};
 ghost use Rattle.std.specs.BTreeMap.{values};
@@ -26,7 +26,7 @@ pub struct Known<'a> {
 ///
 /// # Errors
 ///
-/// `Bad` where the text is no line; `Memory`. Some of the fields may stand there then.
+/// `Bad` where the text is no line; `Memory`. Some of its fields may stand among the octets then.
 pub fn keep<'a>(
     octets: &mut Vec<u8>,
     text: &'a [u8],
@@ -105,7 +105,7 @@ fn triple<'a>(
     Ok((payload, bytes, signature))
 }
 
-/// A payload, which isn't decoded again where it is among those that are known, and else is one of them from now on.
+/// A payload. If it is known, it isn't decoded again; otherwise it is known from now on.
 fn among<'a>(
     octets: &mut Vec<u8>,
     text: &'a [u8],

@@ -16,7 +16,7 @@ pub struct GivenSeals {
 }
 
 impl GivenSeals {
-    /// Keeps the answers beside what is said of the key. Takes no memory.
+    /// Keeps the answers beside the key. Takes no memory.
     pub fn new(answers: Option<Answers>, payload: Payload) -> GivenSeals
         ensures answers { file_of result ≡ answers }
         ensures payload { key_of result ≡ payload }

@@ -15,7 +15,7 @@ use ss_review::Judge;
 use std::alloc::{AllocError, Global};
 use std::marker::Model;
 
-/// The answers of a signature checker, found by comparisons of which there are logarithmically many.
+/// The answers of a signature checker. A look-up takes logarithmically many comparisons.
 ///
 /// Contracts see a list of lines that say the same as those of the file.
 #[derive(Debug, Drop)]
@@ -45,7 +45,7 @@ impl Answers {
     ///
     /// # Errors
     ///
-    /// Want of memory alone.
+    /// Only out of memory.
     pub(crate) fn of_lines(lines: Lines) -> Result<Answers, AllocError>
         ensures { IfOk result (λ answers. SaysTheSame (answers_of lines) answers) }
     {
@@ -81,7 +81,7 @@ impl Answers {
     pub fn seal(&self, alloc: Global, bytes: &[u8]) -> Result<Vec<u8>, SealFault>
         ensures ok { IfOk result (λ signature. seal_of self.now bytes.now ≡ Some signature.items) }
         ensures refused { IfErr result (λ fault. IfRefused fault (seal_of self.now bytes.now ≡ None)) }
-        // That no line gives them one is seen before memory is taken.
+        // Whether a line gives them one is found out before memory is taken.
         ensures refused_first { seal_of self.now bytes.now ≡ None → result ≡ Err SealFault.Refused }
     {
         let Some(place) = find(&self.octets, &self.places, Key::seal(bytes)) else {

@@ -1,3 +1,4 @@
 pub mod Sending
 pub mod Writing
 pub mod Plans
+pub mod GoingOn

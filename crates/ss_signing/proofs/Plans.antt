@@ -17,7 +17,7 @@ use Rattle.ss_block.specs.Reading.{reading, reading_from, value_reading}
 use Rattle.ss_block.specs.Signed.{signed, signed_from, signed_if_block}
 use Rattle.ss_origin.specs.declared.config.Config.{Config}
 use Rattle.ss_origin.specs.declared.fault.OriginFault.TheVariants.{NotBegun, NotSyslog, HasBlock}
-use Rattle.ss_origin.specs.Counting.{Start, anew, names, number_in}
+use Rattle.ss_origin.specs.Counting.{Start, names, number_in}
 use Rattle.ss_origin.specs.Calls.{Call, Begin, Submit, Flush, messages_of, pending_of, pending_hashes, has_begin, stamp_of}
 use Rattle.ss_origin.specs.State.{State, state, pending_in, blocks_closed, runs_closed}
 use Rattle.ss_origin.specs.Blocks.{unsigned_text}
@@ -58,7 +58,7 @@ same_count c (call ∷ before) =
     ap (λ n. n + length (runs_closed (once c) (pending_hashes c before) call)) (same_count c before)
     ∙ ap (λ runs. blocks_closed c before + length runs) (same_runs c (pending_hashes c before) call)
 
-same_state : (c : Config) (start : Start) (calls : List Call) → state (once c) start calls ≡ state c start calls
+pub same_state : (c : Config) (start : Start) (calls : List Call) → state (once c) start calls ≡ state c start calls
 unfolding pending_of
 same_state c start calls =
     let with_count : ℕ → State = λ n. record {
@@ -136,7 +136,7 @@ signed_emitted s old call emitted accepted e =
 
 -- ---- two runs
 
-module _ (s : Setting) (some : 1 ≤ s.config.frag) where
+module _ (s : Setting) (start : Start) (some : 1 ≤ s.config.frag) where
   abbrev copied : List (List ℕ) → List (List ℕ)
   copied octets = flat_map (λ o. replicate s.config.copies o) octets
 
@@ -159,15 +159,15 @@ module _ (s : Setting) (some : 1 ≤ s.config.frag) where
   abbrev sent : List Turn → List (List ℕ)
   sent turns = flat_map (λ t. t.emitted) (reverse turns)
 
-  turns_signed : (turns others : List Turn) → calls_of others ≡ calls_of turns → AreTurns s anew turns → AreTurns plan anew others → signed_among (sent turns) ≡ copied (signed_among (sent others))
+  turns_signed : (turns others : List Turn) → calls_of others ≡ calls_of turns → AreTurns s start turns → AreTurns plan start others → signed_among (sent turns) ≡ copied (signed_among (sent others))
   turns_signed [] [] same are be = refl
   turns_signed [] (p ∷ others) same are be = absurd (cc)
   turns_signed (t ∷ turns) [] same are be = absurd (cc)
   turns_signed (t ∷ turns) (p ∷ others) same are be =
       let call : p.call ≡ t.call = cc in
       let calls : calls_of others ≡ calls_of turns = cc in
-      let old : State = state s.config anew (calls_of turns) in
-      let known : state plan.config anew (calls_of others) ≡ old = same_state s.config anew (calls_of others) ∙ ap (state s.config anew) calls in
+      let old : State = state s.config start (calls_of turns) in
+      let known : state plan.config start (calls_of others) ≡ old = same_state s.config start (calls_of others) ∙ ap (state s.config start) calls in
       let taken : fault_of plan.config old t.call ≡ None
       = subst (λ k. fault_of plan.config old k ≡ None) call (subst (λ st. fault_of plan.config st p.call ≡ None) known be.1) in
       let emits : EmitsFrom plan old t.call p.emitted
@@ -193,10 +193,10 @@ lines_told (m ∷ messages) = by (signed m) (lines_told messages)
     by None rest = rest
 
 pub plans_tell_what_is_signed : PlansTellWhatIsSigned
-plans_tell_what_is_signed s stamp messages emitted for_plan signs plans = record {
+plans_tell_what_is_signed s start stamp messages emitted for_plan signs plans = record {
   lines = lines_told for_plan;
   signed =
       ap signed_among signs.emitted_are
-      ∙ turns_signed s (has_ranges s.config signs.chain.setting.fit.config).some_octet signs.turns plans.turns (plans.calls_are ∙ sym signs.calls_are) signs.chain.chained.1 plans.chain.chained.1
+      ∙ turns_signed s start (has_ranges s.config signs.setting.fit.config).some_octet signs.turns plans.turns (plans.calls_are ∙ sym signs.calls_are) signs.taken plans.taken
       ∙ ap (λ all. flat_map (λ o. replicate s.config.copies o) (signed_among all)) (sym plans.emitted_are);
 }

@@ -1,4 +1,4 @@
--- What a fault says: in words, and by its code.
+-- The text of a fault in words, and its code.
 use Rattle.std.specs.Prelude.{ℕ, List, Option, ◌++◌, codes, decimal, Some, None}
 use Rattle.ss_origin.specs.FaultText.{origin_fault_code, origin_fault_text}
 use Rattle.ss_report.specs.FaultText.{run_fault_code, run_fault_text}

@@ -1,8 +1,10 @@
 pub mod Accepted
 pub mod Asked
 pub mod Wants
+pub mod Ahead
 pub mod Run
 pub mod Jobs
 pub mod Sending
 pub mod PlanLaws
+pub mod GoingOn
 pub mod FaultText

@@ -2,9 +2,9 @@
 use Rattle.std.specs.Prelude.{◌≡◌, ℕ, List, [], ◌∷◌, ◌++◌, replicate, flat_map, Option, Some, None}
 use Rattle.ss_message.specs.Stamp.{Moment}
 use Rattle.ss_block.specs.Signed.{signed}
-use Rattle.ss_origin.specs.Calls.{Flush}
+use Rattle.ss_origin.specs.Counting.{Start}
 use Rattle.ss_origin.specs.Setting.{Setting}
-use Rattle.ss_signing.specs.Accepted.{calls_for, Accepts}
+use Rattle.ss_signing.specs.Accepted.{all_calls, Accepts}
 use Rattle.ss_signing.specs.Wants.{want_line, want_lines}
 use Rattle.ss_signing.specs.Jobs.{planned}
 
@@ -24,9 +24,11 @@ pub record IsPlanOf (copies : ℕ) (emitted for_plan : List (List ℕ)) : Type 0
   pub signed : signed_among emitted ≡ flat_map (λ octets. replicate copies octets) (signed_among for_plan)
 
 -- Both runs had the same calls accepted: the same messages with the same stamp. The payload is the same, and so is the
--- configuration, but that a plan has `copies` 1. The schemes and the sealers' answers are any.
+-- configuration, but that a plan has `copies` 1, and where the originators started. The schemes and the sealers' answers
+-- are any.
 abbrev pub PlansTellWhatIsSigned : Type 0
-PlansTellWhatIsSigned = (s : Setting) (stamp : Option Moment) (messages emitted for_plan : List (List ℕ))
-    → let calls = calls_for stamp messages ++ Flush stamp ∷ [] in
-    Accepts s calls emitted → Accepts (planned s.config s.payload) calls for_plan
+PlansTellWhatIsSigned = (s : Setting) (start : Start) (stamp : Option Moment)
+    (messages emitted for_plan : List (List ℕ))
+    → let calls = all_calls start stamp messages in
+    Accepts s start calls emitted → Accepts (planned s.config s.payload) start calls for_plan
     → IsPlanOf s.config.copies emitted for_plan

@@ -31,8 +31,8 @@ pub enum SignFault {
 }
 
 impl SignFault {
-    /// Its code, for programs, which of a fault of a lower layer is the code of that one. The place is the octet's
-    /// after P1, and the message's after O1 to O10.
+    /// Its code, for programs. A fault of a lower layer keeps the code that it has there. The place is that of the
+    /// octet after P1, and that of the message after O1 to O10.
     pub fn code(self) -> Code
         ensures { IsCode result (sign_fault_code self) }
     {

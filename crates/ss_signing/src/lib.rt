@@ -1,7 +1,8 @@
-//! The runs that sign a log: its messages are read to their end and given to an originator, and what it emits is
-//! written as frames, or what has to be signed of it as lines.
+//! The runs that sign a log. Its messages are read to their end and given to an originator. What it emits is written as
+//! frames, or what has to be signed of it as lines.
 #![tactic(auto)]
 
+mod ahead;
 mod blank;
 mod calls;
 mod fault;
@@ -9,9 +10,12 @@ pub mod laws;
 mod log;
 mod output;
 mod plan;
+mod request;
 mod send;
 mod sign;
 
+pub use ahead::run_ahead;
 pub use fault::SignFault;
-pub use plan::run_plan;
-pub use sign::run_sign;
+pub use plan::{run_plan, run_plan_from};
+pub use request::SendRequest;
+pub use sign::{run_sign, run_sign_from};

@@ -3,7 +3,7 @@ use Rattle.std.proofs.Common.{◌≡◌, ◌↔◌, ℕ, true, false, ◌+◌, �
 use Rattle.std.proofs.Math.Seq.{take-append-add}
 use Rattle.std.proofs.lemmas.List.{take_min}
 
--- as many octets as there is room for, behind those that are kept, are the first six of all
+-- as many octets as there is room for, after those that are kept, are the first six of all
 front : (kept octets : List ℕ) → length kept ≤ 6 → kept ++ take (min (6 - length kept) (length octets)) octets ≡ take 6 (kept ++ octets)
 front kept octets fits =
     let room : length kept + (6 - length kept) ≡ 6 = omega arith in

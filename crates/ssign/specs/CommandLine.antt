@@ -29,12 +29,14 @@ use Rattle.ssign.specs.declared.task.Task.TheVariants.{Review, Questions, Extrac
 use Rattle.ssign.specs.declared.signing.Signing.{Signing}
 use Rattle.ssign.specs.declared.signing.Signing.TheVariants.{Plan, Sign}
 use Rattle.ssign.specs.SigningOptions.{AreVersions, Kept, text_rule, with_signing_options}
+use Rattle.ssign.specs.declared.options.ahead.TheConstants as ahead
 use Rattle.ssign.specs.declared.options.answers.TheConstants as answers
 use Rattle.ssign.specs.declared.options.counters.TheConstants as counters_option
 use Rattle.ssign.specs.declared.options.findings.TheConstants as findings
 use Rattle.ssign.specs.declared.options.json.TheConstants as json
 use Rattle.ssign.specs.declared.options.lines_out.TheConstants as lines_out
 use Rattle.ssign.specs.declared.options.once.TheConstants as once
+use Rattle.ssign.specs.declared.options.resume.TheConstants as resume
 use Rattle.ssign.specs.declared.options.tally.TheConstants as tally
 use Rattle.ssign.specs.declared.options.unlisted.TheConstants as unlisted
 use Rattle.ssign.specs.declared.options.whole.TheConstants as whole
@@ -80,10 +82,10 @@ report_form true false = forms.Findings
 report_form false true = forms.Json
 report_form true true = forms.JsonFindings
 
--- whether a report says each thing or tallies, without or with `--tally`
+-- whether a report lists each item or tallies, without or with `--tally`
 abbrev pub detail_of : Bool → Detail
 detail_of true = details.Tally
-detail_of false = details.Each
+detail_of false = details.Itemized
 
 -- how often a payload is written, with or without `--once`
 abbrev pub payloads_of : Bool → Payloads
@@ -141,10 +143,10 @@ abbrev pub signing_name : Signing → List ℕ
 signing_name Plan = plan.NAME.now
 signing_name Sign = sign.NAME.now
 
--- its own options, in front of those that say how a log is signed
+-- its own options, before those that say how a log is signed
 abbrev pub signing_rules : Signing → List Rule
-signing_rules Plan = []
-signing_rules Sign = text_rule answers.NAME.now ∷ []
+signing_rules Plan = text_rule resume.NAME.now ∷ flag_rule ahead.NAME.now ∷ []
+signing_rules Sign = text_rule answers.NAME.now ∷ text_rule resume.NAME.now ∷ []
 
 -- of the versions of blocks it takes those that are kept
 abbrev pub signing_app : Kept → Signing → App

@@ -1,4 +1,4 @@
--- What a fault of options says: in words, and by its code.
+-- The text of a fault of options in words, and its code.
 use Rattle.std.specs.Prelude.{ℕ, List, Option, None, ◌++◌, codes}
 use Rattle.ss_octets.specs.NoMemory.{no_memory_text}
 use Rattle.ssign.specs.Settings.{option_name}

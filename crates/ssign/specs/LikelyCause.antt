@@ -1,4 +1,4 @@
--- What the first octets of a log, and the form that it is read in, say about why it can't be read.
+-- Why a log can't be read, by its first octets and the form in which it is read.
 use Rattle.std.specs.Prelude.{ℕ, Bool, true, false, ◌&&◌, nat_le, List, [], ◌∷◌, length, take, Option, Some, None}
 use Rattle.std.specs.Prelude.{codes, if◌then◌else◌}
 use Rattle.std.specs.Str.{bytes_eq}

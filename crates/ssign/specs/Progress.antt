@@ -1,4 +1,4 @@
--- A reader that says how much it has given.
+-- A reader that reports how much it has given.
 use Rattle.ssign.specs.declared.progress.Progress.{Progress}
 
 -- the reader after it

@@ -1,4 +1,4 @@
--- What is said of a refusal beside its explanation.
+-- The remark on a refusal beside its explanation.
 use Rattle.std.specs.Prelude.{◌≡◌, Option, Some, None}
 use Rattle.clap.specs.Words.{first_value, found_of}
 use Rattle.clap.specs.declared.parser.matches.ArgMatches.{ArgMatches}
@@ -13,7 +13,7 @@ abbrev pub cause_remark : Option LikelyCause → Remark
 cause_remark (Some cause) = Cause cause
 cause_remark None = Nothing
 
--- of a text out of its form the option and that text are said
+-- for a text out of its form, the option and that text
 abbrev pub SaysOfSettings : SettingsFault → ArgMatches → Remark → Type 0
 SaysOfSettings (OutOfForm option) matches (Text named text) =
     (named ≡ option) × (first_value (found_of matches) (option_name option) ≡ Some text.now)

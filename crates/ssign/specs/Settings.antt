@@ -1,4 +1,4 @@
--- What the options of a command that signs say: their numbers and texts, and the settings that these spell.
+-- What the options of a command that signs give: their numbers and texts, and the settings that these spell.
 use Rattle.std.specs.Prelude.{◌≡◌, ℕ, ◌≤◌, Bool, true, false, ◌&&◌, not, List, Option, Some, None, Result, Ok, Err}
 use Rattle.std.specs.Prelude.{nat_le, is_some, option_and_then, if◌then◌else◌}
 use Rattle.clap.specs.Words.{first_value, found_of}
@@ -58,7 +58,7 @@ is_head h =
 abbrev pub head_in : Choices → Texts → Option HeadValue
 head_in c t = if is_head (header_in c t) then Some (header_in c t) else None
 
--- the settings that these choices and texts say, if each text is in its form
+-- the settings that these choices and texts give, if each text is in its form
 unfoldable pub settings_in : Choices → Texts → Option Settings
 settings_in c t = do
   payload ← payload_in t.payload.now
@@ -120,7 +120,7 @@ HeadGives c t (Ok head) = head_in c t ≡ Some head
 HeadGives c t (Err (OutOfForm option)) = (head_in c t ≡ None) × (refused_field t ≡ Some option)
 HeadGives c t (Err Memory) = Unit {0}
 
--- ---- what the options say
+-- ---- what the options give
 
 -- the option has a number, in this range
 pub record HasNumberIn (matches : ArgMatches) (option : List ℕ) (least most n : ℕ) : Type 0 where
@@ -153,7 +153,7 @@ Gives c t (Ok settings) = settings_in c t ≡ Some settings
 Gives c t (Err (OutOfForm option)) = (settings_in c t ≡ None) × (refused_option t ≡ Some option)
 Gives c t (Err Memory) = Unit {0}
 
--- what the options say, and what becomes of it
+-- what the options give, and what becomes of it
 pub record IsRead (matches : ArgMatches) (result : Result Settings SettingsFault) : Type 0 where
   pub choices : Choices
   pub texts : Texts

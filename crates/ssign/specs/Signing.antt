@@ -1,8 +1,9 @@
 -- What is made of a log that is to be signed, and who seals.
-use Rattle.std.specs.Prelude.{Option, List}
+use Rattle.std.specs.Prelude.{Bool, true, false, Option, List}
+use Rattle.ss_origin.specs.Counting.{Start}
 use Rattle.ss_origin.specs.Setting.{Setting}
 use Rattle.ss_signing.specs.Run.{Job}
-use Rattle.ss_signing.specs.Jobs.{planning, signing}
+use Rattle.ss_signing.specs.Jobs.{going_ahead, planning_from, signing_from}
 use Rattle.ss_answers.specs.Answers.{Answer}
 use Rattle.ss_answers.specs.Seals.{is_given, seals_of}
 use Rattle.ssign.specs.declared.settings.Settings.{Settings}
@@ -20,7 +21,9 @@ setting_with s answers =
           is_given answers octets signature;
     }
 
--- what is made of a log with these settings, and with the answers of a file or without
-abbrev pub signing_job : Signing → Settings → Option (List Answer) → Job
-signing_job Plan s answers = planning s.config s.payload s.stamp
-signing_job Sign s answers = signing (setting_with s answers) (seals_of answers) s.stamp
+-- what is made of a log by an originator that starts so, with these settings, and with the answers of a file or without;
+-- of a plan the counters with which it ends, with `--ahead`
+abbrev pub signing_job : Signing → (ahead : Bool) → Start → Settings → Option (List Answer) → Job
+signing_job Plan false start s answers = planning_from start s.config s.payload s.stamp
+signing_job Plan true start s answers = going_ahead start s.config s.payload s.stamp
+signing_job Sign ahead start s answers = signing_from start (setting_with s answers) (seals_of answers) s.stamp

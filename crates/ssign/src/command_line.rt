@@ -9,6 +9,7 @@ ghost use Rattle.ssign.specs.Explanation.{asked_of};
 ghost use Rattle.ssign.specs.SigningOptions.{AreVersions, Kept};
 ghost use Rattle.ssign.specs.CommandLine.{FlagIs, HasNumber, IsLocalApp, detail_of, limits_with, name_of, order_in};
 ghost use Rattle.ssign.specs.CommandLine.{payloads_of, report_form, reporting, text_of, with_commands, with_limits};
+ghost use Rattle.ssign.specs.declared.options.ahead.TheConstants as ahead;
 ghost use Rattle.ssign.specs.declared.options.answers.TheConstants as answers;
 ghost use Rattle.ssign.specs.declared.options.code.TheConstants as code;
 ghost use Rattle.ssign.specs.declared.options.counters.TheConstants as counters;
@@ -18,6 +19,7 @@ ghost use Rattle.ssign.specs.declared.options.lines.TheConstants as lines;
 ghost use Rattle.ssign.specs.declared.options.max_len.TheConstants as max_len;
 ghost use Rattle.ssign.specs.declared.options.max_messages.TheConstants as max_messages;
 ghost use Rattle.ssign.specs.declared.options.once.TheConstants as once;
+ghost use Rattle.ssign.specs.declared.options.resume.TheConstants as resume;
 ghost use Rattle.ssign.specs.declared.options.tally.TheConstants as tally;
 ghost use Rattle.ssign.specs.declared.options.whole.TheConstants as whole;
 
@@ -123,7 +125,7 @@ pub fn command<'a>(alloc: Global) -> Result<Command<'a>, AllocError>
     with_commands(alloc, bare(alloc), &ORDERS, versions())
 }
 
-/// Adds the commands that ask for these, in this order. `--ver` takes the given versions alone.
+/// Adds the commands that ask for these tasks, in this order. `--ver` takes the given versions alone.
 fn with_commands<'a>(
     alloc: Global,
     command: Command<'a>,
@@ -140,7 +142,7 @@ fn with_commands<'a>(
     with_commands(alloc, command, others, versions)
 }
 
-/// The same commands, of which each option of a number takes a negative one as its value, and then says its range.
+/// The same commands, whose number options take a negative number as their value, and then name their range.
 pub fn negative_command<'a>(alloc: Global) -> Result<Command<'a>, AllocError> {
     let mut command = bare(alloc);
     for order in ORDERS {
@@ -149,7 +151,7 @@ pub fn negative_command<'a>(alloc: Global) -> Result<Command<'a>, AllocError> {
     Ok(command)
 }
 
-/// The command that asks for this, of which each option of a number takes a negative one.
+/// The command that asks for this, whose number options take a negative number.
 fn negative<'a>(alloc: Global, order: Order) -> Result<Command<'a>, AllocError> {
     let mut command = order.command(alloc, versions())?;
     for name in NUMBERS {
@@ -255,7 +257,9 @@ fn plan<'a>(alloc: Global, versions: &'a [&'a str]) -> Result<Command<'a>, Alloc
         commands::plan::NAME,
         commands::plan::ABOUT,
         commands::plan::USAGE,
-    );
+    )
+    .arg(file(alloc, options::resume::NAME, options::resume::HELP))?;
+    let plan = plan.arg(flag(alloc, options::ahead::NAME, options::ahead::HELP))?;
     limited(alloc, with_signing_options(alloc, plan, versions)?)
 }
 
@@ -270,6 +274,7 @@ fn sign<'a>(alloc: Global, versions: &'a [&'a str]) -> Result<Command<'a>, Alloc
         commands::sign::USAGE,
     )
     .arg(file(alloc, options::answers::NAME, options::answers::SEALED))?;
+    let sign = sign.arg(file(alloc, options::resume::NAME, options::resume::HELP))?;
     limited(alloc, with_signing_options(alloc, sign, versions)?)
 }
 
@@ -359,6 +364,20 @@ pub fn answers_file<'a>(matches: &ArgMatches<'a>) -> Option<&'a str>
     matches.get_str(options::answers::NAME)
 }
 
+/// The file of the counters at which an originator goes on, if one was given.
+pub fn resume_file<'a>(matches: &ArgMatches<'a>) -> Option<&'a str>
+    ensures { option_map (λ s. s.now) result ≡ first_value (found_of matches.now) resume.NAME.now }
+{
+    matches.get_str(options::resume::NAME)
+}
+
+/// Whether the counters are asked for with which the signed log will end. A command without the flag asks for none.
+pub fn is_ahead(matches: &ArgMatches<'_>) -> bool
+    ensures { (ahead_given : Bool) → FlagIs matches.now ahead.NAME.now ahead_given → result ≡ ahead_given }
+{
+    matches.get_flag(options::ahead::NAME)
+}
+
 /// The counters file, if one was given.
 pub fn counters_file<'a>(matches: &ArgMatches<'a>) -> Option<&'a str>
     ensures { option_map (λ s. s.now) result ≡ first_value (found_of matches.now) counters.NAME.now }
@@ -384,14 +403,14 @@ fn form_of_report(matches: &ArgMatches<'_>) -> ReportForm
     }
 }
 
-/// Whether the flag asks for tallies. A command without it says each thing.
+/// Whether the flag asks for tallies. A command without it lists each item.
 fn detail_of_report(matches: &ArgMatches<'_>) -> Detail
     ensures { (tally_given : Bool) → FlagIs matches.now tally.NAME.now tally_given → result ≡ detail_of tally_given }
 {
     if matches.get_flag(options::tally::NAME) {
         Detail::Tally
     } else {
-        Detail::Each
+        Detail::Itemized
     }
 }
 

@@ -17,14 +17,14 @@ use ss_report::{Extraction, Selection};
 use ss_review::Places;
 use std::alloc::{AllocError, AllocFailed, Global};
 
-/// Why the options don't say what is to be extracted.
+/// Why the options don't name what is to be extracted.
 #[derive(Clone, Copy, Debug, PartialEq, Eq)]
 pub enum ExtractionFault {
     /// Places are given, and the unlisted messages are asked for too.
     Both,
     /// A place isn't a number below 2^32, which a parse by `command` doesn't let through.
     NoNumber,
-    /// Want of memory.
+    /// Out of memory.
     Memory,
 }
 
@@ -36,7 +36,7 @@ impl<T: Drop> From<AllocFailed<T>> for ExtractionFault {
     }
 }
 
-/// What the options say is to be extracted. A command without them has the listed messages as frames.
+/// What is to be extracted by the options. A command without them has the listed messages as frames.
 pub fn extraction_of(alloc: Global, matches: &ArgMatches<'_>) -> Result<Extraction, ExtractionFault>
     ensures { (unlisted_given lines : Bool) → FlagIs matches.now unlisted.NAME.now unlisted_given
         → FlagIs matches.now lines_out.NAME.now lines

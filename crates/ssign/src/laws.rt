@@ -1,4 +1,4 @@
-//! What holds of commands together.
+//! Laws on several commands.
 ghost use Rattle.ssign.specs.CommandLine.{AreFoundByName};
 ghost use Rattle.ssign.specs.ReadBack.{CountersAreReadBack};
 

@@ -1,4 +1,4 @@
-//! What most often is the cause that a log can't be read, by its first octets.
+//! Why a log most likely can't be read, by its first octets.
 ghost use Rattle.std.specs.Prelude.{◌≡◌};
 ghost use Rattle.ssign.specs.LikelyCause.{cause_in, is_of_form, run_cause, signing_cause};
 
@@ -46,7 +46,7 @@ impl fmt::Display for LikelyCause {
     }
 }
 
-/// What the first octets of a log say about it, which is read in this form.
+/// The likely cause by the first octets of a log that is read in this form.
 fn cause_in(form: Form, octets: &[u8]) -> Option<LikelyCause>
     ensures { result ≡ cause_in form octets.now }
 {

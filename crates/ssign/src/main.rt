@@ -23,6 +23,7 @@ mod refusing;
 mod settings;
 mod signing;
 mod signing_options;
+mod start;
 mod streams;
 mod task;
 mod text_option;

@@ -1,4 +1,5 @@
 //! The options of the commands: a file for each has its name, its range, its usual value and its help.
+pub mod ahead;
 pub mod answers;
 pub mod app;
 pub mod code;
@@ -20,6 +21,7 @@ pub mod payload;
 pub mod place;
 pub mod pri;
 pub mod procid;
+pub mod resume;
 pub mod rsid;
 pub mod stamp;
 pub mod tally;

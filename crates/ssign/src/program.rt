@@ -5,15 +5,15 @@ ghost use Rattle.ssign.specs.CommandLine.{AreMistaken, signing_status, status_of
 ghost use Rattle.ssign.specs.Explanation.{entries_of, has_code};
 
 use crate::command_line::{
-    Order, answers_file, asked_code, command, counters_file, extract_conflict, limits_of, order_of,
-    reporting_of,
+    Order, answers_file, asked_code, command, counters_file, extract_conflict, is_ahead, limits_of,
+    order_of, reporting_of, resume_file,
 };
 use crate::explain::explanation_of;
 use crate::explanations::{Tables, all_tables};
 use crate::extraction::{ExtractionFault, extraction_of};
 use crate::first_octets::FirstOctets;
 use crate::likely_cause::{run_cause, signing_cause};
-use crate::negatives::tells_negative;
+use crate::negatives::reports_negative;
 use crate::progress::Progress;
 use crate::refuse_all::RefuseAll;
 use crate::refusing::{
@@ -21,6 +21,7 @@ use crate::refusing::{
 };
 use crate::settings::settings_of;
 use crate::signing::{Signing, SigningRequest};
+use crate::start::start_from;
 use crate::streams::{explain_on_output, run_streams, sign_streams};
 use crate::task::{Task, TaskRequest};
 use clap::ArgMatches;
@@ -76,7 +77,7 @@ fn run_words<R: Input + Print + Eprint + Screen + Files + Clock + AllocGlobal>(
             if fault.kind() == ErrorKind::OutOfMemory {
                 return refuse(rt, &RunFault::Memory.code(), Remark::Nothing);
             }
-            if fault.kind() == ErrorKind::UnknownArgument && tells_negative(rt, words) {
+            if fault.kind() == ErrorKind::UnknownArgument && reports_negative(rt, words) {
                 return REFUSED;
             }
             if fault.print(rt).is_err() {
@@ -163,14 +164,14 @@ fn refuse_extraction<R: Print + Eprint + Screen + AllocGlobal>(rt: &R, fault: Ex
     ensures { result ≤ 2 }
 {
     match fault {
-        ExtractionFault::Both => tell_conflict(rt),
+        ExtractionFault::Both => report_conflict(rt),
         ExtractionFault::NoNumber => REFUSED,
         ExtractionFault::Memory => refuse(rt, &RunFault::Memory.code(), Remark::Nothing),
     }
 }
 
 /// Reports that `--unlisted` and `--place` exclude each other, like other mistakes of the command line.
-fn tell_conflict<R: Print + Eprint + Screen + AllocGlobal>(rt: &R) -> u8
+fn report_conflict<R: Print + Eprint + Screen + AllocGlobal>(rt: &R) -> u8
     ensures { result ≤ 2 }
 {
     let Ok(fault) = extract_conflict(rt.alloc()) else {
@@ -182,8 +183,8 @@ fn tell_conflict<R: Print + Eprint + Screen + AllocGlobal>(rt: &R) -> u8
     REFUSED
 }
 
-/// Makes a run that signs over standard input. The texts of the options are looked at first, and then the answers file
-/// is read, before the log.
+/// Makes a run that signs over standard input. The texts of the options are looked at first, then the counters file is
+/// read, and then the answers file, before the log.
 fn run_sent<R: Input + Print + Eprint + Screen + Files + Clock + AllocGlobal>(
     rt: &R,
     signing: Signing,
@@ -199,6 +200,13 @@ fn run_sent<R: Input + Print + Eprint + Screen + Files + Clock + AllocGlobal>(
         Some(Err(fault)) => return refuse(rt, &fault.code(), settings_remark(fault, options)),
         None => return REFUSED,
     };
+    let start = match resume_file(options) {
+        None => None,
+        Some(file) => match start_from(rt, file, &settings.config) {
+            Ok(start) => Some(start),
+            Err(code) => return refuse(rt, &code, Remark::ResumeFile(file)),
+        },
+    };
     let answers = match answers_file(options) {
         None => None,
         Some(file) => match open_answers(rt, file) {
@@ -210,6 +218,8 @@ fn run_sent<R: Input + Print + Eprint + Screen + Files + Clock + AllocGlobal>(
     let request = SigningRequest {
         signing,
         settings,
+        ahead: is_ahead(options),
+        start,
         answers,
         limits,
     };

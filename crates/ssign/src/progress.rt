@@ -1,4 +1,4 @@
-//! A reader that says on a terminal how many messages it has given.
+//! A reader that reports on a terminal how many messages it has given.
 ghost use Rattle.std.specs.Prelude.{◌≡◌};
 ghost use Rattle.std.specs.Io.{ReadsAtMost};
 ghost use Rattle.std.specs.Io.KnownBytes.{ReadConsumes};
@@ -17,7 +17,7 @@ const SILENCE: u64 = 1_000;
 /// How long a line stands at least, in milliseconds.
 const PAUSE: u64 = 250;
 
-/// A reader that passes each call on. On a terminal it says how many messages it has given, from the second second on.
+/// A reader that passes each call on. After one second it reports on a terminal how many messages it has given.
 #[derive(Drop)]
 pub struct Progress<'r, R, I> {
     rt: &'r R,
@@ -25,7 +25,7 @@ pub struct Progress<'r, R, I> {
     meter: Option<Meter>,
 }
 
-/// How many messages were given since the start, and when that is said next.
+/// How many messages were given since the start, and when that is reported next.
 #[derive(Clone, Copy)]
 struct Meter {
     start: Instant,

@@ -1,4 +1,4 @@
-//! A verifier that says no to everything.
+//! A judge that says no to everything.
 ghost use Rattle.std.specs.Prelude.{false};
 
 use ss_review::Judge;

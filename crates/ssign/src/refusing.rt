@@ -6,7 +6,7 @@ use crate::asked::asked_word;
 use crate::explain::explanation_of;
 use crate::explanations::{Tables, all_tables};
 use crate::likely_cause::LikelyCause;
-use crate::options::{answers, counters};
+use crate::options::{answers, counters, resume};
 use crate::settings::SettingsFault;
 use crate::text_option::TextOption;
 use arrayvec::ArrayString;
@@ -36,6 +36,8 @@ pub enum Remark<'a> {
     AnswersFile(&'a str),
     /// This counters file.
     CountersFile(&'a str),
+    /// This counters file, at which an originator was to go on.
+    ResumeFile(&'a str),
     /// This option, and its text.
     Text(TextOption, &'a str),
     /// The log, of which this most likely is the cause.
@@ -51,6 +53,9 @@ impl Display for Remark<'_> {
             }
             Remark::CountersFile(file) => {
                 writeln!(f, "The counters file is --{} {file:?}.", counters::NAME)
+            }
+            Remark::ResumeFile(file) => {
+                writeln!(f, "The counters file is --{} {file:?}.", resume::NAME)
             }
             Remark::Text(option, text) => {
                 writeln!(f, "The option is --{} {text:?}.", option.name())?;
@@ -68,7 +73,7 @@ impl Display for Remark<'_> {
     }
 }
 
-/// What is said of options that give no settings: the option whose text is out of its form, and that text.
+/// The remark on options that give no settings: the option whose text is out of its form, and that text.
 pub fn settings_remark<'a>(fault: SettingsFault, options: &ArgMatches<'a>) -> Remark<'a>
     ensures { SaysOfSettings fault options.now result }
 {
@@ -81,7 +86,7 @@ pub fn settings_remark<'a>(fault: SettingsFault, options: &ArgMatches<'a>) -> Re
     }
 }
 
-/// What is said of a log of which a cause is known, or isn't.
+/// The remark on a log of which a cause is known, or isn't.
 pub fn cause_remark<'a>(cause: Option<LikelyCause>) -> Remark<'a>
     ensures { result ≡ cause_remark cause }
 {

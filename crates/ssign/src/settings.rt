@@ -54,7 +54,7 @@ pub struct Settings {
 pub enum SettingsFault {
     /// P2: the text of this option is out of its form.
     OutOfForm(TextOption),
-    /// W2: memory ran out.
+    /// W2: out of memory.
     Memory,
 }
 
@@ -157,7 +157,7 @@ fn number_in(matches: &ArgMatches<'_>, option: &str, least: u64, most: u64) -> O
     Some(number)
 }
 
-/// The settings that choices and texts say.
+/// The settings that choices and texts give.
 #[tactic(auto, unfolding(crate::specs::Settings::settings_in, crate::specs::Settings::refused_option))]
 fn settings_from(
     alloc: Global,

@@ -1,14 +1,16 @@
 //! What the program makes of a log that is to be signed.
 ghost use Rattle.std.specs.Prelude.{◌≡◌, ◌≢◌, false, IfOk, IfErr};
 ghost use Rattle.ss_frame.specs.Watched.{has_failed, source_of, sink_of};
+ghost use Rattle.ss_signing.specs.Accepted.{started};
 ghost use Rattle.ss_signing.specs.Run.{Signs, Stops};
 ghost use Rattle.ssign.specs.Signing.{signing_job};
 
 use crate::settings::Settings;
 use ss_answers::{Answers, GivenSeals};
 use ss_frame::{Limits, Watched};
+use ss_origin::Counters;
 use ss_report::RunFault;
-use ss_signing::{SignFault, run_plan, run_sign};
+use ss_signing::{SendRequest, SignFault, run_ahead, run_plan_from, run_sign_from};
 use std::alloc::Global;
 use std::io::{Read, Write};
 
@@ -28,6 +30,10 @@ pub struct SigningRequest {
     pub signing: Signing,
     /// How it is signed.
     pub settings: Settings,
+    /// Whether of a plan the counters are wanted with which the signed log will end.
+    pub ahead: bool,
+    /// The counters at which the originator goes on, unless it is new.
+    pub start: Option<Counters>,
     /// The answers file, if there is one.
     pub answers: Option<Answers>,
     /// In which form the log is stored, and how long it and its messages may be.
@@ -50,11 +56,11 @@ pub fn run_signing<R: Read, W: Write>(
     requires reader { has_failed reader.old ≡ false }
     requires writer { has_failed writer.old ≡ false }
     ensures signed { IfOk result (λ _.
-        Signs (signing_job request.signing request.settings request.answers) request.limits
+        Signs (signing_job request.signing request.ahead (started request.start) request.settings request.answers) request.limits
         (source_of R.remaining reader.old) (source_of R.remaining reader.new)
         (sink_of W.contents writer.old) (sink_of W.contents writer.new)) }
     ensures stopped { IfErr result
-        (Stops (signing_job request.signing request.settings request.answers) request.limits
+        (Stops (signing_job request.signing request.ahead (started request.start) request.settings request.answers) request.limits
         (source_of R.remaining reader.old) (source_of R.remaining reader.new)
         (sink_of W.contents writer.old) (sink_of W.contents writer.new)) }
     ensures untouched { IfErr result (λ fault. fault ≢ SignFault.Run RunFault.Write → writer.new ≡ writer.old) }
@@ -62,6 +68,8 @@ pub fn run_signing<R: Read, W: Write>(
     let SigningRequest {
         signing,
         settings,
+        ahead,
+        start,
         answers,
         limits,
     } = request;
@@ -70,11 +78,23 @@ pub fn run_signing<R: Read, W: Write>(
         payload,
         stamp,
     } = settings;
+    let sending = SendRequest {
+        config,
+        start,
+        stamp,
+        limits,
+    };
     match signing {
-        Signing::Plan => run_plan(alloc, reader, writer, config, payload, stamp, limits),
+        Signing::Plan => {
+            if ahead {
+                run_ahead(alloc, reader, writer, payload, sending)
+            } else {
+                run_plan_from(alloc, reader, writer, payload, sending)
+            }
+        }
         Signing::Sign => {
             let sealer = GivenSeals::new(answers, payload);
-            run_sign(alloc, reader, writer, config, sealer, stamp, limits)
+            run_sign_from(alloc, reader, writer, sealer, sending)
         }
     }
 }

@@ -37,10 +37,10 @@ pub enum Task {
 pub struct Reporting {
     /// In which form.
     pub form: ReportForm,
-    /// Whether a review says what is missing beside the report: signature blocks below the greatest GBC of a session
-    /// that is there, and all up to the counters that were kept.
+    /// Whether a review reports what is missing beside the report: signature blocks below the greatest stored GBC of a
+    /// session, and all up to the counters that were kept.
     pub whole: bool,
-    /// Whether a review says each thing, or tallies.
+    /// Whether a review lists each item, or tallies.
     pub detail: Detail,
     /// Whether questions have each payload in each question about it, or once.
     pub payloads: Payloads,
@@ -61,14 +61,14 @@ pub struct TaskRequest<'c> {
     pub limits: Limits,
 }
 
-/// Reads a log to its end, and writes what is asked of it as it is to be reported: of a review that is to be whole, up
-/// to these counters, and of an extract, the messages that are wanted. Questions, inspections and extracts of given
-/// places ask the judge nothing. The judge is freed once it is known which blocks are verified.
+/// Reads a log to its end, and writes what is asked of it in the form that is wanted. A whole review goes up to these
+/// counters, and an extract has the messages that are wanted. Questions, inspections and extracts of given places ask
+/// the judge nothing. The judge is freed once it is known which blocks are verified.
 ///
-/// Nothing is written before the log is read and all that it leads to stands. `RunFault::Write` exactly where a call of
+/// Nothing is written before the log is read and the output can be written. `RunFault::Write` exactly where a call of
 /// the writer failed; what was written then is a prefix of the output. After any other fault nothing was written:
 /// `RunFault::Frame` where the log can't be read to its end, `RunFault::Extract` (E1, E2) where the log hasn't what is
-/// to be extracted, or not as lines, `RunFault::Review` (V1) and `RunFault::Memory` if it runs out of memory.
+/// to be extracted, or not as lines. Out of memory is `RunFault::Review` (V1) or `RunFault::Memory`.
 pub fn run_task<R: Read, W: Write, J: Judge + Drop>(
     alloc: Global,
     reader: &mut Watched<R>,
@@ -126,7 +126,7 @@ fn carrying() -> Extraction
     }
 }
 
-/// Reads a log to its end, reviews its messages, and writes the report as it is request.
+/// Reads a log to its end, reviews its messages, and writes the report as it is requested.
 fn run_reported<R: Read, W: Write, J: Judge + Drop>(
     run: Run<'_, R, W>,
     reporting: Reporting,

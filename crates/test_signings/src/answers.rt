@@ -3,9 +3,14 @@ ghost use Rattle.std.specs.Prelude.{◌≡◌};
 ghost use Rattle.ss_answers.specs.Answers.{trusted, valid};
 ghost use Rattle.ss_review.specs.declared.questions.question.Question.{Question};
 
-use ss_answers::{AnswerFault, Answers, CounterFault, read_answers, read_counters};
+use ss_answers::{
+    AnswerFault, Answers, CounterFault, StartFault, read_answers, read_counters, start_of,
+};
+use ss_block::Session;
 use ss_frame::Watched;
-use ss_origin::SealFault;
+use ss_message::Field;
+use ss_octets::{Bytes, NoMemory};
+use ss_origin::{Grouping, NextNumber, SealFault};
 use ss_review::{Judge, Verifier};
 use std::alloc::Global;
 use std::fmt::Display;
@@ -140,6 +145,21 @@ const COUNTER_FAULTS: [(CounterFault, &str, &str); 4] = [
     (CounterFault::Memory, "C4", "out of memory"),
 ];
 
+/// Each fault of a start in the same way.
+const START_FAULTS: [(StartFault, &str, &str); 3] = [
+    (
+        StartFault::NoSession,
+        "C5",
+        "no counter is of the signature blocks of this session",
+    ),
+    (
+        StartFault::OtherGroup { line: 7 },
+        "C6 7",
+        "a counter is of a group that isn't there, at line 7",
+    ),
+    (StartFault::Memory, "C4", "out of memory"),
+];
+
 /// Whether the fault is printed so.
 fn is_printed<F: Display>(rt: &impl AllocGlobal, fault: &F, text: &str) -> bool {
     match format!(in rt.alloc(); "{fault}") {
@@ -155,6 +175,10 @@ fn refuses(rt: HostRuntime) {
         assert!(rt; is_printed(&rt, fault, text), "{text}");
     }
     for (fault, code, text) in &COUNTER_FAULTS {
+        assert!(rt; is_printed(&rt, &fault.code(), code), "{code}");
+        assert!(rt; is_printed(&rt, fault, text), "{text}");
+    }
+    for (fault, code, text) in &START_FAULTS {
         assert!(rt; is_printed(&rt, &fault.code(), code), "{code}");
         assert!(rt; is_printed(&rt, fault, text), "{text}");
     }
@@ -237,7 +261,7 @@ fn answers_by_the_lines(rt: HostRuntime) -> Result<(), Fail> {
     Ok(())
 }
 
-/// Reads answers octet by octet, and once more where memory ran out, which no read tells.
+/// Reads answers octet by octet, and once more where memory ran out, which no read reports.
 fn read_on(rt: &(impl Abort + AllocGlobal), text: &[u8], max: u32) -> Result<Answers, AnswerFault> {
     let mut reader = Watched::new(Pieces::new(text, 1));
     let said = read_answers(rt.alloc(), &mut reader, max);
@@ -263,6 +287,29 @@ fn count(alloc: Global) -> Result<usize, CounterFault> {
     Ok(read_counters(alloc, &mut reader, 1000)?.as_slice().len())
 }
 
+/// The session of these counters.
+fn session(alloc: Global) -> Result<Session, NoMemory> {
+    let host = Vec::from_slice(alloc, b"h")?;
+    let app = Vec::from_slice(alloc, b"s")?;
+    Ok(Session {
+        host: Field::Text(Bytes::from_vec(host)),
+        app: Field::Text(Bytes::from_vec(app)),
+        procid: Field::Nil,
+        rsid: 1,
+    })
+}
+
+/// Where an originator with this grouping goes on by them: its GBC, and the number of its first group.
+fn start(alloc: Global, grouping: &Grouping) -> Result<(u64, Option<NextNumber>), StartFault> {
+    let mut reader = Watched::new(COUNTERS);
+    let Ok(counters) = read_counters(alloc, &mut reader, 1000) else {
+        return Err(StartFault::Memory);
+    };
+    let session = session(alloc)?;
+    let start = start_of(alloc, &session, grouping, counters.as_slice())?;
+    Ok((start.gbc, start.groups.as_slice().first().copied()))
+}
+
 /// `tests/memory.sh` refuses each allocation of this test in turn, and it passes each time.
 #[test]
 fn goes_on_after_want_of_memory(rt: HostRuntime) -> Result<(), Fail> {
@@ -279,5 +326,17 @@ fn goes_on_after_want_of_memory(rt: HostRuntime) -> Result<(), Fail> {
         counted => counted,
     };
     assert_eq!(rt; counted, Ok(2));
+    let grouping = Grouping::One { spri: 0 };
+    let started = match start(rt.alloc(), &grouping) {
+        Err(StartFault::Memory) => start(rt.alloc(), &grouping),
+        started => started,
+    };
+    let next = NextNumber { spri: 0, number: 4 };
+    assert_eq!(rt; started, Ok((2, Some(next))));
+    let other = match start(rt.alloc(), &Grouping::ByPri) {
+        Err(StartFault::Memory) => start(rt.alloc(), &Grouping::ByPri),
+        other => other,
+    };
+    assert_eq!(rt; other, Err(StartFault::OtherGroup { line: 2 }));
     Ok(())
 }

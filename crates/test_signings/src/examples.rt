@@ -83,7 +83,7 @@ fn a_line_is_signed(rt: HostRuntime) -> Result<(), Fail> {
     let payload = Payload::parse(rt.alloc(), b"- K S0VZ")?.ok_or("a payload")?;
     let log = b"<34>1 - h su - ID47 - hello\n";
     let signed = signs_sealed(rt.alloc(), log, (config(rt.alloc())?, payload))?;
-    // The message is a frame, behind the certificate block and before the signature block.
+    // The message is a frame, after the certificate block and before the signature block.
     assert!(rt; signed.as_slice().ends_with(b" SIGN=\"AAAA\"]"));
     assert!(rt; signed.len() > log.len() * 3);
     Ok(())

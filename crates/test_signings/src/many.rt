@@ -24,6 +24,7 @@ fn signed(rt: &(impl Abort + AllocGlobal), log: &[u8]) -> Vec<u8> {
     let mut writer = Watched::new(Vec::new(rt.alloc()));
     let task = Task {
         job: Job::Sign(Seal::Zeros),
+        start: None,
         sizes: (99, 1),
         limits: Limits::standard().lines(),
     };

@@ -1,9 +1,9 @@
 //! Small logs, and what is planned, signed or refused of them.
-use crate::run::{Job, Sizes, Task, run};
+use crate::run::{Job, Sizes, Start, Task, run};
 use crate::sealing::Seal;
 use crate::texts::{
-    BOTH_FRAMES, BOTH_WANTS, CERTIFICATE_FRAME, CERTIFICATE_WANT, ONE_OCTET_FRAMES, TWICE_FRAMES,
-    TWICE_WANTS,
+    BOTH_FRAMES, BOTH_WANTS, CERTIFICATE_FRAME, CERTIFICATE_WANT, ONE_OCTET_FRAMES, RESUMED_FRAMES,
+    RESUMED_WANTS, TWICE_FRAMES, TWICE_WANTS,
 };
 use ss_frame::Form::{Frames, Lines};
 use ss_frame::{Form, FrameFault, Limits};
@@ -40,6 +40,7 @@ const EMPTY: Job = Job::Sign(Seal::EmptyFor(SECOND));
 #[derive(Clone, Copy)]
 struct Made {
     job: Job,
+    start: Option<Start>,
     form: Form,
     log: &'static [u8],
     sizes: Sizes,
@@ -50,6 +51,7 @@ struct Made {
 #[derive(Clone, Copy)]
 struct Refused {
     job: Job,
+    start: Option<Start>,
     form: Form,
     log: &'static [u8],
     sizes: Sizes,
@@ -69,9 +71,10 @@ const FRAMES: &[u8] = b"19 <13>1 - - - - - - a19 <14>1 - - - - - - b";
 
 const LINES: &[u8] = b"<13>1 - - - - - - a\n<14>1 - - - - - - b\n";
 
-const MADE: [Made; 11] = [
+const MADE: [Made; 20] = [
     Made {
         job: SIGN,
+        start: None,
         form: Frames,
         log: b"",
         sizes: DEFAULT,
@@ -79,6 +82,7 @@ const MADE: [Made; 11] = [
     },
     Made {
         job: Job::Plan,
+        start: None,
         form: Frames,
         log: b"",
         sizes: DEFAULT,
@@ -86,6 +90,7 @@ const MADE: [Made; 11] = [
     },
     Made {
         job: SIGN,
+        start: None,
         form: Lines,
         log: b"",
         sizes: DEFAULT,
@@ -93,6 +98,7 @@ const MADE: [Made; 11] = [
     },
     Made {
         job: Job::Plan,
+        start: None,
         form: Lines,
         log: b"",
         sizes: DEFAULT,
@@ -100,6 +106,7 @@ const MADE: [Made; 11] = [
     },
     Made {
         job: SIGN,
+        start: None,
         form: Frames,
         log: FRAMES,
         sizes: DEFAULT,
@@ -107,6 +114,7 @@ const MADE: [Made; 11] = [
     },
     Made {
         job: Job::Plan,
+        start: None,
         form: Frames,
         log: FRAMES,
         sizes: DEFAULT,
@@ -114,6 +122,7 @@ const MADE: [Made; 11] = [
     },
     Made {
         job: SIGN,
+        start: None,
         form: Lines,
         log: LINES,
         sizes: DEFAULT,
@@ -121,6 +130,7 @@ const MADE: [Made; 11] = [
     },
     Made {
         job: Job::Sign(Seal::Zero),
+        start: None,
         form: Lines,
         log: LINES,
         sizes: DEFAULT,
@@ -128,6 +138,7 @@ const MADE: [Made; 11] = [
     },
     Made {
         job: Job::Plan,
+        start: None,
         form: Lines,
         log: LINES,
         sizes: DEFAULT,
@@ -135,6 +146,7 @@ const MADE: [Made; 11] = [
     },
     Made {
         job: SIGN,
+        start: None,
         form: Frames,
         log: FRAMES,
         sizes: TWICE,
@@ -142,16 +154,91 @@ const MADE: [Made; 11] = [
     },
     Made {
         job: Job::Plan,
+        start: None,
         form: Lines,
         log: LINES,
         sizes: TWICE,
         text: TWICE_WANTS,
     },
+    // Originators that go on: there are no certificate blocks, and numbers go on.
+    Made {
+        job: SIGN,
+        start: Some((0, None)),
+        form: Frames,
+        log: b"",
+        sizes: DEFAULT,
+        text: b"",
+    },
+    Made {
+        job: Job::Plan,
+        start: Some((7, Some(5))),
+        form: Frames,
+        log: b"",
+        sizes: DEFAULT,
+        text: b"",
+    },
+    Made {
+        job: Job::Ahead,
+        start: Some((7, Some(5))),
+        form: Frames,
+        log: b"",
+        sizes: DEFAULT,
+        text: b"count h s - 1 7\ncount h s - 1 0 0 5\n",
+    },
+    Made {
+        job: Job::Ahead,
+        start: None,
+        form: Frames,
+        log: b"",
+        sizes: DEFAULT,
+        text: b"count h s - 1 0\n",
+    },
+    Made {
+        job: SIGN,
+        start: Some((7, Some(5))),
+        form: Lines,
+        log: LINES,
+        sizes: DEFAULT,
+        text: RESUMED_FRAMES,
+    },
+    Made {
+        job: Job::Plan,
+        start: Some((7, Some(5))),
+        form: Frames,
+        log: FRAMES,
+        sizes: DEFAULT,
+        text: RESUMED_WANTS,
+    },
+    Made {
+        job: Job::Ahead,
+        start: Some((7, Some(5))),
+        form: Frames,
+        log: FRAMES,
+        sizes: DEFAULT,
+        text: b"count h s - 1 8\ncount h s - 1 0 0 7\n",
+    },
+    Made {
+        job: Job::Ahead,
+        start: Some((7, None)),
+        form: Lines,
+        log: LINES,
+        sizes: TWICE,
+        text: b"count h s - 1 9\ncount h s - 1 0 0 3\n",
+    },
+    Made {
+        job: Job::Ahead,
+        start: Some((9_999_999_998, Some(9_999_999_998))),
+        form: Lines,
+        log: LINES,
+        sizes: TWICE,
+        text: b"count h s - 1 10000000000\ncount h s - 1 0 0 10000000000\n",
+    },
 ];
 
-const REFUSED: [Refused; 24] = [
+const REFUSED: [Refused; 39] = [
     Refused {
         job: NOT_BEGUN,
+        start: None,
         form: Frames,
         log: b"",
         sizes: DEFAULT,
@@ -164,6 +251,7 @@ const REFUSED: [Refused; 24] = [
     },
     Refused {
         job: Job::Sign(Seal::FaultFor(SealFault::Memory, CERTIFICATE)),
+        start: None,
         form: Frames,
         log: b"",
         sizes: DEFAULT,
@@ -176,6 +264,7 @@ const REFUSED: [Refused; 24] = [
     },
     Refused {
         job: SIGN,
+        start: None,
         form: Frames,
         log: b"3 ab",
         sizes: DEFAULT,
@@ -185,6 +274,7 @@ const REFUSED: [Refused; 24] = [
     },
     Refused {
         job: Job::Plan,
+        start: None,
         form: Frames,
         log: b"3 ab",
         sizes: DEFAULT,
@@ -194,6 +284,7 @@ const REFUSED: [Refused; 24] = [
     },
     Refused {
         job: SIGN,
+        start: None,
         form: Frames,
         log: b"3 abc",
         sizes: DEFAULT,
@@ -206,6 +297,7 @@ const REFUSED: [Refused; 24] = [
     },
     Refused {
         job: Job::Plan,
+        start: None,
         form: Frames,
         log: b"3 abc",
         sizes: DEFAULT,
@@ -218,6 +310,7 @@ const REFUSED: [Refused; 24] = [
     },
     Refused {
         job: SIGN,
+        start: None,
         form: Lines,
         log: b"<13>1 - - - - - - a\nabc\nabcd\n",
         sizes: DEFAULT,
@@ -230,6 +323,7 @@ const REFUSED: [Refused; 24] = [
     },
     Refused {
         job: Job::Plan,
+        start: None,
         form: Lines,
         log: b"<13>1 - - - - - - a\n<14>1 - - - - - [ssign]\n",
         sizes: DEFAULT,
@@ -242,6 +336,7 @@ const REFUSED: [Refused; 24] = [
     },
     Refused {
         job: SIGN,
+        start: None,
         form: Lines,
         log: b"<13>1 - - - - - - a\n<14>1 - - - - - - b",
         sizes: DEFAULT,
@@ -251,6 +346,7 @@ const REFUSED: [Refused; 24] = [
     },
     Refused {
         job: Job::Plan,
+        start: None,
         form: Lines,
         log: b"<13>1 - - - - - - a\n<14>1 - - - - - - b",
         sizes: DEFAULT,
@@ -260,6 +356,7 @@ const REFUSED: [Refused; 24] = [
     },
     Refused {
         job: SIGN,
+        start: None,
         form: Frames,
         log: b"",
         sizes: (0, 1),
@@ -272,6 +369,7 @@ const REFUSED: [Refused; 24] = [
     },
     Refused {
         job: SIGN,
+        start: None,
         form: Frames,
         log: b"",
         sizes: (10, 0),
@@ -284,6 +382,7 @@ const REFUSED: [Refused; 24] = [
     },
     Refused {
         job: Job::Plan,
+        start: None,
         form: Frames,
         log: b"",
         sizes: (100, 1),
@@ -297,6 +396,7 @@ const REFUSED: [Refused; 24] = [
     // The log comes before the originator, and its messages in their order.
     Refused {
         job: SIGN,
+        start: None,
         form: Frames,
         log: b"3 ab",
         sizes: (0, 1),
@@ -306,6 +406,7 @@ const REFUSED: [Refused; 24] = [
     },
     Refused {
         job: SIGN,
+        start: None,
         form: Frames,
         log: b"3 abcx",
         sizes: (0, 1),
@@ -315,6 +416,7 @@ const REFUSED: [Refused; 24] = [
     },
     Refused {
         job: Job::Plan,
+        start: None,
         form: Frames,
         log: b"3 abc12",
         sizes: DEFAULT,
@@ -324,6 +426,7 @@ const REFUSED: [Refused; 24] = [
     },
     Refused {
         job: Job::Plan,
+        start: None,
         form: Lines,
         log: b"abc\n\n",
         sizes: DEFAULT,
@@ -333,6 +436,7 @@ const REFUSED: [Refused; 24] = [
     },
     Refused {
         job: NOT_BEGUN,
+        start: None,
         form: Frames,
         log: b"3 abc",
         sizes: DEFAULT,
@@ -346,6 +450,7 @@ const REFUSED: [Refused; 24] = [
     // A block that a message fills, and one that is left to the flush.
     Refused {
         job: NOT_FLUSHED,
+        start: None,
         form: Lines,
         log: LINES,
         sizes: (1, 1),
@@ -358,6 +463,7 @@ const REFUSED: [Refused; 24] = [
     },
     Refused {
         job: NOT_FLUSHED,
+        start: None,
         form: Lines,
         log: b"<14>1 - - - - - - b\n",
         sizes: DEFAULT,
@@ -370,6 +476,7 @@ const REFUSED: [Refused; 24] = [
     },
     Refused {
         job: EMPTY,
+        start: None,
         form: Lines,
         log: LINES,
         sizes: (1, 1),
@@ -382,6 +489,7 @@ const REFUSED: [Refused; 24] = [
     },
     Refused {
         job: EMPTY,
+        start: None,
         form: Lines,
         log: b"<14>1 - - - - - - b\n",
         sizes: DEFAULT,
@@ -394,6 +502,7 @@ const REFUSED: [Refused; 24] = [
     },
     Refused {
         job: NO_MEMORY,
+        start: None,
         form: Lines,
         log: LINES,
         sizes: (1, 1),
@@ -406,6 +515,7 @@ const REFUSED: [Refused; 24] = [
     },
     Refused {
         job: NO_MEMORY,
+        start: None,
         form: Lines,
         log: b"<14>1 - - - - - - b\n",
         sizes: DEFAULT,
@@ -415,6 +525,202 @@ const REFUSED: [Refused; 24] = [
         },
         code: "O10",
         words: "out of memory",
+    },
+    // Counters that no originator goes on at, and those that are near their end.
+    Refused {
+        job: Job::Plan,
+        start: Some((10_000_000_001, None)),
+        form: Lines,
+        log: b"",
+        sizes: DEFAULT,
+        fault: Origin {
+            fault: OriginFault::BadConfig,
+            place: None,
+        },
+        code: "O1",
+        words: "the configuration or the counters aren't allowed, or the payload is too long",
+    },
+    Refused {
+        job: Job::Plan,
+        start: Some((0, Some(0))),
+        form: Lines,
+        log: b"",
+        sizes: DEFAULT,
+        fault: Origin {
+            fault: OriginFault::BadConfig,
+            place: None,
+        },
+        code: "O1",
+        words: "the configuration or the counters aren't allowed, or the payload is too long",
+    },
+    Refused {
+        job: Job::Plan,
+        start: Some((0, Some(9_999_999_999))),
+        form: Lines,
+        log: LINES,
+        sizes: DEFAULT,
+        fault: Origin {
+            fault: OriginFault::NumbersSpent,
+            place: Some(1),
+        },
+        code: "O8 1",
+        words: "the message's number in its group would be over 9999999999, at place 1",
+    },
+    Refused {
+        job: Job::Plan,
+        start: Some((10_000_000_000, None)),
+        form: Lines,
+        log: LINES,
+        sizes: DEFAULT,
+        fault: Origin {
+            fault: OriginFault::CounterSpent,
+            place: None,
+        },
+        code: "O9",
+        words: "the GBC of a signature block that is due would be over 9999999999",
+    },
+    Refused {
+        job: Job::Plan,
+        start: Some((9_999_999_999, None)),
+        form: Lines,
+        log: LINES,
+        sizes: (1, 1),
+        fault: Origin {
+            fault: OriginFault::CounterSpent,
+            place: Some(1),
+        },
+        code: "O9 1",
+        words: "the GBC of a signature block that is due would be over 9999999999, at place 1",
+    },
+    Refused {
+        job: Job::Ahead,
+        start: Some((10_000_000_001, None)),
+        form: Lines,
+        log: b"",
+        sizes: DEFAULT,
+        fault: Origin {
+            fault: OriginFault::BadConfig,
+            place: None,
+        },
+        code: "O1",
+        words: "the configuration or the counters aren't allowed, or the payload is too long",
+    },
+    Refused {
+        job: Job::Ahead,
+        start: Some((0, Some(0))),
+        form: Lines,
+        log: b"",
+        sizes: DEFAULT,
+        fault: Origin {
+            fault: OriginFault::BadConfig,
+            place: None,
+        },
+        code: "O1",
+        words: "the configuration or the counters aren't allowed, or the payload is too long",
+    },
+    Refused {
+        job: Job::Ahead,
+        start: Some((0, Some(9_999_999_999))),
+        form: Lines,
+        log: LINES,
+        sizes: DEFAULT,
+        fault: Origin {
+            fault: OriginFault::NumbersSpent,
+            place: Some(1),
+        },
+        code: "O8 1",
+        words: "the message's number in its group would be over 9999999999, at place 1",
+    },
+    Refused {
+        job: Job::Ahead,
+        start: Some((10_000_000_000, None)),
+        form: Lines,
+        log: LINES,
+        sizes: DEFAULT,
+        fault: Origin {
+            fault: OriginFault::CounterSpent,
+            place: None,
+        },
+        code: "O9",
+        words: "the GBC of a signature block that is due would be over 9999999999",
+    },
+    Refused {
+        job: Job::Ahead,
+        start: Some((9_999_999_999, None)),
+        form: Lines,
+        log: LINES,
+        sizes: (1, 1),
+        fault: Origin {
+            fault: OriginFault::CounterSpent,
+            place: Some(1),
+        },
+        code: "O9 1",
+        words: "the GBC of a signature block that is due would be over 9999999999, at place 1",
+    },
+    Refused {
+        job: SIGN,
+        start: Some((10_000_000_001, None)),
+        form: Lines,
+        log: b"",
+        sizes: DEFAULT,
+        fault: Origin {
+            fault: OriginFault::BadConfig,
+            place: None,
+        },
+        code: "O1",
+        words: "the configuration or the counters aren't allowed, or the payload is too long",
+    },
+    Refused {
+        job: SIGN,
+        start: Some((0, Some(0))),
+        form: Lines,
+        log: b"",
+        sizes: DEFAULT,
+        fault: Origin {
+            fault: OriginFault::BadConfig,
+            place: None,
+        },
+        code: "O1",
+        words: "the configuration or the counters aren't allowed, or the payload is too long",
+    },
+    Refused {
+        job: SIGN,
+        start: Some((0, Some(9_999_999_999))),
+        form: Lines,
+        log: LINES,
+        sizes: DEFAULT,
+        fault: Origin {
+            fault: OriginFault::NumbersSpent,
+            place: Some(1),
+        },
+        code: "O8 1",
+        words: "the message's number in its group would be over 9999999999, at place 1",
+    },
+    Refused {
+        job: SIGN,
+        start: Some((10_000_000_000, None)),
+        form: Lines,
+        log: LINES,
+        sizes: DEFAULT,
+        fault: Origin {
+            fault: OriginFault::CounterSpent,
+            place: None,
+        },
+        code: "O9",
+        words: "the GBC of a signature block that is due would be over 9999999999",
+    },
+    Refused {
+        job: SIGN,
+        start: Some((9_999_999_999, None)),
+        form: Lines,
+        log: LINES,
+        sizes: (1, 1),
+        fault: Origin {
+            fault: OriginFault::CounterSpent,
+            place: Some(1),
+        },
+        code: "O9 1",
+        words: "the GBC of a signature block that is due would be over 9999999999, at place 1",
     },
 ];
 
@@ -430,6 +736,7 @@ fn limits_of(form: Form) -> Limits {
 fn sees_text(rt: &(impl Abort + AllocGlobal), row: &Made, most: usize) {
     let Made {
         job,
+        start,
         form,
         log,
         sizes,
@@ -437,6 +744,7 @@ fn sees_text(rt: &(impl Abort + AllocGlobal), row: &Made, most: usize) {
     } = *row;
     let task = Task {
         job,
+        start,
         sizes,
         limits: limits_of(form),
     };
@@ -458,6 +766,7 @@ fn makes(rt: HostRuntime) {
 fn sees_refusal(rt: &(impl Abort + AllocGlobal), row: &Refused) -> Result<(), AllocError> {
     let Refused {
         job,
+        start,
         form,
         log,
         sizes,
@@ -467,6 +776,7 @@ fn sees_refusal(rt: &(impl Abort + AllocGlobal), row: &Refused) -> Result<(), Al
     } = *row;
     let task = Task {
         job,
+        start,
         sizes,
         limits: limits_of(form),
     };

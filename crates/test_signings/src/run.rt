@@ -7,9 +7,11 @@ use ss_block::{Alg, Head, Payload};
 use ss_frame::{Limits, Watched};
 use ss_message::Field;
 use ss_octets::Bytes;
-use ss_origin::{Config, Grouping, Sealer};
+use ss_origin::{Config, Counters, Grouping, NextNumber, NextNumbers, Sealer};
 use ss_report::RunFault;
-use ss_signing::{SignFault, run_plan, run_sign};
+use ss_signing::{
+    SendRequest, SignFault, run_ahead, run_plan, run_plan_from, run_sign, run_sign_from,
+};
 use std::alloc::{AllocError, Global};
 use std::io::{Read, Write};
 use test_devices::Paper;
@@ -21,16 +23,21 @@ const PAYLOAD: &[u8] = b"2009-05-03T14:00:39Z K S0VZ";
 #[derive(Clone, Copy, Debug)]
 pub enum Job {
     Plan,
+    Ahead,
     Sign(Seal),
 }
 
 /// How many hashes a block has, and how often it is sent.
 pub type Sizes = (u8, u8);
 
-/// Which run, with blocks of which sizes, and the limits.
+/// Where an originator goes on: the next GBC, and the next number of its group, unless no message was numbered yet.
+pub type Start = (u64, Option<u64>);
+
+/// Which run, by a new originator or one that goes on, with blocks of which sizes, and the limits.
 #[derive(Clone, Copy)]
 pub struct Task {
     pub job: Job,
+    pub start: Option<Start>,
     pub sizes: Sizes,
     pub limits: Limits,
 }
@@ -67,7 +74,34 @@ fn config(alloc: Global, sizes: Sizes) -> Result<Option<Config>, AllocError> {
     }))
 }
 
-/// A run between watched devices.
+/// The counters of a start.
+fn counters(alloc: Global, (gbc, number): Start) -> Result<Counters, AllocError> {
+    let mut groups = Vec::new(alloc);
+    if let Some(number) = number {
+        groups.push(NextNumber { spri: 0, number })?;
+    }
+    let groups = NextNumbers::from_vec(groups);
+    Ok(Counters { gbc, groups })
+}
+
+/// How the messages of a task are sent.
+fn sending(alloc: Global, task: &Task) -> Result<Option<SendRequest>, AllocError> {
+    let start = match task.start {
+        Some(start) => Some(counters(alloc, start)?),
+        None => None,
+    };
+    let Some(config) = config(alloc, task.sizes)? else {
+        return Ok(None);
+    };
+    Ok(Some(SendRequest {
+        config,
+        start,
+        stamp: None,
+        limits: task.limits,
+    }))
+}
+
+/// A run between watched devices. One of a new originator is made by `run_plan` or `run_sign`.
 pub(crate) fn run_by<R: Read, W: Write>(
     alloc: Global,
     task: &Task,
@@ -77,19 +111,29 @@ pub(crate) fn run_by<R: Read, W: Write>(
     requires reader { has_failed reader.old ≡ false }
     requires writer { has_failed writer.old ≡ false }
 {
-    let Task { job, sizes, limits } = *task;
     let memory = SignFault::Run(RunFault::Memory);
-    let Ok(Some(config)) = config(alloc, sizes) else {
+    let Ok(Some(sending)) = sending(alloc, task) else {
         return Err(memory);
     };
     let Ok(Some(payload)) = Payload::parse(alloc, PAYLOAD) else {
         return Err(memory);
     };
-    match job {
-        Job::Plan => run_plan(alloc, reader, writer, config, payload, None, limits),
+    match task.job {
+        Job::Ahead => run_ahead(alloc, reader, writer, payload, sending),
+        Job::Plan if task.start.is_some() => {
+            run_plan_from(alloc, reader, writer, payload, sending)
+        }
+        Job::Plan => {
+            let SendRequest { config, limits, .. } = sending;
+            run_plan(alloc, reader, writer, config, payload, None, limits)
+        }
         Job::Sign(told) => {
             let seal = move |alloc: Global, octets: &[u8]| answer(alloc, told, octets);
             let sealer = Sealer::new(&Lenient, payload, seal);
+            if task.start.is_some() {
+                return run_sign_from(alloc, reader, writer, sealer, sending);
+            }
+            let SendRequest { config, limits, .. } = sending;
             run_sign(alloc, reader, writer, config, sealer, None, limits)
         }
     }

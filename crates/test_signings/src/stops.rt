@@ -15,12 +15,16 @@ const SIGN: Job = Job::Sign(Seal::Zeros);
 /// Two messages, 44 octets.
 const TWO: &[u8] = b"19 <13>1 - - - - - - a19 <14>1 - - - - - - b";
 
+/// The counters with which an originator ends that signs them.
+const AHEAD: &[u8] = b"count h s - 1 1\ncount h s - 1 0 0 3\n";
+
 /// A run over a log, and what it writes.
-const ROWS: [(Job, &[u8], &[u8]); 4] = [
+const ROWS: [(Job, &[u8], &[u8]); 5] = [
     (SIGN, b"", CERTIFICATE_FRAME),
     (Job::Plan, b"", CERTIFICATE_WANT),
     (SIGN, TWO, BOTH_FRAMES),
     (Job::Plan, TWO, BOTH_WANTS),
+    (Job::Ahead, TWO, AHEAD),
 ];
 
 const REFUSALS: [Refusal; 3] = [
@@ -32,6 +36,7 @@ const REFUSALS: [Refusal; 3] = [
 fn run_frames(alloc: std::alloc::Global, job: Job, source: Pieces<'_>, paper: Paper) -> Done {
     let task = Task {
         job,
+        start: None,
         sizes: (10, 1),
         limits: Limits::standard(),
     };
@@ -51,7 +56,7 @@ fn stops_at_reads(rt: &(impl Abort + AllocGlobal), job: Job, log: &[u8], kind: E
     }
 }
 
-/// Octet by octet, each write fails in turn, behind those before it.
+/// Octet by octet, each write fails in turn, after those before it.
 fn stops_at_writes(
     rt: &(impl Abort + AllocGlobal),
     job: Job,
@@ -92,7 +97,7 @@ fn stops(rt: HostRuntime) {
     }
 }
 
-/// Whether the run gave its output, and wasn't short of memory. Want of memory is answered before anything is written.
+/// Whether the run gave its output, and wasn't short of memory. "Out of memory" is answered before anything is written.
 fn has_memory(rt: &(impl Abort + AllocGlobal), job: Job, text: &[u8]) -> bool {
     let memory = [
         SignFault::Run(RunFault::Memory),
@@ -119,7 +124,7 @@ fn has_memory(rt: &(impl Abort + AllocGlobal), job: Job, text: &[u8]) -> bool {
     }
 }
 
-/// `tests/memory.sh` refuses each allocation of this test in turn, and it passes each time: after want of memory
+/// `tests/memory.sh` refuses each allocation of this test in turn, and it passes each time: after "out of memory"
 /// nothing is written, and a run that is called again gives its output.
 #[test]
 fn wants_memory_or_gives_the_output(rt: HostRuntime) {

@@ -51,3 +51,14 @@ pub const TWICE_WANTS: &[u8] =
         PDExMD4xIC0gaCBzIC0gLSBbc3NpZ24gVkVSPSIwMTExIiBSU0lEPSIxIiBTRz0iMCIgU1BSST0iMCIgR0JDPSIwIiBGTU49IjEiIENOVD0iMSI\
         gSEI9IjNQZmM2R0ZFNElzU0pKcS9NYmp5bkFZZzFvTT0iXQ==\nwant PDExMD4xIC0gaCBzIC0gLSBbc3NpZ24gVkVSPSIwMTExIiBSU0lEPSI\
         xIiBTRz0iMCIgU1BSST0iMCIgR0JDPSIxIiBGTU49IjIiIENOVD0iMSIgSEI9IndUWDlhT0tBVGtWdTd6UElZTHovdS9pSDN1UT0iXQ==\n";
+
+/// Two messages of an originator that goes on at GBC 7 and number 5: they, and their block.
+pub const RESUMED_FRAMES: &[u8] =
+    b"19 <13>1 - - - - - - a19 <14>1 - - - - - - b159 <110>1 - h s - - [ssign VER=\"0111\" RSID=\"1\" \
+        SG=\"0\" SPRI=\"0\" GBC=\"7\" FMN=\"5\" CNT=\"2\" HB=\"3Pfc6GFE4IsSJJq/MbjynAYg1oM= \
+        wTX9aOKATkVu7zPIYLz/u/iH3uQ=\" SIGN=\"AAAA\"]";
+
+/// The same, as a plan.
+pub const RESUMED_WANTS: &[u8] = b"want \
+        PDExMD4xIC0gaCBzIC0gLSBbc3NpZ24gVkVSPSIwMTExIiBSU0lEPSIxIiBTRz0iMCIgU1BSST0iMCIgR0JDPSI3IiBGTU49IjUi\
+        IENOVD0iMiIgSEI9IjNQZmM2R0ZFNElzU0pKcS9NYmp5bkFZZzFvTT0gd1RYOWFPS0FUa1Z1N3pQSVlMei91L2lIM3VRPSJd\n";

@@ -8,7 +8,7 @@ use ss_octets::Code;
 use std::fmt;
 use thiserror::Error;
 
-/// Why a file of counters wasn't taken.
+/// Why a file of counters wasn't read.
 #[derive(Clone, Copy, Debug, Drop, PartialEq, Eq, Error)]
 pub enum CounterFault {
     /// C1: a line that isn't a counter, an empty one too.

@@ -116,8 +116,8 @@ fn group_words(text: &[u8]) -> Option<(Group, u64)>
     Some((group, number))
 }
 
-/// The first word of a text, if it has 1 to `limit` octets of printable US-ASCII, and what stands after it. So a
-/// header field is spelt, also `-`, an absent one.
+/// The first word of a text, if it has 1 to `limit` octets of printable US-ASCII, and what stands after it. A
+/// header field is spelt so, also an absent one, `-`.
 fn field_word(limit: usize, text: &[u8]) -> Option<(&[u8], &[u8])>
     ensures { MatchOption result (BeginsWithNoWord limit text.now)
         (λ p. BeginsWithWord limit text.now p.0.now p.1.now) }

@@ -2,7 +2,7 @@
 use super::Explanation;
 
 /// The numbers that a refusal prints.
-pub static REFUSALS: [Explanation; 27] = [
+pub static REFUSALS: [Explanation; 31] = [
     Explanation {
         code: "F1",
         text: "F1 OFFSET: the octet there can't stand in the length of a frame. A length begins with 1 to 9, goes on \
@@ -69,7 +69,7 @@ pub static REFUSALS: [Explanation; 27] = [
     Explanation {
         code: "C2",
         text: "The counters file can't be opened, is a folder, or reading it failed. See that the path after \
-            --counters is right, and that the file can be read.",
+            --counters or --resume is right, and that the file can be read.",
     },
     Explanation {
         code: "C3",
@@ -80,6 +80,18 @@ pub static REFUSALS: [Explanation; 27] = [
         code: "C4",
         text: "There wasn't enough memory for the counters. Give the program more memory. Of several counters that \
             count the same, keep only the greatest.",
+    },
+    Explanation {
+        code: "C5",
+        text: "The counters file of --resume has no line count HOST APP PROCID RSID GBC of the session that the options \
+            name. See that --host, --app, --procid and --rsid are those with which the session began. If none of its \
+            blocks was sent yet, leave --resume out: then the certificate blocks come first.",
+    },
+    Explanation {
+        code: "C6",
+        text: "C6 LINE: this line of the counters file of --resume counts a group of the session that --groups doesn't \
+            have. Its SG is another one, or no group has its SPRI. Only the first such line is named. Give the \
+            --groups with which the session began, or begin a new session: another --rsid, without --resume.",
     },
     Explanation {
         code: "V1",
@@ -151,6 +163,17 @@ pub static REFUSALS: [Explanation; 27] = [
         code: "O7",
         text: "O7 or O7 PLACE: the signature in the seal line for a block has more than 1024 octets. PLACE means what \
             it means for O6. See what your signer writes: the last field of the line has to be the signature alone.",
+    },
+    Explanation {
+        code: "O8",
+        text: "O8 PLACE: the message at this place would get a number over 9999999999, and its group has no more \
+            numbers. This comes only with --resume. Begin a new session: another --rsid, without --resume.",
+    },
+    Explanation {
+        code: "O9",
+        text: "O9 or O9 PLACE: a signature block would get a GBC, its count, over 9999999999, and the session has no \
+            more. PLACE means what it means for O6. This comes only with --resume. Begin a new session: another \
+            --rsid, without --resume.",
     },
     Explanation {
         code: "O10",

@@ -2,7 +2,7 @@
 use super::Explanation;
 
 /// Codes that the libraries give to other programs. The program has no cause to print one, and lists none of them.
-pub static UNPRINTED: [Explanation; 9] = [
+pub static UNPRINTED: [Explanation; 7] = [
     Explanation {
         code: "F6",
         text: "A reader of a log was asked for another message after it had answered F1, F2, F3, F5 or F9. Nothing was \
@@ -27,18 +27,6 @@ pub static UNPRINTED: [Explanation; 9] = [
         code: "O5",
         text: "An originator was begun twice, or one was begun that goes on after another. ssign never prints this; \
             the library reports it to other programs.",
-    },
-    Explanation {
-        code: "O8",
-        text: "O8 PLACE: the number of a message would be over 9999999999. ssign never prints this, because no log \
-            that it takes has so many messages; the library reports it to other programs, which have to begin a new \
-            session.",
-    },
-    Explanation {
-        code: "O9",
-        text: "O9 or O9 PLACE: the count of signature blocks, GBC, would be over 9999999999. ssign never prints \
-            this, because no log that it takes has so many messages; the library reports it to other programs, which \
-            have to begin a new session.",
     },
     Explanation {
         code: "V2",

@@ -15,7 +15,7 @@ use Rattle.ssign.specs.declared.options.max_messages.TheConstants as max_message
 use Rattle.ssign.proofs.Flags.{flag_is}
 use Rattle.ssign.proofs.command_line.limits_of.Goals as goal
 
--- what `from_str` of a u32 says of its answer
+-- what `from_str` of a u32 states about its answer
 abbrev Parses : List ℕ → Result ℕ ParseIntError → Type 0
 Parses text r = ParsesUnsigned 32 10 text r × ExplainsUnsignedError 10 text r × HasUnsignedDigitsIfOk text r
 

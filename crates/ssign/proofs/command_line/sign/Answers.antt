@@ -3,5 +3,6 @@ use Rattle.ssign.proofs.command_line.sign.Goals as goal
 
 pub returns : goal.returns
 returns c =
-    let sign = with_argument c.in_ok-sign.ensures c.over_log.ensures c.file.ensures.rule c.file.ensures.local in
-    c.limited.ensures _ (c.in_ok-with_signing_options.ensures _ sign)
+    let one = with_argument c.in_ok-sign.ensures c.over_log.ensures c.file.ensures.rule c.file.ensures.local in
+    let two = with_argument c.in_ok-sign-2.ensures one c.file-2.ensures.rule c.file-2.ensures.local in
+    c.limited.ensures _ (c.in_ok-with_signing_options.ensures _ two)

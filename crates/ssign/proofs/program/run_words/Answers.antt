@@ -6,7 +6,7 @@ use Rattle.ssign.specs.CommandLine.{ssign_app}
 use Rattle.ssign.specs.SigningOptions.{Kept}
 use Rattle.ssign.proofs.program.run_words.Goals as goal
 
--- the program's commands are such as clap tells each fault of
+-- clap reports each fault of the program's commands
 is_told : (versions : Kept) → is_simple_and_free (ssign_app versions) ≡ true
 unfolding clap_on_literals
 is_told versions = refl

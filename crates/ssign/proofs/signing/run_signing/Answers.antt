@@ -1,4 +1,4 @@
 use Rattle.ssign.proofs.signing.run_signing.Goals as goal
 
-pub returns-in-Sign-clause-stopped : goal.returns-in-Sign-clause-stopped
-returns-in-Sign-clause-stopped g c = rw (c.in-Sign.is, ← c.new-sealer.ensures.answers, ← c.new-sealer.ensures.payload) c.run_sign.ensures.stopped
+pub returns-clause-stopped : goal.returns-clause-stopped
+returns-clause-stopped g c = rw (c.in-Sign.is, ← c.new-sealer.ensures.answers, ← c.new-sealer.ensures.payload) c.run_sign_from.ensures.stopped

@@ -1,0 +1,3 @@
+pub mod LostGaps
+pub mod NewestCounters
+pub mod LostLog

@@ -1,0 +1,3 @@
+pub mod LostAhead
+pub mod Restarts
+pub mod LostLog
