@@ -1,10 +1,10 @@
 #!/usr/bin/env bash
 # Prints one SHA-256 over all that the program is made of: crates.txt, and each file in src/ and specs/ of ssign and of
-# the crates below it. Proofs don't count, since they change no program. Names and contents both count; dates, owners,
+# the crates below it. Proofs don't count, because they change no program. Names and contents both count; dates, owners,
 # umask and locale don't.
 #
 #     release/sources.sh           the hash
-#     release/sources.sh --list    what is hashed: the SHA-256 and the name of each file, and a NUL behind each
+#     release/sources.sh --list    what is hashed: the SHA-256 and the name of each file, and a NUL after each
 set -u -f -o pipefail
 export LC_ALL=C
 

@@ -1,8 +1,10 @@
-//! The example of the README of `ss_origin`, line by line.
+//! The examples of the READMEs of `ss_origin` and `ss_wrap`, line by line.
 use crate::sealing::{Lenient, Seal, answer};
 use crate::settings::{Groups, Setting, config, payload};
 use ss_block::{Alg, Payload};
+use ss_octets::Bytes;
 use ss_origin::{Config, Counters, Emitted, OriginFault, Originator, Sealer, Seals};
+use ss_wrap::{original, prepare};
 use std::alloc::Global;
 use std::test::Fail;
 
@@ -61,5 +63,18 @@ fn a_message_is_sent(rt: HostRuntime) -> Result<(), Fail> {
     assert_eq!(rt; sent.as_slice().len(), 1);
     assert_eq!(rt; last.as_slice().len(), 1);
     assert_eq!(rt; counters.gbc, 1);
+    Ok(())
+}
+
+#[test]
+fn a_message_is_wrapped(rt: HostRuntime) -> Result<(), Fail> {
+    let alloc = rt.alloc();
+    let head = config(alloc, &SETTING)?.ok_or("a configuration")?.head;
+    let message = Bytes::from_vec(Vec::from_slice(alloc, b"hello")?);
+    let text = prepare(alloc, &head, None, message)?;
+    let found = original(alloc, text.as_slice())?;
+    let (text, found) = (text.as_slice(), found.unwrap_or(b""));
+    assert!(rt; text == b"<13>1 - h s - wrapped - |hello".as_slice());
+    assert!(rt; found == b"hello".as_slice());
     Ok(())
 }

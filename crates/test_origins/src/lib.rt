@@ -15,3 +15,5 @@ mod settings;
 mod starts;
 #[cfg(test)]
 mod texts;
+#[cfg(test)]
+mod wraps;

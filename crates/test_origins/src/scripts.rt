@@ -43,7 +43,7 @@ enum Step {
     Counters(At),
 }
 
-/// Where the originator goes on behind another one, if it does, and the calls.
+/// Where the originator goes on after another one, if it does, and the calls.
 #[derive(Clone, Copy)]
 struct Script {
     name: &'static str,
@@ -414,7 +414,7 @@ fn start<J: Seals>(alloc: Global, script: &Script, sealer: J) -> Result<Originat
     }
 }
 
-/// Plays the script at this place with a sealer that answers what it is told. Errs only before its first step.
+/// Plays the script at this place with a sealer that answers by the script. Errs only before its first step.
 fn play_with<J: Seals>(
     rt: &(impl Abort + AllocGlobal),
     place: usize,
@@ -474,8 +474,8 @@ fn scripts(rt: HostRuntime) -> Result<(), Fail> {
 }
 
 /// `tests/memory.sh` refuses each allocation of this test in turn, and it passes each time: a call that wants memory
-/// leaves the originator as it was, and made again it gives the row's answer. The other tests take want of memory for a
-/// wrong answer.
+/// leaves the originator as it was, and made again it gives the row's answer. The other tests take "out of memory" for
+/// a wrong answer.
 #[test]
 fn goes_on_after_want_of_memory(rt: HostRuntime) -> Result<(), Fail> {
     for place in 0..SCRIPTS.len() {

@@ -1,4 +1,4 @@
-//! Which configurations and counters an originator is made of: both ends of each range, and what lies behind them.
+//! Which configurations and counters an originator is made of: both ends of each range, and what lies beyond them.
 use super::sealing::{Lenient, Seal, answer};
 use super::settings::{At, Groups, Setting, config, counters, payload};
 use Groups::{ByPri, One, Ranges};
@@ -115,7 +115,7 @@ fn setting(row: &Row) -> Setting {
     }
 }
 
-/// Whether an originator is made is told rightly: of a new one, and of one behind another that sent nothing.
+/// An originator is made exactly where it is to be: a new one, and one after another that sent nothing.
 fn sees_setting(rt: &(impl Abort + AllocGlobal), row: &Row) -> Result<(), OriginFault> {
     let setting = setting(row);
     let anew = is_made(rt.alloc(), &setting, None)?;

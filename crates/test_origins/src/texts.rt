@@ -41,7 +41,7 @@ pub const A_FLUSHED: &[u8] =
     b"<110>1 - h s - - [ssign VER=\"0111\" RSID=\"1\" SG=\"1\" SPRI=\"13\" GBC=\"0\" FMN=\"1\" CNT=\"1\" \
         HB=\"3Pfc6GFE4IsSJJq/MbjynAYg1oM=\" SIGN=\"AAAA\"]";
 
-/// c and e behind a flush.
+/// c and e after a flush.
 pub const C_AND_E: &[u8] =
     b"<110>1 - h s - - [ssign VER=\"0111\" RSID=\"1\" SG=\"1\" SPRI=\"13\" GBC=\"1\" FMN=\"2\" CNT=\"2\" \
         HB=\"ZwISE/EIgQwTWjGNOS9KLuLPMKU= 3jxJYjNrUkyAhn8+9Kb8FkTYeS8=\" SIGN=\"AAAA\"]";
@@ -61,7 +61,7 @@ pub const RANGE_TO_13: &[u8] =
     b"<110>1 - h s - - [ssign VER=\"0111\" RSID=\"1\" SG=\"2\" SPRI=\"13\" GBC=\"0\" FMN=\"1\" CNT=\"1\" \
         HB=\"3Pfc6GFE4IsSJJq/MbjynAYg1oM=\" SIGN=\"AAAA\"]";
 
-/// b in the range behind it.
+/// b in the range after it.
 pub const RANGE_TO_191: &[u8] =
     b"<110>1 - h s - - [ssign VER=\"0111\" RSID=\"1\" SG=\"2\" SPRI=\"191\" GBC=\"1\" FMN=\"1\" CNT=\"1\" \
         HB=\"wTX9aOKATkVu7zPIYLz/u/iH3uQ=\" SIGN=\"AAAA\"]";

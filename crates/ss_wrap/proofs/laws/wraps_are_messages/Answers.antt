@@ -1,0 +1,5 @@
+use Rattle.ss_wrap.proofs.Wraps.{wraps_are_messages}
+use Rattle.ss_wrap.proofs.laws.wraps_are_messages.Goals as goal
+
+pub returns : goal.returns
+returns c = wraps_are_messages

@@ -1,0 +1,2 @@
+pub mod Wrap
+pub mod Laws
