@@ -240,15 +240,17 @@ def without(stored: List[bytes], counters: List[int]) -> List[bytes]:
 def ended_by(name: str, path: str, *words: str) -> str:
     """The signal that ends a command to which a signal was sent.
 
+    It is sent once the file has something in it; with no file, whoever the command starts sends it.
     It begins as from a terminal: whoever starts a script in the background has SIGINT ignored in all that it starts.
     """
     number = signal.Signals[f"SIG{name}"]
     with subprocess.Popen(words, preexec_fn=lambda: signal.signal(number, signal.SIG_DFL)) as child:
-        for _ in range(300):
-            if os.path.exists(path) and os.path.getsize(path):
-                break
-            time.sleep(0.1)
-        child.send_signal(number)
+        if path:
+            for _ in range(300):
+                if os.path.exists(path) and os.path.getsize(path):
+                    break
+                time.sleep(0.1)
+            child.send_signal(number)
         status = child.wait(30)
     return signal.Signals(-status).name if status < 0 else f"status {status}"
 
@@ -298,6 +300,8 @@ def main(command: str, *words: str) -> None:
         print(on_terminal(*words))
     elif command == "signal":
         print(ended_by(*words))
+    elif command == "end":
+        print(ended_by(words[0], "", *words[1:]))
     else:
         raise AssertionError(command)
 

@@ -776,6 +776,16 @@ for signal in INT TERM HUP; do
     holds "SIG$signal ends it by this signal" cmp out <(echo "SIG$signal")
     holds "SIG$signal: no traceback" test ! -s err
     holds "SIG$signal: its child is ended" is_gone waiting
+    # a child that sends the signal as its first step: it may come before the tool knows of the child
+    # shellcheck disable=SC2016
+    printf '#!/bin/sh\necho $$ >waiting\nkill -s %s $PPID\nexec sleep 100\n' "$signal" >hasty
+    chmod +x hasty
+    for ((run = 0; run < 5; run++)); do
+        rm -f waiting
+        python3 -B "$root/tests/verdicts.py" end "$signal" "$keys_program" verify --key keys/public-key.pem --ssign ./hasty signed >out 2>err
+        cmp -s out <(echo "SIG$signal") && is_gone waiting || break
+    done
+    holds "SIG$signal while its child starts ends both, five times" test "$run" = 5
 done
 holds 'no passing file is left' test -z "$(ls -A -- "$TMPDIR")"
 

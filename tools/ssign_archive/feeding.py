@@ -17,10 +17,9 @@ def run_over(reader: Reader, program: str, words: Sequence[str], workplace: Work
     """Hands all messages to ssign, and gives its status, 0 or 1. Raises Fault where it refuses them."""
     said = workplace.new_file("said")
     try:
-        child = subprocess.Popen([program, *words], stdin=subprocess.PIPE, stdout=out, stderr=said)
+        child = workplace.start([program, *words], subprocess.PIPE, out, said)
     except OSError as fault:
         raise Fault(f"the program {shown_name(program)} can't be run: {reason(fault)}") from fault
-    workplace.adopt(child)
     assert child.stdin is not None
     is_fed = feed(child.stdin, reader)
     status = child.wait()

@@ -14,7 +14,7 @@ from .words import shown, shown_name
 from .workplace import Workplace
 
 PIECE = 1 << 20
-# A decoder copies what stands behind the end of its stream, and a piece may hold 50,000 streams of nothing.
+# A decoder copies what stands after the end of its stream, and a piece may hold 50,000 streams of nothing.
 SLICE = 1 << 17
 # the first octets of a file tell its form; the longest of them are xz's
 FRONT = 6
@@ -49,7 +49,7 @@ def limited(name: str, form: str, pieces: Iterator[bytes], most: int) -> Iterato
         yield piece
 
 
-# what the command zstd says of where the octets come from
+# what the command zstd calls the source of the octets
 ZSTD_NAME = re.compile(rb"\A(?:zstd: )?/\*stdin\*\\ ?: ?")
 
 
@@ -60,7 +60,7 @@ class Decoder(Protocol):
         """What these octets expand to, in pieces that memory has room for."""
 
     def rest(self) -> Optional[bytes]:
-        """What stands behind the end of the stream, or None where that hasn't come."""
+        """What stands after the end of the stream, or None where that hasn't come."""
 
 
 class Gzip:
@@ -76,7 +76,7 @@ class Gzip:
             octets = self._decoder.unconsumed_tail
 
     def rest(self) -> Optional[bytes]:
-        """What stands behind the end of the member, or None where that hasn't come."""
+        """What stands after the end of the member, or None where that hasn't come."""
         return self._decoder.unused_data if self._decoder.eof else None
 
 
@@ -93,7 +93,7 @@ class Xz:
             octets = b""
 
     def rest(self) -> Optional[bytes]:
-        """What stands behind the end of the stream, or None where that hasn't come."""
+        """What stands after the end of the stream, or None where that hasn't come."""
         return self._decoder.unused_data if self._decoder.eof else None
 
 
@@ -117,10 +117,10 @@ class Damaged(Fault):
 
 
 def expanded(name: str, form: str, pieces: Iterator[bytes]) -> Iterator[bytes]:
-    """Expands streams of gzip or xz that stand behind one another. Zeros may stand behind each, as both formats allow.
+    """Expands streams of gzip or xz that stand after one another. Zeros may stand after each, as both formats allow.
 
     The modules of the standard library leave out what follows a stream where it isn't the front of another one. Here
-    that is damage, since messages may have stood there.
+    that is damage, because messages may have stood there.
     """
     decoder: Optional[Decoder] = None
     try:
@@ -153,13 +153,12 @@ def expanded_zstd(name: str, packed: BinaryIO, workplace: Workplace) -> Iterator
     """Expands a file of zstd by its command, which ends with the workplace at the latest."""
     with workplace.new_file("zstd.errors") as errors:
         try:
-            child = subprocess.Popen(["zstd", "-dcq"], stdin=packed, stdout=subprocess.PIPE, stderr=errors)
+            child = workplace.start(["zstd", "-dcq"], packed, subprocess.PIPE, errors)
         except OSError as error:
             raise Fault(
                 f"{shown_name(name)} is compressed by zstd, and there is no command zstd here that can be run: "
                 "apt-get install zstd"
             ) from error
-        workplace.adopt(child)
         assert child.stdout is not None
         with child.stdout as out:
             while True:

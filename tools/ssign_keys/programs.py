@@ -13,7 +13,7 @@ from typing import BinaryIO, Callable, Dict, Iterable, Iterator, List, Optional,
 from .faults import Fault
 from .progress import Progress
 from .words import shown_name
-from .workplace import Workplace, say
+from .workplace import Workplace, notify
 
 # `ssign: F1 0`, the line of a refusal
 REFUSAL = re.compile(r"ssign: ([A-Z][0-9]{1,2})(?: ([0-9]+))?\s*")
@@ -74,12 +74,10 @@ class Run:
         self._rest = b""
         self._held: List[str] = []
         try:
-            self.child = subprocess.Popen(
-                [program, *words], stdin=log, stdout=out, stderr=self._said)
+            self.child = workplace.start([program, *words], log, out, self._said)
         except (OSError, ValueError) as error:
             why = error.strerror if isinstance(error, OSError) else str(error)
             raise Fault(f"the program {shown_name(program)} can't be run: {why}") from error
-        workplace.adopt(self.child)
 
     def feed(self, pieces: Iterable[bytes]) -> None:
         """Writes the log. Where the run ends before the log does, its own words say why."""
@@ -118,7 +116,7 @@ class Run:
         if status == 2:
             raise self._refusal()
         for line in self._held:
-            say(line)
+            notify(line)
         if status in (0, 1):
             return status
         if status < 0:
@@ -134,7 +132,7 @@ class Run:
         if first.startswith(MISTAKE) and any(line.startswith(MORE) for line in self._held):
             return Refused(None, None, first[len(MISTAKE):])
         for line in self._held:
-            say(line)
+            notify(line)
         if not self._passed:
             raise Fault(f"{self.name} ended with the status 2, and didn't say why")
         return Refused(None, None)
@@ -159,7 +157,7 @@ class Run:
                 self._held.append(line)
             return
         self._progress.clear()
-        say(line)
+        notify(line)
 
 
 HINTS: Dict[int, str] = {

@@ -1,4 +1,5 @@
-"""Signs rotated logs of lines, each as a session of its own, and keeps what a later review needs to know of each.
+"""Signs rotated logs of lines, and keeps what a later review needs to know of each. Each is a session of its own, or all
+are nights of one session that goes on.
 
 A log is signed once nobody writes to it any more. What was signed is verified with the public key before it gets its name,
 its counters are kept, and an entry of the manifest names it. A log that couldn't be signed waits, and is tried again in
@@ -17,7 +18,7 @@ import stat
 import subprocess
 import sys
 from datetime import datetime, timezone
-from typing import BinaryIO, Callable, List, Optional, Union
+from typing import BinaryIO, Callable, List, NamedTuple, Optional, Union
 
 from .faults import Fault
 from .files import reason
@@ -27,9 +28,11 @@ from .manifest_form import Entry, Manifest, Mark, SetAside, read_manifest, read_
 from .open_files import wait_until_closed
 from .programs import add_program_argument, find_program
 from .rotation_state import NO_ENTRY, Current, Signed, read_state, replace, sync_folder, write_state
+from .session_file import Ongoing
+from .session_state import last_rsid, read_session
 from .streams import Output
 from .words import counted, shown_name
-from .workplace import Workplace, finish, put, say
+from .workplace import Workplace, finish, put, notify
 
 PIECE = 1 << 20
 GREATEST_RSID = 9999999999
@@ -52,6 +55,9 @@ def add_arguments(parser: argparse.ArgumentParser) -> None:
                         "a copy belongs on another machine (default: kept in the folder of --state)")
     parser.add_argument("--host", metavar="TEXT", help="HOSTNAME of all blocks (default: the name of this machine)")
     parser.add_argument("--app", default="signer", metavar="TEXT", help="APP-NAME of all blocks (default: signer)")
+    parser.add_argument("--one-session", action="store_true", help="sign the logs as nights of one session; the folder session "
+                        "in that of --state keeps it (default: each log is a session of its own)")
+    parser.add_argument("--new-session", action="store_true", help="end the session of --one-session, and begin another")
     parser.add_argument("--wait", type=seconds, default=60.0, metavar="SECONDS", help="how long is waited at most until nobody "
                         "writes to a log any more (default: 60)")
     what = parser.add_mutually_exclusive_group()
@@ -109,6 +115,18 @@ class Lock:
         self._file.close()
 
 
+class Night(NamedTuple):
+    """What a log that is signed next has of its session."""
+
+    rsid: int
+    words: List[str]
+    """The words of `ssign-keys sign` that name it."""
+    label: str
+    """How the names of its report and its counters end."""
+    before: List[bytes]
+    """The lines of a report on this log alone for the numbers that earlier logs of the session have."""
+
+
 class Rotation:
     """A run over the logs that are given, and those that wait."""
 
@@ -126,6 +144,9 @@ class Rotation:
         self._logs = [os.path.abspath(it) for it in arguments.logs]
         self._manifest = os.path.join(self._kept, "manifest.jsonl")
         self._unusual = False
+        if arguments.new_session and not arguments.one_session:
+            raise Fault("--new-session goes with --one-session")
+        self._is_new = arguments.new_session
 
     def path(self, name: str) -> str:
         """The path of a file of state."""
@@ -200,7 +221,7 @@ class Rotation:
                     continue
                 why = "the manifest doesn't say that it was copied" if file.name not in copied else fault_of(path, file)
                 if why:
-                    say(f"ssign-keys: {shown_name(path)} stays: {why}")
+                    notify(f"ssign-keys: {shown_name(path)} stays: {why}")
                     stays = True
                     continue
                 os.unlink(path)
@@ -217,7 +238,7 @@ class Rotation:
                 why = str(fault) if isinstance(fault, Fault) else f"a file can't be read or written: {reason(fault)}"
                 self._state.wait(log, now(), why)
                 self._save()
-                say(f"ssign-keys: {shown_name(log)} isn't signed: {why}")
+                notify(f"ssign-keys: {shown_name(log)} isn't signed: {why}")
         self._prune()
         return 1 if self._unusual or self._state.pending else 0
 
@@ -253,11 +274,11 @@ class Rotation:
                         self._state.done(log)
                         self._save()
                         return
-                    say(f"ssign-keys: {shown_name(log)}: {counted(size - start, 'octet')} came after it was signed, and "
+                    notify(f"ssign-keys: {shown_name(log)}: {counted(size - start, 'octet')} came after it was signed, and "
                         "are signed as a log of their own")
                     self._unusual = True
                 if unseen:
-                    say(f"ssign-keys: {shown_name(log)}: {unseen}, so it may still be open for writing. Lines that come after "
+                    notify(f"ssign-keys: {shown_name(log)}: {unseen}, so it may still be open for writing. Lines that come after "
                         "this run are signed in the next one, as a log of their own")
                 self._sign_part(log, source, start, size, found)
         # what comes still is for the next run
@@ -272,14 +293,15 @@ class Rotation:
         name_for(frames)
         self._check_manifest()
         before = digest(source, size)
-        passing = Passing(name, self._kept, self._rsid + 1)
+        night = self._next_night()
+        passing = Passing(name, self._kept, night.label)
         passing.clear()
         try:
-            self._run_sign(log, source, start, size, passing)
-            self._verify(passing)
+            self._run_sign(log, source, start, size, passing, night)
+            self._verify(passing, night)
             if digest(source, size) != before or os.fstat(source.fileno()).st_size < size:
                 raise Fault("it was changed while it was signed")
-            current = self._current(log, size, before, passing)
+            current = self._current(log, size, before, passing, night.rsid)
         except BaseException:
             passing.clear()
             raise
@@ -287,7 +309,7 @@ class Rotation:
         self._save()
         self._publish(current)
 
-    def _run_sign(self, log: str, source: BinaryIO, start: int, size: int, passing: Passing) -> None:
+    def _run_sign(self, log: str, source: BinaryIO, start: int, size: int, passing: Passing, night: Night) -> None:
         """Has the signed log written under a passing name."""
         what = log
         if start:
@@ -300,22 +322,25 @@ class Rotation:
             with open(passing.frames, "xb") as out:
                 os.chmod(passing.frames, 0o600)
                 status = self._keys_command(
-                    ["sign", f"--key={os.path.join(self._keys, PRIVATE)}", f"--rsid={self._rsid + 1}",
+                    ["sign", f"--key={os.path.join(self._keys, PRIVATE)}", *night.words,
                      f"--host={self._arguments.host or os.uname().nodename}", f"--app={self._arguments.app}", "--lines",
                      f"--max-len={MAX_LEN}", f"--set-aside={passing.aside}", "--", what], out)
                 os.fsync(out.fileno())
         except OSError as fault:
             raise Fault(f"{shown_name(passing.frames)} can't be written: {reason(fault)}") from fault
         except Fault as fault:
-            if not str(fault).endswith("(W1)"):
+            if not str(fault).endswith("(W1)") and not str(fault).startswith("standard output can't be written"):
                 raise
             # what is standard output there has a name here
             raise Fault(f"{shown_name(passing.final_frames)} can't be written to its end; perhaps the disk is full") from fault
         if status == 1:
             self._unusual = True
 
-    def _verify(self, passing: Passing) -> None:
-        """Verifies the signed log with the public key, and keeps the report and the counters."""
+    def _verify(self, passing: Passing, night: Night) -> None:
+        """Verifies the signed log with the public key, and keeps the report and the counters.
+
+        The numbers that earlier logs of the session have are missing in it, and no others.
+        """
         with open(passing.report, "xb") as out:
             self._keys_command(
                 ["verify", f"--key={os.path.join(self._keys, PUBLIC)}", "--raw", "--allow-sha1", f"--max-len={MAX_LEN}",
@@ -323,7 +348,8 @@ class Rotation:
             os.fsync(out.fileno())
         with open(passing.report, "rb") as report:
             for line in report:
-                if not (line.startswith((b"ok ", b"end ")) or line.startswith(b"session ") and line.endswith(b" joined\n")):
+                is_clean = line.startswith((b"ok ", b"end ")) or line.startswith(b"session ") and line.endswith(b" joined\n")
+                if not is_clean and line not in night.before:
                     raise Fault("what was signed isn't clean when it is verified with the public key: "
                                 f"{line.decode('ascii', 'replace').rstrip()}")
 
@@ -332,23 +358,23 @@ class Rotation:
         environment = {**os.environ, "PYTHONPATH": os.path.dirname(os.path.dirname(os.path.realpath(__file__)))}
         said = self._workplace.new_file("said")
         try:
-            child = subprocess.Popen([sys.executable, "-B", "-m", "ssign_keys", words[0], f"--ssign={self._program}", *words[1:]],
-                                     stdin=subprocess.DEVNULL, stdout=out, stderr=said, env=environment)
+            child = self._workplace.start(
+                [sys.executable, "-B", "-m", "ssign_keys", words[0], f"--ssign={self._program}", *words[1:]],
+                subprocess.DEVNULL, out, said, environment)
         except OSError as fault:
             raise Fault(f"ssign-keys {words[0]} can't be run: {reason(fault)}") from fault
-        self._workplace.adopt(child)
         status = child.wait()
         said.seek(0)
         lines = said.read().decode("utf-8", "backslashreplace").splitlines()
         said.close()
         if status in (0, 1):
             for line in lines:
-                say(line.replace(NEW, ""))
+                notify(line.replace(NEW, ""))
             return status
         last = lines[-1] if lines else f"ssign-keys {words[0]} ended with the status {status}"
         raise Fault(last[len("ssign-keys: "):] if last.startswith("ssign-keys: ") else last)
 
-    def _current(self, log: str, size: int, sha256: str, passing: Passing) -> Current:
+    def _current(self, log: str, size: int, sha256: str, passing: Passing, rsid: int) -> Current:
         """What is put in its place next. All of it is on the disk before this is said."""
         files = {passing.report: passing.final_report, passing.counters: passing.final_counters}
         set_aside = None
@@ -366,7 +392,7 @@ class Rotation:
             sync_file(it)
         for folder in sorted({os.path.dirname(it) for it in files}):
             sync_folder(folder)
-        return Current(log, size, sha256, self._rsid + 1, passing.final_frames, passing.final_counters, set_aside, files)
+        return Current(log, size, sha256, rsid, passing.final_frames, passing.final_counters, set_aside, files)
 
     def _publish(self, current: Current) -> None:
         """Gives each file its name, uses up the RSID, and writes the entry. What was done before isn't done again."""
@@ -380,6 +406,7 @@ class Rotation:
         if self._rsid < current.rsid:
             replace(self.path("rsid"), b"%d\n" % current.rsid)
             self._rsid = current.rsid
+        self._is_new = False
         self._add_entry(current)
         found = self._state.signed_of(current.log)
         if found is None:
@@ -413,8 +440,35 @@ class Rotation:
             if int(it.session.rsid) > self._rsid:
                 raise Fault(f"{shown_name(self.path('rsid'))} has the number {self._rsid}, and the manifest has a session "
                             f"with the RSID {int(it.session.rsid)}: no RSID may be used twice")
-        if self._rsid >= GREATEST_RSID:
+        if self._rsid >= GREATEST_RSID and self._ongoing() is None:
             raise Fault(f"{shown_name(self.path('rsid'))} has the greatest RSID that there is: begin with other names, by --app")
+
+    # ---- the session
+
+    def _ongoing(self) -> Optional[Ongoing]:
+        """The session that goes on; None where one begins. A session to which nothing was added yet is the one that begins."""
+        if not self._arguments.one_session:
+            return None
+        ongoing = read_session(self.path("session"))
+        # a log that was signed as a session of its own has ended it
+        is_over = ongoing is None or ongoing.rsid < self._rsid or self._is_new and ongoing.rsid == self._rsid
+        return None if is_over else ongoing
+
+    def _next_night(self) -> Night:
+        """What the next log has of its session."""
+        # a session that began, and to which no signed log was added yet, has its RSID too
+        rsid = max(self._rsid, last_rsid(self.path("session"))) + 1
+        if not self._arguments.one_session:
+            return Night(rsid, [f"--rsid={rsid}"], str(rsid), [])
+        manifest = read_manifest(self._manifest)
+        label = manifest.last.number + 1
+        words = [f"--state={self.path('session')}"]
+        ongoing = self._ongoing()
+        if ongoing is None:
+            return Night(rsid, [*words, "--new-session", f"--rsid={rsid}"], f"{rsid}-{label}", [])
+        refuse_old(ongoing, manifest)
+        before = [f"hole {ongoing.session} {sg} {spri} 1 {number - 1}\n".encode("ascii") for sg, spri, number in ongoing.ends.groups]
+        return Night(ongoing.rsid, words, f"{ongoing.rsid}-{label}", before)
 
     # ---- the manifest
 
@@ -468,12 +522,12 @@ class Rotation:
 class Passing:
     """The files of a log that is being signed: the names that they have until all is done, and their own."""
 
-    def __init__(self, name: str, kept: str, rsid: int) -> None:
-        """`name` is that of the log, or of its late lines."""
+    def __init__(self, name: str, kept: str, label: str) -> None:
+        """`name` is that of the log, or of its late lines; `label` tells it from the others in what is kept."""
         self.final_frames = name + ".frames"
         self.final_aside = name + ".set-aside.frames"
-        self.final_report = os.path.join(kept, f"report-{rsid}")
-        self.final_counters = os.path.join(kept, f"counters-{rsid}")
+        self.final_report = os.path.join(kept, f"report-{label}")
+        self.final_counters = os.path.join(kept, f"counters-{label}")
         self.frames, self.aside, self.report, self.counters = (
             it + NEW for it in (self.final_frames, self.final_aside, self.final_report, self.final_counters))
         # sign names the places of what it sets aside after the file of the messages
@@ -484,6 +538,14 @@ class Passing:
         for it in (self.frames, self.aside, self.places, self.report, self.counters):
             with contextlib.suppress(FileNotFoundError):
                 os.unlink(it)
+
+
+def refuse_old(ongoing: Ongoing, manifest: Manifest) -> None:
+    """Refuses a session that the manifest has gone further with, as where an old copy of it was put back."""
+    for it in manifest.entries:
+        if it.session == ongoing.session and not it.ends.is_before(ongoing.ends):
+            raise Fault(f"the session {ongoing.session} goes further in the entry {it.number} of the manifest than in the state, as "
+                        "where an old copy of the state was put back: begin another with --new-session")
 
 
 def files_of(read: Manifest, name: str) -> List[Union[Entry, SetAside]]:

@@ -1,4 +1,4 @@
-"""Where a run keeps its passing files, and how it ends: whatever happens, no file and no child of it is left behind."""
+"""Where a run keeps its passing files, and how it ends: whatever happens, no file and no child of it is left."""
 from __future__ import annotations
 
 import errno
@@ -8,10 +8,13 @@ import subprocess
 import sys
 import tempfile
 from types import FrameType, TracebackType
-from typing import BinaryIO, List, Optional, Type
+from typing import IO, BinaryIO, List, Mapping, Optional, Sequence, Type, Union
 
 from .faults import Fault
 
+
+# what a child reads from or writes to: a file, its number, or subprocess.PIPE
+Stream = Union[IO[bytes], int]
 
 NO_ROOM = (errno.ENOSPC, errno.EDQUOT, errno.EFBIG)
 
@@ -35,6 +38,8 @@ class Workplace:
 
     def __init__(self) -> None:
         self._children: List[subprocess.Popen[bytes]] = []
+        self._is_starting = False
+        self._put_off: Optional[int] = None
 
     def __enter__(self) -> Workplace:
         owner = os.getpid()
@@ -45,6 +50,9 @@ class Workplace:
                 os._exit(128 + number)
             for it in self.SIGNALS:
                 signal.signal(it, signal.SIG_IGN)
+            if self._is_starting:
+                self._put_off = number
+                return
             raise Ended(number)
 
         # what whoever started this process had ignored, as nohup does, stays ignored
@@ -86,9 +94,21 @@ class Workplace:
         except OSError as error:
             raise no_room(error) from error
 
-    def adopt(self, child: subprocess.Popen[bytes]) -> None:
-        """Ends this child with the block, where it hasn't ended by itself."""
-        self._children.append(child)
+    def start(self, words: Sequence[str], stdin: Stream, stdout: Stream, stderr: Stream,
+              env: Optional[Mapping[str, str]] = None) -> subprocess.Popen[bytes]:
+        """Starts a program, which is ended with the block, where it hasn't ended by itself. Raises as Popen does.
+
+        A signal that comes while it starts is raised once the child is known here: else the child would be left.
+        """
+        self._is_starting = True
+        try:
+            child = subprocess.Popen(words, stdin=stdin, stdout=stdout, stderr=stderr, env=env)
+            self._children.append(child)
+        finally:
+            self._is_starting = False
+            if self._put_off is not None:
+                raise Ended(self._put_off)
+        return child
 
 
 def no_room(error: OSError) -> Fault:
@@ -112,7 +132,7 @@ def finish(file: BinaryIO) -> None:
         raise no_room(error) from error
 
 
-def say(sentence: str) -> None:
+def notify(sentence: str) -> None:
     """Writes a line to standard error. That nobody reads it is no fault of the run."""
     try:
         sys.stderr.write(sentence + "\n")
