@@ -10,6 +10,12 @@ function __ssign_archive_command
     end
 end
 
+# __ssign_archive_command_second OPTION: whether the second value of this option is next.
+function __ssign_archive_command_second
+    set -l words (commandline -opc)
+    set -q words[3]; and test "$words[-2]" = "$argv[1]"
+end
+
 complete -c ssign-archive -f
 complete -c ssign-archive -n __ssign_archive_command -l help -s h -d 'show this help message and exit'
 complete -c ssign-archive -n __ssign_archive_command -l version -d 'print the version'
@@ -54,6 +60,7 @@ complete -c ssign-archive -n '__ssign_archive_command review' -l json -d 'print 
 complete -c ssign-archive -n '__ssign_archive_command review' -l jobs -x -d 'review so many parts at once, on each machine (default'
 complete -c ssign-archive -n '__ssign_archive_command review' -l ssign -r -F -d 'the program ssign (default'
 complete -c ssign-archive -n '__ssign_archive_command review' -a '(__fish_complete_directories)'
+complete -c ssign-archive -n '__ssign_archive_command review; and __ssign_archive_command_second --session-key' -F
 complete -c ssign-archive -n __ssign_archive_command -a prepare -d 'Write what the commands `part` and `table` need, and review nothing'
 complete -c ssign-archive -n '__ssign_archive_command prepare' -l help -s h -d 'show this help message and exit'
 complete -c ssign-archive -n '__ssign_archive_command prepare' -l results -x -a '(__fish_complete_directories)' -d 'the folder for the results'
@@ -74,6 +81,7 @@ complete -c ssign-archive -n '__ssign_archive_command prepare' -l counters -x -a
 complete -c ssign-archive -n '__ssign_archive_command prepare' -l manifest -r -F -d 'compare the logs with this manifest, and use its counters'
 complete -c ssign-archive -n '__ssign_archive_command prepare' -l ssign -r -F -d 'the program ssign (default'
 complete -c ssign-archive -n '__ssign_archive_command prepare' -a '(__fish_complete_directories)'
+complete -c ssign-archive -n '__ssign_archive_command prepare; and __ssign_archive_command_second --session-key' -F
 complete -c ssign-archive -n __ssign_archive_command -a part -d 'Review one folder of a prepared archive'
 complete -c ssign-archive -n '__ssign_archive_command part' -l help -s h -d 'show this help message and exit'
 complete -c ssign-archive -n '__ssign_archive_command part' -a '(__fish_complete_directories)'

@@ -45,6 +45,7 @@ _ssign_keys() {
     esac
     case "$command $before" in
     'make --ver') _ssign_keys_offer words '0111 0121' ;;
+    'sign --state') _ssign_keys_offer folders ;;
     'sign --set-aside') _ssign_keys_offer files ;;
     'sign --key') _ssign_keys_offer files ;;
     'sign --max-len') _ssign_keys_offer text ;;
@@ -122,7 +123,7 @@ _ssign_keys_words() {
         ;;
     sign)
         if [[ $2 == -* ]]; then
-            _ssign_keys_offer words '--help --set-aside --key --lines --frames --max-len --max-messages --max-expanded --rsid --host --app --procid --msgid --pri --stamp --payload --ver --groups --count --frag --copies --ssign'
+            _ssign_keys_offer words '--help --state --new-session --set-aside --key --lines --frames --max-len --max-messages --max-expanded --rsid --host --app --procid --msgid --pri --stamp --payload --ver --groups --count --frag --copies --ssign'
         else
             _ssign_keys_offer files
         fi
@@ -143,7 +144,7 @@ _ssign_keys_words() {
         ;;
     rotated)
         if [[ $2 == -* ]]; then
-            _ssign_keys_offer words '--help --keys --state --kept --wait --pending --remove --forget --last --host --app --ssign'
+            _ssign_keys_offer words '--help --keys --state --kept --one-session --new-session --wait --pending --remove --forget --last --host --app --ssign'
         else
             _ssign_keys_offer files
         fi

@@ -10,6 +10,12 @@ function __ssign_keys_command
     end
 end
 
+# __ssign_keys_command_second OPTION: whether the second value of this option is next.
+function __ssign_keys_command_second
+    set -l words (commandline -opc)
+    set -q words[3]; and test "$words[-2]" = "$argv[1]"
+end
+
 complete -c ssign-keys -f
 complete -c ssign-keys -n __ssign_keys_command -l help -s h -d 'show this help message and exit'
 complete -c ssign-keys -n __ssign_keys_command -l version -d 'print the version'
@@ -19,6 +25,8 @@ complete -c ssign-keys -n '__ssign_keys_command make' -l ver -x -a '0111 0121' -
 complete -c ssign-keys -n '__ssign_keys_command make' -a '(__fish_complete_directories)'
 complete -c ssign-keys -n __ssign_keys_command -a sign -d 'Sign a log with a private key'
 complete -c ssign-keys -n '__ssign_keys_command sign' -l help -s h -d 'show this help message and exit'
+complete -c ssign-keys -n '__ssign_keys_command sign' -l state -x -a '(__fish_complete_directories)' -d 'sign in the session that FOLDER keeps, and go on with its numbers'
+complete -c ssign-keys -n '__ssign_keys_command sign' -l new-session -d 'begin a session in the folder of --state'
 complete -c ssign-keys -n '__ssign_keys_command sign' -l set-aside -r -F -d 'write each message that can\'t be signed to FILE, as frames, and its place to FILE.places, and sign the others'
 complete -c ssign-keys -n '__ssign_keys_command sign' -l key -r -F -d 'the private key to sign with'
 complete -c ssign-keys -n '__ssign_keys_command sign' -l lines -d 'the log is one message a line (default where it begins with <)'
@@ -87,6 +95,8 @@ complete -c ssign-keys -n '__ssign_keys_command rotated' -l help -s h -d 'show t
 complete -c ssign-keys -n '__ssign_keys_command rotated' -l keys -x -a '(__fish_complete_directories)' -d 'the folder of private-key.pem and public-key.pem'
 complete -c ssign-keys -n '__ssign_keys_command rotated' -l state -x -a '(__fish_complete_directories)' -d 'the folder of what is remembered from run to run'
 complete -c ssign-keys -n '__ssign_keys_command rotated' -l kept -x -a '(__fish_complete_directories)' -d 'the folder for the manifest, the counters and the reports, of which a copy belongs on another machine (default'
+complete -c ssign-keys -n '__ssign_keys_command rotated' -l one-session -d 'sign the logs as nights of one session'
+complete -c ssign-keys -n '__ssign_keys_command rotated' -l new-session -d 'end the session of --one-session, and begin another'
 complete -c ssign-keys -n '__ssign_keys_command rotated' -l wait -x -d 'how long is waited at most until nobody writes to a log any more (default'
 complete -c ssign-keys -n '__ssign_keys_command rotated' -l pending -d 'sign nothing'
 complete -c ssign-keys -n '__ssign_keys_command rotated' -l remove -d 'sign nothing'

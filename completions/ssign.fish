@@ -10,6 +10,12 @@ function __ssign_command
     end
 end
 
+# __ssign_command_second OPTION: whether the second value of this option is next.
+function __ssign_command_second
+    set -l words (commandline -opc)
+    set -q words[3]; and test "$words[-2]" = "$argv[1]"
+end
+
 complete -c ssign -f
 complete -c ssign -n __ssign_command -l help -s h -d 'Print help'
 complete -c ssign -n __ssign_command -l version -s V -d 'Print version'
@@ -48,6 +54,8 @@ complete -c ssign -n '__ssign_command inspect' -l max-len -x -d 'Refuses a messa
 complete -c ssign -n '__ssign_command inspect' -l max-messages -x -d 'Refuses a log of more than N messages, 1 to 10000000'
 complete -c ssign -n '__ssign_command inspect' -l help -s h -d 'Print help'
 complete -c ssign -n __ssign_command -a plan -d 'Writes what has to be signed for the log on standard input'
+complete -c ssign -n '__ssign_command plan' -l resume -r -F -d 'Goes on in the session at the counters of FILE, as ssign counters or ssign plan --ahead wrote them, and writes no certificate blocks'
+complete -c ssign -n '__ssign_command plan' -l ahead -d 'Writes no plan, but the counters with which the signed log will end, for --resume'
 complete -c ssign -n '__ssign_command plan' -l payload -x -d 'The text of the payload block, not the name of its file, as in --payload "$(cat keys/payload)"'
 complete -c ssign -n '__ssign_command plan' -l rsid -x -d 'The number of the session, 0 to 9999999999'
 complete -c ssign -n '__ssign_command plan' -l stamp -x -d 'The time stamp of all block messages, as in 2009-05-03T14:00:39Z, or - for none'
@@ -67,6 +75,7 @@ complete -c ssign -n '__ssign_command plan' -l max-messages -x -d 'Refuses a log
 complete -c ssign -n '__ssign_command plan' -l help -s h -d 'Print help'
 complete -c ssign -n __ssign_command -a sign -d 'Writes the log on standard input with the blocks that sign it, as octet-counted frames'
 complete -c ssign -n '__ssign_command sign' -l answers -r -F -d 'The file with a line seal OCTETS SIGNATURE for each line of the plan'
+complete -c ssign -n '__ssign_command sign' -l resume -r -F -d 'Goes on in the session at the counters of FILE, as ssign counters or ssign plan --ahead wrote them, and writes no certificate blocks'
 complete -c ssign -n '__ssign_command sign' -l payload -x -d 'The text of the payload block, not the name of its file, as in --payload "$(cat keys/payload)"'
 complete -c ssign -n '__ssign_command sign' -l rsid -x -d 'The number of the session, 0 to 9999999999'
 complete -c ssign -n '__ssign_command sign' -l stamp -x -d 'The time stamp of all block messages, as in 2009-05-03T14:00:39Z, or - for none'
@@ -99,6 +108,6 @@ complete -c ssign -n '__ssign_command carry' -l max-messages -x -d 'Refuses a lo
 complete -c ssign -n '__ssign_command carry' -l help -s h -d 'Print help'
 complete -c ssign -n __ssign_command -a explain -d 'Explains a refusal or a word of the output'
 complete -c ssign -n '__ssign_command explain' -l help -s h -d 'Print help'
-complete -c ssign -n '__ssign_command explain' -a 'F1 F2 F3 F4 F5 F9 A1 A2 A3 A4 C1 C2 C3 C4 V1 E1 E2 W1 W2 P1 P2 O1 O2 O3 O6 O7 O10 verified unverified missing unannounced session ok gap lost hole blocks tail tally unlisted refused spoilt unlisted-count refused-count spoilt-count torn end joined disputed incomplete malformed untrusted unaccepted absent plain unparsed signature certificate count want seal payload trust yes M1 M2 M3 M4 M5 M6 M7 M8 M9 M10 M11 M12 S1 S2 S3 S4 S5 S6 S7 S8 S9'
+complete -c ssign -n '__ssign_command explain' -a 'F1 F2 F3 F4 F5 F9 A1 A2 A3 A4 C1 C2 C3 C4 C5 C6 V1 E1 E2 W1 W2 P1 P2 O1 O2 O3 O6 O7 O8 O9 O10 verified unverified missing unannounced session ok gap lost hole blocks tail tally unlisted refused spoilt unlisted-count refused-count spoilt-count torn end joined disputed incomplete malformed untrusted unaccepted absent plain unparsed signature certificate count want seal payload trust yes M1 M2 M3 M4 M5 M6 M7 M8 M9 M10 M11 M12 S1 S2 S3 S4 S5 S6 S7 S8 S9'
 complete -c ssign -n __ssign_command -a help -d 'Prints the help of a command'
 complete -c ssign -n '__ssign_command help' -a 'review questions extract inspect plan sign counters carry explain'

@@ -42,9 +42,11 @@ TUNED = {"GLIBC_TUNABLES": "glibc.cpu.x86_rep_movsb_threshold=1000000000:glibc.c
 ROOM, ROOM_FOR_EACH = 1 << 19, 32
 # a run that takes more seconds hangs, however busy the machine is
 PATIENCE = 300
-COMMANDS = REVIEW, WHOLE, KEPT, TALLY, EXTRACT, UNLISTED, QUESTIONS, ONCE, OBJECTS, INSPECT, PLAN, SIGN, COUNTERS, CARRY = (
+COMMANDS = (REVIEW, WHOLE, KEPT, TALLY, EXTRACT, UNLISTED, QUESTIONS, ONCE, OBJECTS, INSPECT, PLAN, AHEAD, RESUMED, SIGN, COUNTERS,
+            CARRY) = (
     "review", "review --whole", "review --counters", "review --tally", "extract", "extract --unlisted", "questions",
-    "questions --once", "questions --once --json", "inspect", "plan", "sign", "counters", "carry")
+    "questions --once", "questions --once --json", "inspect", "plan", "plan --ahead", "plan --ahead --resume", "sign", "counters",
+    "carry")
 
 # each shape, how large its smaller input is, the commands whose steps are counted, and those of which the rest is
 SHAPES = [
@@ -95,13 +97,15 @@ SHAPES = [
     (logs.pieces, 3000, [REVIEW], [INSPECT]),
     (logs.beside, 3000, [REVIEW], [QUESTIONS]),
     (logs.long_sign, 50_000, [REVIEW], [QUESTIONS]),
-    (logs.sent, 900, [PLAN, SIGN], []),
+    (logs.sent, 900, [PLAN, AHEAD, SIGN], []),
     (logs.sent_one_by_one, 900, [SIGN], [PLAN]),
     (logs.sent_equal, 900, [], [SIGN]),
-    (logs.sent_in_groups, 1920, [SIGN], [PLAN]),
+    (logs.sent_in_groups, 1920, [SIGN], [PLAN, AHEAD]),
     (logs.sent_in_ranges, 1920, [], [PLAN]),
     (logs.sent_often, 900, [], [SIGN]),
     (logs.sent_payload, 900, [SIGN], [PLAN]),
+    (logs.sent_on, 900, [RESUMED], []),
+    (logs.sent_on_in_groups, 960, [RESUMED], []),
     (logs.yes_lines, 6000, [REVIEW], []),
     (logs.yes_rising, 12_000, [], [REVIEW]),
     (logs.yes_falling, 12_000, [], [REVIEW]),
@@ -253,7 +257,7 @@ class Bench:
         if command == SIGN:
             wants = run([self.program, PLAN] + words, log)[1].splitlines()
             lines += [b"seal " + line[5:] + b" AAAA" for line in wants]
-        if command == KEPT:
+        if command in (KEPT, RESUMED):
             with open(log + ".counters", "wb") as file:
                 file.writelines(line + b"\n" for line in made.counters)
             words = [log + ".counters", *words]
@@ -282,7 +286,7 @@ class Bench:
 
     def empty(self, command):
         """Counts what a command takes without an input, and gives the fault of what it says."""
-        made = logs.sending(0, 1) if command in (PLAN, SIGN) else logs.nothing()
+        made = logs.sending(0, 1) if command in (PLAN, AHEAD, RESUMED, SIGN) else logs.nothing()
         counts, fault = self.counts(made, "empty." + command, [(command, False)], [command])[command, False]
         # the most that is taken at one time may be taken at another time than with an input
         self.bases[command] = {**counts, "peak": 0}

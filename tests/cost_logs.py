@@ -56,6 +56,11 @@ class Input:
         """The same, up to the counters."""
         return self.say("review --counters", status, {**words, "end": 1})
 
+    def ahead(self, groups):
+        """The counters of so many groups, and of the blocks, of a plan that looks ahead."""
+        for command in ("plan --ahead", "plan --ahead --resume"):
+            self.say(command, 0, {"count": 1 + groups})
+
     def tally(self, status, **words):
         """The lines of a tally."""
         return self.say("review --tally", status, {**words, **{"%s-count" % it: 1 for it in ("unlisted", "refused", "spoilt")}, "end": 1})
@@ -554,6 +559,8 @@ def sending(n, wants, *options, payload=PAYLOAD, pri=13, text=message):
     for i in range(n):
         made.put(text(i, 70).replace(b"<13>", b"<%d>" % (i * 7919 % 192 if pri == "each" else pri), 1))
     made.say("plan", 0, {"want": wants})
+    made.keep(0, names=b"- - -")
+    made.ahead(min(n, 192 if pri == "each" else 1))
     times = int(options[options.index("--copies") + 1]) if "--copies" in options else 1
     return made.say("sign", 0, n + wants * times)
 
@@ -586,6 +593,24 @@ def sent_often(n):
 def sent_payload(n):
     """A payload in fragments of one octet."""
     return sending(10, n + 4 + 1, "--frag", "1", payload=b"- U " + b64(b"x" * (3 * n // 4)))
+
+
+def sent_on(n):
+    """Counters at which an originator goes on: many of its session, and of others, that count the same."""
+    made = sending(10, 2)
+    for i in range(n):
+        made.keep(1 + i * 4241 % n, names=b"- - -", group=(0, 0))
+        made.keep(i * 4241 % n, names=b"- - -")
+        made.keep(9, rsid=i, names=b"h - -")
+    return made
+
+
+def sent_on_in_groups(n):
+    """Many counters of each of 192 groups, in falling order."""
+    made = sending(192, 193, "--groups", "pri", pri="each")
+    for i in reversed(range(n)):
+        made.keep(1 + i * 4241 % n, names=b"- - -", group=(1, i % 192))
+    return made
 
 
 # ---- answers

@@ -24,13 +24,14 @@ TEST_CRATES = {
     "ss_payload": "test_rows",
     "ss_block": "test_rows",
     "ss_origin": "test_origins",
+    "ss_wrap": "test_origins",
     "ss_review": "test_runs",
     "ss_report": "test_runs",
     "ss_answers": "test_signings",
     "ss_signing": "test_signings",
 }
 # libraries of laws alone, which have no example
-LAW_CRATES = {"ss_carried", "ss_nights", "ss_parts"}
+LAW_CRATES = {"ss_ahead", "ss_carried", "ss_nights", "ss_parts"}
 
 
 def lines_of(*path):

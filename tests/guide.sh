@@ -37,7 +37,7 @@ without_case() {
 }
 
 # codes that the program never prints: explained where they are asked about, and listed nowhere
-unprinted=(F6 F7 F8 O4 O5 O8 O9 V2 M13)
+unprinted=(F6 F7 F8 O4 O5 V2 M13)
 for code in "${unprinted[@]}"; do
     run explain "$code" </dev/null
     expect "$code is explained" 0 'SOME TEXT' ''

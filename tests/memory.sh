@@ -1,7 +1,7 @@
 #!/usr/bin/env bash
-# Each allocation of a test is refused in turn. The call that wanted it answers want of memory. It is made again, on the
-# same reader, joiner, reviewer or originator if it is a call on one, and has to give what its row says. A run is made
-# again, once nothing was written, and has to write what it writes with memory.
+# Each allocation of a test is refused in turn. The call that wanted it reports that it is out of memory. It is made
+# again, on the same reader, joiner, reviewer or originator if it is a call on one, and has to give what its row says. A
+# run is made again, once nothing was written, and has to write what it writes with memory.
 # shellcheck source=tests/lib.sh
 . "$(dirname -- "$0")/lib.sh"
 

@@ -4,7 +4,7 @@
     mutants.py apply          each edit can be applied: one check for each crate, and one for mutants/layers/
     mutants.py try [WORD]     the edits of mutants/ whose path holds WORD, all without one, tried on copies of the crates
 
-The last line is `N passed, M failed`; the status is 0 only where M is 0. docs/GATE.md says how an edit is written.
+The last line is `N passed, M failed`; the status is 0 only where M is 0. mutants/README.md says how an edit is written.
 
 What a crate says to an edit is found by `rt must-fail`, on a copy of the crate that has the edits of mutants/ in place
 of its own. One lane a processor works at that, as many as there is memory for, or as many as RT_JOBS says.

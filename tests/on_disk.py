@@ -38,6 +38,13 @@ for it in ("fsync", "fdatasync"):
 for it in ("rename", "replace", "link"):
     noted(it, lambda old, new, **more: [path_of(old), path_of(new)])
 noted("write", lambda number, octets: [path_of(number) if number != 1 else "standard output"])
+import subprocess
+started = subprocess.Popen.__init__
+def start(self, words, *more, **named):
+    notes.write(json.dumps(["start", " ".join(words[1:3])]) + "\n")
+    notes.flush()
+    started(self, words, *more, **named)
+subprocess.Popen.__init__ = start
 sys.path.insert(0, os.path.dirname(os.path.realpath(sys.argv[1])))
 sys.argv[0:1] = []
 from ssign_keys.cli import main
@@ -105,6 +112,26 @@ def try_seal(tool: str, ssign: str, keys: str, folder: str) -> None:
             faults.append("seal printed no seals")
 
 
+def try_session(tool: str, ssign: str, keys: str, folder: str) -> None:
+    """A session that goes on: its counters are on the disk before a program runs that signs, and before anything is printed."""
+    state = os.path.join(folder, "session-state")
+    log = frame(b"<13>1 - - - - - - one")
+    for night, option in enumerate((["--new-session", "--rsid=7"], []), 1):
+        found = calls(tool, ["sign", "--ssign", ssign, "--key", os.path.join(keys, "private-key.pem"), "--state", state, *option, "-"], "0", log)
+        look(f"sign, night {night}", found, [os.path.join(state, it) for it in ("session", "counters-7")])
+        if not any(it == ["write", "standard output"] for it in found):
+            faults.append("sign printed no signed log")
+        # what is to be signed is planned after the counters ahead were counted and are on the disk
+        kinds = [it[0] if it[0] != "start" else it[1] for it in found]
+        counted = kinds.index("plan --ahead")
+        planned = [at for at, it in enumerate(kinds) if it.startswith("plan ") and at > counted]
+        named = [at for at, it in enumerate(found) if it[0] == "replace" and it[2] == os.path.join(state, "session")]
+        synced = [at for at, it in enumerate(found) if it == ["fsync", state]]
+        if not planned or len(planned) != len(named) or not all(
+                any(name < sync < plan for sync in synced) for name, plan in zip(named, planned)):
+            faults.append(f"sign, night {night}: what is planned at {planned} has its session named at {named}, and synced at {synced}")
+
+
 def try_rotated(tool: str, ssign: str, keys: str, folder: str) -> Tuple[str, str]:
     """A log that is signed, with a message that is set aside. Gives the signed log and its counters."""
     log = os.path.join(folder, "night.log")
@@ -146,6 +173,7 @@ def main(tool: str, ssign: str, keys: str) -> int:
     with tempfile.TemporaryDirectory() as folder:
         folder = os.path.realpath(folder)
         try_seal(tool, ssign, keys, folder)
+        try_session(tool, ssign, keys, folder)
         log, counters = try_rotated(tool, ssign, keys, folder)
         try_manifest(tool, ssign, log, counters, folder)
     for fault in faults:

@@ -20,7 +20,7 @@ import sys
 from collections import Counter
 
 PAGES = ("README.md", "CONTRIBUTING.md", "SECURITY.md", "docs/*.md", "docs/decisions/*.md", "tests/README.md",
-         "examples/README.md", "crates/*/README.md")
+         "mutants/README.md", "examples/README.md", "crates/*/README.md")
 GLOSSARY = "docs/glossary.md"
 # the glossary's words for these: out of memory, reports, is refused or reported as, because
 GIVEN_UP = ("want of memory", "says of", "is told as", "has it that")

@@ -6,8 +6,8 @@
 LIBRARY is made of tests/refuse.c; without it there are only runs with memory. First a run with memory has to say what
 another program says: review_runs.py, kinds.py, signing_model.py, or what was worked out by hand. Then its first
 allocation is refused, its second one, and so on, until a run has none left to refuse. Each of these runs has to end
-with status 2, nothing on standard output and one line on standard error, a code for want of memory that belongs to
-the command, and the codes have to come in the order of the run. A review that does without some list may also say all
+with status 2, nothing on standard output and one line on standard error. That is a code of the command for being out
+of memory. The codes have to come in the order of the run. A review that does without some list may also say all
 that it says with memory, and a run that is refused anyway its own refusal. Of logs whose output is longer than a
 buffer some allocations are refused, the last ones among them. The last line is `refusals: N passed, M failed`.
 """
@@ -42,8 +42,8 @@ CODES = {
     "counters": "(W2 )+(A4 )*((F4|V1|W2) )*",
     "questions": "(W2 )*((F4|V1|W2) )*",
     "inspect": "(W2 )*((F4|W2) )*",
-    "plan": "(W2 )*((F4|O10|W2) )*((F4|O10 p|W2) )*((O10|W2) )*",
-    "sign": "(W2 )*(A4 )*((F4|O10|W2) )*((F4|O10 p|W2) )*((O10|W2) )*",
+    "plan": "(W2 )*(C4 )*((F4|O10|W2) )*((F4|O10 p|W2) )*((O10|W2) )*",
+    "sign": "(W2 )*(C4 )*(A4 )*((F4|O10|W2) )*((F4|O10 p|W2) )*((O10|W2) )*",
     "explain": "(W2 )*",
 }
 # those that do without a list that they couldn't make as long as it will be
@@ -52,7 +52,8 @@ DO_WITHOUT = ("review", "extract", "carry", "counters")
 WORDS_ALONE = 80
 BUFFER = 65536
 
-# `wanted` is all that a run says, or its status; `some` is whether some allocations are refused alone
+# `wanted` is all that a run says, or its status; `some` is whether some allocations are refused alone; `counters` are those up
+# to which a log is reviewed, and those at which an originator goes on
 Case = collections.namedtuple("Case", "name words log wanted answers some counters", defaults=[None, False, None])
 Said = collections.namedtuple("Said", "status out err")
 
@@ -287,9 +288,14 @@ PAYLOAD = ["--payload", P1.decode(), "--rsid", "1"]
 TOLD = [b"<%d>1 - - - - - - %d" % (pri, i) for i, pri in enumerate((13, 14, 13, 110, 191, 0))]
 
 
-def modelled(command, words, octets):
-    return subprocess.run([sys.executable, "-B", os.path.join(HERE, "signing_model.py"), command, *words], input=octets,
-                          capture_output=True, check=True).stdout
+def modelled(command, words, octets, counters=None):
+    """What the model writes; with counters, as it goes on there."""
+    with tempfile.NamedTemporaryFile() as file:
+        file.write(counters or b"")
+        file.flush()
+        words = [*words, *(["--resume", file.name] if counters else [])]
+        return subprocess.run([sys.executable, "-B", os.path.join(HERE, "signing_model.py"), command, *words], input=octets,
+                              capture_output=True, check=True).stdout
 
 
 def seals_of(plan):
@@ -316,6 +322,36 @@ def signings():
     yield Case("plan: lines", ["plan", "--lines", *PAYLOAD], lines, Said(0, plan, b""))
     yield Case("sign: lines", ["sign", "--lines", *PAYLOAD], lines, Said(0, modelled("sign", PAYLOAD, octets), b""),
                seals_of(plan))
+
+
+# those of the session, and of others; one twice, and in any order
+STARTS = joined(["count - - - 1 0 0 7", "count - - - 1 3", "count h s - 1 1 13 5", "count - - - 1 9", "count - - - 1 0 0 8"])
+SPENT = ["count - - - 1 10000000000", "count - - - 1 0 0 10000000000"]
+
+
+def resumed_signings():
+    """Originators that go on, the counters with which they end, and refusals of their counters."""
+    octets = b"".join(map(frame, TOLD))
+    by_pri = joined(["count - - - 1 3", *("count - - - 1 1 %d 5" % pri for pri in range(191, 0, -10))])
+    for name, words, log, counters in (
+            ("one group", [], octets, STARTS), ("no message", [], b"", STARTS), ("new", [], octets, None),
+            ("a group for each PRI", ["--groups", "pri", "--count", "1"], octets, by_pri)):
+        plan, signed, ahead = (modelled(command, [*PAYLOAD, *words, *flags], log, counters)
+                               for command, flags in (("plan", []), ("sign", []), ("plan", ["--ahead"])))
+        yield Case("plan --ahead: " + name, ["plan", "--ahead", *PAYLOAD, *words], log, Said(0, ahead, b""), counters=counters)
+        if counters:
+            yield Case("plan --resume: " + name, ["plan", *PAYLOAD, *words], log, Said(0, plan, b""), counters=counters)
+            yield Case("sign --resume: " + name, ["sign", *PAYLOAD, *words], log, Said(0, signed, b""), seals_of(plan), counters=counters)
+    for name, words, lines, code in (
+            ("a line that is none", [], ["count - - - 1 3", "count"], "C1 2"),
+            ("none of the session", [], ["count - - - 1 0 0 7", "count - - - 2 7"], "C5"),
+            ("another group", [], ["count - - - 1 3", "count - - - 1 1 13 1"], "C6 2"),
+            ("no number left", [], SPENT, "O8 0"), ("no block left", ["--count", "1"], SPENT[:1], "O9 0")):
+        for command in (["plan"], ["plan", "--ahead"], ["sign"]):
+            yield Case("%s --resume: %s" % (" ".join(command), name), [*command, *PAYLOAD, *words], octets, refused(code),
+                       b"" if command == ["sign"] else None, counters=joined(lines))
+    yield Case("plan --resume: no block left at the end", ["plan", *PAYLOAD], octets, refused("O9"), counters=joined(SPENT[:1]))
+    yield Case("plan --resume: a folder", ["plan", "--resume", HERE, *PAYLOAD], octets, refused("C2"))
 
 
 def refused_signings():
@@ -406,7 +442,8 @@ class Runner:
                 with open(path, "wb") as file:
                     file.write(octets)
         words = case.words + ([] if case.answers is None else ["--answers", answers])
-        words += [] if case.counters is None else ["--counters", counters]
+        option = "--resume" if case.words and case.words[0] in ("plan", "sign") else "--counters"
+        words += [] if case.counters is None else [option, counters]
         clean, count = self.run(words, log, 0)
         wanted = clean._replace(status=case.wanted) if isinstance(case.wanted, int) else case.wanted
         faults = ["" if clean == wanted else "it says %r, and not %r" % (clean, wanted)]
@@ -459,8 +496,8 @@ def main():
     parser.add_argument("library", nargs="?", default="")
     parser.add_argument("--show", action="store_true")
     given = parser.parse_args()
-    cases = [case for make in (reviews, kept_reviews, tallies, extracts, inspections, answers, signings, refused_signings, others,
-                               long_outputs)
+    cases = [case for make in (reviews, kept_reviews, tallies, extracts, inspections, answers, signings, resumed_signings,
+                               refused_signings, others, long_outputs)
              for case in make()]
     first = cases[0].wanted.out.decode().splitlines()
     for word in WORDS:

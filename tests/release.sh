@@ -1,9 +1,9 @@
 #!/usr/bin/env bash
 # The recorded build of release/: its text is whole, it is of the sources at hand, it was built by the toolchain that
 # docs/PROOFS.md names, and it has the SHA-256 that the text gives. The program that was built here has to be the same,
-# octet for octet, whichever toolchain built it: where CI is set another one fails, since what is published has been
-# compared. Elsewhere another one is warned of where the toolchain is the recorded one, since what was proved here is the
-# one here; another toolchain may well make another program, so there it is only said that they differ.
+# octet for octet, whichever toolchain built it. If CI is set, another one fails, because what is published has to be
+# compared. Elsewhere another one gives a warning if the toolchain is the recorded one, because what was proved here is
+# the one here. Another toolchain may well make another program, so then it is only reported that they differ.
 # shellcheck source=tests/lib.sh
 . "$(dirname -- "$0")/lib.sh"
 need_program

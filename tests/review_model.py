@@ -154,7 +154,7 @@ class Log:
         octets = {(block.index + j, octet) for block in self.certificates(session) for j, octet in enumerate(block.fragment)}
         if len(totals) > 1 or len({index for index, _ in octets}) < len(octets):
             return "disputed", None
-        # no index is past the total, since no fragment of a block ends behind it
+        # no index is past the total, because no fragment of a block ends after it
         if not totals or len(octets) < min(totals):
             return "incomplete", None
         joined = bytes(octet for _, octet in sorted(octets))

@@ -1,6 +1,9 @@
 """Stops `ssign-keys rotated` at each step in turn, by a kill or by a full disk, and lets the next run go on.
 
-    rotation_faults.py SSIGN-KEYS SSIGN KEYS [all]      with `all` each step by both, else by one after the other in turn
+    rotation_faults.py SSIGN-KEYS SSIGN KEYS [all] [one-session]
+
+With `all` each step is stopped by both, else by one after the other in turn; with `one-session` the log is a night of a session
+that goes on.
 
 A step is a call that writes, names or removes a file, or has it stand on the disk. After each stop the next run has to
 leave what a run without a stop leaves: each log signed once, no RSID twice, a manifest that is clean, nothing that waits.
@@ -13,7 +16,7 @@ import os
 import subprocess
 import sys
 import tempfile
-from typing import List, Tuple
+from typing import List, Sequence, Tuple
 
 # Runs ssign-keys with the calls counted. At the step STOP it is killed, or the call fails for want of room.
 STOPPED = r"""
@@ -43,14 +46,16 @@ if kind == "count":
     print(count)
 os._exit(status)
 """
+ONE_SESSION = "one-session"
 LOGS = {"night.log": ["<13>1 - h a p m - one", "no message of RFC 5424"]}
 
 
 class Trial:
     """A folder with a state and two logs."""
 
-    def __init__(self, keys_program: str, ssign: str, keys: str, folder: str) -> None:
+    def __init__(self, keys_program: str, ssign: str, keys: str, folder: str, options: Sequence[str]) -> None:
         """Makes the logs."""
+        self._options = options
         self._program, self._ssign, self._keys, self.folder = keys_program, ssign, keys, folder
         os.makedirs(self.path("state"))
         os.makedirs(self.path("logs"))
@@ -67,7 +72,7 @@ class Trial:
     def run(self, stop: int, kind: str) -> Tuple[int, str, str]:
         """Signs the logs, and stops at a step."""
         words = ["rotated", "--ssign", self._ssign, "--keys", self._keys, "--state", self.path("state"), "--host", "h",
-                 "--wait", "0", *(self.path("logs", it) for it in LOGS)]
+                 "--wait", "0", *self._options, *(self.path("logs", it) for it in LOGS)]
         done = subprocess.run([sys.executable, "-B", "-c", STOPPED, str(stop), kind, self._program, *words],
                               stdin=subprocess.DEVNULL, capture_output=True, text=True, timeout=300)
         return done.returncode, done.stdout, done.stderr
@@ -93,7 +98,8 @@ class Trial:
         if here != wanted:
             found.append(f"in the folder of the logs are {here}")
         kept = sorted(os.listdir(self.path("state", "kept")))
-        if kept != sorted(["manifest.jsonl", *(f"{what}-{it}" for what in ("report", "counters") for it in rsids)]):
+        labels = [f"{it['rsid']}-{it['entry']}" if self._options else it["rsid"] for it in entries]
+        if kept != sorted(["manifest.jsonl", *(f"{what}-{it}" for what in ("report", "counters") for it in labels)]):
             found.append(f"in the folder of what is kept are {kept}")
         check = subprocess.run([self._program, "manifest", "check", self.path("state", "kept", "manifest.jsonl"),
                                 self.path("logs"), "--logs", "*.frames"], capture_output=True, text=True, timeout=300)
@@ -102,10 +108,10 @@ class Trial:
         return found
 
 
-def stopped(keys_program: str, ssign: str, keys: str, stop: int, kind: str) -> List[str]:
+def stopped(keys_program: str, ssign: str, keys: str, options: Sequence[str], stop: int, kind: str) -> List[str]:
     """What is wrong where a run is stopped at a step."""
     with tempfile.TemporaryDirectory() as folder:
-        trial = Trial(keys_program, ssign, keys, folder)
+        trial = Trial(keys_program, ssign, keys, folder, options)
         status, _, said = trial.run(stop, kind)
         found = []
         if kind == "kill" and status != -9:
@@ -120,17 +126,18 @@ def stopped(keys_program: str, ssign: str, keys: str, stop: int, kind: str) -> L
         return [f"{kind} at step {stop}: {it}" for it in found]
 
 
-def main(keys_program: str, ssign: str, keys: str, which: str = "") -> int:
+def main(keys_program: str, ssign: str, keys: str, *which: str) -> int:
     """Tries each step."""
+    options = [f"--{ONE_SESSION}"] if ONE_SESSION in which else []
     with tempfile.TemporaryDirectory() as folder:
-        trial = Trial(keys_program, ssign, keys, folder)
+        trial = Trial(keys_program, ssign, keys, folder, options)
         status, out, said = trial.run(0, "count")
         faults = trial.faults() if status == 1 else [f"a run without a stop ended with {status}: {said}"]
         steps = int(out.split()[-1]) if status == 1 else 0
     tried = 0
     with concurrent.futures.ThreadPoolExecutor(os.cpu_count() or 1) as pool:
-        trials = [pool.submit(stopped, keys_program, ssign, keys, stop, kind)
-                  for stop in range(1, steps + 1) for kind in ("kill", "full") if which or (kind == "kill") == (stop % 2 == 0)]
+        trials = [pool.submit(stopped, keys_program, ssign, keys, options, stop, kind)
+                  for stop in range(1, steps + 1) for kind in ("kill", "full") if "all" in which or (kind == "kill") == (stop % 2 == 0)]
         for it in trials:
             faults += it.result()
             tried += 1

@@ -134,7 +134,7 @@ expect 'a plan has no answers' 2 '' 'SOME TEXT'
 for command in plan sign; do
     run "$command" --help </dev/null
     expect "$command --help" 0 'SOME TEXT' ''
-    for option in payload rsid stamp pri host app procid msgid ver groups count frag copies \
+    for option in resume payload rsid stamp pri host app procid msgid ver groups count frag copies \
         lines max-len max-messages; do
         holds "$command --help has --$option" grep -q -- "--$option " "$scratch/out"
     done
@@ -251,20 +251,121 @@ holds 'it is a mistake' grep -q '^error: ' "$scratch/err"
 run sign "${missing[@]}" "${given[@]}" --stamp x <"$log"
 expect 'P2 is told before A2' 2 '' 'ssign: P2'
 run sign "${missing[@]}" "${given[@]}" <"$log"
-expect 'A2 is told before F1' 2 '' 'ssign: A2'
+expect 'A2 comes before F1' 2 '' 'ssign: A2'
 printf 'want S0VZ\n' >"$seals"
 run sign --answers "$seals" "${given[@]}" <"$log"
 expect 'A1 is told before F1' 2 '' 'ssign: A1 1'
 run sign --answers "$seals" "${given[@]}" <"$root"
 expect 'A1 is told before F3' 2 '' 'ssign: A1 1'
 
+# ---- counters: where an originator goes on
+counters=$scratch/counters
+session='h s - 1'
+going=(--resume "$counters" "${given[@]}" "${header[@]}")
+: >"$log"
+run plan --ahead "${given[@]}" "${header[@]}" <"$log"
+expect 'a new session ends at GBC 0' 0 "count $session 0" ''
+printf 'count %s 0\n' "$session" >"$counters"
+for command in plan sign; do
+    run "$command" "${going[@]}" <"$log"
+    expect "$command: --resume over an empty log writes nothing" 0 '' ''
+done
+run plan --ahead "${going[@]}" <"$log"
+expect 'plan --ahead over an empty log writes the same counters' 0 "count $session 0" ''
+frame '<13>1 - - - - - - a' >"$log"
+printf '%s\n' "count $session 7" "count $session 0 0 5" "count $session 0 0 4" "count $session 6" \
+    'count h s - 2 0 0 90' 'count h s - 2 99' 'count h2 s - 1 1 13 80' "count $session 0 0 1" >"$counters"
+run plan --ahead "${going[@]}" <"$log"
+expect 'the greatest counter of the session counts' 0 "count $session 8
+count $session 0 0 6" ''
+run plan "${going[@]}" <"$log"
+seal <"$scratch/out" >"$seals"
+run sign --answers "$seals" "${going[@]}" <"$log"
+holds 'the block has these numbers' grep -q ' GBC="7" FMN="5" CNT="1" ' "$scratch/out"
+holds 'and there is no certificate block' test "$(grep -c ssign-cert "$scratch/out")" = 0
+run sign "${going[@]}" <"$log"
+expect 'without answers it is refused at its end' 2 '' 'ssign: O6'
+run plan --ahead --ahead "${given[@]}" <"$log"
+expect '--ahead twice is a mistake' 2 '' 'SOME TEXT'
+run sign --ahead "${given[@]}" <"$log"
+expect 'sign has no --ahead' 2 '' 'SOME TEXT'
+
+# ---- counters that are refused: `rejected WHAT COMPLAINT OPTION..` by plan, plan --ahead and sign
+rejected() {
+    local what=$1 complaint=$2 command
+    shift 2
+    for command in plan 'plan --ahead' sign; do
+        # shellcheck disable=SC2086 # a command and a flag
+        run $command "$@" <"$log"
+        expect "$command: $what" 2 '' "$complaint"
+    done
+}
+rejected 'a counters file that is not there' 'ssign: C2' --resume "$scratch/no such file" "${given[@]}"
+rejected 'a folder for counters' 'ssign: C2' --resume "$root" "${given[@]}"
+printf 'count %s 1\ncount %s 01\n' "$session" "$session" >"$counters"
+rejected 'a line that is no counter' 'ssign: C1 2' "${going[@]}"
+: >"$counters"
+rejected 'no counter at all' 'ssign: C5' "${going[@]}"
+printf '%s\n' "count $session 0 0 5" "count h s - 2 7" 'count h - - 1 7' 'count - s - 1 7' 'count h s 1 1 7' >"$counters"
+rejected 'no counter of the blocks of the session' 'ssign: C5' "${going[@]}"
+printf '%s\n' 'count h s - 2 1 13 5' "count $session 0 0 5" "count $session 1 13 5" "count $session 2 191 5" \
+    "count $session 7" >"$counters"
+rejected 'another SG' 'ssign: C6 3' "${going[@]}"
+rejected 'SG 0, and groups by PRI' 'ssign: C6 2' --groups pri "${going[@]}"
+sed -i 2,3d "$counters"
+rejected 'ranges, and one group' 'ssign: C6 2' "${going[@]}"
+printf '%s\n' "count $session 7" "count $session 0 1 5" >"$counters"
+rejected 'one group with another SPRI' 'ssign: C6 2' "${going[@]}"
+printf '%s\n' "count $session 7" "count $session 2 100 5" "count $session 2 99 5" >"$counters"
+rejected 'an SPRI that is no bound' 'ssign: C6 3' --groups 100,191 "${going[@]}"
+printf '%s\n' "count $session 7" "count $session 3 100 5" >"$counters"
+rejected 'SG 3' 'ssign: C6 2' --groups pri "${going[@]}"
+
+# ---- counters near their end
+printf '%s\n' "count $session 7" "count $session 0 0 9999999999" >"$counters"
+run plan --ahead "${going[@]}" <"$log"
+expect 'the last number is given' 0 "count $session 8
+count $session 0 0 10000000000" ''
+{ frame '<13>1 - - - - - - a'; frame '<13>1 - - - - - - b'; } >"$log"
+rejected 'a message after the last number' 'ssign: O8 1' "${going[@]}"
+printf '%s\n' "count $session 9999999999" >"$counters"
+run plan --ahead "${going[@]}" <"$log"
+expect 'the last block is sent' 0 "count $session 10000000000
+count $session 0 0 3" ''
+printf '%s\n' "count $session 10000000000" >"$counters"
+rejected 'a block after the last one, at the end' 'ssign: O9' "${going[@]}"
+rejected 'a block after the last one, at a message' 'ssign: O9 0' --count 1 "${going[@]}"
+run plan --ahead "${going[@]}" </dev/null
+expect 'spent counters are kept' 0 "count $session 10000000000" ''
+
+# ---- what comes first: the command line, its texts, the counters, the answers, the log, the originator
+printf 'x' >"$log"
+: >"$counters"
+for command in plan 'plan --ahead' "sign --answers $seals.not-there"; do
+    # shellcheck disable=SC2086 # a command and its options
+    {
+        run $command --pri 192 --stamp x "${going[@]}" <"$log"
+        holds "${command%%.*}: a mistake comes before P2" grep -q '^error: ' "$scratch/err"
+        run $command --stamp x "${going[@]}" <"$log"
+        expect "${command%%.*}: P2 comes before C5" 2 '' 'ssign: P2'
+        run $command "${going[@]}" <"$log"
+        expect "${command%%.*}: C5 comes before A2 and F1" 2 '' 'ssign: C5'
+    }
+done
+printf '%s\n' "count $session 10000000000" >"$counters"
+run sign --answers "$seals.not-there" "${going[@]}" <"$log"
+expect 'A2 comes before F1' 2 '' 'ssign: A2'
+frame '<13>1 - - - - - - a' >"$log"
+printf '3 ab' >>"$log"
+rejected 'P1 comes before O9' 'ssign: P1 22' "${going[@]}"
+
 # ---- a full device
 : >"$scratch/out"
-for command in plan "sign --answers $scratch/all --frag 20 --count 2"; do
+for command in plan 'plan --ahead' "sign --answers $scratch/all --frag 20 --count 2"; do
     # shellcheck disable=SC2086 # a command and its options
     timeout "$patience" "$program" $command "${given[@]}" </dev/null >/dev/full 2>"$scratch/err"
     status=$?
-    expect "${command%% *}: a full device" 2 '' 'ssign: W1'
+    expect "${command%% --answers*}: a full device" 2 '' 'ssign: W1'
 done
 
 # ---- 100,000 messages, signed and reviewed

@@ -142,6 +142,19 @@ refused 'sign: a line that is no answer' 'A1 1' "The answers file is --answers \
 refused 'no such file' 'A2' 'The answers file is --answers "no\n\u{1b}[31m file".' extract --answers $'no\n\e[31m file'
 refused 'a folder' 'A2' 'The answers file is --answers "/".' sign "${given[@]}" --answers /
 
+# ---- the counters file of an originator that goes on
+printf 'count - - - 1 3\ncount - - - 1 1 13 5\n' >"$scratch/counters"
+for command in plan 'plan --ahead' sign; do
+    # shellcheck disable=SC2086 # a command and a flag
+    {
+        refused "$command: another group" 'C6 2' "The counters file is --resume \"$scratch/counters\"." \
+            $command "${given[@]}" --resume "$scratch/counters"
+        refused "$command: no counter of the session" 'C5' "The counters file is --resume \"$scratch/counters\"." \
+            $command "${given[@]}" --host h --resume "$scratch/counters"
+        refused "$command: a folder of counters" 'C2' 'The counters file is --resume "/".' $command "${given[@]}" --resume /
+    }
+done
+
 # ---- the texts of options
 out_of_form() {
     local option=$1 text=$2 printed=$3 hint=$4 command

@@ -241,6 +241,9 @@ def fish_command(program: Program, command: Command) -> List[str]:
         made.append(f"complete -c {name} -n {condition} -F")
     elif argument == "folders":
         made.append(f"complete -c {name} -n {condition} -a '(__fish_complete_directories)'")
+        # fish takes the second value of an option for an argument, which is offered folders alone
+        made += [f"complete -c {name} -n {fish_quoted(f'{function} {command.name}; and {function}_second {it.name}')} -F"
+                 for it in command.options if len(it.values) == 2 and kind(it.values[1]) == "files"]
     elif argument == "codes":
         made.append(f"complete -c {name} -n {condition} -a {fish_quoted(' '.join(program.codes))}")
     return made
@@ -256,6 +259,12 @@ function {function}
     else
         not set -q words[2]
     end
+end
+
+# {function}_second OPTION: whether the second value of this option is next.
+function {function}_second
+    set -l words (commandline -opc)
+    set -q words[3]; and test "$words[-2]" = "$argv[1]"
 end
 
 complete -c {program} -f

@@ -7,7 +7,7 @@ from typing import List
 from ssign_keys.faults import Fault
 from ssign_keys.numbers import number
 from ssign_keys.words import shown_name
-from ssign_keys.workplace import Workplace, say
+from ssign_keys.workplace import Workplace, notify
 
 from .part import review_part, trust_of
 from .results import Results
@@ -48,7 +48,7 @@ def run(arguments: argparse.Namespace) -> int:
             try:
                 review_part(results, settings, trust, part, workplace)
             except (Fault, OSError) as fault:
-                say(f"ssign-archive: {shown_name(part)}: {fault}")
+                notify(f"ssign-archive: {shown_name(part)}: {fault}")
                 status = 2
     return status
 

@@ -39,7 +39,7 @@ class Spot:
 
 @dataclass(frozen=True)
 class Finding:
-    """Something that was found. The first word of `what` says of which kind it is."""
+    """Something that was found. The first word of `what` is its kind."""
 
     part: str
     what: str

@@ -9,7 +9,7 @@ from ssign_keys.faults import Fault
 from ssign_keys.output import batched, write_out
 from ssign_keys.programs import add_log_arguments
 from ssign_keys.words import shown_name
-from ssign_keys.workplace import say
+from ssign_keys.workplace import notify
 
 from .findings import file_findings
 from .messages import DEFAULT_LONGEST
@@ -41,5 +41,5 @@ def run(arguments: argparse.Namespace) -> int:
     write_out(batched(whole.octets for whole in reader.wholes()))
     found = file_findings(os.path.basename(folder), reader.read)
     for it in found:
-        say(f"ssign-archive: {it.text()}")
+        notify(f"ssign-archive: {it.text()}")
     return 0 if not found else 1 if all(it.octet is None or it.why == "torn" for it in reader.read) else 2

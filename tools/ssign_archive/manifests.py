@@ -69,12 +69,15 @@ class Comparison:
         reviewed = self._reviewed(part.name)
         found: List[Found] = []
         entries: List[Entry] = []
+        labels: Dict[Session, str] = {}
         for log in stored:
             entry = names.entry(log)
             if entry is not None and entry not in entries:
                 entries.append(entry)
-                differs = of_review(entry, log.label, reviewed)
-                found += [differs] if differs is not None else []
+                labels.setdefault(entry.session, log.label)
+        for session, label in labels.items():
+            differs = of_review([it for it in entries if it.session == session], label, reviewed)
+            found += [differs] if differs is not None else []
         for it in of_sessions(entries, reviewed):
             label = f"{it.where} in {shown_name(part.name)}"
             self._part_of[label] = part.name
@@ -82,8 +85,8 @@ class Comparison:
         return found
 
     def _reviewed(self, part: str) -> Reviewed:
-        """What the review of a part says of its sessions."""
-        reviewed = Reviewed({}, {})
+        """What the review of a part reports of its sessions."""
+        reviewed = Reviewed({}, {}, {})
         with open(os.path.join(self._results.folder_of(part), "sessions"), "rb") as file:
             for line in file:
                 fields = line.rstrip(b"\n").split(b" ")

@@ -1,4 +1,4 @@
-"""Reviews one part: hands its messages to `ssign review`, and keeps the report with what it says of each file."""
+"""Reviews one part: hands its messages to `ssign review`, and keeps the report with what it reports of each file."""
 from __future__ import annotations
 
 import argparse
@@ -40,7 +40,7 @@ def run(arguments: argparse.Namespace) -> int:
     """Reviews the part. The status is 0 where that was done, whatever was found: the table has it."""
     results = Results(arguments.results)
     settings = results.settings()
-    # argparse makes nothing of a word `--`, also behind another one
+    # argparse makes nothing of a word `--`, also after another one
     part = arguments.part or "--"
     with Workplace() as workplace:
         review_part(results, settings, trust_of(settings), part, workplace)

@@ -55,7 +55,7 @@ class Parts:
         return number
 
     def put(self, number: int, stored: bytes, place: int, is_block: bool) -> None:
-        """Puts a message, with its length or LF, behind those of a part."""
+        """Puts a message, with its length or LF, after those of a part."""
         self.messages[number] += 1
         self.blocks[number] += is_block
         log = self._logs.setdefault(number, bytearray())

@@ -9,7 +9,7 @@ from typing import BinaryIO, Dict, List
 from ssign_keys.faults import Fault
 from ssign_keys.files import reason
 from ssign_keys.words import counted, shown_name
-from ssign_keys.workplace import say
+from ssign_keys.workplace import notify
 
 from . import settings as settings_form
 from .batch import make_batches
@@ -83,12 +83,12 @@ class Preparation:
             if part in self._there:
                 self.left.append(number)
                 if kept.fault:
-                    say(f"ssign-archive: {shown_name(part)} is reviewed again: {kept.fault}")
+                    notify(f"ssign-archive: {shown_name(part)} is reviewed again: {kept.fault}")
 
     def say_done(self) -> None:
         """Says how much was done before."""
         if self.done:
-            say(f"ssign-archive: {counted(len(self.done), 'part')} of {len(self.parts)} done before")
+            notify(f"ssign-archive: {counted(len(self.done), 'part')} of {len(self.parts)} done before")
 
     def _check_archive(self) -> None:
         """Refuses to mix two archives in one folder of results."""

@@ -22,7 +22,7 @@ class Record:
     """What was read of a part, and what the report on it counts."""
 
     settings: str
-    # what tells another answers file of the part, or other counters
+    # what shows that the part has another answers file, or other counters
     given: Dict[str, str]
     files: List[Read]
     # SHA-256 of each of SUMMED

@@ -3,7 +3,7 @@
     settings           what was asked for
     parts              the parts, each ended by a NUL; the number of a part is its place there, from 1
     batches            a line for each job of the review: the numbers of its parts, as a list of JSON
-    joblog             what GNU parallel says of the jobs of the last run
+    joblog             what GNU parallel reports of the jobs of the last run
     reports/PART/      report: what `ssign review` wrote; findings, sessions: the same with files and places;
                        record: what was read, with the SHA-256 of these three; failed: why there is no record
 """

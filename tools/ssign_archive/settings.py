@@ -33,7 +33,7 @@ class Settings:
     program: str
     answers: Optional[str]
     words: Tuple[str, ...]
-    # what tells another program, another answers file or another key under the same name
+    # what shows another program, another answers file or another key under the same name
     seen: Tuple[str, ...]
     # the options of ssign-keys that say which keys are trusted; none where answers are given
     trust: Dict[str, Any]
@@ -93,7 +93,7 @@ class Settings:
         return counters_for(self.counters_of(part), self.manifest_of(part), names)
 
     def given_to(self, part: str) -> Dict[str, str]:
-        """What tells other files of the part's own, by what they are; nothing of one that all parts have."""
+        """What shows that the part's own files are others, by what they are; nothing of one that all parts have."""
         return {"answers": self._answers_seen(part), "counters": self._counters_seen(part)}
 
     def _answers_seen(self, part: str) -> str:
@@ -149,7 +149,7 @@ def add_arguments(parser: argparse.ArgumentParser) -> None:
     add_program_argument(parser)
 
 
-# what ssign-keys is told of keys, and which of these options name files
+# the options on keys for ssign-keys, and which of these options name files
 TRUST = ("keys", "session_key", "ca", "cert", "at_signing_time", "max_payload")
 
 
@@ -200,7 +200,7 @@ def trust_of(arguments: argparse.Namespace) -> Tuple[Dict[str, Any], List[str]]:
 
 
 def try_words(program: str, words: List[str]) -> None:
-    """Has ssign review nothing, so that what is wrong with its words is told once, and not for each part."""
+    """Has ssign review nothing, so that what is wrong with its words is reported once, and not for each part."""
     try:
         tried = subprocess.run([program, "review", *words], stdin=subprocess.DEVNULL, stdout=subprocess.DEVNULL,
                                check=False)

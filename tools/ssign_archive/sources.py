@@ -1,4 +1,4 @@
-"""Reads the logs of a folder as one log: expanded, each from its own front on, and cut behind its last whole message."""
+"""Reads the logs of a folder as one log: expanded, each from its own front on, and cut after its last whole message."""
 from __future__ import annotations
 
 import hashlib
@@ -47,7 +47,7 @@ class Reader:
         self.messages = 0
 
     def wholes(self) -> Iterator[Whole]:
-        """The whole messages of all files, one file behind the other. Raises Fault where a file can't be read."""
+        """The whole messages of all files, one file after the other. Raises Fault where a file can't be read."""
         for stored in self.files:
             yield from self._wholes_of(stored)
 
@@ -96,7 +96,7 @@ def open_file(path: str) -> BinaryIO:
 
 
 def look_of_open(path: str, file: BinaryIO, stored: Stored) -> Tuple[int, int, int]:
-    """What tells that an open file was written to. Raises Fault where it isn't the one that was listed."""
+    """What shows that an open file was written to. Raises Fault where it isn't the one that was listed."""
     seen = os.fstat(file.fileno())
     if (seen.st_size, seen.st_mtime_ns) != (stored.size, stored.mtime_ns):
         raise changed(path)
@@ -136,7 +136,7 @@ def plain_pieces(path: str, pieces: Iterator[bytes], most: int) -> Iterator[byte
 
 
 def gathered(pieces: Iterator[bytes]) -> Iterator[bytes]:
-    """The same octets in pieces that aren't short, since each piece is put behind what the one before left over."""
+    """The same octets in pieces that aren't short, because each piece is put after what the one before left over."""
     held: List[bytes] = []
     size = 0
     try:

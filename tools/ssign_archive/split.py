@@ -18,7 +18,7 @@ from ssign_keys.files import reason
 from ssign_keys.output import print_text
 from ssign_keys.programs import add_log_arguments, add_program_argument, find_program, log_words
 from ssign_keys.words import counted, shown_name
-from ssign_keys.workplace import Workplace, say
+from ssign_keys.workplace import Workplace, notify
 
 from .announced import Announced
 from .feeding import run_over
@@ -111,7 +111,7 @@ class Split:
         self._announced = Announced()
         self._misplaced = Misplaced()
         self._read: List[Read] = []
-        # the parts of the names that were met, since to spell the name of a folder for each message takes long
+        # the parts of the names that were met, because to spell the name of a folder for each message takes long
         self._known: Dict[Tuple[bytes, ...], int] = {}
 
     def run(self, program: str, workplace: Workplace) -> None:
@@ -186,7 +186,7 @@ class Split:
         print_text("".join(f"{line}\n" for line in self._lines()))
         found = file_findings(".", self._read)
         for it in found:
-            say(f"ssign-archive: {it.text()}")
+            notify(f"ssign-archive: {it.text()}")
         if any(it.octet is not None and it.why != "torn" for it in self._read):
             return 2
         return 1 if self._misplaced.count or found else 0

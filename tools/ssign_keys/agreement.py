@@ -21,7 +21,7 @@ class Walked(NamedTuple):
     messages: int
     """How many whole messages it has."""
     end: int
-    """The octet behind the last of them."""
+    """The octet after the last of them."""
     size: int
     """How many octets it has."""
     marked: int
@@ -122,7 +122,7 @@ class Survey(ReportVisitor):
                        group.first_out_of_order if group.out_of_order else None)
 
     def tail(self, session: Session, sg: int, spri: int, first: int, last: int) -> None:
-        """Keeps a group of which no other line has anything, since nothing of it is announced."""
+        """Keeps a group of which no other line has anything, because nothing of it is announced."""
         if first == 1:
             self.reach.add(session, sg, spri, 0, None)
 

@@ -19,7 +19,7 @@ from .questions import Line, Reader
 from .streams import Output, input_lines
 from .trust import Trust
 from .words import counted
-from .workplace import say
+from .workplace import notify
 
 
 class Answered(NamedTuple):
@@ -52,7 +52,7 @@ class Counts:
     long_payloads: int = 0
     longest: int = 0
     most: int = 0
-    # how often no command was asked, since what commands may take was used up
+    # how often no command was asked, because what commands may take was used up
     unasked: int = 0
 
     def add(self, line: Line, holds: bool) -> None:
@@ -84,7 +84,7 @@ class Counts:
 class Answers(Iterator[Answered]):
     """The lines that hold, in their order. `counts` is complete once they were all taken.
 
-    Used with `with`, or ended by `close`, it leaves no process behind, wherever the taking stopped.
+    Used with `with`, or ended by `close`, it leaves no process running, wherever the taking stopped.
     """
 
     def __init__(self, lines: Iterable[bytes], trust: Trust, jobs: int, form: Optional[Form]) -> None:
@@ -123,7 +123,7 @@ class Answers(Iterator[Answered]):
                 self.counts.long_payloads, self.counts.longest = reader.long_payloads, reader.longest
                 self.counts.unasked += checked.unasked
                 for line in asked:
-                    # lines behind the first wrong one have no answer
+                    # lines after the first wrong one have no answer
                     if line.question < len(checked.held):
                         yield from self._answer(line, checked.held[line.question])
                 if checked.fault is not None:
@@ -168,10 +168,10 @@ def run(arguments: argparse.Namespace) -> int:
             output.add(answered.line)
         counts = held.counts
         for sentence in counts.sentences():
-            say(f"ssign-keys: {sentence}")
+            notify(f"ssign-keys: {sentence}")
         output.release()
     if not counts.payloads or counts.trusted_payloads:
         return 0
     what = "state this key" if trust.has_one_key else "are trusted"
-    say(f"ssign-keys: {counts.trusted_payloads} of {counts.payloads} payloads {what}")
+    notify(f"ssign-keys: {counts.trusted_payloads} of {counts.payloads} payloads {what}")
     return 1

@@ -47,7 +47,7 @@ class Broken:
     first_ordinary: Optional[int] = None
 
     def sentences(self) -> str:
-        """What a verdict says of them, each sentence with a space in front."""
+        """What a verdict reports of them, each sentence with a space in front."""
         return self._unreadable_words() + self._ordinary_words()
 
     def _unreadable_words(self) -> str:

@@ -20,7 +20,11 @@ TOOL = usage.Tool(
     },
     examples={
         "make": ("mkdir -m 700 keys && ssign-keys make keys",),
-        "sign": ("ssign-keys sign --key keys/private-key.pem --rsid 1 --host gate --app signer messages.log > signed.frames",),
+        "sign": (
+            "ssign-keys sign --key keys/private-key.pem --rsid 1 --host gate --app signer messages.log > signed.frames",
+            "ssign-keys sign --key keys/private-key.pem --state session --new-session --host gate monday.log > monday.frames",
+            "ssign-keys sign --key keys/private-key.pem --state session tuesday.log > tuesday.frames",
+        ),
         "verify": ("ssign-keys verify --key keys/public-key.pem signed.frames",),
         "manifest": (
             "ssign-keys manifest add manifest signed.frames --counters counters",

@@ -23,7 +23,7 @@ class Form(NamedTuple):
     """The names of two logs that begin differently: of one that is read in its form, and of the first that isn't."""
 
     def refuse_odd(self) -> None:
-        """Refuses logs of two forms, since all are read as one log."""
+        """Refuses logs of two forms, because all are read as one log."""
         if self.odd is None:
             return
         lines, other = (shown_name(it) for it in (self.odd if self.are_lines else self.odd[::-1]))

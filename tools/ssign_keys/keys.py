@@ -79,7 +79,10 @@ class PublicKey:
 def library_key(numbers: Numbers) -> dsa.DSAPublicKey:
     """A key of `cryptography`, which looks at the sizes of the numbers. Raises ValueError where they are others."""
     p, q, g, y = numbers
-    return dsa.DSAPublicNumbers(y, dsa.DSAParameterNumbers(p, q, g)).public_key()
+    # the types of cryptography before version 40 give `public_key` to another class, as two methods below
+    public: Any = dsa.DSAPublicNumbers(y, dsa.DSAParameterNumbers(p, q, g))
+    key: dsa.DSAPublicKey = public.public_key()
+    return key
 
 
 def checked_key(numbers: Numbers) -> PublicKey:
@@ -110,9 +113,11 @@ class PrivateKey:
     def __init__(self, key: dsa.DSAPrivateKey) -> None:
         """Raises ValueError where a key of DSA can't have these numbers."""
         self._key = key
+        # for `private_numbers` and `private_bytes`
+        self._serialized: Any = key
         self.public = PublicKey(numbers_of(key.public_key()))
         p, q, g, y = self.public.numbers
-        x = key.private_numbers().x
+        x: int = self._serialized.private_numbers().x
         if not 0 < x < q or pow(g, x, p) != y:
             raise ValueError("its public number y isn't that of its private number x")
 
@@ -146,8 +151,9 @@ class PrivateKey:
 
     def pem(self) -> bytes:
         """The key without a passphrase, as `read_private_key` takes it."""
-        return self._key.private_bytes(serialization.Encoding.PEM, serialization.PrivateFormat.PKCS8,
-                                       serialization.NoEncryption())
+        text: bytes = self._serialized.private_bytes(serialization.Encoding.PEM, serialization.PrivateFormat.PKCS8,
+                                                     serialization.NoEncryption())
+        return text
 
     def public_pem(self) -> bytes:
         """The public key, as `read_public_keys` takes it."""

@@ -25,7 +25,7 @@ from .refusals import fault_of
 from .streams import Output
 from .walk import Walk, read_at
 from .words import counted, shown_name
-from .workplace import Workplace, say
+from .workplace import Workplace, notify
 
 ACTIONS = ("add", "copied", "check")
 PIECE = 1 << 20
@@ -93,7 +93,7 @@ def add(arguments: argparse.Namespace, kept: Optional[Mark]) -> int:
                 number = appending.manifest.last.number
                 entry = appending.append(entry)
             if entry.number <= number:
-                say(f"ssign-keys: the entry {entry.number} is of this log already, so nothing is added")
+                notify(f"ssign-keys: the entry {entry.number} is of this log already, so nothing is added")
             try:
                 with Output() as output:
                     output.add(f"{entry.mark}\n".encode("ascii"))

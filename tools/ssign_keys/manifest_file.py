@@ -117,10 +117,11 @@ class Appending:
                         "--last names: its end was cut, or entries were added")
 
     def _refuse_twice(self, entry: Entry) -> None:
-        """Refuses a log, or a session, that has an entry."""
+        """Refuses a log, or a session, that has an entry. A session may have more than one where its numbers go on."""
         for it in self.manifest.entries:
-            what = "log" if it.name == entry.name else "session" if it.session == entry.session else ""
-            what = what or ("file" if it.sha256 == entry.sha256 else "")
+            is_again = it.session == entry.session and not entry.goes_on(it)
+            what = "log" if it.name == entry.name else "session" if is_again else ""
+            what = what or ("file" if it.sha256 == entry.sha256 and not entry.is_like(it) else "")
             if what:
                 raise Fault(f"the entry {it.number} of the manifest {shown_name(self._path)} has this {what} already")
             if it.session[:3] == entry.session[:3] and int(it.session.rsid) > int(entry.session.rsid):

@@ -28,7 +28,7 @@ class Stored(NamedTuple):
 
 @dataclass(frozen=True)
 class Found:
-    """A finding. The first word of `what` says of which kind it is."""
+    """A finding. The first word of `what` is its kind."""
 
     where: str
     what: str
@@ -87,22 +87,28 @@ def numbered(manifest: Manifest) -> Iterator[Tuple[int, Entry]]:
 
 
 def twice(manifest: Manifest) -> List[Found]:
-    """Entries of one log, one file or one session."""
+    """Entries of one log, one file, or one session whose numbers don't go on."""
     found: List[Found] = []
-    seen: Dict[Tuple[str, object], int] = {}
+    seen: Dict[Tuple[str, object], List[Tuple[int, Entry]]] = {}
     for line, it in numbered(manifest):
         for what, key in (("log", it.name), ("file", it.sha256), ("session", it.session)):
-            first = seen.setdefault((what, key), line)
-            if first != line:
+            before = seen.setdefault((what, key), [])
+            first = next((at for at, other in before if not (what == "session" and it.goes_on(other)
+                                                             or what == "file" and it.is_like(other))), None)
+            if first is not None:
                 found.append(Found(f"line {line}", f"twice, the line {first} has this {what} too", it.number))
                 break
+            # a session is compared with each of its nights
+            if what == "session" or not before:
+                before.append((line, it))
     return found
 
 
 def skipped(manifest: Manifest) -> List[Found]:
-    """RSIDs that no entry has, between those of two entries of one signer."""
+    """RSIDs that no entry has, between those of two entries of one signer, and numbers between two nights of one session."""
     found: List[Found] = []
     last: Dict[Tuple[bytes, ...], int] = {}
+    ends: Dict[Tuple[Session, int, int], int] = {}
     for line, it in numbered(manifest):
         signer, rsid = it.session[:3], int(it.session.rsid)
         before = last.get(signer)
@@ -113,6 +119,14 @@ def skipped(manifest: Manifest) -> List[Found]:
         elif before is not None and rsid < before:
             found.append(Found(f"line {line}", f"order, its RSID of {names} is less than the one before", it.number))
         last[signer] = max(rsid, before or 0)
+        for group in it.groups:
+            end = ends.get((it.session, group.sg, group.spri))
+            if end is None and before == rsid:
+                end = 0
+            if end is not None and group.first > end + 1:
+                found.append(Found(f"line {line}", f"skipped, no line before it has the numbers {end + 1} to {group.first - 1} of "
+                                   f"SG {group.sg}, SPRI {group.spri} of the session {it.session}", it.number))
+            ends[it.session, group.sg, group.spri] = max(group.last, end or 0)
     return found
 
 
@@ -178,23 +192,38 @@ def of_logs(manifest: Manifest, logs: Sequence[Stored]) -> List[Found]:
 
 
 class Reviewed(NamedTuple):
-    """What a review says of sessions: their states, and the first and the last number of each group."""
+    """What a review reports of sessions: their states, and the first and the last number of each group."""
 
     states: Dict[Session, str]
     groups: Dict[Session, List[Extent]]
+    announced: Dict[Session, List[Extent]]
+    """The same from the first number on that is announced: a later night of a session lacks the numbers before it."""
 
 
-def of_review(entry: Entry, label: str, reviewed: Reviewed) -> Optional[Found]:
-    """Whether the session of an entry, and its numbers, are those that a review has."""
+def of_review(nights: Sequence[Entry], label: str, reviewed: Reviewed) -> Optional[Found]:
+    """Whether the session of an entry, or of the entries of its nights, and the numbers, are those that a review has."""
+    entry = nights[0]
     state = reviewed.states.get(entry.session)
     if state is None or state == "absent":
         return Found(label, f"session, entry {entry.number} has the session {entry.session}, which isn't here", entry.number)
     if state != "joined":
         return Found(label, f"session, the session {entry.session} of entry {entry.number} is {state}", entry.number)
-    if reviewed.groups.get(entry.session, []) != list(entry.groups):
-        return Found(label, f"numbers, entry {entry.number} has {extents(entry.groups)}, and here are "
-                     f"{extents(reviewed.groups.get(entry.session, []))}", entry.number)
+    wanted = joined(nights)
+    here = reviewed.groups.get(entry.session, [])
+    if here != wanted and reviewed.announced.get(entry.session, []) != wanted:
+        return Found(label, f"numbers, entry {entry.number} has {extents(entry.groups)}, and here are {extents(here)}"
+                     if len(nights) == 1 else f"numbers, the entries {entry.number} to {nights[-1].number} of the session have "
+                     f"{extents(wanted)}, and here are {extents(here)}", entry.number)
     return None
+
+
+def joined(nights: Sequence[Entry]) -> List[Extent]:
+    """The numbers of all nights of a session."""
+    found: Dict[Tuple[int, int], Extent] = {}
+    for it in (group for night in nights for group in night.groups):
+        known = found.get((it.sg, it.spri), it)
+        found[it.sg, it.spri] = Extent(it.sg, it.spri, min(it.first, known.first), max(it.last, known.last))
+    return [found[it] for it in sorted(found)]
 
 
 def of_sessions(entries: Sequence[Entry], reviewed: Reviewed) -> List[Found]:

@@ -17,6 +17,7 @@ from .blocks import Session
 from .faults import Fault
 from .files import reason
 from .json_text import compact
+from .session_file import Ends
 from .words import shown_name
 
 # a longer line is none of a manifest
@@ -73,6 +74,24 @@ class Entry:
         """The lines of `ssign counters`."""
         front = f"count {self.session}"
         return [f"{front} {self.gbc}", *(f"{front} {it.sg} {it.spri} {it.last + 1}" for it in self.groups)]
+
+    @property
+    def ends(self) -> Ends:
+        """How far the log goes."""
+        return Ends(self.gbc, tuple((it.sg, it.spri, it.last + 1) for it in self.groups))
+
+    def goes_on(self, before: Entry) -> bool:
+        """Whether it is a later night of the session that another entry has: it has none of its numbers, and later ones."""
+        if self.session != before.session:
+            return False
+        if not self.groups or not before.groups:
+            return True
+        ends = before.ends
+        return self.gbc > before.gbc and all(it.first >= ends.number((it.sg, it.spri)) for it in self.groups)
+
+    def is_like(self, before: Entry) -> bool:
+        """Whether it may have the octets of another entry: both are nights of one session, and have no message."""
+        return self.session == before.session and not self.groups and not before.groups
 
     def line(self) -> bytes:
         """The line of the entry, with its LF."""

@@ -14,7 +14,7 @@ from .manifest_form import Entry, Extent, Manifest, Mark, read_manifest, read_ma
 from .progress import Progress
 from .report import Group, Reading, ReportVisitor
 from .words import counted, shown_name
-from .workplace import put, say
+from .workplace import put, notify
 
 
 def add_arguments(parser: argparse.ArgumentParser) -> None:
@@ -31,7 +31,8 @@ class Extents(ReportVisitor):
     def __init__(self) -> None:
         # a report that was made with counters has more lines
         super().__init__(True, Counters())
-        self.reviewed = Reviewed({}, {})
+        self.reviewed = Reviewed({}, {}, {})
+        self._first = 0
 
     def session(self, session: Session, state: str) -> None:
         """Keeps its state."""
@@ -39,12 +40,15 @@ class Extents(ReportVisitor):
 
     def begin_group(self, group: Group) -> None:
         """Its numbers aren't known yet."""
+        self._first = 0
 
     def listed(self, group: Group, numbers: Sequence[int], places: Sequence[int]) -> None:
         """The group counts them."""
+        self._first = self._first or numbers[0]
 
     def gap(self, group: Group, number: int, why: str) -> None:
         """The group counts it."""
+        self._first = self._first or number
 
     def hole(self, group: Group, first: int, last: int) -> None:
         """The group counts them."""
@@ -52,6 +56,7 @@ class Extents(ReportVisitor):
     def end_group(self, group: Group) -> None:
         """Keeps its numbers."""
         self.reviewed.groups.setdefault(group.session, []).append(Extent(group.sg, group.spri, group.first, group.last))
+        self.reviewed.announced.setdefault(group.session, []).append(Extent(group.sg, group.spri, self._first, group.last))
 
     def stray(self, kind: str, place: int, cause: str) -> None:
         """No session has it."""
@@ -114,8 +119,11 @@ class Listed:
         """Compares the sessions and numbers of the entries with those of a report."""
         visitor = Extents()
         Reading(visitor).read(report, Progress())
+        nights: Dict[Session, List[Entry]] = {}
         for it in self._entries:
-            found = of_review(it, self._labels[it.number], visitor.reviewed)
+            nights.setdefault(it.session, []).append(it)
+        for entries in nights.values():
+            found = of_review(entries, self._labels[entries[0].number], visitor.reviewed)
             if found is not None:
                 self.found.append(found)
         self.found += of_sessions(self._entries, visitor.reviewed)
@@ -138,7 +146,7 @@ class Listed:
         lines = lines if is_json else [self.sentence(), *lines]
         put(out, "".join(f"{it}\n" for it in lines).encode("utf-8", "backslashreplace"))
 
-    def say(self) -> None:
+    def notify(self) -> None:
         """Says the findings on standard error, where standard output has the report alone."""
         for it in self.found:
-            say(f"ssign-keys: {it.text()}")
+            notify(f"ssign-keys: {it.text()}")

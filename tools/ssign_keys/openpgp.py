@@ -11,7 +11,7 @@ from .encoding import read_exact_numbers
 from .faults import Fault
 from .keys import NO_KEY, PUBLIC_KEY, Numbers, PublicKey
 from .words import shown_name
-from .workplace import say
+from .workplace import notify
 
 # RFC 4880, section 9.1
 DSA = 17
@@ -144,7 +144,7 @@ def read_openpgp_keys(path: str, text: bytes) -> List[PublicKey]:
         except NO_KEY as fault:
             raise Fault(f"a key in {path} can't be used: {fault}") from fault
         if it.validity == "e":
-            say(f"ssign-keys: a key in {shown_name(path)} expired at {expiry_of(it)}, and is used all the same")
+            notify(f"ssign-keys: a key in {shown_name(path)} expired at {expiry_of(it)}, and is used all the same")
     return keys
 
 

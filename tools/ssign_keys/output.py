@@ -46,7 +46,7 @@ def put_out(octets: bytes) -> None:
 
 
 def settle() -> None:
-    """Closes what was written, since some file systems say only then that it has no room. More can be written after it."""
+    """Closes what was written, because some file systems say only then that it has no room. More can be written after it."""
     try:
         os.close(os.dup(1))
     except OSError as fault:

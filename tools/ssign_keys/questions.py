@@ -48,7 +48,7 @@ class Reader:
     def chunks(self, lines: Iterable[bytes]) -> Iterator[Tuple[List[Line], Chunk]]:
         """The lines in chunks. None ends with a `trust` line where the block after it has the same payload.
 
-        At a line that is no question the chunk before it is given first, so that the first wrong line is the one told.
+        At a line that is no question the chunk before it is given first, so that the first wrong line is the one reported.
         """
         for line in lines:
             self._line_number += 1

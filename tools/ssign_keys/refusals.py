@@ -14,7 +14,7 @@ from .texts import not_utf8, out_of_form, quoted
 from .unsigned import part_that_fails
 from .walk import Walk, read_at
 from .words import shown, shown_name
-from .workplace import say
+from .workplace import notify
 
 # the front of a log, by which it is known
 FRONT = 512
@@ -101,6 +101,8 @@ def mistake(text: str, arguments: argparse.Namespace) -> str:
     foreign = not_utf8(arguments)
     if "UTF-8" in text and foreign is not None:
         return f"--{foreign.option} {quoted(foreign.text)}: {foreign.why}"
+    if re.search("'--(resume|ahead)'", text):
+        return f"this ssign has no {'--resume' if 'resume' in text else '--ahead'}, which --state needs: use a newer one"
     if "UTF-8" in text:
         return "the folder for passing files has a name that isn't UTF-8: TMPDIR names another one"
     return text
@@ -111,7 +113,7 @@ def warn_of_form(log: Log) -> None:
     ends = [it.offset for it in log.parts[1:]] + [log.size]
     for part, end in zip(log.parts, ends):
         if log.are_lines and part.offset < end and is_surely_framed(read_at(log.file, part.offset, FRONT)):
-            say(f"ssign-keys: warning: {named(part.name)}: this looks like octet-counted frames, and is read as lines")
+            notify(f"ssign-keys: warning: {named(part.name)}: this looks like octet-counted frames, and is read as lines")
 
 
 # ---- the log
@@ -258,6 +260,9 @@ def long_seal(case: Case) -> str:
 
 def used_up(case: Case) -> str:
     """O8 and O9."""
+    if state_name(case):
+        return f"{case.name}: its messages or blocks can't be counted up to 9999999999 in this session: begin another with " \
+            "--new-session"
     return f"{case.name}: its messages or blocks can't be counted up to 9999999999: sign the log in parts"
 
 
@@ -284,8 +289,16 @@ def no_memory_for_answers(case: Case) -> str:
     return f"{case.name}: there isn't enough memory for its signatures: {MOST_MEMORY}, or take the log in parts"
 
 
+def state_name(case: Case) -> str:
+    """The folder of a session that goes on; nothing where there is none."""
+    folder = getattr(case.arguments, "state", None)
+    return shown_name(folder) if folder else ""
+
+
 def counters_name(case: Case) -> str:
     """The counters file."""
+    if state_name(case):
+        return f"the counters of the state {state_name(case)}"
     given = getattr(case.arguments, "counters", None)
     return f"the counters file {shown_name(given[0])}" if given else "the counters file"
 
@@ -311,6 +324,16 @@ def no_memory_for_counters(case: Case) -> str:
     return f"{counters_name(case)}: there isn't enough memory for it: {MOST_MEMORY}"
 
 
+def no_session(case: Case) -> str:
+    """C5."""
+    return f"{counters_name(case)}: they have no session with these names and this RSID"
+
+
+def other_group(case: Case) -> str:
+    """C6."""
+    return f"{counters_name(case)}: line {case.where} counts a group that --groups doesn't have"
+
+
 def no_memory_to_review(case: Case) -> str:
     """V1."""
     return f"{case.name}: there isn't enough memory to review it: {MOST_MEMORY}, or cut the log into parts"
@@ -318,7 +341,7 @@ def no_memory_to_review(case: Case) -> str:
 
 def unwritten(case: Case) -> str:
     """W1."""
-    if hasattr(case.arguments, "logs"):
+    if hasattr(case.arguments, "logs") or state_name(case):
         return "a passing file can't be written; TMPDIR names the folder for it"
     return "standard output can't be written to its end: don't use what was written"
 
@@ -339,6 +362,7 @@ SENTENCES: Dict[str, Callable[[Case], str]] = {
     "O1": payload_too_long, "O2": no_message, "O3": is_block, "O6": no_seal, "O7": long_seal, "O8": used_up, "O9": used_up,
     "O10": no_memory_to_sign,
     "A1": own_answers, "A2": own_answers, "A3": long_answers, "A4": no_memory_for_answers,
-    "C1": bad_counter, "C2": unreadable_counters, "C3": long_counters, "C4": no_memory_for_counters,
+    "C1": bad_counter, "C2": unreadable_counters, "C3": long_counters, "C4": no_memory_for_counters, "C5": no_session,
+    "C6": other_group,
     "V1": no_memory_to_review, "W1": unwritten, "W2": no_memory_to_run,
 }

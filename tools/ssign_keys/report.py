@@ -32,7 +32,7 @@ SHOWN = 60
 
 @dataclass
 class Group:
-    """What a report says of one group of a session."""
+    """What a report has of one group of a session."""
 
     session: Session
     sg: int
@@ -101,7 +101,7 @@ class ReportVisitor(ABC):
     def __init__(self, is_whole: bool = False, counters: Optional[Counters] = None) -> None:
         """A whole report, of `ssign review --whole`, also has lines about missing signature blocks.
 
-        So has one with counters, of `--counters`, which also tells what is missing up to them.
+        So has one with counters, of `--counters`, which also reports what is missing up to them.
         """
         self.totals = Totals()
         self.states: Dict[str, int] = {}
@@ -131,10 +131,10 @@ class ReportVisitor(ABC):
 
     @abstractmethod
     def end_group(self, group: Group) -> None:
-        """Tells of a group of which all lines were told."""
+        """Reports a group of which all lines were read."""
 
     def tail(self, session: Session, sg: int, spri: int, first: int, last: int) -> None:
-        """Tells of numbers behind the last announced one, up to a counter. Only counters bring such a line about."""
+        """Reports numbers after the last announced one, up to a counter. Only counters bring such a line about."""
 
     def missing_blocks(self, session: Session, first: int, last: int) -> None:
         """Tells of values of GBC that no verified signature block has. Only a whole report has such a line."""
@@ -293,7 +293,7 @@ class Reading:
         if group is None or (group.sg, group.spri) != (sg, spri):
             self._close_group()
             if (sg, spri) <= self._before:
-                raise wrong(f"the group SG {sg}, SPRI {spri} stands behind a later one")
+                raise wrong(f"the group SG {sg}, SPRI {spri} stands after a later one")
             self._before = sg, spri
             group = self._group = Group(self._session, sg, spri)
             self._front = b" ".join([b"ok", *fields[:6], b""])

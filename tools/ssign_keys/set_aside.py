@@ -20,7 +20,7 @@ from .progress import Progress
 from .unread_lines import Unread, unread_lines
 from .walk import LONGEST, Walk, read_at
 from .words import counted, shown_name
-from .workplace import Workplace, finish, put, say
+from .workplace import Workplace, finish, put, notify
 
 COPIED = 1 << 20
 # how many messages are named by their place
@@ -114,18 +114,18 @@ class SetAside:
         self._sorting = sorting
         return Log(kept, [Part(log.parts[0].name, 0, 0)], log.are_lines, True)
 
-    def say(self) -> None:
+    def notify(self) -> None:
         """Says what was put apart, once the signed log is written."""
         if not self.count:
             return
         said = counted(self.count, "message can't be signed, and was set aside", "messages can't be signed, and were set aside")
-        say(f"ssign-keys: {said} in {shown_name(self._path or '')}:")
+        notify(f"ssign-keys: {said} in {shown_name(self._path or '')}:")
         for it in self._sorting.named:
-            say(f"  place {it.place}: {it.why}")
+            notify(f"  place {it.place}: {it.why}")
         if self.count > len(self._sorting.named):
             for kind, count in sorted(self._sorting.kinds.items()):
-                say(f"  in all: {kind}, {counted(count, 'message')}")
-            say(f"  {shown_name((self._path or '') + '.places')} has the place of each")
+                notify(f"  in all: {kind}, {counted(count, 'message')}")
+            notify(f"  {shown_name((self._path or '') + '.places')} has the place of each")
 
 
 def odd_messages(lines: Iterator[bytes], log: Log) -> Iterator[Odd]:

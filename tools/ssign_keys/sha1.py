@@ -11,7 +11,7 @@ from typing import Optional
 from .block_facts import BlockFacts
 from .schemes import SHA1
 from .words import grouped
-from .workplace import say
+from .workplace import notify
 
 WEAKNESS = "SHA-1, for which two texts with one hash can be made"
 
@@ -34,4 +34,4 @@ def finding(count: int) -> str:
 
 def say_finding(count: int) -> None:
     """Says beside a raw report, which doesn't name VER, why the status isn't 0."""
-    say(f"ssign-keys: {finding(count)}, so the status is 1: --allow-sha1 accepts that")
+    notify(f"ssign-keys: {finding(count)}, so the status is 1: --allow-sha1 accepts that")

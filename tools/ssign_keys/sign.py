@@ -2,23 +2,27 @@
 from __future__ import annotations
 
 import argparse
+import contextlib
 import subprocess
-from typing import Iterator, List, Optional
+from typing import BinaryIO, Iterator, List, Optional, Union
 
 from . import expand as expand_options
 from . import form as forms
+from . import ongoing
 from . import set_aside as set_aside_options
 from .defaults import fill
+from .faults import Fault
 from .keys import PrivateKey, read_private_key
 from .logs import Log, open_log
 from .programs import Refused, Run, add_limit_arguments, add_program_argument, find_program, handed_on, log_words
 from .progress import Progress
 from .refusals import fault_of, named, warn_of_form
 from .schemes import SHA1, SHA256
-from .seal import seals
+from .seal import Check, seals
+from .session_state import SessionState
 from .set_aside import SetAside
 from .unsigned import warning
-from .workplace import Workplace, finish, put, say
+from .workplace import Workplace, finish, put, notify
 
 # the options of `ssign plan` that are handed on, with what each is
 OPTIONS = {
@@ -44,6 +48,7 @@ def add_arguments(parser: argparse.ArgumentParser) -> None:
     parser.add_argument("--key", required=True, metavar="PRIVATE.pem", help="the private key to sign with")
     for name, (value, meaning) in OPTIONS.items():
         parser.add_argument(f"--{name}", action="append", required=name == "rsid", metavar=value, help=meaning)
+    ongoing.add_arguments(parser)
     set_aside_options.add_arguments(parser)
     forms.add_arguments(parser)
     add_limit_arguments(parser)
@@ -58,20 +63,34 @@ def run(arguments: argparse.Namespace) -> int:
     progress = Progress()
     log: Optional[Log] = None
     try:
-        with Workplace() as workplace, SetAside(arguments.set_aside) as aside:
+        with Workplace() as workplace, SetAside(arguments.set_aside) as aside, state_of(arguments) as state:
             aside.check()
             named_form = forms.named_form(arguments)
             key = read_private_key(arguments.key)
-            fill(arguments, key.public)
+            session = None
+            if state is None:
+                fill(arguments, key.public)
+            else:
+                session = ongoing.settle(arguments, state, key.public)
             log = open_log([arguments.log], named_form, workplace, progress, arguments.max_expanded)
             words = log_words(arguments, log.are_lines)
             warn(arguments.log, log)
             signable = aside.sort_out(program, words, log, workplace, progress)
             words += handed_on(arguments, list(OPTIONS))
-            answers = seal(program, words, key, signable, workplace, progress)
-            status = write(program, words, answers, signable, workplace, progress)
+
+            def seal_log(words: List[str], log: Log, check: Optional[Check] = None) -> str:
+                return seal(program, words, key, log, workplace, progress, check)
+
+            def write_log(words: List[str], seals_path: str, log: Log, out: Union[BinaryIO, int] = 1) -> int:
+                return write(program, words, seals_path, log, workplace, progress, out)
+
+            if state is None or session is None:
+                status = write_log(words, seal_log(words, signable), signable)
+            else:
+                signing = ongoing.Signing(program, state, session, workplace, progress)
+                status = signing.sign(words, signable, seal_log, write_log)
             progress.clear()
-            aside.say()
+            aside.notify()
             return max(status, 1) if aside.count else status
     except Refused as refused:
         progress.clear()
@@ -83,23 +102,33 @@ def run(arguments: argparse.Namespace) -> int:
         progress.clear()
 
 
+def state_of(arguments: argparse.Namespace) -> contextlib.AbstractContextManager[Optional[SessionState]]:
+    """The folder of a session that goes on, or None where no option names one."""
+    if arguments.state is not None:
+        return SessionState(arguments.state, arguments.new_session)
+    if arguments.new_session:
+        raise Fault("--new-session goes with --state FOLDER")
+    return contextlib.nullcontext()
+
+
 def warn(name: str, log: Log) -> None:
     """Says of a log what nothing refuses, and what still is seldom meant."""
     warn_of_form(log)
     why = warning(log)
     if why is not None:
-        say(f"ssign-keys: warning: {named(name)}: {why}")
+        notify(f"ssign-keys: warning: {named(name)}: {why}")
 
 
-def seal(program: str, words: List[str], key: PrivateKey, log: Log, workplace: Workplace, progress: Progress) -> str:
-    """Plans the log and signs what that wants. Gives the path of the answers file."""
+def seal(program: str, words: List[str], key: PrivateKey, log: Log, workplace: Workplace, progress: Progress,
+         check: Optional[Check] = None) -> str:
+    """Plans the log and signs what that wants and a check doesn't refuse. Gives the path of the answers file."""
     planning = Run(program, ["plan", *words], workplace, progress, log.rewind(), subprocess.PIPE)
 
     def tick() -> None:
         progress.show("planning", log.position(), log.size, "octets")
 
     def counted() -> Iterator[bytes]:
-        for count, line in enumerate(seals(planning.lines(tick), key), 1):
+        for count, line in enumerate(seals(planning.lines(tick), key, check), 1):
             progress.show("signing", count, 0, "blocks")
             yield line
 
@@ -110,10 +139,11 @@ def seal(program: str, words: List[str], key: PrivateKey, log: Log, workplace: W
     return workplace.path("seals")
 
 
-def write(program: str, words: List[str], seals_path: str, log: Log, workplace: Workplace, progress: Progress) -> int:
+def write(program: str, words: List[str], seals_path: str, log: Log, workplace: Workplace, progress: Progress,
+          out: Union[BinaryIO, int] = 1) -> int:
     """Has ssign write the signed log. It writes nothing before all has succeeded."""
     log.check_unchanged()
-    signing = Run(program, ["sign", *words, f"--answers={seals_path}"], workplace, progress, log.rewind(), 1)
+    signing = Run(program, ["sign", *words, f"--answers={seals_path}"], workplace, progress, log.rewind(), out)
     try:
         return signing.end(lambda: progress.show("writing", log.position(), log.size, "octets"))
     except Refused:

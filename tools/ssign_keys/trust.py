@@ -19,7 +19,7 @@ if TYPE_CHECKING:
     from .authorities import Authority, Chain
     from .certificates import Certificate
 
-# The module of certificates is loaded where one is looked at, since that takes half of the time of a start.
+# The module of certificates is loaded where one is looked at, because that takes half of the time of a start.
 ANY = b"*"
 UNREAD = "its payload can't be read"
 NO_STATED_KEY = "its payload states no key that is known here, and no --session-key names the session"
@@ -148,7 +148,7 @@ class Trust:
         self._is_at_signing_time = is_at_signing_time
         self.longest = longest
         self._now = datetime.now(timezone.utc).replace(microsecond=0)
-        # what was asked last, since questions about one payload stand together
+        # what was asked last, because questions about one payload stand together
         self._last_payload: Optional[bytes] = None
         self._last_stated: Optional[Stated] = None
         self._last_judged: Optional[Tuple[Stated, Optional[Session], Judged]] = None

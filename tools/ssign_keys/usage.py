@@ -21,7 +21,7 @@ from . import VERSION
 from .faults import Fault
 from .output import need_standard_files, print_text
 from .words import shown, shown_name
-from .workplace import say
+from .workplace import notify
 
 HELP = "print this help, or that of a command"
 # the headings of a help, each with the options that stand below it; all others stand below `options`
@@ -122,7 +122,7 @@ def asked_help(words: Sequence[str]) -> Sequence[str]:
 def run(tool: Tool, words: Sequence[str]) -> int:
     """Does what the words of the command line ask for, and gives the status. Raises Fault where it can't be done."""
     if not words:
-        say(make_parser(tool, words).format_help().rstrip("\n"))
+        notify(make_parser(tool, words).format_help().rstrip("\n"))
         return 2
     words = asked_help(words)
     try:
@@ -162,5 +162,5 @@ def main(tool: Tool, words: Sequence[str]) -> int:
 
 def complain(tool: Tool, sentence: str) -> None:
     """Says why there is no verdict. Words of the command line may hold what a terminal takes for a command."""
-    say(f"{tool.name}: " + "".join(it if it.isprintable() else shown(it.encode("utf-8", "surrogateescape"))
+    notify(f"{tool.name}: " + "".join(it if it.isprintable() else shown(it.encode("utf-8", "surrogateescape"))
                                    for it in sentence))

@@ -37,7 +37,7 @@ from .verdict import NOTHING, Facts
 from .block_facts import Notes, noted
 from .walk import Walk
 from .words import shown_name
-from .workplace import Workplace, finish, put, say
+from .workplace import Workplace, finish, put, notify
 
 
 def add_arguments(parser: argparse.ArgumentParser) -> None:
@@ -191,7 +191,7 @@ class Verifier:
             finish(file)
         for sentence in answered.counts.sentences():
             self._progress.clear()
-            say(f"ssign-keys: {sentence}")
+            notify(f"ssign-keys: {sentence}")
 
     def _refuse(self, refused: Refused) -> None:
         """Has the whole log refused that was refused already by the messages that may be blocks.
@@ -202,7 +202,7 @@ class Verifier:
             self._review([])
 
     def _candidates(self) -> Iterator[bytes]:
-        """The messages that may be blocks, since nothing is asked about the others. This takes a tenth of the time.
+        """The messages that may be blocks, because nothing is asked about the others. This takes a tenth of the time.
 
         Which of them are blocks, and what is asked, ssign says; the log is refused, where it has to be, by the review.
         """
@@ -254,7 +254,7 @@ class Verifier:
         return status
 
     def name_unused(self, trust: Trust) -> None:
-        """Says which --session-key names no session of the log, since a name that was mistyped restricts nothing."""
+        """Says which --session-key names no session of the log, because a name that was mistyped restricts nothing."""
         unused = trust.patterns
         if not unused:
             return
@@ -265,17 +265,17 @@ class Verifier:
                 unused = [it for it in unused if not it.is_for(session)]
         for it in unused:
             self._progress.clear()
-            say(f"ssign-keys: the log has no session '{it.pattern}', for which --session-key gives a key")
+            notify(f"ssign-keys: the log has no session '{it.pattern}', for which --session-key gives a key")
 
     def output(self, reviewed: Reviewed, arguments: argparse.Namespace, listed: Optional[Listed]) -> Iterator[bytes]:
         """The pieces of what is to be printed, in the form that was asked for. All of it is made first."""
         if arguments.raw:
             if listed is not None:
-                listed.say()
+                listed.notify()
             if reviewed.facts.on_sha1 and not arguments.allow_sha1 and reviewed.facts.review_status == 0:
                 sha1.say_finding(reviewed.facts.on_sha1)
             if not reviewed.facts.totals.listed:
-                say(f"ssign-keys: {NOTHING}")
+                notify(f"ssign-keys: {NOTHING}")
             pieces = file_pieces(self._report)
             return without_listed(pieces) if arguments.findings else pieces
         out = self._workplace.new_file("out")
@@ -307,7 +307,7 @@ def refuse_two_counters(paths: Optional[List[str]]) -> None:
 
 
 def refuse_one_pipe(paths: Optional[List[str]], logs: List[str]) -> None:
-    """Refuses a pipe for both the log and the counters, since the log would be empty behind the counters."""
+    """Refuses a pipe for both the log and the counters, because the log would be empty after the counters."""
     if paths and "-" in logs and is_standard_pipe(paths[0]):
         raise Fault("standard input can't be both the log and the counters file")
 

@@ -1,0 +1,194 @@
+#!/usr/bin/env python3
+"""Chains of originators, each of which goes on at counters that `plan --ahead` wrote for the one before, against the
+originator of `origin_model.py`: 60 chains of up to ten runs, by a seed.
+
+    chains.py PROGRAM
+
+Each run is planned ahead, planned and signed, and all three have to write what the model does, or be refused as it is. Of
+a chain that left no number out, what was signed is then reviewed: each message is listed, nothing is found, and
+`ssign counters` writes what the last `plan --ahead` wrote. The last line is `chains: N passed, M failed`.
+"""
+import collections
+import os
+import random
+import subprocess
+import sys
+import tempfile
+
+from origin_model import Refused
+from signing_model import Zeros, output, want_lines
+
+PROGRAM = sys.argv[1]
+CHAINS = 60
+PAYLOAD = "2009-05-03T14:00:39Z K S0VZ"
+GROUPS = ("one", "pri", "191", "13,100,191", "0,1,2,191", "47,95,143,191")
+LIMIT = 10_000_000_000
+REACHED = (
+    "new", "resumed", "new, no message", "resumed, no message", "skipped", "other sessions' lines", "older lines",
+    "groups one", "groups pri", "groups of ranges", "copies 1", "copies 9", "two groups or more",
+    "refused C5", "refused C6", "refused O2", "refused O3", "refused O8", "refused O9", "refused O9 at a place", "reviewed")
+
+passed = failed = 0
+reached = collections.Counter()
+
+
+def tell(what, wanted, said):
+    """One check."""
+    global passed, failed
+    if wanted == said:
+        passed += 1
+        return
+    failed += 1
+    print("chains: %s: FAILED\n    wanted %.600r\n    said   %.600r" % (what, wanted, said))
+
+
+def run(words, log):
+    """The status of a run of the program, and what it wrote on standard output and on standard error."""
+    ran = subprocess.run([PROGRAM, *words], input=log, capture_output=True, check=False, timeout=60)
+    return ran.returncode, ran.stdout, ran.stderr
+
+
+def model(command, words, log, signer=None):
+    """The same by the model."""
+    try:
+        return 0, output(command, words, log, signer or Zeros()), b""
+    except Refused as refused:
+        return 2, b"", b"ssign: %s\n" % str(refused).encode()
+
+
+def kind_of(said):
+    """The code of a refusal, and `at a place` where O9 has one."""
+    code, _, place = said[2].decode().removeprefix("ssign: ").strip().partition(" ")
+    return code + " at a place" * (code == "O9" and place != "")
+
+
+def write(path, octets):
+    with open(path, "wb") as file:
+        file.write(octets)
+
+
+class Chain:
+    """The runs of one session."""
+
+    def __init__(self, folder, seed):
+        self.folder, self.dice = folder, random.Random(seed)
+        dice = self.dice
+        self.name = "seed %d" % seed
+        self.groups = dice.choice(GROUPS)
+        self.words = ["--payload", PAYLOAD, "--rsid", str(dice.choice((0, 1, 7, 9_999_999_999))), "--groups", self.groups,
+                      "--host", dice.choice(("-", "h", "host.example")), "--app", dice.choice(("-", "s")),
+                      "--procid", dice.choice(("-", "4711")), "--pri", str(dice.choice((0, 13, 110, 191))),
+                      "--ver", dice.choice(("0111", "0121"))]
+        # the counters that the last run ended with, the frames of all runs, and how many messages were signed
+        self.counters, self.signed, self.messages, self.exact = [], b"", 0, True
+
+    def path(self, name):
+        return os.path.join(self.folder, name)
+
+    def log(self, texts):
+        return b"".join(b"%d %s" % (len(text), text) for text in texts)
+
+    def texts(self):
+        """The messages of a run: often none; rarely one that can't be signed."""
+        dice = self.dice
+        texts = [b"<%d>1 - - - - - - %d" % (dice.choice((0, 1, 13, 100, 191)), dice.randrange(10_000))
+                 for _ in range(dice.choice((0, 0, 1, 2, 5, 9, 20)))]
+        if texts and dice.random() < 0.05:
+            texts[dice.randrange(len(texts))] = dice.choice((b"<13>no message", b"<13>1 - - - - - [ssign]"))
+        return texts
+
+    def kept(self):
+        """A counters file that goes on where the last run ended, or further on: with lines of other sessions, and older
+        ones of this. Rarely one that is of no use."""
+        dice, lines = self.dice, list(self.counters)
+        fate = dice.random()
+        if fate < 0.25:
+            lines = [self.raised(line) for line in lines]
+            self.exact, _ = False, reached.update(["skipped"])
+        front = lines[0].split()[:5]
+        other = [*front[:4], str(int(front[4]) ^ 1)]
+        if dice.random() < 0.5:
+            lines += [" ".join([*other, "999"]), " ".join([*other, "3 4 5"]), "count x y z 1 2"]
+            reached.update(["other sessions' lines"])
+        if dice.random() < 0.5:
+            lines += [self.lowered(line) for line in lines if line.split()[:5] == front]
+            reached.update(["older lines"])
+        if fate > 0.97:
+            lines = [line for line in lines if line.split()[:5] != front or len(line.split()) > 6] or ["count x y z 1 2"]
+        elif fate > 0.93:
+            lines.insert(dice.randrange(len(lines)), " ".join([*front, dice.choice(("3 0 1", "0 5 1", "1 13 1", "2 7 9"))]))
+        dice.shuffle(lines)
+        return "".join(line + "\n" for line in lines).encode()
+
+    def raised(self, line):
+        """The line with a greater counter, at times with one of the last."""
+        *front, number = line.split()
+        further = self.dice.choice((0, 1, 2, 1_000))
+        number = min(int(number) + further, LIMIT) if self.dice.random() < 0.8 else LIMIT - self.dice.randrange(4)
+        return " ".join([*front, str(number)])
+
+    def lowered(self, line):
+        *front, number = line.split()
+        least = 0 if len(front) == 5 else 1
+        return " ".join([*front, str(self.dice.randint(least, max(least, int(number))))])
+
+    def go(self, number):
+        """One run: planned ahead, planned and signed. Whether the chain goes on."""
+        dice = self.dice
+        words = [*self.words, "--count", str(dice.choice((1, 2, 3, 10, 99))), "--copies", str(dice.choice((1, 2, 9))),
+                 "--frag", str(dice.choice((5, 500))), "--stamp", dice.choice(("-", "2009-05-03T14:00:39Z"))]
+        texts = self.texts()
+        log, what = self.log(texts), "%s, run %d" % (self.name, number)
+        if self.counters:
+            write(self.path("counters"), self.kept())
+            words += ["--resume", self.path("counters")]
+        wanted = model("plan", [*words, "--ahead"], log)
+        tell(what + ", plan --ahead", wanted, run(["plan", "--ahead", *words], log))
+        sealer = Zeros()
+        tell(what + ", plan", model("plan", words, log, sealer), run(["plan", *words], log))
+        write(self.path("seals"), want_lines(sealer).replace(b"want ", b"seal ").replace(b"\n", b" AAAA\n"))
+        signed = run(["sign", "--answers", self.path("seals"), *words], log)
+        tell(what + ", sign", model("sign", words, log), signed)
+        if wanted[0]:
+            reached.update(["refused " + kind_of(wanted)])
+            return False
+        front = "resumed" if self.counters else "new"
+        reached.update([front, *[front + ", no message"] * (texts == []), "copies " + words[words.index("--copies") + 1]])
+        self.counters = wanted[1].decode().splitlines()
+        self.signed += signed[1]
+        self.messages += len(texts)
+        return True
+
+    def review(self):
+        """What was signed is reviewed as it was sent, and its counters are the last ones."""
+        reached.update(["groups " + (self.groups if self.groups in ("one", "pri") else "of ranges")])
+        reached.update(["two groups or more"] * (len(self.counters) > 2))
+        if not self.exact or not self.counters:
+            return
+        reached.update(["reviewed"])
+        write(self.path("answers"), run(["questions"], self.signed)[1])
+        status, report, _ = run(["review", "--answers", self.path("answers")], self.signed)
+        listed = sum(line.startswith(b"ok ") for line in report.splitlines())
+        tell(self.name + ", review", (0, self.messages), (status, listed))
+        told = run(["counters", "--answers", self.path("answers")], self.signed)[1]
+        tell(self.name + ", counters", self.counters, told.decode().splitlines())
+
+
+def main():
+    """Makes all checks."""
+    for seed in range(CHAINS):
+        with tempfile.TemporaryDirectory() as folder:
+            chain = Chain(folder, seed)
+            for number in range(chain.dice.randint(1, 10)):
+                if not chain.go(number):
+                    break
+            chain.review()
+    for kind in REACHED:
+        print("chains: %6d %s" % (reached[kind], kind))
+        tell("some run is " + kind, True, reached[kind] > 0)
+    print("chains: %d passed, %d failed" % (passed, failed))
+    return 1 if failed or not passed else 0
+
+
+if __name__ == "__main__":
+    sys.exit(main())

@@ -1,0 +1,229 @@
+"""Signs a log in a session that goes on from run to run (`ssign-keys sign --state`).
+
+The counters with which the signed log will end are saved before anything of it is signed. So a run that is killed at any
+moment has given no number that the next run gives again: what it didn't write shows as unannounced numbers.
+"""
+from __future__ import annotations
+
+import argparse
+import dataclasses
+import itertools
+import subprocess
+from typing import BinaryIO, Callable, List, Optional
+
+from .blocks import Session
+from .defaults import USUAL_FIELDS, fill, only
+from .faults import Fault
+from .frames import frame_at
+from .keys import PublicKey
+from .logs import Log, Part
+from .output import file_pieces, write_out
+from .programs import Run
+from .progress import Progress
+from .sealed import Sessions, record_of
+from .seal import Check
+from .session_file import KEPT, START, Ends, Ongoing, read_ends
+from .session_state import NEW, SessionState
+from .texts import quoted
+from .workplace import Workplace, finish, put
+from .written import Certificate, Signature, Written
+
+# what an option of `ssign sign` is where it isn't given, but for those that depend on the key or on the time
+USUAL = {**USUAL_FIELDS, "groups": "one", "frag": "500", "copies": "1"}
+# what may be another in each run; where it isn't given it is that of the first one
+OF_A_RUN = ("count", "copies")
+NAMES = {"rsid": "the RSID", "host": "the HOSTNAME", "app": "the APP-NAME", "procid": "the PROCID", "msgid": "the MSGID",
+         "pri": "the PRI", "ver": "the VER", "groups": "the groups", "payload": "the payload"}
+
+Seal = Callable[[List[str], Log, Optional[Check]], str]
+"""Plans a log under these words, and signs what that wants and a check doesn't refuse. Gives the path of the answers file."""
+Write = Callable[[List[str], str, Log, BinaryIO], int]
+"""Has ssign write a log with these answers. Gives its status."""
+
+
+class Rsid(argparse.Action):
+    """Takes --state. The session says its RSID then, so --rsid may be left out."""
+
+    def __call__(self, parser: argparse.ArgumentParser, namespace: argparse.Namespace, values: object,
+                 option_string: Optional[str] = None) -> None:
+        """Keeps the folder."""
+        setattr(namespace, self.dest, values)
+        for action in parser._actions:
+            if "--rsid" in action.option_strings:
+                action.required = False
+
+
+def add_arguments(parser: argparse.ArgumentParser) -> None:
+    """Says how a session goes on."""
+    parser.add_argument("--state", action=Rsid, metavar="FOLDER", help="sign in the session that FOLDER keeps, and go on with "
+                        "its numbers; options that name the session, its payload or its blocks may be left out then, and "
+                        "may not differ, but for --stamp, --count and --copies")
+    parser.add_argument("--new-session", action="store_true", help="begin a session in the folder of --state; the one before "
+                        "ends there, and its counters stay. Without --rsid its RSID is the time in seconds since 1970, or one "
+                        "more than that of the last session if that is greater")
+
+
+# ---- the words of a session
+
+def settle(arguments: argparse.Namespace, state: SessionState, key: PublicKey) -> Ongoing:
+    """Puts in the words that aren't given, as the session has them. Raises Fault where one that is given differs."""
+    if arguments.new_session:
+        return begin(arguments, state, key)
+    ongoing = state.ongoing
+    assert ongoing is not None
+    if ongoing.key != key.fingerprint:
+        raise Fault(f"the session of the state {state.name} is that of another key; {NEW}")
+    for option in KEPT:
+        kept = ongoing.options[option]
+        given: List[str] = getattr(arguments, option) or [kept]
+        if option in OF_A_RUN:
+            setattr(arguments, option, given)
+            continue
+        for it in given:
+            if not is_same(it, kept):
+                what = NAMES.get(option, f"--{option}")
+                raise Fault(f"--{option} {quoted(it)}: {what} of the session of the state {state.name} is {quoted(kept)}; {NEW}")
+        # ssign refuses an option that is given twice
+        setattr(arguments, option, [kept] * len(given))
+    fill(arguments, key)
+    return ongoing
+
+
+def is_same(given: str, kept: str) -> bool:
+    """Whether two words say the same."""
+    are_numbers = given.isascii() and given.isdigit() and kept.isdigit() and max(len(given), len(kept)) < 20
+    return given == kept or (are_numbers and int(given) == int(kept))
+
+
+def begin(arguments: argparse.Namespace, state: SessionState, key: PublicKey) -> Ongoing:
+    """A session that begins, with a greater RSID than each before."""
+    last = state.last_rsid()
+    # of a session without certificate blocks nothing was written
+    is_unused = state.ongoing is not None and not state.ongoing.certificates and state.ongoing.rsid == last
+    given = only(arguments.rsid)
+    if given is None:
+        arguments.rsid = [str(state.next_rsid())]
+    elif given.isascii() and given.isdigit() and len(given) < 20:
+        rsid = int(given)
+        if rsid < last or rsid == last and not is_unused:
+            raise Fault(f"--rsid {given}: the state {state.name} knows a session with the RSID {last}, and one that begins needs a "
+                        "greater one")
+        arguments.rsid = [str(rsid)] * len(arguments.rsid)
+    fill(arguments, key)
+    for option in KEPT:
+        if not getattr(arguments, option):
+            setattr(arguments, option, [USUAL[option]])
+    return Ongoing(key.fingerprint, {it: getattr(arguments, it)[0] for it in KEPT}, START, ())
+
+
+# ---- signing
+
+class Signing:
+    """A run that signs a log in a session that goes on."""
+
+    def __init__(self, program: str, state: SessionState, ongoing: Ongoing, workplace: Workplace, progress: Progress) -> None:
+        """Nothing is done yet."""
+        self._program = program
+        self._state = state
+        self._ongoing = ongoing
+        self._workplace = workplace
+        self._progress = progress
+
+    def sign(self, words: List[str], log: Log, seal: Seal, write: Write) -> int:
+        """Writes the signed log to standard output, whole, and gives the status of `ssign sign`."""
+        has_begun = bool(self._ongoing.certificates)
+        # a log that is refused ends no session, and uses no number up
+        ahead = self._plan_ahead(self._resumed(words) if has_begun else words, log)
+        if not has_begun:
+            self._begin(words, log.are_lines, seal, write)
+        before = self._ongoing
+        if not before.ends.is_before(ahead):
+            raise Fault("this is a mistake of ssign-keys: ssign would go on with numbers that were given, so nothing is signed")
+        words = self._resumed(words)
+        self._save(dataclasses.replace(before, ends=ahead))
+        room = Room(before.session, before.ends, ahead)
+        seals = seal(words, log, room.check)
+        room.check_spans()
+        with self._workplace.new_file("signed") as out:
+            status = write(words, seals, log, out)
+            write_out(itertools.chain([before.frames], file_pieces(out)))
+        return status
+
+    def _begin(self, words: List[str], are_lines: bool, seal: Seal, write: Write) -> None:
+        """Has the certificate blocks signed, which stand in front of each log of the session. Its RSID is used up before."""
+        self._save(self._ongoing)
+        with self._workplace.new_file("nothing") as file:
+            nothing = Log(file, [Part("-", 0, 0)], are_lines, True)
+            room = Room(self._ongoing.session, START, START)
+            seals = seal(words, nothing, room.check_certificate)
+            room.check_spans()
+            with self._workplace.new_file("signed") as out:
+                write(words, seals, nothing, out)
+                certificates = messages_of(b"".join(file_pieces(out)))
+        self._ongoing = dataclasses.replace(self._ongoing, certificates=tuple(certificates))
+
+    def _save(self, ongoing: Ongoing) -> None:
+        """Has the state on the disk before the run goes on."""
+        self._state.save(ongoing)
+        self._ongoing = ongoing
+
+    def _resumed(self, words: List[str]) -> List[str]:
+        """The words with which a run of ssign goes on from the counters of the session."""
+        with self._workplace.new_file("start") as file:
+            put(file, self._ongoing.ends.lines(self._ongoing.session))
+            finish(file)
+        return [*words, f"--resume={self._workplace.path('start')}"]
+
+    def _plan_ahead(self, words: List[str], log: Log) -> Ends:
+        """The counters with which the signed log will end."""
+        planning = Run(self._program, ["plan", "--ahead", *words], self._workplace, self._progress, log.rewind(), subprocess.PIPE)
+        lines = list(planning.lines(lambda: self._progress.show("counting", log.position(), log.size, "octets")))
+        try:
+            return read_ends([it[:-1] for it in lines], self._ongoing.session)
+        except ValueError as fault:
+            raise Fault(f"ssign plan --ahead wrote no counters of the session: {fault}") from fault
+
+
+def messages_of(frames: bytes) -> List[bytes]:
+    """The messages of frames that ssign wrote."""
+    found: List[bytes] = []
+    at = 0
+    while at < len(frames):
+        start, length = frame_at(frames, at)
+        if not length or start + length > len(frames):
+            raise Fault("this is a mistake of ssign-keys: ssign wrote certificate blocks that are no frames")
+        found.append(frames[start:start + length])
+        at = start + length
+    return found
+
+
+class Room:
+    """What may be signed: blocks of one session, between the counters before and those that were saved."""
+
+    def __init__(self, session: Session, before: Ends, ahead: Ends) -> None:
+        """Nothing is signed yet."""
+        self._session = session
+        self._before = before
+        self._ahead = ahead
+        self._taken = Sessions(is_ordered=False)
+
+    def check(self, block: Written, octets: bytes, line: int) -> None:
+        """Refuses all but signature blocks whose numbers weren't given before, and that were saved as given."""
+        if not isinstance(block, Signature) or block.session != self._session:
+            raise Fault("the block is no signature block of the session, so it isn't signed")
+        first, last = block.first, block.first + block.hashes - 1
+        is_new = self._before.gbc <= block.gbc and self._before.number(block.group) <= first
+        if not is_new or block.gbc >= self._ahead.gbc or last >= self._ahead.number(block.group):
+            raise Fault(f"the block with GBC {block.gbc} and the numbers {first} to {last} isn't between the counters of the "
+                        "state: the log was changed meanwhile, or this is a mistake of ssign-keys")
+        self._taken.take(block.session, record_of(block, octets, line))
+
+    def check_certificate(self, block: Written, octets: bytes, line: int) -> None:
+        """Refuses all but certificate blocks of the session."""
+        if not isinstance(block, Certificate) or block.session != self._session:
+            raise Fault("the block is no certificate block of the session, so it isn't signed")
+        self._taken.take(block.session, record_of(block, octets, line))
+
+    def check_spans(self) -> None:
+        """Refuses two blocks with one number."""
+        self._taken.check_spans()
