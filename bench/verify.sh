@@ -38,7 +38,7 @@ def run(what, words, out, source=os.devnull, runs=2):
             took = time.monotonic() - began
         if os.waitstatus_to_exitcode(status) != 0:
             sys.exit(f"bench/verify.sh: {what} ended with the wait status {status}")
-        # the children's too, since each command waits for its own
+        # the children's too, because each command waits for its own
         said = took, usage.ru_utime + usage.ru_stime, usage.ru_maxrss / 1024
         best = said if best is None or said < best else best
     print("%-28s %8.2f s, %8.2f s of processors, largest process %8.1f MiB" % (what, *best), flush=True)
