@@ -99,7 +99,7 @@ is_as_taken() {
 }
 kinds=(file empty link dangling round folder fifo device)
 taken="ssign-keys: the file there/kept is there already, and isn't overwritten"
-# a program that takes the name while ssign reviews, behind the first look
+# a program that takes the name while ssign reviews, after the first look
 # shellcheck disable=SC2016
 printf '#!/usr/bin/env bash\n[[ $1 != review ]] || eval "$CHANGE"\nexec %q "$@"\n' "$program" >changing
 chmod +x changing

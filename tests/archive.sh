@@ -307,7 +307,7 @@ SSIGN=$scratch/slow archive review small/archive --results ill-later --answers s
 holds 'well again: the same table' cmp out small-table
 holds 'well again: only that part was run, behind the trial of the options' test "$(runs)" = 2
 
-# ---- what is wrong with an archive: files of one originator are harmed in a copy, and put back behind that. A record that
+# ---- what is wrong with an archive: files of one originator are harmed in a copy, and put back after that. A record that
 # is of other files counts no more, so each review is of that originator alone. The rows of all others stay.
 cp -rp archive harmed
 cp -rp archive/. kept
@@ -331,7 +331,7 @@ octets = bytearray(open(name, "rb").read())
 octets[len(octets) // 2] ^= 0x55
 open(name, "wb").write(octets)' "$1"
 }
-# Of a session with one certificate block in front, and a signature block behind each ten messages, message N stands at
+# Of a session with one certificate block in front, and a signature block after each ten messages, message N stands at
 # place N + (N - 1) / 10, and block K at 11 K. The fourth night of originator 1 has the places 132 to 175, and so the blocks
 # 12 to 15, which announce 111 to 150, and the messages 121 to 160.
 harm 1 flip night-4.log.gz
@@ -369,7 +369,7 @@ harm 4 junk
 says 'octets that are no frame' 2 "${rest[@]}" \
     "at gate-4/night-3.log octet $size: unread, what follows in this file isn't reviewed: no frame begins there" \
     "gate-4 8 354 320 0 0 0 0 0 joined 2 NOT IN FULL: 1 file can't be read to the end"
-# the session of a night ends within it: the blocks behind its twentieth message are lost
+# the session of a night ends within it: the blocks after its twentieth message are lost
 # shellcheck disable=SC2317 # called by name
 end_within() {
     python3 -B -c 'import sys

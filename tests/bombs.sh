@@ -76,7 +76,7 @@ for at in "${!forms[@]}"; do
     holds "$form: each of several, by itself" test "$status" = 1
     keys verify --key keys/public-key.pem --max-expanded $((size - 1)) signed "$log"
     refuses "$form: the second of two" "$(too_long "$log" "$form" $((size - 1)))"
-    # streams behind one another are one log
+    # streams after one another are one log
     cat "$log" "$log" >twice
     keys verify --key keys/public-key.pem --max-expanded $((2 * size - 1)) twice
     refuses "$form: two streams" "$(too_long twice "$form" $((2 * size - 1)))"

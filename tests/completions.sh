@@ -39,7 +39,7 @@ help() {
     *) COLUMNS=10000 "$root/tools/${1/#ssign-archive/archive}" ${2:+"$2"} --help </dev/null ;;
     esac
 }
-# options PROGRAM COMMAND: a line for each option, with the names of its values behind it.
+# options PROGRAM COMMAND: a line for each option, with the names of its values after it.
 options() {
     sed -nE 's/^ +(-[a-zA-Z], )?(--[a-z][a-z0-9-]*(( [^ ]+)*))(  .*)?$/\2/p' <<<"${asked[$1 $2]}" | sed -e 's/[<>]//g' -e 's/{[0-9,]*}/VER/'
 }
@@ -176,7 +176,7 @@ ask_fish() {
     done
     # fish makes folders in the home of its user
     offered=$(HOME=$scratch/home fish --no-config -c "source '$made/$1.fish'; complete -C '$line'" 2>&1)
-    # a tab stands before what is said of a word, and a slash behind a folder
+    # a tab stands before what is said of a word, and a slash after a folder
     offered=$(cut -f 1 <<<"$offered" | sed -e 's/\\ / /g' -e 's:/$::' | grep -vx -e '-h' -e '-V')
 }
 if command -v fish >"$scratch/out"; then

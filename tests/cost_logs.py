@@ -15,7 +15,7 @@ LONGEST = 99_999_999
 LONG_LINES = ["--max-len", "1048576"]
 # HOSTNAME, APP-NAME and PROCID of the sessions
 NAMES = b" ".join(HEAD.split()[2:5])
-# a review of an ordinary message reads no further than a scan for this; with it behind a text, that is parsed
+# a review of an ordinary message reads no further than a scan for this; with it after a text, that is parsed
 PARSED = b"[ssign]"
 
 

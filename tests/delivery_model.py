@@ -27,7 +27,7 @@ class Chain:
         self.fragments = []
         # of each SPRI the messages in order: number n is the nth
         self.given = {}
-        # the block messages behind the fragments, each once: SPRI, first number, and how many
+        # the block messages after the fragments, each once: SPRI, first number, and how many
         self.blocks = {}
 
     def begin(self, sent):

@@ -13,7 +13,7 @@ blocks() {
     tail -c +65 -- "$log"
 }
 
-# gives WHAT STATUS FRAMES ARG..: an extract of standard input that is these frames, with no LF behind them.
+# gives WHAT STATUS FRAMES ARG..: an extract of standard input that is these frames, with no LF after them.
 gives() {
     local what=$1 wanted=$2 frames=$3
     shift 3

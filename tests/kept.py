@@ -71,7 +71,7 @@ class Kept:
             if first < end:
                 text.append(f"tail {names} {sg} {spri} {first} {end - 1}")
         end = self.blocks[session]
-        # a block behind the last one that is looked for ends the last run
+        # a block after the last one that is looked for ends the last run
         runs = runs_missing([*gbcs, end]) if end > max(gbcs, default=-1) else runs_missing(gbcs)
         return text + [f"blocks {names} {first} {last}" for first, last in runs]
 

@@ -293,7 +293,7 @@ row none 'a key in N' "$(sed 's/ K / N /' one/payload)" $mine 0111 'h s - 1' | c
 judge 'no payload' --session-key 'h s - 1' one/public-key.pem
 row none 'N without a key' '- N' $mine 0111 'h s - 1' | cases payloads >rows
 judge 'a key, but none of a session' one/public-key.pem
-# a payload that names no key, and whose `trust` line has its session from the line behind it, wherever a chunk ends
+# a payload that names no key, and whose `trust` line has its session from the line after it, wherever a chunk ends
 {
     row both 'N' '- N' $mine 0111 'h s - 1'
     row both 'N at a time' '2026-01-15T09:16:30Z N' $mine 0111 'h s - 1'

@@ -4,7 +4,7 @@
 . "$(dirname -- "$0")/lib.sh"
 need_program
 
-# as_lines FILE: the messages of a file of octet-counted frames, each with an LF behind it.
+# as_lines FILE: the messages of a file of octet-counted frames, each with an LF after it.
 as_lines() {
     python3 -c '
 import sys

@@ -66,7 +66,7 @@ else
         for heading in NAME DESCRIPTION EXAMPLES 'SEE ALSO'; do
             holds "man/$page has a section $heading" grep -qx "$heading" "$scratch/$page.txt"
         done
-        # the words behind SEE ALSO are pages that are here
+        # the words after SEE ALSO are pages that are here
         for other in $(awk '/^SEE ALSO/ { on = 1; next } /^[^ ]/ { on = 0 } on' "$scratch/$page.txt" | tr -d ' ' | tr ',' ' '); do
             other=${other%')'}
             holds "man/$page names a page that is here: $other" test -f "$root/man/${other/'('/.}"

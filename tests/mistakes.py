@@ -224,11 +224,11 @@ def table():
     yield verify + ["--max-messages", "3", "frames", "-"], framed(LINE % b"c", LINE % b"d"), \
         "standard input: the log goes on at octet %d, after as many messages as --max-messages 3 allows: raise it, up to 10000000 (F5)" % frame
     yield verify + ["torn-frames", "frames"], b"", \
-        "the log torn-frames breaks off in the message that begins at its octet %d, so the next log can't be read behind it: " \
+        "the log torn-frames breaks off in the message that begins at its octet %d, so the next log can't be read after it: " \
         "keep only what stands before (`head -c %d`), or, where the next log goes on with this message, join the two (`cat`) " \
         "and hand them over as one" % (frame, frame)
     yield verify + ["torn-frames", "lines"], b"", \
-        "the log torn-frames breaks off in the message that begins at its octet %d, so the next log can't be read behind it: " \
+        "the log torn-frames breaks off in the message that begins at its octet %d, so the next log can't be read after it: " \
         "keep only what stands before (`head -c %d`), or, where the next log goes on with this message, join the two (`cat`) " \
         "and hand them over as one" % (frame, frame)
     yield verify + ["-", "-"], b"", "standard input, `-`, can be given only once"

@@ -309,7 +309,7 @@ expect 'a new state' 0 '' ''
 holds 'a run that is stopped at any step is made good by the next' python3 -B "$root/tests/rotation_faults.py" \
     "$root/tools/ssign-keys" "$program" "$scratch/keys"
 
-# the lines that logrotate runs behind a rotation, and its own words where it is here
+# the lines that logrotate runs after a rotation, and its own words where it is here
 sed -n '/^ *postrotate/,/^ *endscript/p' "$root/examples/logrotate/ssign" | sed '1d;$d' >behind
 # shellcheck disable=SC2016 # for the script
 holds 'the script is run behind a rotation' grep -qx ' *"*/usr/local/sbin/ssign-rotated "$2"' behind

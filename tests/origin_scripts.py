@@ -10,7 +10,7 @@ LONG_PAYLOADS = [b"- C " + b"AAAA" * 100, b"- P " + b"S0VZ" * 2_499 + b"+/8=", b
 STAMPS = ["-", "-", "2009-05-03T14:00:39Z", "2009-05-03T14:00:39.5+01:00", "0000-02-29T23:59:59.000000-00:00"]
 HEADS = ["h s - -", "h s - -", "- - - -", "host app 17 m", "-- ! ~ =\"]", "h" * 255 + " " + "a" * 48 + " " + "p" * 128 + " " + "m" * 32]
 
-# what stands behind the PRI of a message that is accepted
+# what stands after the PRI of a message that is accepted
 ACCEPTED = [b"1 - - - - - - a", b"1 - - - - - - b", b"1 - - - - - -", b"1 - - - - - - ", b"1 2009-05-03T14:00:39Z h s 1 m [x@1 a=\"\\]\"] \xff\x00\n",
             b"1 - - - - - [ssignx a=\"b\"]", b"1 - - - - - [x@1 ssign=\"[ssign]\"]", b"1 - - - - - - [ssign-cert]", b"1 - - - - - [Ssign][ssign-cer]",
             b"1 - - - - - - " + b"long " * 500]

@@ -103,7 +103,7 @@ def main():
     parts = [log[start:start + PIECE] for start in range(0, len(log), PIECE)]
     status, out, said = run([program, "inspect"], parts, 2.5 / len(parts), True)
     counts = [int(count) for count, _ in LINE.findall(said)]
-    # how many messages have ended behind each piece
+    # how many messages have ended after each piece
     ends = list(itertools.accumulate(len(b"%d %s" % (len(it), it)) for it in messages))
     fronts = {sum(end <= PIECE * (number + 1) for end in ends) for number in range(len(parts))}
     tell("pieces of any size", "" if (status, out) == (0, wanted) and counts and set(counts) <= fronts else f"{counts}")

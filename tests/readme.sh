@@ -1,6 +1,6 @@
 #!/usr/bin/env bash
 # The examples of README.md and docs/guide.md: a block that is one line with `./ssign`, or with `./tools/ssign-keys` and a
-# file of examples/, is a command, the block behind it is what the program prints, and between the two stands `status N`.
+# file of examples/, is a command, the block after it is what the program prints, and between the two stands `status N`.
 # Where the command has `./ssign` twice, the last one prints. The same holds of the README of the crate `ssign`. What
 # the README of each crate has to be, and where the example of a library stands, crate_readmes.py says.
 # shellcheck source=tests/lib.sh
@@ -10,7 +10,7 @@ cd -- "$root" || exit 1
 # the last command of a pipeline runs in this shell, so that `run` keeps its status here
 shopt -s lastpipe
 
-# example FILE COMMAND TEXT OUTPUT: one check, of a command, the text behind it, and the output that is shown.
+# example FILE COMMAND TEXT OUTPUT: one check, of a command, the text after it, and the output that is shown.
 example() {
     local file=$1 command=$2 text=$3 output=$4
     if ! [[ $text =~ status\ ([0-2]) ]]; then

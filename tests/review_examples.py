@@ -69,7 +69,7 @@ F2 = certificate(sg=1, spri=110, index=21, fragment=b" K S0VZ")
 K0 = signature(h(TA), h(TC), sg=1, spri=13)
 K1 = signature(h(TB), h(TD), sg=1, spri=14, gbc=1)
 K2 = signature(h(TE), sg=1, spri=13, gbc=2, first=3)
-# of the originator that went on behind the first block, with counters that it was handed
+# of the originator that went on after the first block, with counters that it was handed
 D1 = signature(h(TD), sg=1, spri=14, gbc=1, first=2)
 
 

@@ -19,7 +19,7 @@ cd -- "$copy" || exit 1
 recorded=$copy/release/ssign-x86_64-linux
 built=$copy/crates/ssign/out/ssign
 
-# script NAME: makes a script of the copy, of standard input behind the helpers.
+# script NAME: makes a script of the copy, of standard input after the helpers.
 script() {
     # shellcheck disable=SC2016
     { printf '. "$(dirname -- "$0")/lib.sh"\n' && cat; } >"tests/$1.sh"

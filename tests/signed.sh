@@ -1,6 +1,6 @@
 #!/usr/bin/env bash
 # Logs of 100,000 signed messages, ten in a block: a whole one is clean, and in a harmed one the harm is told at its place
-# and its number, and nothing else. Number N stands at the place N + (N - 1) / 10, behind one block and those before it.
+# and its number, and nothing else. Number N stands at the place N + (N - 1) / 10, after one block and those before it.
 # shellcheck source=tests/lib.sh
 . "$(dirname -- "$0")/lib.sh"
 need_program

@@ -216,7 +216,7 @@ wrote 'as many messages and octets as may be' "$scratch/nine"
 for index in 0 1 2 3 4; do
     frame "<13>1 - - - - - - message $index"
 done >"$log"
-# two certificate blocks, blocks behind the messages at 1 and 3, and one at the end
+# two certificate blocks, blocks after the messages at 1 and 3, and one at the end
 run plan "${given[@]}" --frag 20 --count 2 <"$log"
 seal <"$scratch/out" >"$scratch/all"
 holds 'five blocks are planned' test "$(wc -l <"$scratch/all")" = 5

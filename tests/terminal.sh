@@ -37,7 +37,7 @@ explained() {
 }
 
 # refused WHAT REFUSAL REMARK ARG..: two checks of a run over the file `log`, with a terminal and without. REMARK is all
-# that stands behind the sentence of the code, without the LF at the end.
+# that stands after the sentence of the code, without the LF at the end.
 refused() {
     local what=$1 refusal=$2 remark=$3 code
     shift 3

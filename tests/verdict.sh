@@ -67,7 +67,7 @@ verify "${key[@]}" broken
 holds 'a count of four digits has a comma' grep -qF \
     ' 1,003 messages hold "[ssign" but can'\''t be read as blocks: the first at place 12, M8 at its last octet; usually a CR or LF was added when the log was stored. ' out
 
-# ---- a wrong key over a long log: a few lines, the verdict in front of lists and behind them
+# ---- a wrong key over a long log: a few lines, the verdict in front of lists and after them
 verify --key other/public-key.pem long
 holds 'a wrong key: status 1' test "$status" = 1
 holds 'a wrong key: a few lines' test "$(wc -l <out)" -le 40

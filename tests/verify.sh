@@ -144,7 +144,7 @@ says 'the signature blocks taken out' 1 "$joined" \
     "Verdict: NOTHING IS SHOWN: no verified block announces a message; 10 stored messages are unlisted. $nothing_shown"
 as_reviewed 'the signature blocks taken out' unannounced.lines --lines
 
-# several files: the first ends behind the seventh message, the second holds the rest and a message that nobody signed
+# several files: the first ends after the seventh message, the second holds the rest and a message that nobody signed
 python3 -B "$root/tests/verdicts.py" split signed 7 first second
 { cat second; frame '<13>1 - - - - - - nobody signed this'; } >third
 keys verify --key keys/public-key.pem first second
@@ -160,7 +160,7 @@ says 'one file compressed' 0 "$all_there"
 head -c -5 first >torn
 start=$(python3 -B "$root/tests/verdicts.py" last torn)
 keys verify --key keys/public-key.pem torn second
-refuses 'a torn file in front' "ssign-keys: the log torn breaks off in the message that begins at its octet $start, so the next log can't be read behind it: keep only what stands before (\`head -c $start\`), or, where the next log goes on with this message, join the two (\`cat\`) and hand them over as one"
+refuses 'a torn file in front' "ssign-keys: the log torn breaks off in the message that begins at its octet $start, so the next log can't be read after it: keep only what stands before (\`head -c $start\`), or, where the next log goes on with this message, join the two (\`cat\`) and hand them over as one"
 keys verify --key keys/public-key.pem second torn
 says 'a torn file behind' 1 "Torn: the log breaks off in the message that begins at octet $start of torn"
 printf 'x' | cat second - >bad
@@ -409,7 +409,7 @@ says 'up to counters from a pipe' 0 "$all_there Nothing is missing up to the cou
 holds 'the counters of examples/signed' cmp "$root/examples/signed/signed.counters" \
     <("$program" counters --answers "$root/examples/signed/signed.answers" <"$root/examples/signed/signed.frames")
 
-# the log goes on behind the counters
+# the log goes on after the counters
 part='Nothing is missing up to the counters, which cover only a part of this log.'
 kept '1 2' '1 0 0 9'
 keys verify --key keys/public-key.pem --counters counters signed
@@ -518,7 +518,7 @@ python3 -B "$root/tests/verdicts.py" lines stored >stored.lines
 keys verify --key keys/public-key.pem --counters counters --lines stored.lines
 says 'the last block of all, as lines' 1 "  missing: signature block 10 (GBC 9), $unseen_block"
 
-# two sessions, whose files are put one behind the other; a session that isn't here; and a session without a counter
+# two sessions, whose files are put one after the other; a session that isn't here; and a session without a counter
 keys sign "${words[@]}" --rsid 2 --count 4 --lines "$ten"
 cp out second
 cat signed second >both

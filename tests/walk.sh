@@ -6,7 +6,7 @@
 . "$(dirname -- "$0")/lib.sh"
 need_program
 
-# A block of commands is one whose text behind it says `with status N`; where that also says `prints, `, the next block
+# A block of commands is one whose text after it says `with status N`; where that also says `prints, `, the next block
 # is the output. The commands, statuses and outputs:
 commands=() statuses=() outputs=()
 
@@ -22,7 +22,7 @@ take() {
     commands+=("$1")
 }
 
-# close TEXT: the text behind a block of commands that prints nothing.
+# close TEXT: the text after a block of commands that prints nothing.
 close() {
     local last=$((${#commands[@]} - 1))
     [[ $1 =~ 'ends with status '([0-2])', and prints nothing' ]] || return

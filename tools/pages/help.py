@@ -32,7 +32,7 @@ class Option:
 
 @dataclass
 class Command:
-    """A command with its options. `arguments` are the names of the words behind it, with a text each."""
+    """A command with its options. `arguments` are the names of the words after it, with a text each."""
 
     name: str
     purpose: str
@@ -124,7 +124,7 @@ def named(lines: Sequence[str]) -> List[Tuple[str, str]]:
 
 
 def usage_of(parts: Dict[str, List[str]]) -> str:
-    """The words behind `Usage:`, under the name that the program has wherever it is."""
+    """The words after `Usage:`, under the name that the program has wherever it is."""
     for line in parts[""]:
         if line.lower().startswith("usage: "):
             return re.sub(r"^ssign-x86_64-linux\b", "ssign", line.split(": ", 1)[1])

@@ -117,7 +117,7 @@ def roff(text: str) -> List[str]:
 
 
 def tidy(made: Sequence[str]) -> List[str]:
-    """Without a paragraph right behind a heading, which means nothing there."""
+    """Without a paragraph right after a heading, which means nothing there."""
     kept: List[str] = []
     for line in made:
         if line == ".PP" and kept and kept[-1].startswith((".SH", ".SS")):

@@ -25,7 +25,7 @@ def quoted(text: str) -> str:
 
 
 def argument_kind(command: Command) -> str:
-    """What the words behind a command are."""
+    """What the words after a command are."""
     return kind(command.arguments[0][0]) if command.arguments else "none"
 
 
@@ -47,7 +47,7 @@ def bash_value(option: Option) -> str:
 
 
 def bash_options(name: str, command: Command) -> List[str]:
-    """The branches for a word behind an option."""
+    """The branches for a word after an option."""
     made = []
     for option in command.options:
         if len(option.values) == 1:
@@ -58,7 +58,7 @@ def bash_options(name: str, command: Command) -> List[str]:
 
 
 def bash_second(name: str, command: Command) -> List[str]:
-    """The branches for the second word behind an option."""
+    """The branches for the second word after an option."""
     return [f"    {quoted(f'{command.name} {option.name}')})\n        _{name}_offer {bash_value(option)}\n        return\n        ;;"
             for option in command.options if len(option.values) == 2]
 

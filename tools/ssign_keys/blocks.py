@@ -15,8 +15,8 @@ HEADER = re.compile(rb"<[0-9]{1,3}>1 [^ ]+ ([^ ]+) ([^ ]+) ([^ ]+) [^ ]+ ")
 LONGEST_HEADER = 600
 FRONT = rb'\[ssign(?:-cert)? VER="(' + PATTERN + rb')" RSID="([0-9]{1,10})" '
 FIRST_ELEMENT = re.compile(FRONT)
-# Behind the header nothing but an element begins so: in a value each `"` and `]` is escaped, no name of an element or a
-# parameter holds `]`, and MSG stands behind the elements.
+# After the header nothing but an element begins so: in a value each `"` and `]` is escaped, no name of an element or a
+# parameter holds `]`, and MSG stands after the elements.
 LATER_ELEMENT = re.compile(rb"\]" + FRONT)
 
 

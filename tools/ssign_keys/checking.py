@@ -27,7 +27,7 @@ class Question(NamedTuple):
     is_block: bool
     """Whether it is a `yes` line."""
     rest: bytes
-    """What stands behind the payload of a `yes` line: OCTETS SIGNATURE."""
+    """What stands after the payload of a `yes` line: OCTETS SIGNATURE."""
     session: Optional[Session] = None
     """The session that it is about, where ssign said it."""
     block: Optional[Block] = None
@@ -50,7 +50,7 @@ class Chunk:
     payloads: List[ChunkPayload] = field(default_factory=list)
     questions: List[Question] = field(default_factory=list)
     fault: Optional[str] = None
-    """What is wrong with the line behind the last question; None where that isn't known to be wrong."""
+    """What is wrong with the line after the last question; None where that isn't known to be wrong."""
 
 
 class Held(NamedTuple):
@@ -72,7 +72,7 @@ class Checked(NamedTuple):
     held: List[Optional[Held]]
     """None for a question that doesn't hold, where nothing is to be said of that."""
     fault: Optional[str]
-    """What is wrong with the question behind the last answer; None where all are answered."""
+    """What is wrong with the question after the last answer; None where all are answered."""
     unasked: int
     """How often no command was asked, since what commands may take was used up."""
 

@@ -1,4 +1,4 @@
-"""The logs that are given: opened, made plain where they are compressed, and put behind one another.
+"""The logs that are given: opened, made plain where they are compressed, and put one after the other.
 
 A single plain file is read where it lies. Everything else is spooled, so that each program that reads the log reads the
 same octets.
@@ -140,7 +140,7 @@ def open_source(name: str) -> BinaryIO:
 
 def spool_log(name: str, source: BinaryIO, max_expanded: Optional[int], spool: BinaryIO, workplace: Workplace,
               progress: Progress) -> None:
-    """Puts the plain octets of a log behind those that stand there."""
+    """Puts the plain octets of a log after those that stand there."""
     pieces = read_pieces(source, name, "copying the log", progress)
     front = b""
     for piece in pieces:
@@ -207,13 +207,13 @@ def measure(spool: BinaryIO, starts: Sequence[Tuple[str, int]], are_lines: bool,
         place += walk.place
         if number + 1 < len(starts) and walk.offset < end:
             if not is_torn(spool, walk.offset, end, are_lines):
-                # this is for ssign to refuse, and nothing behind it counts
+                # this is for ssign to refuse, and nothing after it counts
                 parts += [Part(it, at, place) for it, at in starts[number + 1:]]
                 break
             octet = walk.offset - start
             raise Fault(
                 f"the log {shown_name(name)} breaks off in the message that begins at its octet {octet}, so the next log "
-                f"can't be read behind it: keep only what stands before (`head -c {octet}`), or, where the next log goes "
+                f"can't be read after it: keep only what stands before (`head -c {octet}`), or, where the next log goes "
                 "on with this message, join the two (`cat`) and hand them over as one"
             )
     return parts

@@ -16,7 +16,7 @@ PAUSE = 0.2
 BLIND = 5.0
 # the last two bits of the flags of open(2): 0 is for reading alone
 ACCESS = 3
-# the flag of a thread of the kernel (PF_KTHREAD), which has no files, and where the flags stand behind the name in `stat`
+# the flag of a thread of the kernel (PF_KTHREAD), which has no files, and where the flags stand after the name in `stat`
 KERNEL = 0x200000
 FLAGS = 6
 

@@ -99,7 +99,7 @@ class Workers:
 
 
 def told_alone(items: Iterable[Kept]) -> Iterator[Tuple[Kept, bool]]:
-    """Each item, and whether no other stands before or behind it."""
+    """Each item, and whether no other stands before or after it."""
     remaining = iter(items)
     last = next(remaining, None)
     is_first = True

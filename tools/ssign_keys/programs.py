@@ -90,7 +90,7 @@ class Run:
             pass
 
     def lines(self, tick: Callable[[], None]) -> Iterator[bytes]:
-        """The lines of its output, each with its LF. Raises Refused behind the last, where that is how it ended."""
+        """The lines of its output, each with its LF. Raises Refused after the last, where that is how it ended."""
         assert self.child.stdout is not None
         with self.child.stdout as out:
             while not select.select([out], [], [], PAUSE)[0]:

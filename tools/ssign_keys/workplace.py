@@ -30,7 +30,7 @@ class Ended(BaseException):
 class Workplace:
     """A folder for passing files, and the children that were started; both go when the block of `with` ends.
 
-    A signal that asks the process to end is raised as `Ended` within the block. Behind it the process dies by that same
+    A signal that asks the process to end is raised as `Ended` within the block. After it the process dies by that same
     signal, so that a shell that waits for it learns of it.
     """
 

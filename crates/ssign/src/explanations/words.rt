@@ -79,7 +79,7 @@ pub static WORDS: [Explanation; 37] = [
     Explanation {
         code: "tally",
         text: "Only ssign review --tally writes this line, one for each group, in place of its ok, gap and hole lines. \
-            Behind the group, SG and SPRI, stand six numbers. The first counts the ok lines. The next two count the \
+            After the group, SG and SPRI, stand six numbers. The first counts the ok lines. The next two count the \
             gap lines: those that are lost, and those that are disputed. The fourth is how many numbers lie in holes. \
             The last two are the first and the last announced number. If the second, the third or the fourth isn't 0, \
             run ssign review --findings.",
