@@ -6,6 +6,7 @@ pub mod Plain
 pub mod Values
 pub mod SignatureCauses
 pub mod Refusals
+pub mod BlockFields
 pub mod SignatureBlocks
 pub mod CertificateBlocks
 pub mod Readings

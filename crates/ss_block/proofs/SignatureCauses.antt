@@ -54,6 +54,9 @@ both true true k = (refl, refl)
 both true false k = absurd cc
 both false h k = absurd cc
 
+pub neither : (c h : Bool) → c ≡ true → h ≡ true → first_cause ((not c, spoils.HashCount) ∷ (not h, spoils.Hash) ∷ []) ≡ None
+neither c h e f = rw (e, f) refl
+
 at_sign : (n v u c h s l : Bool) (x : Reading) → n ≡ true → v ≡ true → u ≡ true → (c ≡ true) × (h ≡ true) → s ≡ false → told n v u c h s l x ≡ Spoilt spoils.Sign
 at_sign n v u c h s l x e f g k i = rw (e, f, g, k.0, k.1, i) refl
 

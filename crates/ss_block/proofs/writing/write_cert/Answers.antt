@@ -4,40 +4,41 @@ use Rattle.ss_block.specs.declared.reading.Reading.TheVariants as readings
 use Rattle.ss_block.specs.Reading.{reading}
 use Rattle.ss_block.specs.Session.{session}
 use Rattle.ss_block.specs.Signed.{signed}
-use Rattle.ss_block.specs.Writing.{certificate_text, unsigned_certificate_text, head_session}
-use Rattle.ss_block.proofs.WrittenCertificates.{made_signed, names_signed, raws_signed}
+use Rattle.ss_block.specs.Writing.{certificate_text, unsigned_certificate_text, head_session, ssign_cert_element}
+use Rattle.ss_block.proofs.BlockFields.{made_signed}
+use Rattle.ss_block.proofs.WrittenCertificates.{names_signed, raws_signed}
 use Rattle.ss_block.proofs.WrittenMessages.{written_of}
 use Rattle.ss_block.proofs.Written.{certificate_is_read, holds}
 use Rattle.ss_block.proofs.writing.write_cert.Goals as goal
 
 pub message-requires-clause-names : goal.message-requires-clause-names
 message-requires-clause-names c =
-    ap has_names (made_signed _ _ _ c.args.block.now _ c.in_ok-element.ensures c.in_ok-put_sign.ensures c.in_ok-parameters.ensures c.signature.ensures)
+    ap has_names (made_signed ssign_cert_element _ _ _ _ _ _ c.in_ok-element.ensures c.in_ok-put_sign.ensures c.in_ok-parameters.ensures c.signature.ensures)
     ∙ names_signed c.args.block.now
 
 pub message-requires-clause-raws : goal.message-requires-clause-raws
 message-requires-clause-raws c =
-    ap has_raws (made_signed _ _ _ c.args.block.now _ c.in_ok-element.ensures c.in_ok-put_sign.ensures c.in_ok-parameters.ensures c.signature.ensures)
+    ap has_raws (made_signed ssign_cert_element _ _ _ _ _ _ c.in_ok-element.ensures c.in_ok-put_sign.ensures c.in_ok-parameters.ensures c.signature.ensures)
     ∙ raws_signed c.args.block.now c.assure_certificate.ensures.range
 
 pub returns-clause-text : goal.returns-clause-text
 returns-clause-text c =
-    written_of c.args.head.now c.args.stamp _ _ c.message.result (made_signed _ _ _ c.args.block.now _ c.in_ok-element.ensures c.in_ok-put_sign.ensures c.in_ok-parameters.ensures c.signature.ensures) c.message.ensures
+    written_of c.args.head.now c.args.stamp _ _ c.message.result (made_signed ssign_cert_element _ _ _ _ _ _ c.in_ok-element.ensures c.in_ok-put_sign.ensures c.in_ok-parameters.ensures c.signature.ensures) c.message.ensures
 
 pub returns-clause-read : goal.returns-clause-read
 returns-clause-read c =
     holds c.message.result (certificate_text c.args.head.now c.args.stamp c.args.block.now) (λ t. reading t ≡ readings.Certificate c.args.block.now)
-    (written_of c.args.head.now c.args.stamp _ _ c.message.result (made_signed _ _ _ c.args.block.now _ c.in_ok-element.ensures c.in_ok-put_sign.ensures c.in_ok-parameters.ensures c.signature.ensures) c.message.ensures)
+    (written_of c.args.head.now c.args.stamp _ _ c.message.result (made_signed ssign_cert_element _ _ _ _ _ _ c.in_ok-element.ensures c.in_ok-put_sign.ensures c.in_ok-parameters.ensures c.signature.ensures) c.message.ensures)
     (certificate_is_read c.args.head.now c.args.stamp c.args.block.now c.assure_in_range.ensures c.assure_timestamp.ensures c.assure_certificate.ensures.range c.assure_certificate.ensures.signature c.requires).read
 
 pub returns-clause-signed : goal.returns-clause-signed
 returns-clause-signed c =
     holds c.message.result (certificate_text c.args.head.now c.args.stamp c.args.block.now) (λ t. signed t ≡ Some (unsigned_certificate_text c.args.head.now c.args.stamp c.args.block.now))
-    (written_of c.args.head.now c.args.stamp _ _ c.message.result (made_signed _ _ _ c.args.block.now _ c.in_ok-element.ensures c.in_ok-put_sign.ensures c.in_ok-parameters.ensures c.signature.ensures) c.message.ensures)
+    (written_of c.args.head.now c.args.stamp _ _ c.message.result (made_signed ssign_cert_element _ _ _ _ _ _ c.in_ok-element.ensures c.in_ok-put_sign.ensures c.in_ok-parameters.ensures c.signature.ensures) c.message.ensures)
     (certificate_is_read c.args.head.now c.args.stamp c.args.block.now c.assure_in_range.ensures c.assure_timestamp.ensures c.assure_certificate.ensures.range c.assure_certificate.ensures.signature c.requires).signed
 
 pub returns-clause-session : goal.returns-clause-session
 returns-clause-session c =
     holds c.message.result (certificate_text c.args.head.now c.args.stamp c.args.block.now) (λ t. session t ≡ Some (head_session c.args.head.now c.args.block.now.rsid))
-    (written_of c.args.head.now c.args.stamp _ _ c.message.result (made_signed _ _ _ c.args.block.now _ c.in_ok-element.ensures c.in_ok-put_sign.ensures c.in_ok-parameters.ensures c.signature.ensures) c.message.ensures)
+    (written_of c.args.head.now c.args.stamp _ _ c.message.result (made_signed ssign_cert_element _ _ _ _ _ _ c.in_ok-element.ensures c.in_ok-put_sign.ensures c.in_ok-parameters.ensures c.signature.ensures) c.message.ensures)
     (certificate_is_read c.args.head.now c.args.stamp c.args.block.now c.assure_in_range.ensures c.assure_timestamp.ensures c.assure_certificate.ensures.range c.assure_certificate.ensures.signature c.requires).session
