@@ -8,7 +8,7 @@ use Rattle.ss_message.specs.declared.fault.BadPart.{BadPart}
 use Rattle.ss_message.specs.Message.{MessageValue}
 use Rattle.ss_message.specs.Layout.{Layout, value_at}
 use Rattle.ss_message.specs.Reading.{layout_at}
-use Rattle.ss_payload.specs.Payload.{payload_text}
+use Rattle.ss_payload.specs.Payload.{PayloadValue, payload_text}
 use Rattle.ss_payload.proofs.CutLists.{same_cuts}
 use Rattle.ss_block.specs.declared.hash.Hash.{Hash}
 use Rattle.ss_block.specs.declared.reading.Reading.{Reading}
@@ -22,7 +22,8 @@ use Rattle.ss_origin.specs.Calls.{Call, Begin, Submit, Flush, messages_of, pendi
 use Rattle.ss_origin.specs.State.{State, state, pending_in, blocks_closed, runs_closed}
 use Rattle.ss_origin.specs.Blocks.{unsigned_text}
 use Rattle.ss_origin.specs.Setting.{Setting}
-use Rattle.ss_origin.specs.Emission.{certificate_of, block_of, blocks_of, IsSealed, sent_first, EmitsFrom}
+use Rattle.ss_origin.specs.declared.unsigned.Unsigned.{Unsigned}
+use Rattle.ss_origin.specs.Emission.{certificate_of, block_of, blocks_of, AreDue, IsSealed, sent_first, EmitsFrom}
 use Rattle.ss_origin.specs.Refusals.{is_unparsed, is_plain, fault_of}
 use Rattle.ss_origin.specs.Chain.{Turn, calls_of, AreTurns}
 use Rattle.ss_origin.proofs.Configs.{has_ranges}
@@ -75,13 +76,19 @@ same_state c start calls =
 same_blocks : (c : Config) (old : State) (call : Call) → blocks_of (once c) old call ≡ blocks_of c old call
 same_blocks c old call = ap (λ runs. map (block_of c old) (enumerate_from old.gbc runs)) (same_runs c (pending_in old) call)
 
-same_due : (s : Setting) (old : State) (call : Call) (emitted for_plan : List (List ℕ)) → 1 ≤ s.config.frag → (e : EmitsFrom s old call emitted) (p : EmitsFrom (planned s.config s.payload) old call for_plan) → p.due ≡ e.due
-same_due s old (Begin stamp) emitted for_plan some e p =
-    p.are_due.2
-    ∙ ap (map (certificate_of s.config (payload_text s.payload))) (same_cuts (length (payload_text s.payload)) s.config.frag p.are_due.0 e.are_due.0 some p.are_due.1 e.are_due.1)
-    ∙ sym e.are_due.2
-same_due s old (Submit message stamp) emitted for_plan some e p = p.are_due ∙ same_blocks s.config old (Submit message stamp) ∙ sym e.are_due
-same_due s old (Flush stamp) emitted for_plan some e p = p.are_due ∙ same_blocks s.config old (Flush stamp) ∙ sym e.are_due
+due_again : (s : Setting) (old : State) (call : Call) (due : List Unsigned) → AreDue (planned s.config s.payload) old call due → AreDue s old call due
+due_again s old (Begin stamp) due are = are
+due_again s old (Submit message stamp) due are = are ∙ same_blocks s.config old (Submit message stamp)
+due_again s old (Flush stamp) due are = are ∙ same_blocks s.config old (Flush stamp)
+
+-- no other blocks are due in a call
+pub none_else_due : (s : Setting) (old : State) (call : Call) (due others : List Unsigned) → 1 ≤ s.config.frag → AreDue s old call due → AreDue s old call others → due ≡ others
+none_else_due s old (Begin stamp) due others some are be =
+    are.2
+    ∙ ap (map (certificate_of s.config (payload_text s.payload))) (same_cuts (length (payload_text s.payload)) s.config.frag are.0 be.0 some are.1 be.1)
+    ∙ sym be.2
+none_else_due s old (Submit message stamp) due others some are be = are ∙ sym be
+none_else_due s old (Flush stamp) due others some are be = are ∙ sym be
 
 -- ---- what is signed of what a call emits
 
@@ -134,6 +141,11 @@ signed_emitted s old call emitted accepted e =
     ∙ ap (λ front. front ++ signed_among blocks) (first_unsigned s.config old call accepted)
     ∙ signed_sealed (unsigned_text s.config.head (stamp_of call)) (IsSealed s (stamp_of call)) (λ d m sealed. sealed.read.signed) s.config.copies e.due e.sent.messages e.sent.sealed
 
+-- of what a call of a plan emits
+pub signed_once : (c : Config) (payload : PayloadValue) (old : State) (call : Call) (emitted : List (List ℕ)) → fault_of (once c) old call ≡ None → (e : EmitsFrom (planned c payload) old call emitted) → signed_among emitted ≡ map (unsigned_text c.head (stamp_of call)) e.due
+signed_once c payload old call emitted accepted e =
+    signed_emitted (planned c payload) old call emitted accepted e ∙ once_each (map (unsigned_text c.head (stamp_of call)) e.due)
+
 -- ---- two runs
 
 module _ (s : Setting) (start : Start) (some : 1 ≤ s.config.frag) where
@@ -151,9 +163,8 @@ module _ (s : Setting) (start : Start) (some : 1 ≤ s.config.frag) where
       → signed_among emitted ≡ copied (signed_among for_plan)
   call_signed old call emitted for_plan accepted e taken p =
       let form : signed_among for_plan ≡ map (unsigned_text s.config.head (stamp_of call)) e.due
-      = signed_emitted plan old call for_plan taken p
-      ∙ once_each (map (unsigned_text s.config.head (stamp_of call)) p.due)
-      ∙ ap (map (unsigned_text s.config.head (stamp_of call))) (same_due s old call emitted for_plan some e p) in
+      = signed_once s.config s.payload old call for_plan taken p
+      ∙ ap (map (unsigned_text s.config.head (stamp_of call))) (none_else_due s old call p.due e.due some (due_again s old call p.due p.are_due) e.are_due) in
       signed_emitted s old call emitted accepted e ∙ ap copied (sym form)
 
   abbrev sent : List Turn → List (List ℕ)
@@ -182,7 +193,7 @@ module _ (s : Setting) (start : Start) (some : 1 ≤ s.config.frag) where
 
 -- ---- the lines
 
-lines_told : (messages : List (List ℕ)) → want_lines messages ≡ flat_map want_line (signed_among messages)
+pub lines_told : (messages : List (List ℕ)) → want_lines messages ≡ flat_map want_line (signed_among messages)
 unfolding want_of
 lines_told [] = refl
 lines_told (m ∷ messages) = by (signed m) (lines_told messages)

@@ -1,4 +1,4 @@
-//! A sealer for plans.
+//! A sealer that signs nothing.
 use ss_block::Payload;
 use ss_origin::{SealFault, Seals};
 use std::alloc::Global;

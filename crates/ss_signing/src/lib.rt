@@ -13,6 +13,7 @@ mod plan;
 mod request;
 mod send;
 mod sign;
+mod want_writer;
 
 pub use ahead::run_ahead;
 pub use fault::SignFault;
