@@ -5,6 +5,7 @@ pub mod EncodedSoFar
 pub mod QuestionLines
 pub mod EscapedText
 pub mod UnitsAt
+pub mod Unwrapping
 pub mod Gathered
 pub mod PayloadIndexes
 pub mod SessionsOnce

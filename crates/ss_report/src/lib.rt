@@ -16,6 +16,7 @@ mod texts;
 mod verdict;
 
 pub use fault::RunFault;
+pub use forms::inspection_form::InspectionForm;
 pub use forms::report_form::ReportForm;
 pub use lines::detail::Detail;
 pub use log::log::{Log, read_log};

@@ -14,3 +14,4 @@ pub(crate) mod review_as;
 pub(crate) mod review_whole;
 pub(crate) mod run;
 pub(crate) mod selecting;
+pub(crate) mod unwrapping;

@@ -87,6 +87,7 @@ fn carrying() -> Extraction {
     Extraction {
         selection: Selection::Carried,
         form: Form::Frames,
+        unwrap: false,
     }
 }
 

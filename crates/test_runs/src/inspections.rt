@@ -1,7 +1,7 @@
 //! Inspections of logs that cannot be read, over devices that fail, and where memory runs out: nothing is written then
 //! but by a write that failed.
 use ss_frame::{FrameFault, Limits, Watched};
-use ss_report::{ReportForm, Run, RunFault, Verdict, run_inspect};
+use ss_report::{InspectionForm, ReportForm, Run, RunFault, Verdict, run_inspect};
 use std::alloc::Global;
 use std::io::{ErrorKind, Read};
 use std::process::Abort;
@@ -59,7 +59,11 @@ fn inspect_over<R: Read>(
         limits,
         alloc,
     };
-    let said = run_inspect(run, ReportForm::Text);
+    let form = InspectionForm {
+        lines: ReportForm::Text,
+        unwrap: false,
+    };
+    let said = run_inspect(run, form);
     (said, reader, writer)
 }
 

@@ -31,3 +31,5 @@ mod shortfalls;
 mod stops;
 #[cfg(test)]
 mod texts;
+#[cfg(test)]
+mod wraps;

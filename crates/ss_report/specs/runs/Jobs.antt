@@ -19,9 +19,10 @@ use Rattle.ss_review.specs.declared.counted.counter.Counter.{Counter}
 use Rattle.ss_report.specs.texts.QuestionForms.{questions_as}
 use Rattle.ss_report.specs.runs.Counters.{counter_lines}
 use Rattle.ss_report.specs.Verdict.{end_verdict, report_verdict}
-use Rattle.ss_report.specs.runs.Extraction.{is_reviewed, messages_at, refusal, selected, selected_verdict}
+use Rattle.ss_report.specs.runs.Extraction.{is_reviewed, messages_at, refusal, selected, selected_verdict, shown}
 use Rattle.ss_report.specs.runs.Run.{Job, Runs, nothing}
 use Rattle.ss_report.specs.declared.runs.extraction.Extraction.{Extraction}
+use Rattle.ss_report.specs.declared.forms.inspection_form.InspectionForm.{InspectionForm}
 use Rattle.ss_report.specs.declared.forms.report_form.ReportForm.{ReportForm}
 use Rattle.ss_report.specs.declared.lines.detail.Detail.{Detail}
 use Rattle.ss_report.specs.declared.notation.Notation.{Notation}
@@ -30,7 +31,7 @@ use Rattle.ss_report.specs.declared.payloads.Payloads.TheVariants as payloads
 use Rattle.ss_report.specs.declared.verdict.verdict.Verdict.{Verdict}
 
 -- a line a message, in a form
-abbrev pub inspecting : ReportForm → Job
+abbrev pub inspecting : InspectionForm → Job
 inspecting form = record {
   output = inspection form;
   verdict = λ messages tail. end_verdict tail;
@@ -87,11 +88,12 @@ counting notation says = record {
   refusal = nothing;
 }
 
--- the messages that are selected, in a form, whatever the form of the log; a place that the log hasn't is refused, and
--- a message that is no line of the form
+-- the messages that are selected, as they stand or out of their wraps, in a form, whatever the form of the log; a place
+-- that the log hasn't is refused, and a message that is no line of the form
 abbrev pub extracting_as : Extraction → Answers → Job
 extracting_as e says = record {
-  output = λ messages tail. units_in e.form (messages_at messages (selected e.selection says messages));
+  output = λ messages tail.
+      units_in e.form (messages_at (shown e.unwrap messages) (selected e.selection says messages));
   verdict = λ messages tail. selected_verdict e.selection says messages tail;
   reviews = is_reviewed e.selection;
   refusal = refusal e says;

@@ -1,7 +1,8 @@
 -- What each message of a log is, one line a message, each ended by LF: words with one SP between two, or a JSON object
--- (RFC 8259). The findings alone leave out the plain messages.
+-- (RFC 8259). The findings alone leave out the plain messages. Where wraps are taken off, the line of a wrap says what
+-- the octets in it are.
 use Rattle.std.specs.Prelude.{ℕ, ◌+◌, Bool, true, false, ◌&&◌, if◌then◌else◌, List, [], ◌∷◌, ◌++◌, codes}
-use Rattle.std.specs.Prelude.{length, Option}
+use Rattle.std.specs.Prelude.{length, Option, Some, None}
 use Rattle.ss_frame.specs.declared.step.Tail.{Tail}
 use Rattle.ss_message.specs.declared.fault.Part.{Part}
 use Rattle.ss_message.specs.declared.fault.Part.TheVariants as parts
@@ -11,12 +12,14 @@ use Rattle.ss_block.specs.declared.reading.Reading.{Reading}
 use Rattle.ss_block.specs.declared.reading.Reading.TheVariants as readings
 use Rattle.ss_block.specs.Reading.{reading}
 use Rattle.ss_block.specs.Session.{session}
+use Rattle.ss_wrap.specs.Wrap.{original}
 use Rattle.ss_report.specs.records.Record.{Value, Number, Word, Record, field}
 use Rattle.ss_report.specs.records.Fields.{known_session_fields, group_fields, cause_word}
 use Rattle.ss_report.specs.records.Written.{written}
 use Rattle.ss_report.specs.forms.Forms.{notation_of, has_findings_alone}
 use Rattle.ss_report.specs.texts.Ending.{end_lines}
 use Rattle.ss_report.specs.declared.notation.Notation.{Notation}
+use Rattle.ss_report.specs.declared.forms.inspection_form.InspectionForm.{InspectionForm}
 use Rattle.ss_report.specs.declared.forms.report_form.ReportForm.{ReportForm}
 
 -- the word of the part at fault, M1 to M12
@@ -71,16 +74,49 @@ abbrev pub is_plain : Reading → Bool
 is_plain readings.Plain = true
 is_plain r = false
 
-unfoldable pub message_line : ReportForm → ℕ → List ℕ → List ℕ
-message_line form place message =
+-- the line of a message as it stands
+unfoldable pub stored_line : ReportForm → ℕ → List ℕ → List ℕ
+stored_line form place message =
     if has_findings_alone form && is_plain (reading message) then []
     else reading_line (notation_of form) (reading message) (session message) place
 
+-- ---- a line for a wrap
+
+-- what the octets in it are
+abbrev pub wrapped_kind : Reading → List ℕ
+wrapped_kind readings.Plain = codes "wrapped-plain"
+wrapped_kind (readings.Unparsed part pos) = codes "wrapped-unparsed"
+wrapped_kind (readings.Signature b) = codes "wrapped-signature"
+wrapped_kind (readings.Certificate b) = codes "wrapped-certificate"
+wrapped_kind (readings.Spoilt cause) = codes "wrapped-spoilt"
+
+-- the fields that they have where they stand as a message of the log
+abbrev pub wrapped_record : Reading → Option Session → (place : ℕ) → Record
+wrapped_record r s place = record { kind = wrapped_kind r; fields = reading_fields r s place }
+
+-- the line of the wrap of these octets
+unfoldable pub wrapped_line : Notation → ℕ → List ℕ → List ℕ
+wrapped_line notation place octets = written notation (wrapped_record (reading octets) (session octets) place)
+
+-- ---- a line for either
+
+-- the octets in a wrap, where wraps are taken off
+abbrev pub inside : (unwrap : Bool) → List ℕ → Option (List ℕ)
+inside unwrap message = if unwrap then original message else None
+
+abbrev pub line_of : ReportForm → ℕ → List ℕ → Option (List ℕ) → List ℕ
+line_of form place message (Some octets) = wrapped_line (notation_of form) place octets
+line_of form place message None = stored_line form place message
+
+abbrev pub message_line : InspectionForm → ℕ → List ℕ → List ℕ
+message_line form place message = line_of form.lines place message (inside form.unwrap message)
+
 -- the lines of messages of which the first has this place
-abbrev pub message_lines : ReportForm → ℕ → List (List ℕ) → List ℕ
+abbrev pub message_lines : InspectionForm → ℕ → List (List ℕ) → List ℕ
 message_lines form place [] = []
 message_lines form place (m ∷ ms) = message_line form place m ++ message_lines form (place + 1) ms
 
 -- the whole text
-unfoldable pub inspection : ReportForm → List (List ℕ) → Tail → List ℕ
-inspection form messages tail = message_lines form 0 messages ++ end_lines (notation_of form) tail (length messages)
+unfoldable pub inspection : InspectionForm → List (List ℕ) → Tail → List ℕ
+inspection form messages tail =
+    message_lines form 0 messages ++ end_lines (notation_of form.lines) tail (length messages)

@@ -24,13 +24,15 @@ pub enum Selection {
     At(Places),
 }
 
-/// Which messages of a log an extract writes, and in which form.
+/// Which messages of a log an extract writes, in which form, and whether they are taken out of their wraps.
 #[derive(Debug, Drop)]
 pub struct Extraction {
     /// Which messages.
     pub selection: Selection,
     /// As octet-counted frames (RFC 6587, section 3.4.1), or one message a line, each ended by LF.
     pub form: Form,
+    /// Whether the octets in a wrap are written in place of the wrap (`original` of `ss_wrap`).
+    pub unwrap: bool,
 }
 
 /// Why an extract isn't written. Places count its messages from 0.
@@ -41,7 +43,7 @@ pub enum ExtractFault {
         /// That place.
         place: u32,
     },
-    /// E2: the first message to be written as a line that holds LF.
+    /// E2: the first message to be written as a line that holds LF, out of its wrap if that is asked for.
     HoldsLf {
         /// Its place.
         place: u32,

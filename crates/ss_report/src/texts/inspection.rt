@@ -1,11 +1,14 @@
 //! The line of an inspection: what a stored message is.
 ghost use Rattle.std.specs.Prelude.{◌≡◌, ◌++◌, None, IfOk, OnOk};
+ghost use Rattle.std.specs.Option.{option_copied};
 ghost use Rattle.ss_frame.specs.Watched.{sink_of};
 ghost use Rattle.ss_report.specs.log.Writing.{Writes};
-ghost use Rattle.ss_report.specs.records.Written.{fields_in};
+ghost use Rattle.ss_report.specs.records.Written.{fields_in, written};
 ghost use Rattle.ss_report.specs.texts.Inspection.{part_word, head_fields, reading_kind, reading_fields, reading_line};
-ghost use Rattle.ss_report.specs.texts.Inspection.{is_plain, message_line};
+ghost use Rattle.ss_report.specs.texts.Inspection.{inside, is_plain, message_line, stored_line};
+ghost use Rattle.ss_report.specs.texts.Inspection.{wrapped_kind, wrapped_line, wrapped_record};
 
+use crate::forms::inspection_form::InspectionForm;
 use crate::forms::report_form::ReportForm;
 use crate::notation::Notation;
 use crate::records::fields::{put_group, put_known_session, put_spoilt};
@@ -15,6 +18,7 @@ use ss_block::{CertBlock, Group, Reading, Session, SigBlock, classify_with_sessi
 use ss_frame::Watched;
 use ss_message::Part;
 use ss_octets::NoMemory;
+use ss_wrap::original;
 use std::alloc::Global;
 use std::io::Write;
 
@@ -24,7 +28,7 @@ pub(crate) fn put_message(
     text: Vec<u8>,
     place: u64,
     message: &[u8],
-    form: ReportForm,
+    form: InspectionForm,
 ) -> Result<Vec<u8>, NoMemory>
     ensures { IfOk result (λ v. v.items ≡ text.items ++ message_line form place message.now) }
 {
@@ -37,8 +41,82 @@ pub(crate) fn put_message(
 }
 
 /// Writes the line of a message at this place, unless the form leaves it out.
-#[tactic(auto, unfolding(crate::specs::texts::Inspection::message_line))]
 fn write_message<W: Write>(
+    alloc: Global,
+    writer: &mut Watched<W>,
+    place: u64,
+    message: &[u8],
+    form: InspectionForm,
+) -> Result<(), NoMemory>
+    ensures { OnOk result
+        (Writes (sink_of W.contents writer.old) (sink_of W.contents writer.new) (message_line form place message.now)) }
+{
+    match inside(alloc, message, form.unwrap)? {
+        Some(octets) => write_wrapped(alloc, writer, place, octets, form.lines.notation()),
+        None => write_stored(alloc, writer, place, message, form.lines),
+    }
+}
+
+/// The octets in a message of the form of a wrap, if wraps are to be taken off.
+fn inside<'a>(alloc: Global, message: &'a [u8], unwrap: bool) -> Result<Option<&'a [u8]>, NoMemory>
+    ensures { IfOk result (λ found. option_copied found ≡ inside unwrap message.now) }
+{
+    if unwrap {
+        original(alloc, message)
+    } else {
+        Ok(None)
+    }
+}
+
+/// Writes the line of the wrap of these octets, which stands at this place.
+#[tactic(auto, unfolding(crate::specs::texts::Inspection::wrapped_line))]
+fn write_wrapped<W: Write>(
+    alloc: Global,
+    writer: &mut Watched<W>,
+    place: u64,
+    octets: &[u8],
+    notation: Notation,
+) -> Result<(), NoMemory>
+    ensures { OnOk result (Writes (sink_of W.contents writer.old) (sink_of W.contents writer.new)
+        (wrapped_line notation place octets.now)) }
+{
+    let (reading, session) = classify_with_session(alloc, octets)?;
+    write_inner(writer, &reading, &session, place, notation);
+    Ok(())
+}
+
+/// Writes the line of a wrap at this place, of which the octets in it are read so.
+fn write_inner<W: Write>(
+    writer: &mut Watched<W>,
+    reading: &Reading,
+    session: &Option<Session>,
+    place: u64,
+    notation: Notation,
+)
+    ensures { Writes (sink_of W.contents writer.old) (sink_of W.contents writer.new)
+        (written notation (wrapped_record reading.now session.now place)) }
+{
+    begin(writer, notation, wrapped_kind_of(reading));
+    put_reading(writer, notation, reading, session, place);
+    end(writer, notation);
+}
+
+/// The kind of the line of a wrap.
+fn wrapped_kind_of(reading: &Reading) -> &'static [u8]
+    ensures { result.now ≡ wrapped_kind reading.now }
+{
+    match reading {
+        Reading::Plain => b"wrapped-plain",
+        Reading::Unparsed { .. } => b"wrapped-unparsed",
+        Reading::Signature(_) => b"wrapped-signature",
+        Reading::Certificate(_) => b"wrapped-certificate",
+        Reading::Spoilt(_) => b"wrapped-spoilt",
+    }
+}
+
+/// Writes the line of a message as it stands, at this place, unless the form leaves it out.
+#[tactic(auto, unfolding(crate::specs::texts::Inspection::stored_line))]
+fn write_stored<W: Write>(
     alloc: Global,
     writer: &mut Watched<W>,
     place: u64,
@@ -46,7 +124,7 @@ fn write_message<W: Write>(
     form: ReportForm,
 ) -> Result<(), NoMemory>
     ensures { OnOk result
-        (Writes (sink_of W.contents writer.old) (sink_of W.contents writer.new) (message_line form place message.now)) }
+        (Writes (sink_of W.contents writer.old) (sink_of W.contents writer.new) (stored_line form place message.now)) }
 {
     let (reading, session) = classify_with_session(alloc, message)?;
     if form.has_findings_alone() && is_plain(&reading) {

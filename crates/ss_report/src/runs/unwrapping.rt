@@ -1,0 +1,47 @@
+//! The messages of an extract out of their wraps.
+ghost use Rattle.std.specs.Prelude.{◌≡◌, map, OnOk};
+ghost use Rattle.ss_report.specs.runs.Extraction.{out_of_wrap, shown};
+
+use ss_octets::{Bytes, NoMemory};
+use ss_wrap::original;
+use std::alloc::Global;
+
+/// Takes each message out of its wrap, if that is asked for.
+///
+/// Errs only if it runs out of memory.
+pub(crate) fn show(alloc: Global, messages: &mut [Bytes], unwrap: bool) -> Result<(), NoMemory>
+    ensures { OnOk result (messages.new ≡ shown unwrap messages.old) }
+{
+    if unwrap {
+        unwrap_all(alloc, messages)
+    } else {
+        Ok(())
+    }
+}
+
+/// Takes each message out of its wrap, if it has the form of one.
+fn unwrap_all(alloc: Global, messages: &mut [Bytes]) -> Result<(), NoMemory>
+    ensures { OnOk result (messages.new ≡ map out_of_wrap messages.old) }
+{
+    for message in messages.iter_mut() {
+        unwrap(alloc, message)?;
+    }
+    Ok(())
+}
+
+/// Takes a message out of its wrap, if it has the form of one: it becomes the octets in it. The wrap of no octet stays,
+/// because neither a frame nor a line is empty.
+#[tactic(auto, unfolding(crate::specs::runs::Extraction::out_of_wrap))]
+fn unwrap(alloc: Global, message: &mut Bytes) -> Result<(), NoMemory>
+    ensures { OnOk result (message.new ≡ out_of_wrap message.old) }
+{
+    let Some(octets) = original(alloc, message.as_slice())? else {
+        return Ok(());
+    };
+    if octets.is_empty() {
+        return Ok(());
+    }
+    let octets = Vec::from_slice(alloc, octets)?;
+    *message = Bytes::from_vec(octets);
+    Ok(())
+}
