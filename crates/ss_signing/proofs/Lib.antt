@@ -1,4 +1,5 @@
 pub mod Sending
+pub mod Taking
 pub mod Writing
 pub mod Plans
 pub mod Lines

@@ -67,11 +67,11 @@ module _ {J : Type 0} (lines : J → List ℕ) (config : Config) (payload : Payl
       ∙ ap (λ xs. lines first ++ xs) (sym (flat_map-append want_of sent t.emitted) ∙ ap want_lines (emitted_more turns t sent refl))
 
   -- so the lines of a sealer that had none are what a plan writes
-  pub plan_made : (start : Start) (stamp : Option Moment) (form : OutputForm) (messages : List (List ℕ)) (first : J) (o : Kept J) (text : List ℕ)
-      → lines first ≡ []
+  pub plan_made : (start : Start) (stamp : Option Moment) (form : OutputForm) (messages : List (List ℕ)) {first : J} {o : Kept J} {text : List ℕ}
       → HasSealed plan start (writes_want lines) form (all_calls start stamp messages) first o text
+      → lines first ≡ []
       → MakesOutput (planning_from start config payload stamp) messages (lines o.sealer)
-  plan_made start stamp form messages first o text none seals =
+  plan_made start stamp form messages {first} {o} {text} seals none =
       let taken = seals.sent.accepted in
       record {
         emitted = seals.sent.emitted;

@@ -3,6 +3,7 @@ pub mod Asked
 pub mod Wants
 pub mod Ahead
 pub mod Run
+pub mod RangesFirst
 pub mod Jobs
 pub mod Sending
 pub mod PlanLaws

@@ -1,5 +1,5 @@
 //! A sealer that writes a plan.
-ghost use Rattle.std.specs.Prelude.{◌≡◌, ◌++◌, [], OnOk};
+ghost use Rattle.std.specs.Prelude.{◌≡◌, ◌++◌, OnOk};
 ghost use Rattle.ss_signing.specs.Wants.{want_line};
 
 use crate::blank::Blank;
@@ -15,19 +15,6 @@ pub(crate) struct WantWriter {
     pub(crate) blank: Blank,
     /// The lines, each ended by LF.
     pub(crate) lines: Vec<u8>,
-}
-
-impl WantWriter {
-    /// One that wrote no line yet. Takes no memory.
-    pub(crate) fn new(alloc: Global, payload: Payload) -> WantWriter
-        ensures payload { result.blank.payload ≡ payload }
-        ensures lines { result.lines.items ≡ [] }
-    {
-        WantWriter {
-            blank: Blank { payload },
-            lines: Vec::new(alloc),
-        }
-    }
 }
 
 impl Seals for WantWriter {

@@ -12,7 +12,7 @@ use Rattle.ss_signing.proofs.Sending.{stops_whatever}
 use Rattle.ss_signing.proofs.Writing.{run_writes, run_fails_to_write, run_stops}
 use Rattle.ss_signing.proofs.plan.run_plan_from.Goals as goal
 
-lines : WantWriter → List ℕ
+abbrev lines : WantWriter → List ℕ
 lines sealer = sealer.lines.items
 
 pub returns-in_err-sent-clause-stopped : goal.returns-in_err-sent-clause-stopped
@@ -34,7 +34,7 @@ returns-in_err-write_whole-clause-stopped g c =
     let start = started request.start in
     let messages = c.in_ok-messages.messages.items in
     let o = c.in_ok-sent.sent.originator in
-    let made = plan_made lines request.config c.args.payload start request.stamp Nothing messages c.new.result o c.in_ok-sent.sent.text.items c.new.ensures.lines c.in_ok-sent.ensures.asked in
+    let made = plan_made lines request.config c.args.payload start request.stamp Nothing messages c.in_ok-sent.ensures.asked c.new.ensures.items in
     let p = err_from_is_err_and c.from_residual-in_err-write_whole.result c.from_residual-in_err-write_whole.ensures.1 in
     rw (p.1, p.2, c.in_err-write_whole.ensures.0)
     (run_fails_to_write (planning_from start request.config c.args.payload request.stamp) request.limits (source_of g.R.Read.remaining c.args.reader.now) (source_of g.R.Read.remaining c.read_whole.new.reader) messages
@@ -47,7 +47,7 @@ returns-clause-planned g c =
     let start = started request.start in
     let messages = c.in_ok-messages.messages.items in
     let o = c.in_ok-sent.sent.originator in
-    let made = plan_made lines request.config c.args.payload start request.stamp Nothing messages c.new.result o c.in_ok-sent.sent.text.items c.new.ensures.lines c.in_ok-sent.ensures.asked in
+    let made = plan_made lines request.config c.args.payload start request.stamp Nothing messages c.in_ok-sent.ensures.asked c.new.ensures.items in
     run_writes (planning_from start request.config c.args.payload request.stamp) request.limits (source_of g.R.Read.remaining c.args.reader.now) (source_of g.R.Read.remaining c.read_whole.new.reader) messages
     (sink_of g.W.Write.contents c.args.writer.now) (sink_of g.W.Write.contents c.write_whole.new.writer)
     (lines o.sealer) c.as_slice.result.now c.in_ok-messages.ensures.read made (c.as_slice.ensures.value ∙ ap lines c.into_sealer-sealer.ensures) c.in_ok-write_whole.ensures
