@@ -1,5 +1,5 @@
 -- Runs that go on one after the other are lives of a chain.
-use Rattle.std.proofs.Common.{◌≡◌, List, [], ◌∷◌, map, sym, subst}
+use Rattle.std.proofs.Common.{List, [], ◌∷◌, map, sym, subst}
 use Rattle.ss_origin.specs.Ahead.{AreAtLeast, BeginsBehind, GoOnAhead}
 use Rattle.ss_origin.specs.Counting.{Start}
 use Rattle.ss_origin.specs.Setting.{Setting}

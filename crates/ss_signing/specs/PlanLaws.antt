@@ -1,5 +1,5 @@
 -- A plan's lines are the signed octets of what is emitted where the same messages are signed.
-use Rattle.std.specs.Prelude.{◌≡◌, ℕ, List, [], ◌∷◌, ◌++◌, replicate, flat_map, Option, Some, None}
+use Rattle.std.specs.Prelude.{◌≡◌, ℕ, List, [], ◌∷◌, replicate, flat_map, Option, Some, None}
 use Rattle.ss_message.specs.Stamp.{Moment}
 use Rattle.ss_block.specs.Signed.{signed}
 use Rattle.ss_origin.specs.Counting.{Start}
