@@ -9,6 +9,8 @@ lost-block.frames      a log of two groups, of which the only block of one is lo
 lost-block.answers     what a signature checker says about that log that accepts all of it
 one-message.log        a message, as a line
 one-message.seals      what a signer says who gives every block of that log the same signature
+odd-message.log        a message in the form of RFC 3164, as a line
+odd-message.seals      the same for its wrap
 
 The messages of the first log are the samples of FIPS 180, whose hashes are published, and all signatures are the three
 octets 0: these files show the layout, and nothing in them is signed by a real key (for that see signed/ beside this file).
@@ -24,6 +26,8 @@ SAMPLES = {
 }
 FIRST, SECOND = SAMPLES
 ONE = b"<13>1 - - - - - - abc"
+ODD = b"<34>Oct 11 22:14:15 gate su: 'su root' failed"
+WRAP = b"<34>1 - h s - wrapped - |"
 HEADER = b"<110>1 - h s - - "
 # RFC 5848, section 5.2.1: a time stamp, the kind of key (K, a public key), the key in base64 (here the text KEY)
 PAYLOAD = b"2009-05-03T14:00:39Z K S0VZ"
@@ -102,9 +106,9 @@ def kinds():
     return b"".join(map(frame, [plain, FIRST, certificate, signature, spoilt])) + frame(SECOND)[:-1]
 
 
-def seals():
+def seals(message):
     """The seal of each block that signing the one message makes."""
-    texts = [certificate_block(), signature_block(hashlib.sha1(ONE).digest())]
+    texts = [certificate_block(), signature_block(hashlib.sha1(message).digest())]
     return b"".join(b"seal %s %s\n" % (in_base64(it), in_base64(SIGNATURE)) for it in texts)
 
 
@@ -120,7 +124,8 @@ def main():
     made = {
         "four-messages.frames": log, "four-messages.answers": answers_to(texts), "torn.frames": log[:100],
         "kinds.frames": kinds(), "lost-block.frames": lost, "lost-block.answers": answers,
-        "one-message.log": ONE + b"\n", "one-message.seals": seals(),
+        "one-message.log": ONE + b"\n", "one-message.seals": seals(ONE),
+        "odd-message.log": ODD + b"\n", "odd-message.seals": seals(WRAP + ODD),
     }
     for name, octets in made.items():
         with open(os.path.join(folder, name), "wb") as file:

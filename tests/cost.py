@@ -103,6 +103,8 @@ SHAPES = [
     (logs.sent_in_groups, 1920, [SIGN], [PLAN, AHEAD]),
     (logs.sent_in_ranges, 1920, [], [PLAN]),
     (logs.sent_often, 900, [], [SIGN]),
+    (logs.sent_wrapped, 900, [PLAN, AHEAD, SIGN], []),
+    (logs.sent_wrapped_long, 12_000, [SIGN], [PLAN]),
     (logs.sent_payload, 900, [SIGN], [PLAN]),
     (logs.sent_on, 900, [RESUMED], []),
     (logs.sent_on_in_groups, 960, [RESUMED], []),

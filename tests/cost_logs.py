@@ -590,6 +590,17 @@ def sent_often(n):
     return sending(n, 1 + n // 10, "--copies", "9")
 
 
+def sent_wrapped(n):
+    """Messages of another version, each in a wrap."""
+    return sending(n, 1 + n // 10, "--wrap", text=lambda i, octets: message(i, octets).replace(b">1 ", b">2 ", 1))
+
+
+def sent_wrapped_long(n):
+    """Messages of many elements, of which the last is a block's, each in a wrap."""
+    elements = b"".join(b"[%d]" % i for i in range(n // 8)) + b"[ssign]"
+    return sending(10, 2, "--wrap", text=lambda i, octets: b"<13>1 - - - - - " + elements)
+
+
 def sent_payload(n):
     """A payload in fragments of one octet."""
     return sending(10, n + 4 + 1, "--frag", "1", payload=b"- U " + b64(b"x" * (3 * n // 4)))

@@ -6,7 +6,7 @@
 mkdir -- "$scratch/made"
 holds 'examples/make.py runs' python3 "$root/examples/make.py" "$scratch/made"
 for file in four-messages.frames four-messages.answers torn.frames kinds.frames lost-block.frames lost-block.answers \
-    one-message.log one-message.seals; do
+    one-message.log one-message.seals odd-message.log odd-message.seals; do
     holds "examples/$file is what make.py makes" cmp -- "$root/examples/$file" "$scratch/made/$file"
 done
 

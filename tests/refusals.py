@@ -354,6 +354,29 @@ def resumed_signings():
     yield Case("plan --resume: a folder", ["plan", "--resume", HERE, *PAYLOAD], octets, refused("C2"))
 
 
+# messages that are wrapped, among one that isn't
+ODD = [b"hello", TOLD[0], b"<34>Oct 11 22:14:15 gate su: failed", C, b"<13>1 - h s - wrapped - |m", b"a line\nand another"]
+
+
+def wrapped_signings():
+    """Messages that are wrapped, signed logs as lines, and what is refused of both."""
+    octets, told, wrap = b"".join(map(frame, ODD)), b"".join(map(frame, TOLD)), [*PAYLOAD, "--wrap"]
+    plan, signed, ahead = (modelled(command, [*wrap, *flags], octets)
+                           for command, flags in (("plan", []), ("sign", []), ("plan", ["--ahead"])))
+    yield Case("plan --wrap", ["plan", *wrap], octets, Said(0, plan, b""))
+    yield Case("plan --wrap --ahead", ["plan", "--ahead", *wrap], octets, Said(0, ahead, b""))
+    yield Case("sign --wrap", ["sign", *wrap], octets, Said(0, signed, b""), seals_of(plan))
+    plan, lines = modelled("plan", PAYLOAD, told), modelled("sign", [*PAYLOAD, "--lines-out"], told)
+    yield Case("sign --lines-out", ["sign", "--lines-out", *PAYLOAD], told, Said(0, lines, b""), seals_of(plan))
+    yield Case("sign --lines-out: LF", ["sign", "--lines-out", *wrap], octets, refused("E2 5"), b"")
+    # the wrap of `hello` has 30 octets, and that of the block more than all others
+    for command in (["plan"], ["plan", "--ahead"], ["sign"]):
+        for name, log, most, code in (("a long wrap", frame(b"hello"), "29", "O11 0"), ("another", octets, str(len(C)), "O11 3"),
+                                      ("a torn log", octets + b"9 ab", str(len(C)), "P1 %d" % len(octets))):
+            yield Case("%s --wrap: %s" % (" ".join(command), name), [*command, *wrap, "--max-len", most], log, refused(code),
+                       b"" if command == ["sign"] else None)
+
+
 def refused_signings():
     octets, two = b"".join(map(frame, TOLD)), ["--count", "2"]
     plan = modelled("plan", PAYLOAD + two, octets)
@@ -497,7 +520,7 @@ def main():
     parser.add_argument("--show", action="store_true")
     given = parser.parse_args()
     cases = [case for make in (reviews, kept_reviews, tallies, extracts, inspections, answers, signings, resumed_signings,
-                               refused_signings, others, long_outputs)
+                               wrapped_signings, refused_signings, others, long_outputs)
              for case in make()]
     first = cases[0].wanted.out.decode().splitlines()
     for word in WORDS:

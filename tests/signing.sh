@@ -134,7 +134,7 @@ expect 'a plan has no answers' 2 '' 'SOME TEXT'
 for command in plan sign; do
     run "$command" --help </dev/null
     expect "$command --help" 0 'SOME TEXT' ''
-    for option in resume payload rsid stamp pri host app procid msgid ver groups count frag copies \
+    for option in resume wrap payload rsid stamp pri host app procid msgid ver groups count frag copies \
         lines max-len max-messages; do
         holds "$command --help has --$option" grep -q -- "--$option " "$scratch/out"
     done
@@ -289,6 +289,79 @@ run plan --ahead --ahead "${given[@]}" <"$log"
 expect '--ahead twice is a mistake' 2 '' 'SOME TEXT'
 run sign --ahead "${given[@]}" <"$log"
 expect 'sign has no --ahead' 2 '' 'SOME TEXT'
+
+# ---- wraps, and signed logs as lines
+long_one="<13>Oct 11 22:14:15 gate su: $(long 4000)"
+{
+    frame 'hello'
+    frame '<13>1 - - - - - - a'
+    frame '<34>Oct 11 22:14:15 gate su: failed'
+    frame '<14>1 2009-05-03T14:00:39.123456789Z h su - - - m'
+    frame "${block#* }"
+    frame '<13>1 - h s - wrapped - |m'
+    frame "$long_one"
+} >"$log"
+both '--wrap' --wrap "${given[@]}"
+both '--wrap with a header' --wrap --stamp 2009-05-03T14:00:39Z --host h --app s --procid 7 "${given[@]}"
+both '--wrap and groups' --wrap --groups pri --count 1 "${given[@]}"
+both '--wrap and limits' --wrap --max-len $((${#long_one} + 25)) "${given[@]}"
+model plan --ahead --wrap "${given[@]}" <"$log" >"$scratch/wanted"
+run plan --ahead --wrap "${given[@]}" <"$log"
+wrote 'plan --ahead --wrap' "$scratch/wanted"
+printf 'count %s 7\ncount %s 0 0 5\n' "$session" "$session" >"$counters"
+both '--wrap and --resume' --wrap "${going[@]}"
+refused '--wrap and a wrap that is too long' 'ssign: O11 6' --wrap --max-len $((${#long_one} + 24)) "${given[@]}"
+refused '--wrap and a message that is too long' 'ssign: F2 0' --wrap --max-len 1 "${given[@]}"
+run plan --ahead --wrap --max-len $((${#long_one} + 24)) "${given[@]}" <"$log"
+expect 'plan --ahead: a wrap that is too long' 2 '' 'ssign: O11 6'
+run plan "${given[@]}" <"$log"
+expect 'without --wrap the first odd message is refused' 2 '' 'ssign: O2 0'
+{ cat "$log"; printf '3 ab'; } >"$scratch/torn"
+run plan --wrap --max-len $((${#long_one} + 24)) "${given[@]}" <"$scratch/torn"
+expect 'P1 comes before O11' 2 '' "ssign: P1 $(stat -c %s "$log")"
+
+# what is listed of a signed log gives the messages back
+run plan --wrap "${given[@]}" "${header[@]}" <"$log"
+seal <"$scratch/out" >"$seals"
+run sign --wrap --answers "$seals" "${given[@]}" "${header[@]}" <"$log"
+cp -- "$scratch/out" "$scratch/signed"
+run questions <"$scratch/signed"
+cp -- "$scratch/out" "$scratch/answers"
+run review --answers "$scratch/answers" <"$scratch/signed"
+holds 'a log with wraps is reviewed as clean' test "$status" = 0
+run extract --answers "$scratch/answers" <"$scratch/signed"
+cp -- "$scratch/out" "$scratch/listed"
+holds 'and gives its messages back' python3 -B - "$root/tests" "$log" "$scratch/listed" <<'END'
+import sys
+sys.path.insert(0, sys.argv[1])
+from signing_model import messages
+from wrap_model import original
+log, listed = (messages(open(path, "rb").read(), False) for path in sys.argv[2:])
+sys.exit(log != [text if original(text) is None else original(text) for text in listed])
+END
+
+# lines: the same messages, each ended by LF
+model sign --wrap --lines-out "${given[@]}" "${header[@]}" <"$log" >"$scratch/wanted"
+run sign --wrap --lines-out --answers "$seals" "${given[@]}" "${header[@]}" <"$log"
+wrote 'sign --lines-out' "$scratch/wanted"
+run review --lines --answers "$scratch/answers" <"$scratch/wanted"
+holds 'a signed log of lines is reviewed as clean' test "$status" = 0
+run extract --lines --answers "$scratch/answers" <"$scratch/wanted"
+wrote 'and lists the same messages' "$scratch/listed"
+{ cat "$log"; frame $'a\nb'; frame $'\n'; } >"$scratch/breaks"
+run sign --wrap --lines-out --answers "$seals" "${given[@]}" "${header[@]}" <"$scratch/breaks"
+expect 'sign --lines-out: a message with LF' 2 '' 'ssign: E2 7'
+run sign --lines-out --answers /dev/null "${given[@]}" <"$scratch/breaks"
+expect 'E2 comes before O2 and O6' 2 '' 'ssign: E2 7'
+run sign --wrap --lines-out --max-len $((${#long_one} + 24)) --answers /dev/null "${given[@]}" <"$scratch/breaks"
+expect 'E2 comes before O11' 2 '' 'ssign: E2 7'
+{ cat "$scratch/breaks"; printf '3 ab'; } >"$scratch/torn"
+run sign --lines-out "${given[@]}" <"$scratch/torn"
+expect 'P1 comes before E2' 2 '' "ssign: P1 $(stat -c %s "$scratch/breaks")"
+run sign --wrap --answers /dev/null "${given[@]}" <"$scratch/breaks"
+expect 'as frames it comes as far as its seals' 2 '' 'ssign: O6'
+run plan --lines-out "${given[@]}" <"$log"
+expect 'plan has no --lines-out' 2 '' 'SOME TEXT'
 
 # ---- counters that are refused: `rejected WHAT COMPLAINT OPTION..` by plan, plan --ahead and sign
 rejected() {

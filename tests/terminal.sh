@@ -121,6 +121,9 @@ printf '2 ab1 a' >"$log"
 both 'a message too many' 'F5 4' '' --max-messages 1
 printf '3 abc' >"$log"
 refused 'a message that is none of RFC 5424' 'O2 0' '' plan "${given[@]}"
+refused 'a wrap that is too long' 'O11 0' '' plan --wrap --max-len 3 "${given[@]}"
+printf '2 a\n' >"$log"
+refused 'a message that is no line' 'E2 0' '' sign --lines-out "${given[@]}"
 printf '<13>1 - - - - - - a\n' >"$log"
 refused 'no seal line' 'O6' '' sign --lines "${given[@]}"
 # Python itself can't begin on a folder

@@ -1,6 +1,10 @@
+pub mod InPlace
 pub mod Sending
 pub mod Taking
 pub mod Writing
 pub mod Plans
 pub mod Lines
 pub mod GoingOn
+pub mod Wrapped
+pub mod NoLf
+pub mod LinesOut

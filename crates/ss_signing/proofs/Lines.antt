@@ -1,5 +1,5 @@
 -- A plan's sealer, which writes the line of what it is asked to sign, has the lines of what was emitted.
-use Rattle.std.proofs.Common.{◌≡◌, ℕ, ◌≤◌, List, [], ◌∷◌, ◌++◌, map, reverse, refl, sym, ap, ◌∙◌, append_assoc, append-nil}
+use Rattle.std.proofs.Common.{◌≡◌, ℕ, ◌≤◌, false, List, [], ◌∷◌, ◌++◌, map, reverse, refl, sym, ap, ◌∙◌, append_assoc, append-nil}
 use Rattle.std.specs.Prelude.{Option, None}
 use Rattle.std.specs.List.{flat_map}
 use Rattle.std.proofs.lemmas.Grind.{flat_map-append}
@@ -70,7 +70,7 @@ module _ {J : Type 0} (lines : J → List ℕ) (config : Config) (payload : Payl
   pub plan_made : (start : Start) (stamp : Option Moment) (form : OutputForm) (messages : List (List ℕ)) {first : J} {o : Kept J} {text : List ℕ}
       → HasSealed plan start (writes_want lines) form (all_calls start stamp messages) first o text
       → lines first ≡ []
-      → MakesOutput (planning_from start config payload stamp) messages (lines o.sealer)
+      → MakesOutput (planning_from start config payload stamp false) messages (lines o.sealer)
   plan_made start stamp form messages {first} {o} {text} seals none =
       let taken = seals.sent.accepted in
       record {

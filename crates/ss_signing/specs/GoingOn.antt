@@ -8,7 +8,7 @@ use Rattle.ss_origin.specs.Setting.{Setting, IsSetting}
 use Rattle.ss_origin.specs.State.{state, counters_of}
 use Rattle.ss_signing.specs.Accepted.{all_calls, Accepts}
 
--- A run that succeeded: how it started, the stamp, the messages of its log, and what it emitted for them.
+-- A run that succeeded: how it started, the stamp, the messages that were submitted, and what it emitted for them.
 pub record Sent (s : Setting) : Type 0 where
   pub start : Start
   pub stamp : Option Moment

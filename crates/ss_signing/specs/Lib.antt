@@ -2,10 +2,14 @@ pub mod Accepted
 pub mod Asked
 pub mod Wants
 pub mod Ahead
+pub mod Prepared
 pub mod Run
 pub mod RangesFirst
 pub mod Jobs
+pub mod Preparing
 pub mod Sending
 pub mod PlanLaws
 pub mod GoingOn
+pub mod WrapLaws
+pub mod LineLaws
 pub mod FaultText

@@ -14,11 +14,17 @@ use thiserror::Error;
 /// Why nothing was planned or signed. But for a failed write, nothing was written.
 #[derive(Clone, Copy, Debug, PartialEq, Eq, Error)]
 pub enum SignFault {
-    /// The log couldn't be read to its end (F1 to F5, F9), a write or a flush failed (W1), or memory ran out (W2).
+    /// The log couldn't be read to its end (F1 to F5, F9), a message can't be written as a line (E2), a write or a flush
+    /// failed (W1), or memory ran out (W2).
     Run(RunFault),
     /// P1: the log ends inside a frame or line, whose first octet is at `pos`, counted from 0.
     TornInput {
         pos: u64,
+    },
+    /// O11: the wrap of a message would be longer than a message may be.
+    LongWrap {
+        /// The place in the log of the first such message, counted from 0.
+        place: u32,
     },
     /// O1 to O10: the originator wasn't made, or refused a call.
     Origin {
@@ -32,7 +38,7 @@ pub enum SignFault {
 
 impl SignFault {
     /// Its code, for programs. A fault of a lower layer keeps the code that it has there. The place is that of the
-    /// octet after P1, and that of the message after O1 to O10.
+    /// octet after P1, and that of the message after O1 to O11.
     pub fn code(self) -> Code
         ensures { IsCode result (sign_fault_code self) }
     {
@@ -41,6 +47,10 @@ impl SignFault {
             SignFault::TornInput { pos } => Code {
                 name: "P1",
                 place: Some(pos),
+            },
+            SignFault::LongWrap { place } => Code {
+                name: "O11",
+                place: Some(place as u64),
             },
             SignFault::Origin { fault, place } => Code {
                 name: fault.code().name,
@@ -59,6 +69,10 @@ impl fmt::Display for SignFault {
             SignFault::TornInput { pos } => write!(
                 f,
                 "the log ends inside a frame or line that begins at octet {pos}"
+            ),
+            SignFault::LongWrap { place } => write!(
+                f,
+                "the wrap of a message is longer than a message may be, at place {place}"
             ),
             SignFault::Origin { fault, place: None } => write!(f, "{fault}"),
             SignFault::Origin {

@@ -1,5 +1,5 @@
 //! The runs that sign a log. Its messages are read to their end and given to an originator. What it emits is written as
-//! frames, or what has to be signed of it as lines.
+//! frames or lines, or what has to be signed of it as lines.
 #![tactic(auto)]
 
 mod ahead;
@@ -10,6 +10,7 @@ pub mod laws;
 mod log;
 mod output;
 mod plan;
+mod preparing;
 mod request;
 mod send;
 mod sign;

@@ -40,6 +40,7 @@ use Rattle.ssign.specs.declared.options.resume.TheConstants as resume
 use Rattle.ssign.specs.declared.options.tally.TheConstants as tally
 use Rattle.ssign.specs.declared.options.unlisted.TheConstants as unlisted
 use Rattle.ssign.specs.declared.options.whole.TheConstants as whole
+use Rattle.ssign.specs.declared.options.wrap.TheConstants as wrap
 use Rattle.ssign.specs.LogOptions.{code_rule, flag_rule, limit_rules, place_rule}
 use Rattle.ss_signing.specs.declared.fault.SignFault.{SignFault}
 use Rattle.ss_report.specs.declared.fault.RunFault.{RunFault}
@@ -145,8 +146,9 @@ signing_name Sign = sign.NAME.now
 
 -- its own options, before those that say how a log is signed
 abbrev pub signing_rules : Signing → List Rule
-signing_rules Plan = text_rule resume.NAME.now ∷ flag_rule ahead.NAME.now ∷ []
-signing_rules Sign = text_rule answers.NAME.now ∷ text_rule resume.NAME.now ∷ []
+signing_rules Plan = text_rule resume.NAME.now ∷ flag_rule ahead.NAME.now ∷ flag_rule wrap.NAME.now ∷ []
+signing_rules Sign =
+    text_rule answers.NAME.now ∷ text_rule resume.NAME.now ∷ flag_rule wrap.NAME.now ∷ flag_rule lines_out.NAME.now ∷ []
 
 -- of the versions of blocks it takes those that are kept
 abbrev pub signing_app : Kept → Signing → App

@@ -7,6 +7,7 @@ use Rattle.ss_signing.specs.Jobs.{going_ahead, planning_from, signing_from}
 use Rattle.ss_answers.specs.Answers.{Answer}
 use Rattle.ss_answers.specs.Seals.{is_given, seals_of}
 use Rattle.ssign.specs.declared.settings.Settings.{Settings}
+use Rattle.ssign.specs.declared.signing.Sending.{Sending}
 use Rattle.ssign.specs.declared.signing.Signing.{Signing}
 use Rattle.ssign.specs.declared.signing.Signing.TheVariants.{Plan, Sign}
 
@@ -21,9 +22,14 @@ setting_with s answers =
           is_given answers octets signature;
     }
 
--- what is made of a log by an originator that starts so, with these settings, and with the answers of a file or without;
--- of a plan the counters with which it ends, with `--ahead`
-abbrev pub signing_job : Signing → (ahead : Bool) → Start → Settings → Option (List Answer) → Job
-signing_job Plan false start s answers = planning_from start s.config s.payload s.stamp
-signing_job Plan true start s answers = going_ahead start s.config s.payload s.stamp
-signing_job Sign ahead start s answers = signing_from start (setting_with s answers) (seals_of answers) s.stamp
+-- what has to be signed, or with `--ahead` the counters with which the originator ends
+abbrev pub planning_job : (ahead wraps : Bool) → Start → Settings → Job
+planning_job false wraps start s = planning_from start s.config s.payload s.stamp wraps
+planning_job true wraps start s = going_ahead start s.config s.payload s.stamp wraps
+
+-- What is made of a log by an originator that starts so, with these settings, and with the answers of a file or without.
+-- With `--wrap` messages that can't be signed are wrapped, and a signed log is frames, or with `--lines-out` lines.
+abbrev pub signing_job : Signing → Sending → Start → Settings → Option (List Answer) → Job
+signing_job Plan m start s answers = planning_job m.ahead m.wrap start s
+signing_job Sign m start s answers =
+    signing_from start (setting_with s answers) (seals_of answers) s.stamp m.wrap m.out

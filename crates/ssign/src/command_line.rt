@@ -7,7 +7,8 @@ ghost use Rattle.ss_frame.specs.Limits.{InRange};
 ghost use Rattle.ssign.specs.CommandLine.{bare_app, explain_app, order_app, signing_app, ssign_app, task_app};
 ghost use Rattle.ssign.specs.Explanation.{asked_of};
 ghost use Rattle.ssign.specs.SigningOptions.{AreVersions, Kept};
-ghost use Rattle.ssign.specs.CommandLine.{FlagIs, HasNumber, IsLocalApp, detail_of, limits_with, name_of, order_in};
+ghost use Rattle.ssign.specs.CommandLine.{FlagIs, HasNumber, IsLocalApp, detail_of, form_of, limits_with, name_of};
+ghost use Rattle.ssign.specs.CommandLine.{order_in};
 ghost use Rattle.ssign.specs.CommandLine.{payloads_of, report_form, reporting, text_of, with_commands, with_limits};
 ghost use Rattle.ssign.specs.declared.options.ahead.TheConstants as ahead;
 ghost use Rattle.ssign.specs.declared.options.answers.TheConstants as answers;
@@ -16,16 +17,19 @@ ghost use Rattle.ssign.specs.declared.options.counters.TheConstants as counters;
 ghost use Rattle.ssign.specs.declared.options.findings.TheConstants as findings;
 ghost use Rattle.ssign.specs.declared.options.json.TheConstants as json;
 ghost use Rattle.ssign.specs.declared.options.lines.TheConstants as lines;
+ghost use Rattle.ssign.specs.declared.options.lines_out.TheConstants as lines_out;
 ghost use Rattle.ssign.specs.declared.options.max_len.TheConstants as max_len;
 ghost use Rattle.ssign.specs.declared.options.max_messages.TheConstants as max_messages;
 ghost use Rattle.ssign.specs.declared.options.once.TheConstants as once;
 ghost use Rattle.ssign.specs.declared.options.resume.TheConstants as resume;
 ghost use Rattle.ssign.specs.declared.options.tally.TheConstants as tally;
 ghost use Rattle.ssign.specs.declared.options.whole.TheConstants as whole;
+ghost use Rattle.ssign.specs.declared.options.wrap.TheConstants as wrap;
 
 use crate::asked::asked_of;
+use crate::extraction::form_out;
 use crate::log_options::{code, file, flag, max_len, max_messages, place};
-use crate::signing::Signing;
+use crate::signing::{Sending, Signing};
 use crate::signing_options::with_signing_options;
 use crate::task::{Reporting, Task};
 use crate::{commands, options};
@@ -259,7 +263,9 @@ fn plan<'a>(alloc: Global, versions: &'a [&'a str]) -> Result<Command<'a>, Alloc
         commands::plan::USAGE,
     )
     .arg(file(alloc, options::resume::NAME, options::resume::HELP))?;
-    let plan = plan.arg(flag(alloc, options::ahead::NAME, options::ahead::HELP))?;
+    let plan = plan
+        .arg(flag(alloc, options::ahead::NAME, options::ahead::HELP))?
+        .arg(flag(alloc, options::wrap::NAME, options::wrap::HELP))?;
     limited(alloc, with_signing_options(alloc, plan, versions)?)
 }
 
@@ -275,6 +281,9 @@ fn sign<'a>(alloc: Global, versions: &'a [&'a str]) -> Result<Command<'a>, Alloc
     )
     .arg(file(alloc, options::answers::NAME, options::answers::SEALED))?;
     let sign = sign.arg(file(alloc, options::resume::NAME, options::resume::HELP))?;
+    let sign = sign
+        .arg(flag(alloc, options::wrap::NAME, options::wrap::HELP))?
+        .arg(flag(alloc, options::lines_out::NAME, options::lines_out::HELP))?;
     limited(alloc, with_signing_options(alloc, sign, versions)?)
 }
 
@@ -371,11 +380,17 @@ pub fn resume_file<'a>(matches: &ArgMatches<'a>) -> Option<&'a str>
     matches.get_str(options::resume::NAME)
 }
 
-/// Whether the counters are asked for with which the signed log will end. A command without the flag asks for none.
-pub fn is_ahead(matches: &ArgMatches<'_>) -> bool
-    ensures { (ahead_given : Bool) → FlagIs matches.now ahead.NAME.now ahead_given → result ≡ ahead_given }
+/// How a log is signed beside its settings: by `--ahead` and `--wrap`, and as frames without `--lines-out`.
+pub fn sending_of(matches: &ArgMatches<'_>) -> Sending
+    ensures { (ahead_given wrap_given lines_given : Bool) → FlagIs matches.now ahead.NAME.now ahead_given
+        → FlagIs matches.now wrap.NAME.now wrap_given → FlagIs matches.now lines_out.NAME.now lines_given
+        → result ≡ record { ahead = ahead_given; wrap = wrap_given; out = form_of lines_given } }
 {
-    matches.get_flag(options::ahead::NAME)
+    Sending {
+        ahead: matches.get_flag(options::ahead::NAME),
+        wrap: matches.get_flag(options::wrap::NAME),
+        out: form_out(matches),
+    }
 }
 
 /// The counters file, if one was given.

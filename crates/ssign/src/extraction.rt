@@ -52,7 +52,7 @@ pub fn extraction_of(alloc: Global, matches: &ArgMatches<'_>) -> Result<Extracti
 }
 
 /// The form in which messages are to be written.
-fn form_out(matches: &ArgMatches<'_>) -> Form
+pub fn form_out(matches: &ArgMatches<'_>) -> Form
     ensures { (lines : Bool) → FlagIs matches.now lines_out.NAME.now lines → result ≡ form_of lines }
 {
     if matches.get_flag(options::lines_out::NAME) {

@@ -91,6 +91,6 @@ pub fn signing_cause(fault: &SignFault, form: Form, octets: &[u8]) -> Option<Lik
     match fault {
         SignFault::Run(fault) => run_cause(fault, form, octets),
         SignFault::TornInput { .. } => cause_in(form, octets),
-        SignFault::Origin { .. } => None,
+        SignFault::LongWrap { .. } | SignFault::Origin { .. } => None,
     }
 }

@@ -28,3 +28,4 @@ pub mod tally;
 pub mod unlisted;
 pub mod ver;
 pub mod whole;
+pub mod wrap;

@@ -5,8 +5,8 @@ ghost use Rattle.ssign.specs.CommandLine.{AreMistaken, signing_status, status_of
 ghost use Rattle.ssign.specs.Explanation.{entries_of, has_code};
 
 use crate::command_line::{
-    Order, answers_file, asked_code, command, counters_file, extract_conflict, is_ahead, limits_of,
-    order_of, reporting_of, resume_file,
+    Order, answers_file, asked_code, command, counters_file, extract_conflict, limits_of, order_of,
+    reporting_of, resume_file, sending_of,
 };
 use crate::explain::explanation_of;
 use crate::explanations::{Tables, all_tables};
@@ -218,7 +218,7 @@ fn run_sent<R: Input + Print + Eprint + Screen + Files + Clock + AllocGlobal>(
     let request = SigningRequest {
         signing,
         settings,
-        ahead: is_ahead(options),
+        sending: sending_of(options),
         start,
         answers,
         limits,

@@ -6,6 +6,8 @@ mod answers;
 #[cfg(test)]
 mod examples;
 #[cfg(test)]
+mod lines_out;
+#[cfg(test)]
 mod many;
 #[cfg(test)]
 mod rows;
@@ -17,3 +19,5 @@ mod sealing;
 mod stops;
 #[cfg(test)]
 mod texts;
+#[cfg(test)]
+mod wraps;

@@ -1,7 +1,7 @@
 //! A log of ten thousand messages, signed and reviewed.
 use crate::run::{Job, Task, run_by};
 use crate::sealing::{Lenient, Seal};
-use ss_frame::{Limits, Watched};
+use ss_frame::{Form, Limits, Watched};
 use ss_octets::put_number;
 use ss_report::{Verdict, run_review};
 use std::alloc::{AllocError, Global};
@@ -26,6 +26,8 @@ fn signed(rt: &(impl Abort + AllocGlobal), log: &[u8]) -> Vec<u8> {
         job: Job::Sign(Seal::Zeros),
         start: None,
         sizes: (99, 1),
+        out: Form::Frames,
+        wrap: false,
         limits: Limits::standard().lines(),
     };
     let said = run_by(rt.alloc(), &task, &mut reader, &mut writer);

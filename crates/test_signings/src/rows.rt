@@ -746,6 +746,8 @@ fn sees_text(rt: &(impl Abort + AllocGlobal), row: &Made, most: usize) {
         job,
         start,
         sizes,
+        out: Form::Frames,
+        wrap: false,
         limits: limits_of(form),
     };
     let source = Pieces::new(log, most);
@@ -778,6 +780,8 @@ fn sees_refusal(rt: &(impl Abort + AllocGlobal), row: &Refused) -> Result<(), Al
         job,
         start,
         sizes,
+        out: Form::Frames,
+        wrap: false,
         limits: limits_of(form),
     };
     let source = Pieces::new(log, 1);

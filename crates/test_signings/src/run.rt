@@ -4,7 +4,7 @@ ghost use Rattle.ss_frame.specs.Watched.{has_failed};
 
 use crate::sealing::{Lenient, Seal, answer};
 use ss_block::{Alg, Head, Payload};
-use ss_frame::{Limits, Watched};
+use ss_frame::{Form, Limits, Watched};
 use ss_message::Field;
 use ss_octets::Bytes;
 use ss_origin::{Config, Counters, Grouping, NextNumber, NextNumbers, Sealer};
@@ -39,6 +39,10 @@ pub struct Task {
     pub job: Job,
     pub start: Option<Start>,
     pub sizes: Sizes,
+    /// In which form a signed log is written.
+    pub out: Form,
+    /// Whether messages that can't be signed are wrapped.
+    pub wrap: bool,
     pub limits: Limits,
 }
 
@@ -97,11 +101,13 @@ fn sending(alloc: Global, task: &Task) -> Result<Option<SendRequest>, AllocError
         config,
         start,
         stamp: None,
+        out: task.out,
+        wrap: task.wrap,
         limits: task.limits,
     }))
 }
 
-/// A run between watched devices. One of a new originator is made by `run_plan` or `run_sign`.
+/// A run between watched devices. One of a new originator without wraps, which writes frames, is made by `run_plan` or `run_sign`.
 pub(crate) fn run_by<R: Read, W: Write>(
     alloc: Global,
     task: &Task,
@@ -118,11 +124,10 @@ pub(crate) fn run_by<R: Read, W: Write>(
     let Ok(Some(payload)) = Payload::parse(alloc, PAYLOAD) else {
         return Err(memory);
     };
+    let is_usual = task.start.is_none() && !task.wrap && task.out == Form::Frames;
     match task.job {
         Job::Ahead => run_ahead(alloc, reader, writer, payload, sending),
-        Job::Plan if task.start.is_some() => {
-            run_plan_from(alloc, reader, writer, payload, sending)
-        }
+        Job::Plan if !is_usual => run_plan_from(alloc, reader, writer, payload, sending),
         Job::Plan => {
             let SendRequest { config, limits, .. } = sending;
             run_plan(alloc, reader, writer, config, payload, None, limits)
@@ -130,7 +135,7 @@ pub(crate) fn run_by<R: Read, W: Write>(
         Job::Sign(told) => {
             let seal = move |alloc: Global, octets: &[u8]| answer(alloc, told, octets);
             let sealer = Sealer::new(&Lenient, payload, seal);
-            if task.start.is_some() {
+            if !is_usual {
                 return run_sign_from(alloc, reader, writer, sealer, sending);
             }
             let SendRequest { config, limits, .. } = sending;

@@ -2,7 +2,7 @@
 use crate::run::{Done, Job, Task, run};
 use crate::sealing::Seal;
 use crate::texts::{BOTH_FRAMES, BOTH_WANTS, CERTIFICATE_FRAME, CERTIFICATE_WANT};
-use ss_frame::{FrameFault, Limits};
+use ss_frame::{Form, FrameFault, Limits};
 use ss_origin::OriginFault;
 use ss_report::RunFault;
 use ss_signing::SignFault;
@@ -38,6 +38,8 @@ fn run_frames(alloc: std::alloc::Global, job: Job, source: Pieces<'_>, paper: Pa
         job,
         start: None,
         sizes: (10, 1),
+        out: Form::Frames,
+        wrap: false,
         limits: Limits::standard(),
     };
     run(alloc, &task, source, paper)

@@ -5,6 +5,11 @@ pub const CERTIFICATE_FRAME: &[u8] =
     b"142 <110>1 - h s - - [ssign-cert VER=\"0111\" RSID=\"1\" SG=\"0\" SPRI=\"0\" TPBL=\"27\" INDEX=\"1\" FLEN=\"27\" \
         FRAG=\"2009-05-03T14:00:39Z K S0VZ\" SIGN=\"AAAA\"]";
 
+/// The same as a line.
+pub const CERTIFICATE_LINE: &[u8] =
+    b"<110>1 - h s - - [ssign-cert VER=\"0111\" RSID=\"1\" SG=\"0\" SPRI=\"0\" TPBL=\"27\" INDEX=\"1\" FLEN=\"27\" \
+        FRAG=\"2009-05-03T14:00:39Z K S0VZ\" SIGN=\"AAAA\"]\n";
+
 /// What is signed of it.
 pub const CERTIFICATE_WANT: &[u8] =
     b"want PDExMD4xIC0gaCBzIC0gLSBbc3NpZ24tY2VydCBWRVI9IjAxMTEiIFJTSUQ9IjEiIFNHPSIwIiBTUFJJPSIwIiBUUEJMPSIyNyIgSU5ERVg9\
@@ -17,7 +22,14 @@ pub const BOTH_FRAMES: &[u8] =
         s - - [ssign VER=\"0111\" RSID=\"1\" SG=\"0\" SPRI=\"0\" GBC=\"0\" FMN=\"1\" CNT=\"2\" \
         HB=\"3Pfc6GFE4IsSJJq/MbjynAYg1oM= wTX9aOKATkVu7zPIYLz/u/iH3uQ=\" SIGN=\"AAAA\"]";
 
-/// The same, where each signature is one octet 0.
+/// The same as lines.
+pub const BOTH_LINES: &[u8] =
+    b"<110>1 - h s - - [ssign-cert VER=\"0111\" RSID=\"1\" SG=\"0\" SPRI=\"0\" TPBL=\"27\" INDEX=\"1\" FLEN=\"27\" \
+        FRAG=\"2009-05-03T14:00:39Z K S0VZ\" SIGN=\"AAAA\"]\n<13>1 - - - - - - a\n<14>1 - - - - - - b\n<110>1 - h s - - \
+        [ssign VER=\"0111\" RSID=\"1\" SG=\"0\" SPRI=\"0\" GBC=\"0\" FMN=\"1\" CNT=\"2\" \
+        HB=\"3Pfc6GFE4IsSJJq/MbjynAYg1oM= wTX9aOKATkVu7zPIYLz/u/iH3uQ=\" SIGN=\"AAAA\"]\n";
+
+/// The frames again, where each signature is one octet 0.
 pub const ONE_OCTET_FRAMES: &[u8] =
     b"142 <110>1 - h s - - [ssign-cert VER=\"0111\" RSID=\"1\" SG=\"0\" SPRI=\"0\" TPBL=\"27\" INDEX=\"1\" FLEN=\"27\" \
         FRAG=\"2009-05-03T14:00:39Z K S0VZ\" SIGN=\"AA==\"]19 <13>1 - - - - - - a19 <14>1 - - - - - - b159 <110>1 - h \

@@ -2,7 +2,7 @@
 use super::Explanation;
 
 /// The numbers that a refusal prints.
-pub static REFUSALS: [Explanation; 31] = [
+pub static REFUSALS: [Explanation; 32] = [
     Explanation {
         code: "F1",
         text: "F1 OFFSET: the octet there can't stand in the length of a frame. A length begins with 1 to 9, goes on \
@@ -145,12 +145,13 @@ pub static REFUSALS: [Explanation; 31] = [
     Explanation {
         code: "O2",
         text: "O2 PLACE: the message at this place of the log isn't a message of RFC 5424, so it can't be signed. Run \
-            ssign inspect to see which part of it fails. Correct its sender, or leave the message out.",
+            ssign inspect to see which part of it fails. Correct its sender, leave the message out, or sign it in a wrap \
+            with --wrap.",
     },
     Explanation {
         code: "O3",
         text: "O3 PLACE: the message at this place has an element ssign or ssign-cert. So it is a block, or looks like \
-            one, and blocks aren't signed again. Sign the log without its blocks.",
+            one, and blocks aren't signed again. Sign the log without its blocks, or in wraps with --wrap.",
     },
     Explanation {
         code: "O6",
@@ -179,5 +180,11 @@ pub static REFUSALS: [Explanation; 31] = [
         code: "O10",
         text: "O10 or O10 PLACE: there wasn't enough memory to sign the log. Give the program more memory, or sign the \
             log in parts, each as a session of its own.",
+    },
+    Explanation {
+        code: "O11",
+        text: "O11 PLACE: the message at this place needs a wrap, which would be longer than --max-len allows. A wrap has \
+            at most 485 octets more than its message. Raise --max-len, up to 1048576; whoever reviews the signed log \
+            needs the same. Of several such messages the first is named.",
     },
 ];

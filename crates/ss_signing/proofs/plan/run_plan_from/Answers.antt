@@ -24,7 +24,7 @@ returns-in_err-sent-clause-stopped g c =
     let messages = c.in_ok-messages.messages.items in
     let p = err_from_is_err_and c.from_residual-in_err-sent.result c.from_residual-in_err-sent.ensures.1 in
     rw (p.1, p.2)
-    (run_stops (planning_from start request.config c.args.payload request.stamp) request.limits (source_of g.R.Read.remaining c.args.reader.now) (source_of g.R.Read.remaining c.read_whole.new.reader) messages was was
+    (run_stops (planning_from start request.config c.args.payload request.stamp request.wrap) request.limits (source_of g.R.Read.remaining c.args.reader.now) (source_of g.R.Read.remaining c.read_prepared.new.reader) messages was was
     fault c.in_ok-messages.ensures.read
     (stops_whatever (job_of start (planned request.config c.args.payload) gives_0 request.stamp Nothing) (λ calls emitted. want_lines emitted) messages fault c.in_err-sent.ensures.sent))
 
@@ -37,7 +37,7 @@ returns-in_err-write_whole-clause-stopped g c =
     let made = plan_made lines request.config c.args.payload start request.stamp Nothing messages c.in_ok-sent.ensures.asked c.new.ensures.items in
     let p = err_from_is_err_and c.from_residual-in_err-write_whole.result c.from_residual-in_err-write_whole.ensures.1 in
     rw (p.1, p.2, c.in_err-write_whole.ensures.0)
-    (run_fails_to_write (planning_from start request.config c.args.payload request.stamp) request.limits (source_of g.R.Read.remaining c.args.reader.now) (source_of g.R.Read.remaining c.read_whole.new.reader) messages
+    (run_fails_to_write (planning_from start request.config c.args.payload request.stamp request.wrap) request.limits (source_of g.R.Read.remaining c.args.reader.now) (source_of g.R.Read.remaining c.read_prepared.new.reader) messages
     (sink_of g.W.Write.contents c.args.writer.now) (sink_of g.W.Write.contents c.write_whole.new.writer)
     (lines o.sealer) c.as_slice.result.now c.in_ok-messages.ensures.read made (c.as_slice.ensures.value ∙ ap lines c.into_sealer-sealer.ensures) c.in_err-write_whole.ensures.1)
 
@@ -48,6 +48,6 @@ returns-clause-planned g c =
     let messages = c.in_ok-messages.messages.items in
     let o = c.in_ok-sent.sent.originator in
     let made = plan_made lines request.config c.args.payload start request.stamp Nothing messages c.in_ok-sent.ensures.asked c.new.ensures.items in
-    run_writes (planning_from start request.config c.args.payload request.stamp) request.limits (source_of g.R.Read.remaining c.args.reader.now) (source_of g.R.Read.remaining c.read_whole.new.reader) messages
+    run_writes (planning_from start request.config c.args.payload request.stamp request.wrap) request.limits (source_of g.R.Read.remaining c.args.reader.now) (source_of g.R.Read.remaining c.read_prepared.new.reader) messages
     (sink_of g.W.Write.contents c.args.writer.now) (sink_of g.W.Write.contents c.write_whole.new.writer)
     (lines o.sealer) c.as_slice.result.now c.in_ok-messages.ensures.read made (c.as_slice.ensures.value ∙ ap lines c.into_sealer-sealer.ensures) c.in_ok-write_whole.ensures
