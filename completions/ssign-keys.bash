@@ -130,7 +130,7 @@ _ssign_keys_words() {
         ;;
     verify)
         if [[ $2 == -* ]]; then
-            _ssign_keys_offer words '--help --key --session-key --ca --cert --at-signing-time --allow-sha1 --lines --frames --max-len --max-messages --max-expanded --max-payload --whole --counters --manifest --manifest-last --findings --raw --json --answers-out --counters-out --jobs --ssign'
+            _ssign_keys_offer words '--help --key --session-key --ca --cert --at-signing-time --allow-sha1 --lines --frames --max-len --max-messages --max-expanded --max-payload --whole --counters --manifest --manifest-last --findings --details --hostname --raw --json --answers-out --counters-out --jobs --ssign'
         else
             _ssign_keys_offer files
         fi

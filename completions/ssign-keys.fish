@@ -68,6 +68,8 @@ complete -c ssign-keys -n '__ssign_keys_command verify' -l counters -r -F -d 'al
 complete -c ssign-keys -n '__ssign_keys_command verify' -l manifest -r -F -d 'also compare the logs with their entries in this manifest, and use the counters of these as those of --counters'
 complete -c ssign-keys -n '__ssign_keys_command verify' -l manifest-last -x -d 'the last entry of the manifest, which was kept apart'
 complete -c ssign-keys -n '__ssign_keys_command verify' -l findings -d 'leave out what is no finding'
+complete -c ssign-keys -n '__ssign_keys_command verify' -l details -d 'also print what was checked, with its SHA-256, and the times of messages'
+complete -c ssign-keys -n '__ssign_keys_command verify' -l hostname -d 'name this machine in what was checked'
 complete -c ssign-keys -n '__ssign_keys_command verify' -l raw -d 'print the report of `ssign review` as it stands'
 complete -c ssign-keys -n '__ssign_keys_command verify' -l json -d 'print a JSON object for each line of the report, and one for the verdict'
 complete -c ssign-keys -n '__ssign_keys_command verify' -l answers-out -r -F -d 'keep the answers file, for `ssign review --answers`'

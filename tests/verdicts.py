@@ -26,6 +26,7 @@ import signal
 import subprocess
 import sys
 import time
+from datetime import datetime, timedelta
 from typing import Callable, Dict, List, Optional, Tuple
 
 from review_runs import frame, read_frames, read_lines
@@ -61,9 +62,11 @@ def wanted(line: str, stored: List[bytes], log: str) -> Dict[str, object]:
     elif word == "ok":
         names.update(number=int(fields[6]), place=int(fields[7]))
     elif word == "gap":
-        names.update(number=int(fields[6]), why=fields[7], likely_places=[])
-    elif word in ("hole", "tail"):
-        names.update(first=int(fields[6]), last=int(fields[7]))
+        names.update(first=int(fields[6]), last=int(fields[6]), count=1, why=fields[7], likely_places=[], before=None, after=None)
+    elif word == "hole":
+        names.update(first=int(fields[6]), last=int(fields[7]), count=int(fields[7]) - int(fields[6]) + 1, before=None, after=None)
+    elif word == "tail":
+        names.update(first=int(fields[6]), last=int(fields[7]), count=int(fields[7]) - int(fields[6]) + 1, before=None)
     elif word == "blocks":
         names.update(first=int(fields[4]), last=int(fields[5]))
     elif word == "end":
@@ -74,12 +77,60 @@ def wanted(line: str, stored: List[bytes], log: str) -> Dict[str, object]:
         text = stored[int(fields[0])]
         names.update(place=int(fields[0]))
         names.update({"cause": fields[1]} if word == "spoilt" else {})
-        names.update(file=log, file_place=int(fields[0]), octets=len(text), text=escaped(text, 2048 if word == "unlisted" else 60))
+        names.update(file=log, file_place=int(fields[0]), timestamp=stamp(text), octets=len(text),
+                     text=escaped(text, 2048 if word == "unlisted" else 60))
     # docs/guide.md, "Words of a verdict"
     words = {"hole": "unannounced", "tail": "missing", "blocks": "missing", "unlisted": "unlisted", "refused": "unverified",
              "spoilt": "spoilt", "torn": "torn", "gap": "missing" if line.endswith(" lost") else "disputed"}
     names.update({"finding": words[word]} if word in words else {})
     return names
+
+
+def stamp(text: bytes) -> Optional[str]:
+    """The TIMESTAMP of a message (RFC 5424, section 6.2.3); None where none stands there. No test has a wrong date."""
+    found = re.match(rb"<[0-9]{1,3}>1 (-|[0-9]{4}-[0-9]{2}-[0-9]{2}T[0-9]{2}:[0-9]{2}:[0-9]{2}(\.[0-9]{1,6})?"
+                     rb"(Z|[+-][0-9]{2}:[0-9]{2})) ", text)
+    return found[1].decode() if found else None
+
+
+def moment(text: str) -> Tuple[datetime, str]:
+    """What a TIMESTAMP orders by; the text stands for itself where two state one time."""
+    whole = re.sub(r"(\.[0-9]+)?(Z|[+-][0-9:]{5})$", "", text)
+    fraction, zone = re.search(r"(\.[0-9]+)?(Z|[+-][0-9:]{5})$", text).groups()  # type: ignore
+    offset = 0 if zone == "Z" else int(f"{zone[0]}1") * (60 * int(zone[1:3]) + int(zone[4:]))
+    return datetime.fromisoformat(whole) - timedelta(minutes=offset) + timedelta(seconds=float(fraction or 0)), text
+
+
+def with_neighbours(lines: List[str], stored: List[bytes]) -> List[Tuple[str, Dict[str, object]]]:
+    """Lines joined to runs, each with what stands next to it: the nearest `ok` lines of its group."""
+    groups: Dict[str, List[str]] = {}
+    for it in lines:
+        if it.startswith(("ok ", "gap ", "hole ", "tail ")):
+            groups.setdefault(" ".join(it.split(" ")[1:7]), []).append(it)
+    joined: List[Tuple[str, Dict[str, object]]] = []
+
+    def beside(found: List[str]) -> Optional[Dict[str, object]]:
+        if not found:
+            return None
+        number, place = (int(it) for it in found[0].split(" ")[-2:])
+        return {"number": number, "place": place, "timestamp": stamp(stored[place])}
+
+    for index, it in enumerate(lines):
+        word = it.split(" ")[0]
+        if word not in ("gap", "hole", "tail"):
+            joined.append((it, {}))
+            continue
+        entries = groups[" ".join(it.split(" ")[1:7])]
+        at = entries.index(it)
+        sides = {"before": beside([x for x in entries[:at] if x.startswith("ok ")][-1:])}
+        if word != "tail":
+            sides["after"] = beside([x for x in entries[at:] if x.startswith("ok ")][:1])
+        fields, before = it.split(" "), joined[-1][0].split(" ") if joined else [""]
+        if word == "gap" and before[0] == "gap" and before[1:7] == fields[1:7] and before[8] == fields[8]:
+            joined[-1][1].update(last=int(fields[7]), count=int(fields[7]) - int(before[7]) + 1, after=sides["after"])
+        else:
+            joined.append((it, dict(sides)))
+    return joined
 
 
 def likely(lines: List[str]) -> Dict[str, List[int]]:
@@ -114,14 +165,24 @@ def check_json(report: str, path: str, log: str, status: str, *options: str) -> 
         stored, _ = (read_lines if "--lines" in options else read_frames)(file.read())
     with open(report, encoding="ascii") as file_of_lines, open(path, encoding="ascii") as file_of_objects:
         lines, objects = file_of_lines.read().splitlines(), [json.loads(it) for it in file_of_objects]
-    assert len(objects) == len(lines) + 1, (len(objects), len(lines))
+    runs = with_neighbours(lines, stored)
+    check_checked(objects.pop(0), log, len(stored), options)
+    assert len(objects) == len(runs) + 1, (len(objects), len(runs))
     pairs = likely(lines)
-    for line, it in zip(lines, objects):
+    for (line, beside), it in zip(runs, objects):
         if it["line"] == "session":
             check_key(it, line.endswith(" joined"))
+            front = f"ok {line[8:].rpartition(' ')[0]} "
+            check_times(it, [stored[int(x.split(" ")[-1])] for x in lines if x.startswith(front)])
         expected = wanted(line, stored, log)
-        expected.update({"likely_places": pairs[line]} if line in pairs else {})
-        assert list(it.items()) == list(expected.items()), (line, it)
+        expected.update(beside)
+        if line in pairs:
+            count = int(str(expected["count"]))
+            first = lines.index(line)
+            places = [pairs[x] for x in lines[first:first + count]]
+            is_matched = all(len(x) == 1 for x in places) and len({x[0] for x in places}) == count
+            expected["likely_places"] = [x[0] for x in places] if is_matched else places[0]
+        assert list(it.items()) == list(expected.items()), (line, it, expected)
     verdict = objects[-1]
     assert verdict["line"] == "verdict" and verdict["status"] == int(status)
     words = [it.split(" ")[0] for it in lines]
@@ -148,6 +209,31 @@ def check_json(report: str, path: str, log: str, status: str, *options: str) -> 
     keys = ["host", "app", "procid", "rsid", "sg", "spri", "last", "gbc", *(["next", "next_gbc"] if counters else []),
             "out_of_order", "first_out_of_order"]
     assert all(list(it) == keys for it in verdict["groups"]), verdict["groups"]
+
+
+def check_times(session: Dict[str, object], texts: List[bytes]) -> None:
+    """Takes out of a session the first and last time of its listed messages."""
+    stamps = sorted(moment(it) for it in map(stamp, texts) if it not in (None, "-"))
+    wanted_times = [stamps[0][1], stamps[-1][1]] if stamps else [None, None]
+    found = [session.pop(it) for it in ("first_timestamp", "last_timestamp")]
+    assert found == wanted_times or [moment(str(it))[0] for it in found] == [stamps[0][0], stamps[-1][0]], (found, wanted_times)
+
+
+def check_checked(checked: Dict[str, object], log: str, messages: int, options: Tuple[str, ...]) -> None:
+    """Compares what was checked with the files."""
+    def digest(path: str) -> Dict[str, object]:
+        with open(path, "rb") as file:
+            octets = file.read()
+        return {"name": path, "size": len(octets), "sha256": hashlib.sha256(octets).hexdigest()}
+    assert list(checked) == ["line", "time", "machine", "tool", "ssign", "options", "files", "keys", "counters", "manifest",
+                             "answers"], checked
+    assert checked["line"] == "checked" and checked["machine"] is None and checked["manifest"] is None, checked
+    assert re.fullmatch("[0-9]{4}-[0-9]{2}-[0-9]{2}T[0-9]{2}:[0-9]{2}:[0-9]{2}Z", str(checked["time"])), checked
+    assert checked["files"] == [{**digest(log), "compressed": None, "plain_size": None, "plain_sha256": None,
+                                 "messages": messages, "first_place": 0 if messages else None,
+                                 "last_place": messages - 1 if messages else None}], checked["files"]
+    counters = options[options.index("--counters") + 1] if "--counters" in options else None
+    assert checked["counters"] == (digest(counters) if counters else None), checked["counters"]
 
 
 def check_key(session: Dict[str, object], is_known: bool) -> None:

@@ -458,7 +458,7 @@ as_reviewed 'the tail cut off' stored --counters counters
 as_reviewed 'the tail cut off, with --whole too' stored --counters counters --whole
 keys verify --key keys/public-key.pem --json --counters counters stored
 holds 'the tail cut off: its object' grep -Fqx \
-    '{"line":"tail","host":"gate","app":"signer","procid":"-","rsid":1,"sg":0,"spri":0,"first":9,"last":10,"finding":"missing"}' out
+    '{"line":"tail","host":"gate","app":"signer","procid":"-","rsid":1,"sg":0,"spri":0,"first":9,"last":10,"count":2,"before":{"number":8,"place":10,"timestamp":"2026-01-15T09:20:02Z"},"finding":"missing"}' out
 holds 'the tail cut off: how many' grep -Fq '"unannounced":0,"missing_up_to_counters":2,"missing_blocks":1,"unlisted":0,' out
 kept '1 2' '1 0 0 10'
 keys verify --key keys/public-key.pem --counters counters stored
@@ -548,7 +548,7 @@ says 'a session that is not here' 1 'Session: HOSTNAME gate, APP-NAME signer, PR
 as_reviewed 'a session that is not here' signed --counters counters
 keys verify --key keys/public-key.pem --json --counters counters signed
 holds 'a session that is not here: its object' grep -Fqx \
-    '{"line":"session","host":"gate","app":"signer","procid":"-","rsid":2,"state":"absent","key":null,"fingerprint":null,"certificate":null,"payload_time":null,"why":null,"weakness":null}' out
+    '{"line":"session","host":"gate","app":"signer","procid":"-","rsid":2,"state":"absent","key":null,"fingerprint":null,"certificate":null,"payload_time":null,"why":null,"weakness":null,"first_timestamp":null,"last_timestamp":null}' out
 holds 'a session that is not here: how many' grep -Fq '"sessions":{"absent":1,"joined":1},' out
 kept '1 3' '1 0 0 11' '2 0'
 keys verify --key keys/public-key.pem --counters counters signed

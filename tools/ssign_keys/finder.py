@@ -1,9 +1,10 @@
 """Finds the text, and the file, of the messages that a report names by their place."""
 from __future__ import annotations
 
-from typing import NamedTuple
+from typing import NamedTuple, Optional
 
 from .logs import Log
+from .moments import stamp_of
 from .progress import Progress
 from .walk import Walk
 from .words import shown
@@ -19,12 +20,14 @@ def most_shown(kind: str) -> int:
 
 
 class Found(NamedTuple):
-    """A stored message: its file, its place there, its length, and the front of its text, escaped."""
+    """A stored message: its file, its place there, its length, the front of its text, escaped, and its TIMESTAMP."""
 
     file: str
     place: int
     octets: int
     text: str
+    timestamp: Optional[str]
+    """As the message states it; None where it isn't one of RFC 5424."""
 
 
 class Finder:
@@ -49,4 +52,4 @@ class Finder:
             raise self._log.changed()
         text, octets = front
         part = self._log.part_of_place(place)
-        return Found(part.name, place - part.place, octets, shown(text))
+        return Found(part.name, place - part.place, octets, shown(text), stamp_of(text))

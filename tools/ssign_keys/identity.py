@@ -49,8 +49,7 @@ def identity_lines(finding: Finding) -> List[str]:
         file, fingerprint, certificate, stamp = finding.identity
         lines.append(f"key: {shown_name(file)}, SHA-256 {fingerprint}")
         if certificate is not None:
-            lines.append(f"certificate: {shown_text(certificate.subject)}, serial number {certificate.serial}, SHA-256 "
-                         f"{certificate.fingerprint}, valid from {certificate.not_before} to {certificate.not_after}")
+            lines.append(f"certificate: {certificate_words(certificate)}")
         lines.append("payload: states no time" if stamp == "-" else f"payload: of {stamp}, as its signer states")
     if finding.why:
         lines.append(f"why: {finding.why}")
@@ -60,12 +59,22 @@ def identity_lines(finding: Finding) -> List[str]:
 def identity_fields(finding: Finding) -> Dict[str, object]:
     """The members of a session's object of JSON."""
     identity = finding.identity
-    certificate = identity.certificate if identity else None
-    facts = certificate and {**certificate._asdict(), "subject": shown_text(certificate.subject)}
+    facts = certificate_fields(identity.certificate if identity else None)
     return {
         "key": shown_name(identity.file) if identity else None, "fingerprint": identity.fingerprint if identity else None,
         "certificate": facts, "payload_time": identity.stamp if identity else None, "why": finding.why or None,
     }
+
+
+def certificate_fields(certificate: Optional[CertificateFacts]) -> Optional[Dict[str, object]]:
+    """A certificate as JSON has it."""
+    return None if certificate is None else {**certificate._asdict(), "subject": shown_text(certificate.subject)}
+
+
+def certificate_words(certificate: CertificateFacts) -> str:
+    """A certificate in a line for a person."""
+    return (f"{shown_text(certificate.subject)}, serial number {certificate.serial}, SHA-256 {certificate.fingerprint}, "
+            f"valid from {certificate.not_before} to {certificate.not_after}")
 
 
 def shown_text(text: str) -> str:

@@ -8,10 +8,11 @@ from .blocks import Session
 from .broken_blocks import Broken
 from .identity import UNKNOWN, identity_fields
 from .json_text import compact
-from .pairs import Stretch, Stretches
+from .pairs import Neighbour, Stretch
 from .reach import Reached
-from .report import Group, ReportVisitor
+from .report import Group
 from .reviewed import Reviewed
+from .stretch_visitor import StretchVisitor
 from .finder import most_shown
 from .verdict import sentence
 from .words import shown, shown_name
@@ -29,76 +30,65 @@ def names_of(session: Session) -> Fields:
     return {"host": shown(host), "app": shown(app), "procid": shown(procid), "rsid": int(rsid)}
 
 
-class JsonVerdict(ReportVisitor):
+class JsonVerdict(StretchVisitor):
     """Writes JSON into a passing file, as the report is read."""
 
     def __init__(self, out: BinaryIO, reviewed: Reviewed, only_findings: bool) -> None:
-        super().__init__(reviewed.is_whole, reviewed.counters)
+        super().__init__(reviewed.is_whole, reviewed.counters, reviewed.survey.unlisted)
         self._out = out
         self._reviewed = reviewed
         self._only_findings = only_findings
         self._front = ""
-        self._stretches = Stretches(reviewed.survey.unlisted)
 
     def _put(self, fields: object) -> None:
         put(self._out, compact(fields).encode("ascii") + b"\n")
 
     def session(self, session: Session, state: str) -> None:
-        """Writes a session, with whose its key is."""
+        """Writes a session, with whose its key is, and when its messages were sent."""
+        super().session(session, state)
         facts = self._reviewed.notes.of(session)
         finding = facts.finding if facts else UNKNOWN
         fields: Dict[str, object] = {"line": "session", **names_of(session), "state": state}
         fields.update(identity_fields(finding))
         fields["weakness"] = sha1.weakness(facts, state)
+        fields.update(zip(("first_timestamp", "last_timestamp"), self._reviewed.detailed().times.of_session(session)))
         self._put(fields)
 
     def begin_group(self, group: Group) -> None:
         """Makes the front of its objects for listed messages."""
-        self._stretches.begin_group()
+        super().begin_group(group)
         front: Fields = {"line": "ok", **names_of(group.session), "sg": group.sg, "spri": group.spri}
         self._front = compact(front)[:-1]
 
     def listed(self, group: Group, numbers: Sequence[int], places: Sequence[int]) -> None:
-        """Writes the missing numbers before these, and listed messages."""
-        self._put_lost(group, self._stretches.listed((numbers[0], places[0]), (numbers[-1], places[-1])))
+        """Writes what stands before these, and listed messages."""
+        super().listed(group, numbers, places)
         if self._only_findings:
             return
         front = self._front
         text = "".join(f'{front},"number":{number},"place":{place}}}\n' for number, place in zip(numbers, places))
         put(self._out, text.encode("ascii"))
 
-    def gap(self, group: Group, number: int, why: str) -> None:
-        """Keeps a missing number until what follows it is known, and writes a disputed one."""
-        if why == "lost":
-            self._stretches.lost(number)
-            return
-        self._put_lost(group, self._stretches.other())
-        self._put_gap(group, number, why, ())
+    def stretch(self, group: Group, stretch: Stretch) -> None:
+        """Writes numbers that follow one another, and are missing, disputed or unannounced."""
+        is_hole = stretch.kind == "hole"
+        why: Dict[str, object] = {} if is_hole else {"why": stretch.kind, "likely_places": list(stretch.likely)}
+        self._put({"line": "hole" if is_hole else "gap", **names_of(group.session), "sg": group.sg, "spri": group.spri,
+                   "first": stretch.first, "last": stretch.last, "count": stretch.length, **why,
+                   "before": self._neighbour(stretch.before), "after": self._neighbour(stretch.behind),
+                   "finding": "unannounced" if is_hole else FINDINGS[stretch.kind]})
 
-    def _put_lost(self, group: Group, stretch: Optional[Stretch]) -> None:
-        if stretch is None:
-            return
-        for number in range(stretch.first, stretch.last + 1):
-            self._put_gap(group, number, "lost", stretch.likely_of(number))
+    def _neighbour(self, neighbour: Optional[Neighbour]) -> Optional[Fields]:
+        """A listed message beside numbers that aren't."""
+        if neighbour is None:
+            return None
+        number, place = neighbour
+        return {"number": number, "place": place, "timestamp": self._reviewed.detailed().times.of_neighbour(neighbour)}
 
-    def _put_gap(self, group: Group, number: int, why: str, likely: Sequence[int]) -> None:
-        self._put({"line": "gap", **names_of(group.session), "sg": group.sg, "spri": group.spri, "number": number,
-                   "why": why, "likely_places": list(likely), "finding": FINDINGS[why]})
-
-    def hole(self, group: Group, first: int, last: int) -> None:
-        """Writes unannounced numbers."""
-        self._put_lost(group, self._stretches.other())
-        self._put({"line": "hole", **names_of(group.session), "sg": group.sg, "spri": group.spri, "first": first,
-                   "last": last, "finding": "unannounced"})
-
-    def end_group(self, group: Group) -> None:
-        """Writes missing numbers at the end of a group."""
-        self._put_lost(group, self._stretches.end_group())
-
-    def tail(self, session: Session, sg: int, spri: int, first: int, last: int) -> None:
+    def tail_after(self, session: Session, sg: int, spri: int, first: int, last: int, before: Optional[Neighbour]) -> None:
         """Writes numbers that are missing up to a counter."""
         self._put({"line": "tail", **names_of(session), "sg": sg, "spri": spri, "first": first, "last": last,
-                   "finding": "missing"})
+                   "count": last - first + 1, "before": self._neighbour(before), "finding": "missing"})
 
     def missing_blocks(self, session: Session, first: int, last: int) -> None:
         """Writes missing signature blocks."""
@@ -109,7 +99,7 @@ class JsonVerdict(ReportVisitor):
         found = self._reviewed.finder.find(place, most_shown(kind))
         why: Fields = {"cause": cause} if kind == "spoilt" else {}
         self._put({"line": kind, "place": place, **why, "file": shown_name(found.file), "file_place": found.place,
-                   "octets": found.octets, "text": found.text, "finding": FINDINGS[kind]})
+                   "timestamp": found.timestamp, "octets": found.octets, "text": found.text, "finding": FINDINGS[kind]})
 
     def torn(self, offset: int) -> None:
         """Writes where the log breaks off."""
@@ -122,7 +112,7 @@ class JsonVerdict(ReportVisitor):
         self._put({"line": "end", "count": count})
 
     def verdict(self) -> bytes:
-        """Writes the verdict, with all counts, and how far it reaches. Gives nothing that would stand in front."""
+        """Writes the verdict, with all counts, and how far it reaches. Gives what stands in front: what was checked."""
         facts, survey, totals = self._reviewed.facts, self._reviewed.survey, self.totals
         missing: Fields = {} if self.counters is None else {"missing_up_to_counters": totals.tails}
         missing.update({} if self.missing is None else {"missing_blocks": self.missing})
@@ -134,7 +124,7 @@ class JsonVerdict(ReportVisitor):
             **broken_fields(facts.broken), "torn": totals.torn is not None,
             "groups": [self._group(it) for it in survey.reach],
         })
-        return b""
+        return compact(dict({"line": "checked"}, **self._reviewed.detailed().checked.fields())).encode("ascii") + b"\n"
 
     def _group(self, it: Reached) -> Fields:
         counted: Fields = {} if self.counters is None else {"next": it.next_number, "next_gbc": it.next_gbc}

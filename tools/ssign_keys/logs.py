@@ -10,9 +10,10 @@ import itertools
 import os
 import stat
 import sys
-from dataclasses import dataclass
-from typing import BinaryIO, Iterable, Iterator, List, Optional, Sequence, Tuple, cast
+from dataclasses import dataclass, replace
+from typing import BinaryIO, Iterable, Iterator, List, NamedTuple, Optional, Sequence, Tuple, cast
 
+from .digests import sum_of
 from .expand import FRONT, PIECE, expanded, expanded_zstd, form_of, limited, most_expanded
 from .faults import Fault
 from .form import form_of as form_of_log
@@ -23,6 +24,14 @@ from .words import shown_name
 from .workplace import Workplace, finish, put
 
 
+class Packed(NamedTuple):
+    """A log as it was given, where it is compressed: the form, how many octets it has, and their SHA-256."""
+
+    form: str
+    size: int
+    sha256: str
+
+
 @dataclass(frozen=True)
 class Part:
     """One of the given logs within all of them: its name, its first octet, and how many messages stand before it."""
@@ -30,6 +39,8 @@ class Part:
     name: str
     offset: int
     place: int
+    packed: Optional[Packed] = None
+    """The compressed octets; None where it is given plain."""
 
 
 class Log:
@@ -99,12 +110,14 @@ def open_log(names: Sequence[str], named_form: Optional[bool], workplace: Workpl
         sources = (open_source(name) for name in names)
     spool = workplace.new_file("log")
     starts = []
+    packed = []
     for name in names:
         starts.append((name, spool.tell()))
         with next(sources) as source:
-            spool_log(name, source, max_expanded, spool, workplace, progress)
+            packed.append(spool_log(name, source, max_expanded, spool, workplace, progress))
     form = form_of_log(spool, starts, named_form)
     parts = [Part(names[0], 0, 0)] if len(names) == 1 else measure(spool, starts, form.are_lines, progress)
+    parts = [replace(part, packed=it) for part, it in zip(parts, packed)]
     form.refuse_odd()
     return Log(spool, parts, form.are_lines, True)
 
@@ -139,8 +152,8 @@ def open_source(name: str) -> BinaryIO:
 
 
 def spool_log(name: str, source: BinaryIO, max_expanded: Optional[int], spool: BinaryIO, workplace: Workplace,
-              progress: Progress) -> None:
-    """Puts the plain octets of a log after those that stand there."""
+              progress: Progress) -> Optional[Packed]:
+    """Puts the plain octets of a log after those that stand there. Gives what it was, where it is compressed."""
     pieces = read_pieces(source, name, "copying the log", progress)
     front = b""
     for piece in pieces:
@@ -151,16 +164,18 @@ def spool_log(name: str, source: BinaryIO, max_expanded: Optional[int], spool: B
     pieces = itertools.chain([front], pieces)
     if form is None:
         put_all(spool, pieces)
-        return
+        return None
     # how long it is, a pipe says only at its end
     with workplace.new_file("packed") as packed:
         put_all(packed, pieces)
         most = most_expanded(packed.tell(), max_expanded)
+        given = Packed(form, *sum_of(packed, 0, packed.tell()))
         packed.seek(0)
         grown = expanded_zstd(name, packed, workplace) if form == "zstd" else \
             expanded(name, form, read_pieces(packed, name, "expanding the log", progress))
         put_all(spool, limited(name, form, grown, most))
     os.remove(workplace.path("packed"))
+    return given
 
 
 def put_all(file: BinaryIO, pieces: Iterable[bytes]) -> None:

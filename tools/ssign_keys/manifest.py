@@ -3,13 +3,13 @@ from __future__ import annotations
 
 import argparse
 import fnmatch
-import hashlib
 import os
 import subprocess
-from typing import BinaryIO, Dict, Iterator, List, Optional, Tuple
+from typing import Dict, Iterator, List, Optional, Tuple
 
 from . import form as forms
 from .blocks import Session
+from .digests import sum_of
 from .faults import Fault
 from .json_text import compact
 from .kept import copy_counters
@@ -23,12 +23,11 @@ from .programs import Refused, Run, add_limit_arguments, add_program_argument, f
 from .progress import Progress
 from .refusals import fault_of
 from .streams import Output
-from .walk import Walk, read_at
+from .walk import Walk
 from .words import counted, shown_name
 from .workplace import Workplace, notify
 
 ACTIONS = ("add", "copied", "check")
-PIECE = 1 << 20
 
 
 def add_arguments(parser: argparse.ArgumentParser) -> None:
@@ -201,19 +200,6 @@ def inspected(program: str, words: List[str], log: Log, workplace: Workplace, pr
             yield line
     if not count:
         raise Fault("the log holds no block, so it isn't a signed log")
-
-
-def sum_of(file: BinaryIO, start: int, end: int) -> Tuple[int, str]:
-    """How many octets of a file lie between two, and their SHA-256."""
-    hasher = hashlib.sha256()
-    at = start
-    while at < end:
-        piece = read_at(file, at, min(PIECE, end - at))
-        if not piece:
-            break
-        hasher.update(piece)
-        at += len(piece)
-    return at - start, hasher.hexdigest()
 
 
 def set_aside_of(path: Optional[str]) -> Optional[SetAside]:

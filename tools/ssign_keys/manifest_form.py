@@ -175,6 +175,9 @@ class Manifest:
     broken: List[int] = field(default_factory=list)
     # the line, from 1, in which the file breaks off
     torn: Optional[int] = None
+    # how many octets were read, and their SHA-256
+    size: int = 0
+    sha256: str = ""
 
     @property
     def entries(self) -> List[Entry]:
@@ -214,10 +217,12 @@ def read_manifest(path: str) -> Manifest:
 
 def read_entries(path: str, file: BinaryIO) -> Manifest:
     """The manifest in an open file."""
-    manifest = Manifest(path)
+    manifest, hasher = Manifest(path), hashlib.sha256()
     try:
         while True:
             line = file.readline(LONGEST)
+            hasher.update(line)
+            manifest.size, manifest.sha256 = manifest.size + len(line), hasher.hexdigest()
             if not line:
                 return manifest
             number = len(manifest.lines) + 1

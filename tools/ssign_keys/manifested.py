@@ -5,10 +5,10 @@ import argparse
 from typing import BinaryIO, Dict, List, Optional, Sequence
 
 from .blocks import Session
+from .digests import Digest, sum_of
 from .faults import Fault
 from .kept import Counters
 from .logs import Log
-from .manifest import sum_of
 from .manifest_findings import Found, Names, Reviewed, Stored, bare, of_manifest, of_review, of_sessions
 from .manifest_form import Entry, Extent, Manifest, Mark, read_manifest, read_mark
 from .progress import Progress
@@ -88,6 +88,11 @@ class Listed:
             return None
         kept = None if arguments.manifest_last is None else read_mark(arguments.manifest_last, "--manifest-last")
         return cls(read_manifest(arguments.manifest), kept)
+
+    @property
+    def digest(self) -> Digest:
+        """The manifest as it was read."""
+        return Digest(self.path, self._manifest.size, self._manifest.sha256)
 
     def look(self, log: Log) -> List[bytes]:
         """Compares the logs with their entries. Gives the counters of these, as lines of a counters file."""

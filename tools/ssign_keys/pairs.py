@@ -6,7 +6,7 @@ between two listed numbers, and numbers are missing between the same two, the on
 from __future__ import annotations
 
 import bisect
-from typing import NamedTuple, Optional, Sequence, Tuple
+from typing import List, NamedTuple, Optional, Sequence, Tuple
 
 from .summaries import FEW
 
@@ -15,21 +15,28 @@ Neighbour = Tuple[int, int]
 
 
 class Stretch(NamedTuple):
-    """Missing numbers that follow one another in a group."""
+    """Numbers of one kind that follow one another in a group, and aren't listed."""
 
+    kind: str
+    """`lost` or `disputed`, as a report says of a number, or `hole`."""
     first: int
     last: int
     before: Optional[Neighbour]
-    """The listed number in front of them; None where there is none in the group."""
+    """The nearest listed number in front of them; None where there is none in the group."""
     behind: Optional[Neighbour]
-    """The listed number after them; None where there is none in the group."""
+    """The nearest listed number after them; None where there is none in the group."""
     likely: Sequence[int]
     """The places of the unlisted messages between the places of the two neighbours: as many, or a few; or none."""
 
     @property
+    def length(self) -> int:
+        """How many numbers these are."""
+        return self.last - self.first + 1
+
+    @property
     def is_matched(self) -> bool:
         """Whether each number has an unlisted message of its own."""
-        return len(self.likely) == self.last - self.first + 1
+        return len(self.likely) == self.length
 
     def likely_of(self, number: int) -> Sequence[int]:
         """The places of what a number's message likely became: one of these."""
@@ -46,43 +53,34 @@ class Stretches:
 
     def begin_group(self) -> None:
         """Forgets the group before."""
-        self._before: Optional[Neighbour] = None
-        self._first = self._last = 0
-        self._is_mixed = False
+        self.before: Optional[Neighbour] = None
+        # kinds with their first and last numbers, since the last listed one
+        self._waiting: List[Tuple[str, int, int]] = []
 
-    def lost(self, number: int) -> None:
-        """Takes a missing number."""
-        self._first = self._first or number
-        self._last = number
+    def take(self, kind: str, first: int, last: int) -> None:
+        """Takes numbers that aren't listed, and follow those that were taken last."""
+        if self._waiting and self._waiting[-1][0] == kind:
+            first = self._waiting.pop()[1]
+        self._waiting.append((kind, first, last))
 
-    def other(self) -> Optional[Stretch]:
-        """Takes a number that is disputed or unannounced, and gives the missing ones before it.
+    def listed(self, first: Neighbour, last: Neighbour) -> List[Stretch]:
+        """Takes numbers that are listed, from the first to the last, and gives the stretches before them."""
+        stretches = self._end(first) if self._waiting else []
+        self.before = last
+        return stretches
 
-        What is unlisted between these neighbours may then be its message too, so nothing is likely.
-        """
-        self._is_mixed = True
+    def end_group(self) -> List[Stretch]:
+        """The stretches at the end of the group."""
         return self._end(None)
 
-    def listed(self, first: Neighbour, last: Neighbour) -> Optional[Stretch]:
-        """Takes numbers that are listed, from the first to the last, and gives the missing ones before them."""
-        stretch = self._end(first)
-        self._before, self._is_mixed = last, False
-        return stretch
-
-    def end_group(self) -> Optional[Stretch]:
-        """The missing numbers at the end of the group."""
-        return self._end(None)
-
-    def _end(self, behind: Optional[Neighbour]) -> Optional[Stretch]:
-        first, last = self._first, self._last
-        if not first:
-            return None
-        self._first = self._last = 0
-        return Stretch(first, last, self._before, behind, self._between(behind, last - first + 1))
+    def _end(self, behind: Optional[Neighbour]) -> List[Stretch]:
+        waiting, self._waiting = self._waiting, []
+        # beside a disputed or an unannounced number, what is unlisted between the neighbours may be its message too
+        is_lost_alone = [kind for kind, _, _ in waiting] == ["lost"]
+        likely = self._between(behind, waiting[0][2] - waiting[0][1] + 1) if is_lost_alone else ()
+        return [Stretch(*it, self.before, behind, likely) for it in waiting]
 
     def _between(self, behind: Optional[Neighbour], count: int) -> Sequence[int]:
-        if self._is_mixed:
-            return ()
-        low = 0 if self._before is None else bisect.bisect_left(self._unlisted, self._before[1])
+        low = 0 if self.before is None else bisect.bisect_left(self._unlisted, self.before[1])
         high = len(self._unlisted) if behind is None else bisect.bisect_left(self._unlisted, behind[1])
         return self._unlisted[low:high] if high - low == count or high - low <= FEW else ()

@@ -5,6 +5,7 @@ from typing import NamedTuple, Optional
 
 from .agreement import Survey
 from .kept import Counters
+from .details import Details
 from .logs import Log
 from .finder import Finder
 from .verdict import Facts
@@ -21,3 +22,10 @@ class Reviewed(NamedTuple):
     facts: Facts
     is_whole: bool
     counters: Optional[Counters]
+    details: Optional[Details] = None
+    """What was checked, and the times; None where no form shows it."""
+
+    def detailed(self) -> Details:
+        """What was checked, and the times, for a form that always shows it."""
+        assert self.details is not None
+        return self.details

@@ -9,10 +9,11 @@ from typing import BinaryIO, Dict, List, NamedTuple, Optional, Sequence
 from . import sha1
 from .blocks import Session
 from .identity import identity_lines
-from .pairs import Neighbour, Stretch, Stretches
+from .pairs import Neighbour, Stretch
 from .reach import Reached
-from .report import Group, ReportVisitor
+from .report import Group
 from .reviewed import Reviewed
+from .stretch_visitor import StretchVisitor
 from .finder import most_shown
 from .summaries import FEW, Few, Runs
 from .verdict import sentence
@@ -108,6 +109,19 @@ def counters_words(group: Reached) -> str:
     return f"the counters cover only the front, up to message {last}{block}"
 
 
+def times_words(first: Optional[str], last: Optional[str]) -> str:
+    """The earliest and the latest TIMESTAMP of a session's listed messages."""
+    if first is None:
+        return "listed messages: none states a time"
+    span = f"of {first}" if first == last else f"from {first} to {last}"
+    return f"listed messages: {span}, by their sender's own clock"
+
+
+def stamp_words(stamp: Optional[str]) -> str:
+    """The TIMESTAMP of a message."""
+    return "which states no time" if stamp in (None, "-") else f"of {stamp}"
+
+
 def neighbours_words(stretch: Stretch) -> str:
     """Between which listed messages a number is missing."""
     sides = [f"{side} number {it[0]} at place {it[1]}"
@@ -115,14 +129,16 @@ def neighbours_words(stretch: Stretch) -> str:
     return ", ".join(sides) or "no other number of this group is listed"
 
 
-class TextVerdict(ReportVisitor):
+class TextVerdict(StretchVisitor):
     """Writes for a person, into a passing file, as the report is read."""
 
-    def __init__(self, out: BinaryIO, reviewed: Reviewed, only_findings: bool) -> None:
-        super().__init__(reviewed.is_whole, reviewed.counters)
+    def __init__(self, out: BinaryIO, reviewed: Reviewed, only_findings: bool, is_detailed: bool = False) -> None:
+        """Shows what was checked, and the times, where it is to be detailed."""
+        super().__init__(reviewed.is_whole, reviewed.counters, reviewed.survey.unlisted)
         self._out = out
         self._reviewed = reviewed
         self._only_findings = only_findings
+        self._details = reviewed.details if is_detailed else None
         self.lines = 0
         self._facts: Optional[BlockFacts] = None
         # headings that are written once something follows them
@@ -131,7 +147,6 @@ class TextVerdict(ReportVisitor):
         self._states: Dict[str, Few] = {}
         # where the present session is grouped as one that isn't shown
         self._left: Optional[Few] = None
-        self._stretches = Stretches(reviewed.survey.unlisted)
         self._pairs: List[Pair] = []
         self._pair_count = 0
         self._begin_lists()
@@ -150,11 +165,14 @@ class TextVerdict(ReportVisitor):
 
     def session(self, session: Session, state: str) -> None:
         """Shows a session that isn't joined, and keeps the heading of another until something follows it."""
+        super().session(session, state)
         self._end_session()
         self._facts = self._reviewed.notes.of(session)
         self._session_heading = [f"Session: {session_words(session)}", f"  state: {state}; {STATES[state]}"]
         if self._facts is not None:
             self._session_heading += [f"  {it}" for it in identity_lines(self._facts.finding)]
+        if self._details is not None and state == "joined":
+            self._session_heading.append(f"  {times_words(*self._details.times.of_session(session))}")
         weakness = sha1.weakness(self._facts, state)
         if weakness is not None:
             self._session_heading.append(f"  {weakness}")
@@ -177,14 +195,14 @@ class TextVerdict(ReportVisitor):
             self._left.left -= 1
             self._left = None
 
-    def tail(self, session: Session, sg: int, spri: int, first: int, last: int) -> None:
+    def tail_after(self, session: Session, sg: int, spri: int, first: int, last: int, before: Optional[Neighbour]) -> None:
         """Shows what is missing up to a counter."""
         if not self._tails.takes(last - first + 1):
             return
         self._need_session()
         known = f"announces a number after {first - 1}" if first > 1 else "announces a message of this group"
         self._put(f"  missing or unlisted, by the counters: {group_words(sg, spri)}, {numbers_words(first, last)}; no "
-                  f"verified block {known}")
+                  f"verified block {known}{self._between(before, None)}")
 
     def missing_blocks(self, session: Session, first: int, last: int) -> None:
         """Shows which signature blocks are missing."""
@@ -205,8 +223,8 @@ class TextVerdict(ReportVisitor):
 
     def begin_group(self, group: Group) -> None:
         """Keeps the heading of a group."""
+        super().begin_group(group)
         self._begin_lists()
-        self._stretches.begin_group()
         self._group_heading = [f"  group: {group_words(group.sg, group.spri)}"]
         if not self._only_findings:
             self._need_group()
@@ -217,35 +235,33 @@ class TextVerdict(ReportVisitor):
             self._put(line)
         self._group_heading = []
 
-    def listed(self, group: Group, numbers: Sequence[int], places: Sequence[int]) -> None:
-        """Shows the missing numbers before these."""
-        first: Neighbour = (numbers[0], places[0])
-        self._show_missing(group, self._stretches.listed(first, (numbers[-1], places[-1])))
+    def stretch(self, group: Group, stretch: Stretch) -> None:
+        """Shows numbers that are missing, disputed or unannounced."""
+        if stretch.kind == "lost":
+            self._show_missing(group, stretch)
+        elif stretch.kind == "hole":
+            self._show_hole(stretch)
+        else:
+            self._show_disputed(stretch)
 
-    def gap(self, group: Group, number: int, why: str) -> None:
-        """Keeps a missing number, or shows a disputed one."""
-        if why == "lost":
-            self._stretches.lost(number)
-            return
-        self._show_missing(group, self._stretches.other())
-        if self._disputed.takes():
-            self._need_group()
-            self._put(f"    disputed: number {number}; verified blocks announce two different messages for it")
+    def _show_disputed(self, stretch: Stretch) -> None:
+        for number in range(stretch.first, stretch.last + 1):
+            if self._disputed.takes():
+                self._need_group()
+                self._put(f"    disputed: number {number}; verified blocks announce two different messages for it")
 
-    def hole(self, group: Group, first: int, last: int) -> None:
-        """Shows unannounced numbers."""
-        self._show_missing(group, self._stretches.other())
-        if self._holes.takes(last - first + 1):
+    def _show_hole(self, stretch: Stretch) -> None:
+        if self._holes.takes(stretch.length):
             self._need_group()
-            blocks = "the block for it is" if first == last else "the blocks for them are"
-            self._put(f"    unannounced: {numbers_words(first, last)}; {blocks} missing or unverified")
+            blocks = "the block for it is" if stretch.length == 1 else "the blocks for them are"
+            self._put(f"    unannounced: {numbers_words(stretch.first, stretch.last)}; {blocks} missing or unverified"
+                      f"{self._between(stretch.before, stretch.behind)}")
 
-    def _show_missing(self, group: Group, stretch: Optional[Stretch]) -> None:
-        if stretch is None:
-            return
-        if self._missing.takes(stretch.last - stretch.first + 1):
+    def _show_missing(self, group: Group, stretch: Stretch) -> None:
+        if self._missing.takes(stretch.length):
             self._need_group()
-            self._put(f"    missing: {numbers_words(stretch.first, stretch.last)}")
+            self._put(f"    missing: {numbers_words(stretch.first, stretch.last)}"
+                      f"{self._between(stretch.before, stretch.behind)}")
         if not stretch.likely:
             return
         self._pair_count += len(stretch.likely) if stretch.is_matched else 1
@@ -255,9 +271,17 @@ class TextVerdict(ReportVisitor):
             self._pairs += [Pair(group, it, it, stretch, stretch.likely_of(it))
                             for it in range(stretch.first, min(stretch.last + 1, stretch.first + FEW - len(self._pairs)))]
 
+    def _between(self, before: Optional[Neighbour], behind: Optional[Neighbour]) -> str:
+        """When the neighbours of these numbers were sent, where that is to be shown."""
+        if self._details is None:
+            return ""
+        sides = [f"{side} number {it[0]}, {stamp_words(self._details.times.of_neighbour(it))}"
+                 for side, it in (("after", before), ("before", behind)) if it is not None]
+        return f"; {' and '.join(sides)}" if sides else ""
+
     def end_group(self, group: Group) -> None:
         """Shows the counts of a group, and its order."""
-        self._show_missing(group, self._stretches.end_group())
+        super().end_group(group)
         if group.lost or group.disputed or group.unannounced or group.out_of_order:
             self._need_group()
         for few, what in ((self._missing, "missing"), (self._disputed, "disputed"), (self._holes, "unannounced")):
@@ -361,11 +385,14 @@ class TextVerdict(ReportVisitor):
     # ---- the verdict
 
     def verdict(self) -> bytes:
-        """Shows how far the log goes, and the verdict. Gives what has to stand in front: the verdict of a long text."""
+        """Shows how far the log goes, and the verdict. Gives what has to stand in front: the verdict of a long text, and
+        what was checked."""
         self._put_reach()
         said = f"Verdict: {sentence(self._reviewed.facts)}"
         self._put(said)
-        return f"{said}\n".encode("utf-8") if self.lines > LONG else b""
+        checked = self._details.checked.lines() if self._details is not None else []
+        front = [said, *checked] if self.lines + len(checked) > LONG else checked
+        return "".join(f"{it}\n" for it in front).encode("utf-8", "backslashreplace")
 
     def _put_reach(self) -> None:
         reach = self._reviewed.survey.reach

@@ -9,7 +9,7 @@ from . import openpgp
 from .blocks import Block, Session, read_block
 from .faults import Fault
 from .files import read_file
-from .identity import UNKNOWN, Finding, Identity
+from .identity import UNKNOWN, CertificateFacts, Finding, Identity
 from .keys import NO_KEY, PUBLIC_KEY, Numbers, PublicKey, one_line, read_pem_keys, stated_fingerprint
 from .payload_types import CERTIFICATE
 from .payloads import Payload, bare_numbers, moment_of, read_payload
@@ -45,6 +45,18 @@ class Judged(NamedTuple):
     """Why no key is trusted; empty where one is."""
     finding: Finding = UNKNOWN
     """The same for a report."""
+
+
+class Given(NamedTuple):
+    """A key, or a certificate of an authority, that the reviewer gave."""
+
+    option: str
+    file: str
+    session: Optional[str]
+    """The words of a --session-key."""
+    fingerprint: Optional[str]
+    """The SHA-256 of the key's SubjectPublicKeyInfo in DER; None for an authority."""
+    certificate: Optional[CertificateFacts]
 
 
 class SessionKey(NamedTuple):
@@ -148,6 +160,8 @@ class Trust:
         self._is_at_signing_time = is_at_signing_time
         self.longest = longest
         self._now = datetime.now(timezone.utc).replace(microsecond=0)
+        # each key and certificate, in the order of the options; whoever makes trust of something else leaves it empty
+        self.given: List[Given] = []
         # what was asked last, because questions about one payload stand together
         self._last_payload: Optional[bytes] = None
         self._last_stated: Optional[Stated] = None
@@ -162,9 +176,11 @@ class Trust:
         A caller without --max-payload looks at payloads of the usual length.
         """
         keys: Dict[Numbers, Trusted] = {}
+        given: List[Given] = []
         for path in arguments.keys:
             for key in read_public_keys(path):
                 keys.setdefault(key.numbers, Trusted(path, key, None))
+                given.append(Given("--key", path, None, key.fingerprint, None))
         session_keys = [read_session_key(words, path) for words, path in arguments.session_key]
         patterns: Dict[Session, SessionKey] = {}
         for it in session_keys:
@@ -174,8 +190,14 @@ class Trust:
         signers, authorities = read_certificates(arguments.cert, arguments.ca)
         if not (keys or session_keys or signers or authorities):
             raise Fault("nothing says which key is to be trusted: give a public key, --session-key, --ca or --cert")
-        return cls(keys, session_keys, authorities, signers, arguments.at_signing_time,
-                   getattr(arguments, "max_payload", LONGEST_PAYLOAD))
+        trust = cls(keys, session_keys, authorities, signers, arguments.at_signing_time,
+                    getattr(arguments, "max_payload", LONGEST_PAYLOAD))
+        given += [given_key("--session-key", it.trusted, str(it.pattern)) for it in session_keys]
+        given += [given_key("--cert", it, None) for it in signers.values()]
+        given += [Given("--ca", it.path, None, None, certificate.facts) for it in authorities
+                  for found in it.certificates.values() for certificate in found]
+        trust.given = given
+        return trust
 
     @property
     def patterns(self) -> List[SessionKey]:
@@ -309,6 +331,12 @@ class Trust:
             return Judged(Trusted(chain.path, PublicKey(found.numbers), found), "")
         except NO_KEY as fault:
             return Judged(None, f"the key of its certificate can't be used: {one_line(fault)}")
+
+
+def given_key(option: str, trusted: Trusted, session: Optional[str]) -> Given:
+    """A key that the reviewer gave, for one session or for all."""
+    facts = trusted.certificate.facts if trusted.certificate else None
+    return Given(option, trusted.name, session, trusted.key.fingerprint, facts)
 
 
 def identity_of(trusted: Trusted, stamp: str) -> Identity:

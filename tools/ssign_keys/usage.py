@@ -30,8 +30,8 @@ GROUPS: Dict[str, Tuple[str, ...]] = {
     "the log": ("--lines", "--frames", "--max-len", "--max-messages", "--max-expanded", "--max-payload"),
     "the session": ("--rsid", "--host", "--app", "--procid", "--msgid", "--pri", "--stamp"),
     "the blocks": ("--payload", "--ver", "--groups", "--count", "--frag", "--copies"),
-    "what is reported": ("--whole", "--counters", "--manifest", "--manifest-last", "--findings", "--raw", "--json", "--answers-out",
-                         "--counters-out"),
+    "what is reported": ("--whole", "--counters", "--manifest", "--manifest-last", "--findings", "--details", "--hostname", "--raw",
+                         "--json", "--answers-out", "--counters-out"),
     "the run": ("--jobs", "--ssign"),
 }
 

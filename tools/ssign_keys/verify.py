@@ -5,7 +5,7 @@ import argparse
 import os
 import subprocess
 from itertools import chain
-from typing import Callable, Iterator, List, NamedTuple, Optional, Tuple, Type, Union
+from typing import Callable, Iterator, List, NamedTuple, Optional, Tuple, Union
 
 from . import expand as expand_options
 from . import form as forms
@@ -17,6 +17,9 @@ from .answer import told_answers
 from .asking import ONCE, refuse_older
 from .blocks import Session
 from .broken_blocks import Broken, Search
+from .checked import checked_logs, make_checked
+from .details import Details
+from .digests import Digest, digest_of
 from .faults import Fault
 from .kept import Counters, copy_counters, is_standard_pipe, read_counters
 from .kept_file import KeptFile
@@ -25,6 +28,8 @@ from .json_verdict import JsonVerdict
 from .manifested import Listed
 from .numbers import add_jobs
 from .output import file_pieces, write_out
+from .payloads import present_stamp
+from .program_facts import ssign_facts, tool_facts
 from .text_verdict import TextVerdict
 from .programs import Refused, Run, add_limit_arguments, add_program_argument, find_program, log_words
 from .progress import Progress
@@ -32,12 +37,15 @@ from .refusals import fault_of, warn_of_form
 from .report import Reading
 from .reviewed import Reviewed
 from .finder import Finder
+from .times import Owners, Times
 from .trust import Trust
 from .verdict import NOTHING, Facts
 from .block_facts import Notes, noted
 from .walk import Walk
 from .words import shown_name
 from .workplace import Workplace, finish, put, notify
+
+TOOL = "ssign-keys"
 
 
 def add_arguments(parser: argparse.ArgumentParser) -> None:
@@ -61,6 +69,9 @@ def add_arguments(parser: argparse.ArgumentParser) -> None:
                       "that of the verdict")
     form.add_argument("--json", action="store_true", help="print a JSON object for each line of the report, and one for "
                       "the verdict")
+    parser.add_argument("--details", action="store_true", help="also print what was checked, with its SHA-256, and the "
+                        "times of messages; --json always has them")
+    parser.add_argument("--hostname", action="store_true", help="name this machine in what was checked")
     parser.add_argument("--findings", action="store_true", help="leave out what is no finding; of --raw and --json, the "
                         "lines `ok`")
     parser.add_argument("--answers-out", metavar="FILE", help="keep the answers file, for `ssign review --answers`; FILE "
@@ -92,6 +103,7 @@ class Verification:
     def __init__(self, arguments: argparse.Namespace) -> None:
         """Nothing is read yet."""
         self._arguments = arguments
+        self._time = present_stamp()
         self._program = find_program(arguments)
         self.progress = Progress()
         # once it is open
@@ -104,6 +116,7 @@ class Verification:
                 KeptFile("--counters-out", "the counters", arguments.counters_out) as counters_out:
             answers_out.check()
             counters_out.check()
+            refuse_raw_details(arguments)
             refuse_two_counters(arguments.counters)
             refuse_one_pipe(arguments.counters, arguments.logs)
             trust = Trust.from_arguments(arguments)
@@ -111,6 +124,8 @@ class Verification:
             log, verifier = self._open(listed, workplace)
             verifier.answer(trust, arguments.jobs)
             reviewed = verifier.review(listed, arguments.allow_sha1)
+            if arguments.json or arguments.details:
+                reviewed = reviewed._replace(details=self._details(verifier, reviewed, trust, listed))
             verifier.name_unused(trust)
             pieces = verifier.output(reviewed, arguments, listed)
             if arguments.counters_out is not None:
@@ -132,6 +147,15 @@ class Verification:
             missing = add_counters(missing, listed.look(log), program, workplace, progress)
         return log, Verifier(program, log_words(arguments, log.are_lines), missing, log, workplace, progress)
 
+    def _details(self, verifier: Verifier, reviewed: Reviewed, trust: Trust, listed: Optional[Listed]) -> Details:
+        """What was checked, and the times of the log."""
+        programs = tool_facts(TOOL), ssign_facts(self._program)
+        logs = checked_logs(reviewed.log, reviewed.survey.totals.messages)
+        files = verifier.missing.digest, None if listed is None else listed.digest
+        answers = digest_of(self._arguments.answers_out or "", verifier.answers_path)
+        checked = make_checked(self._arguments, self._time, programs, logs, trust.given, files, answers)
+        return Details(checked, verifier.times(reviewed))
+
     def fault_of(self, refused: Refused) -> Optional[Fault]:
         """What is said of a refusal of ssign; None where all was said."""
         self.progress.clear()
@@ -145,6 +169,8 @@ class Missing(NamedTuple):
     """The options of `ssign review`, or none."""
     counters: Optional[Counters]
     """The counters that were given."""
+    digest: Optional[Digest] = None
+    """The counters file that was given."""
 
 
 class Verifier:
@@ -154,7 +180,7 @@ class Verifier:
                  progress: Progress) -> None:
         self._program = program
         self._words = words
-        self._missing = missing
+        self.missing = missing
         self._log = log
         self._workplace = workplace
         self._progress = progress
@@ -214,15 +240,22 @@ class Verifier:
 
     def review(self, listed: Optional[Listed], is_sha1_allowed: bool) -> Reviewed:
         """Has ssign review the log under the answers that were kept, and sees that all that is known of it agrees."""
-        status = self._review([f"--answers={self.answers_path}", *self._missing.words])
-        is_whole, counters = bool(self._missing.words), self._missing.counters
+        status = self._review([f"--answers={self.answers_path}", *self.missing.words])
+        is_whole, counters = bool(self.missing.words), self.missing.counters
         survey = Survey(self._walked, Notes(self._notes), is_whole, counters)
         Reading(survey).read(self._report, self._progress)
         survey.check(status, self._valid)
         facts = Facts(status, survey.totals, survey.states, survey.missing or 0, survey.reach.coverage(),
-                      self._broken_blocks(survey), 0 if listed is None else listed.count(self._report), survey.on_sha1, is_sha1_allowed)
+                      self._broken_blocks(survey), 0 if listed is None else listed.count(self._report), survey.on_sha1,
+                      is_sha1_allowed)
         finder = Finder(self._log, self._progress)
         return Reviewed(self._log, finder, Notes(self._notes), survey, facts, is_whole, counters)
+
+    def times(self, reviewed: Reviewed) -> Times:
+        """The times that the messages of the log state."""
+        owners = Owners(reviewed.survey)
+        Reading(owners).read(self._report, self._progress)
+        return Times(self._log, owners, self._progress)
 
     def _broken_blocks(self, survey: Survey) -> Broken:
         """What holds the mark of a block and is none. In most logs there is nothing more to look for."""
@@ -281,8 +314,8 @@ class Verifier:
         out = self._workplace.new_file("out")
         if listed is not None:
             listed.put(out, arguments.json)
-        make: Type[Union[JsonVerdict, TextVerdict]] = JsonVerdict if arguments.json else TextVerdict
-        form = make(out, reviewed, arguments.findings)
+        form: Union[JsonVerdict, TextVerdict] = JsonVerdict(out, reviewed, arguments.findings) if arguments.json else \
+            TextVerdict(out, reviewed, arguments.findings, arguments.details)
         Reading(form).read(self._report, self._progress)
         front = form.verdict()
         finish(out)
@@ -298,6 +331,12 @@ def without_listed(pieces: Iterator[bytes]) -> Iterator[bytes]:
     for piece in pieces:
         *lines, rest = (rest + piece).split(b"\n")
         yield b"".join(it + b"\n" for it in lines if not it.startswith(b"ok "))
+
+
+def refuse_raw_details(arguments: argparse.Namespace) -> None:
+    """Refuses details of a report that is printed as it stands."""
+    if arguments.raw and arguments.details:
+        raise Fault("--details doesn't go with --raw, which prints the report alone: --json has them too")
 
 
 def refuse_two_counters(paths: Optional[List[str]]) -> None:
@@ -322,7 +361,7 @@ def find_missing(program: str, arguments: argparse.Namespace, workplace: Workpla
     path = copy_counters(arguments.counters[0], workplace)
     words.append(f"--counters={path}")
     refuse_without(program, words, "--counters", "what is missing up to counters", workplace, progress)
-    return Missing(words, read_counters(path))
+    return Missing(words, read_counters(path), digest_of(arguments.counters[0], path))
 
 
 def add_counters(missing: Missing, lines: List[bytes], program: str, workplace: Workplace, progress: Progress) -> Missing:
@@ -342,7 +381,7 @@ def add_counters(missing: Missing, lines: List[bytes], program: str, workplace: 
     words = [it for it in missing.words if not it.startswith("--counters=")] + [f"--counters={path}"]
     if missing.counters is None:
         refuse_without(program, words, "--counters", "what is missing up to the manifest's counters", workplace, progress)
-    return Missing(words, read_counters(path))
+    return Missing(words, read_counters(path), missing.digest)
 
 
 def refuse_without(program: str, words: List[str], option: str, what: str, workplace: Workplace,

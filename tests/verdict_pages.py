@@ -1,0 +1,167 @@
+#!/usr/bin/env python3
+"""Helps tests/page.sh: makes logs, and looks at what `ssign-keys verify` says of what it checked.
+
+    verdict_pages.py make FOLDER                        makes logs of FOLDER/signed, cut and damaged
+    verdict_pages.py checked JSON WORD.. -- NAME[=FILE].. what was checked is these files, by these words
+    verdict_pages.py member JSON PATH                   prints a member of what was checked
+    verdict_pages.py options HELP TOOLS                 each option of the help is known to whoever repeats a check
+    verdict_pages.py runs JSON FIRST-LAST..             the runs of missing numbers
+    verdict_pages.py tail JSON FIRST LAST TIME          what is missing up to counters, and when the one before was sent
+    verdict_pages.py moments TOOLS                      TIMESTAMPs are ordered by their times
+"""
+from __future__ import annotations
+
+import gzip
+import hashlib
+import json
+import os
+import random
+import re
+import socket
+import sys
+from datetime import datetime, timedelta, timezone
+from typing import Any, Dict, List
+
+from review_runs import frame, read_frames
+
+
+def read(path: str) -> bytes:
+    """The octets of a file."""
+    with open(path, "rb") as file:
+        return file.read()
+
+
+def write(path: str, octets: bytes) -> None:
+    """Makes a file."""
+    with open(path, "wb") as file:
+        file.write(octets)
+
+
+def objects(path: str) -> List[Dict[str, Any]]:
+    """The objects of a verdict as JSON."""
+    with open(path, encoding="ascii") as file:
+        return [json.loads(it) for it in file]
+
+
+def make(folder: str) -> None:
+    """Makes logs of a signed one with ten messages, in blocks of four."""
+    stored = read_frames(read(f"{folder}/signed"))[0]
+    plain = [place for place, it in enumerate(stored) if b"[ssign" not in it]
+    assert len(stored) == 15 and len(plain) == 10, plain
+
+    def put(name: str, texts: List[bytes]) -> None:
+        write(f"{folder}/{name}", b"".join(map(frame, texts)))
+    put("first.frames", stored[:plain[6]])
+    write(f"{folder}/second.frames.gz", gzip.compress(b"".join(map(frame, stored[plain[6]:])), mtime=0))
+    put("lost.frames", [it for place, it in enumerate(stored) if place not in plain[3:6]])
+    put("cut.frames", stored[:plain[8]])
+
+
+def digest(path: str) -> Dict[str, object]:
+    """The size and the SHA-256 of a file."""
+    octets = read(path)
+    return {"size": len(octets), "sha256": hashlib.sha256(octets).hexdigest()}
+
+
+def check_checked(path: str, *words: str) -> None:
+    """Compares what was checked with files and options."""
+    options, names = list(words[:words.index("--")]), words[words.index("--") + 1:]
+    checked, *rest = objects(path)
+    assert checked["line"] == "checked" and rest[-1]["line"] == "verdict", checked
+    assert checked["options"] == [*options[:-1], "--json", options[-1]] if options[-1] == "--hostname" else \
+        checked["options"] == [*options, "--json"], checked["options"]
+    assert checked["machine"] == (socket.gethostname() if "--hostname" in options else None), checked["machine"]
+    age = datetime.now(timezone.utc) - datetime.strptime(checked["time"], "%Y-%m-%dT%H:%M:%SZ").replace(tzinfo=timezone.utc)
+    assert timedelta(seconds=-1) < age < timedelta(minutes=10), age
+    place = 0
+    assert len(checked["files"]) == len(names), checked["files"]
+    for found, name in zip(checked["files"], names):
+        name, _, source = name.partition("=")
+        octets = read(source or name)
+        is_packed = octets.startswith(b"\x1f\x8b")
+        texts = gzip.decompress(octets) if is_packed else octets
+        count = len(read_frames(texts)[0])
+        plain = [len(texts), hashlib.sha256(texts).hexdigest()] if is_packed else [None, None]
+        assert found == {"name": name, **digest(source or name), "compressed": "gzip" if is_packed else None,
+                         "plain_size": plain[0], "plain_sha256": plain[1], "messages": count, "first_place": place,
+                         "last_place": place + count - 1}, found
+        place += count
+    session = options[options.index("--session-key") + 1] if "--session-key" in options else None
+    option = "--key" if session is None else "--session-key"
+    # as `openssl pkey -pubin -in key.pem -outform DER | sha256sum` prints it
+    fingerprint = "514fb07028b7896891e4f7952886c80362e7b8dd236ac44cdaba5df04449bd7e"
+    assert checked["keys"] == [{"option": option, "file": "key.pem", "session": session, "fingerprint": fingerprint,
+                                "certificate": None}], checked["keys"]
+    counters = {"name": "counters", **digest("counters")} if "--counters" in options else None
+    assert checked["counters"] == counters and checked["manifest"] is None, checked
+    assert checked["ssign"]["sha256"] == digest(os.environ["SSIGN"])["sha256"], checked["ssign"]
+
+
+def check_options(path: str, tools: str) -> None:
+    """Compares the options of a help with those that are known."""
+    sys.path.insert(0, tools)
+    from ssign_keys import options_given
+    # two spaces stand in front of an option, and more in front of what its help says
+    shown = sorted(set(re.findall(r"^  (?:-h, )?--([a-z0-9][a-z0-9-]*)", read(path).decode(), re.MULTILINE)))
+    assert len(shown) > 20 and shown == sorted(options_given.names()), set(shown) ^ set(options_given.names())
+
+
+def check_moments(tools: str) -> None:
+    """Orders TIMESTAMPs by the module, and by datetime."""
+    sys.path.insert(0, tools)
+    from ssign_keys.moments import Bounds, sort_key, stamp_of
+    chosen = random.Random(5424)
+    stamps = []
+    for _ in range(20000):
+        when = datetime(2026, 1, 1) + timedelta(seconds=chosen.randrange(200))
+        fraction = chosen.choice(["", f".{chosen.randrange(10)}", f".{chosen.randrange(10 ** 6):06}"])
+        offset = chosen.choice([0, 0, 60, -90, 14 * 60])
+        text = (when + timedelta(minutes=offset)).isoformat() + fraction
+        zone = "Z" if not offset else f"{'-' if offset < 0 else '+'}{abs(offset) // 60:02}:{abs(offset) % 60:02}"
+        moment = when + timedelta(microseconds=int(float(fraction or "0") * 10 ** 6 + 0.5))
+        stamps.append((text + zone, moment))
+    for (one, first), (two, second) in zip(stamps, stamps[1:]):
+        if first != second:
+            assert (sort_key(one.encode()) < sort_key(two.encode())) == (first < second), (one, two)
+    bounds = Bounds()
+    for it in ("-", "2026-13-01T00:00:00Z", "2026-02-30T00:00:00Z", "9999-99-99T99:99:99Z", *(it for it, _ in stamps)):
+        bounds.take(it.encode())
+    moments = dict(stamps)
+    assert moments[str(bounds.first)] == min(moments.values()) and moments[str(bounds.last)] == max(moments.values())
+    for text, wanted in ((b"<13>1 2026-01-01T00:00:00Z h", "2026-01-01T00:00:00Z"), (b"<13>1 - h", "-"),
+                         (b"<13>1 2026-02-30T00:00:00Z h", None), (b"abc", None), (b"<13>2 - h", None),
+                         (b"<13>1 2026-01-01T00:00:00 h", None),
+                         (b"<13>1 0000-01-01T00:00:00+23:59 h", "0000-01-01T00:00:00+23:59")):
+        assert stamp_of(text) == wanted, (text, stamp_of(text))
+        if wanted and wanted != "-":
+            sort_key(wanted.encode())
+
+
+def main(command: str, *words: str) -> None:
+    """Does one of the commands."""
+    if command == "make":
+        make(*words)
+    elif command == "checked":
+        check_checked(*words)
+    elif command == "member":
+        value: Any = objects(words[0])[0]
+        for it in words[1].split("."):
+            value = value[it]
+        print(value)
+    elif command == "options":
+        check_options(*words)
+    elif command == "runs":
+        found = [f"{it['first']}-{it['last']}" for it in objects(words[0]) if it["line"] == "gap"]
+        assert found == list(words[1:]), found
+    elif command == "tail":
+        found_tails = [it for it in objects(words[0]) if it["line"] == "tail"]
+        assert [(it["first"], it["last"], it["before"]["timestamp"]) for it in found_tails] == \
+            [(int(words[1]), int(words[2]), words[3])], found_tails
+    elif command == "moments":
+        check_moments(*words)
+    else:
+        raise AssertionError(command)
+
+
+if __name__ == "__main__":
+    main(*sys.argv[1:])

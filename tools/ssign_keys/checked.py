@@ -1,0 +1,141 @@
+"""What a verdict is about: the files that were checked, with what, when and how, so that somebody can repeat it."""
+from __future__ import annotations
+
+import argparse
+import socket
+from typing import Dict, List, NamedTuple, Optional, Sequence
+
+from .digests import Digest, sum_of
+from .identity import certificate_fields, certificate_words
+from .logs import Log, Packed
+from .options_given import given_options, quoted
+from .program_facts import Program
+from .trust import Given
+from .words import grouped, shown_name
+
+
+class CheckedLog(NamedTuple):
+    """One of the given logs."""
+
+    digest: Digest
+    """The file as it was given."""
+    plain: Optional[Digest]
+    """What it expands to; None where it isn't compressed."""
+    packed: Optional[Packed]
+    messages: int
+    """How many messages it has."""
+    place: int
+    """How many messages stand before it in the whole log."""
+
+    @property
+    def last_place(self) -> Optional[int]:
+        """The place of its last message; None where it has no message."""
+        return self.place + self.messages - 1 if self.messages else None
+
+    def fields(self) -> Dict[str, object]:
+        """As JSON has it."""
+        return dict(self.digest.fields(), compressed=self.packed.form if self.packed else None,
+                    plain_size=self.plain.size if self.plain else None,
+                    plain_sha256=self.plain.sha256 if self.plain else None, messages=self.messages,
+                    first_place=self.place if self.messages else None, last_place=self.last_place)
+
+    def lines(self) -> List[str]:
+        """As lines for a person."""
+        places = f", places {self.place} to {self.last_place}" if self.messages > 1 else \
+            f", place {self.place}" if self.messages else ""
+        said = [f"log: {digest_words(self.digest)}, {grouped(self.messages, 'message')}{places}"]
+        if self.plain is not None and self.packed is not None:
+            said.append(f"  compressed by {self.packed.form}; expanded: {grouped(self.plain.size, 'octet')}, SHA-256 "
+                        f"{self.plain.sha256}")
+        return said
+
+
+class Checked(NamedTuple):
+    """All of it."""
+
+    time: str
+    """When the check began, in UTC."""
+    machine: Optional[str]
+    """The name of the machine, where that was asked for."""
+    tool: Program
+    ssign: Program
+    options: List[str]
+    logs: List[CheckedLog]
+    keys: List[Given]
+    counters: Optional[Digest]
+    manifest: Optional[Digest]
+    answers: Digest
+    """The answers file; its name is empty where it isn't kept."""
+
+    def fields(self) -> Dict[str, object]:
+        """As JSON has it."""
+        return {
+            "time": self.time, "machine": None if self.machine is None else shown_name(self.machine),
+            "tool": self.tool.fields(), "ssign": self.ssign.fields(), "options": [shown_name(it) for it in self.options],
+            "files": [it.fields() for it in self.logs], "keys": [key_fields(it) for it in self.keys],
+            "counters": digest_fields(self.counters), "manifest": digest_fields(self.manifest),
+            "answers": dict(self.answers.fields(), name=shown_name(self.answers.name) or None),
+        }
+
+    def lines(self) -> List[str]:
+        """As lines for a person."""
+        said = [line for it in self.logs for line in it.lines()] + [key_words(it) for it in self.keys]
+        said += [f"{what}: {digest_words(it)}" for what, it in (("counters", self.counters), ("manifest", self.manifest))
+                 if it is not None]
+        answers = digest_words(self.answers._replace(name=self.answers.name or "not kept"))
+        said += [f"answers: {answers}", f"program: {program_words(self.ssign)}", f"tool: {program_words(self.tool)}",
+                 f"options: {quoted(self.options)}"]
+        if self.machine is not None:
+            said.append(f"machine: {shown_name(self.machine)}")
+        return [f"Checked at {self.time}:", *(f"  {it}" for it in said)]
+
+
+def digest_fields(digest: Optional[Digest]) -> Optional[Dict[str, object]]:
+    """A file as JSON has it, or null."""
+    return None if digest is None else digest.fields()
+
+
+def key_fields(given: Given) -> Dict[str, object]:
+    """A key as JSON has it."""
+    return {"option": given.option, "file": shown_name(given.file), "session": given.session,
+            "fingerprint": given.fingerprint, "certificate": certificate_fields(given.certificate)}
+
+
+def key_words(given: Given) -> str:
+    """A key in a line for a person."""
+    session = "" if given.session is None else f" for the session {given.session}"
+    key = "" if given.fingerprint is None else f", SHA-256 {given.fingerprint}"
+    certificate = "" if given.certificate is None else f"; certificate {certificate_words(given.certificate)}"
+    return f"key: {given.option} {shown_name(given.file)}{session}{key}{certificate}"
+
+
+def digest_words(digest: Digest) -> str:
+    """A file in a line for a person."""
+    return f"{shown_name(digest.name)}, {grouped(digest.size, 'octet')}, SHA-256 {digest.sha256}"
+
+
+def program_words(program: Program) -> str:
+    """A program in a line for a person."""
+    return f"{program.version or 'states no version'}, {shown_name(program.path)}, SHA-256 {program.sha256 or 'unknown'}"
+
+
+def checked_logs(log: Log, messages: int) -> List[CheckedLog]:
+    """The given logs, of which all together have so many messages."""
+    offsets = [*(it.offset for it in log.parts[1:]), log.size]
+    places = [*(it.place for it in log.parts[1:]), messages]
+    found = []
+    for part, end, place in zip(log.parts, offsets, places):
+        plain = Digest(part.name, *sum_of(log.file, part.offset, end))
+        packed = part.packed
+        given = plain if packed is None else Digest(part.name, packed.size, packed.sha256)
+        found.append(CheckedLog(given, plain if packed else None, packed, place - part.place, part.place))
+    return found
+
+
+def make_checked(arguments: argparse.Namespace, time: str, programs: Sequence[Program], logs: List[CheckedLog],
+                 keys: List[Given], files: Sequence[Optional[Digest]], answers: Digest) -> Checked:
+    """What was checked: with the tool and ssign, and up to the counters and the manifest."""
+    tool, ssign = programs
+    counters, manifest = files
+    machine = socket.gethostname() if arguments.hostname else None
+    return Checked(time, machine, tool, ssign, given_options(arguments), logs, keys, counters, manifest, answers)
