@@ -42,11 +42,11 @@ TUNED = {"GLIBC_TUNABLES": "glibc.cpu.x86_rep_movsb_threshold=1000000000:glibc.c
 ROOM, ROOM_FOR_EACH = 1 << 19, 32
 # a run that takes more seconds hangs, however busy the machine is
 PATIENCE = 300
-COMMANDS = (REVIEW, WHOLE, KEPT, TALLY, EXTRACT, UNLISTED, QUESTIONS, ONCE, OBJECTS, INSPECT, PLAN, AHEAD, RESUMED, SIGN, COUNTERS,
-            CARRY) = (
-    "review", "review --whole", "review --counters", "review --tally", "extract", "extract --unlisted", "questions",
-    "questions --once", "questions --once --json", "inspect", "plan", "plan --ahead", "plan --ahead --resume", "sign", "counters",
-    "carry")
+COMMANDS = (REVIEW, WHOLE, KEPT, TALLY, EXTRACT, UNLISTED, UNWRAPPED, QUESTIONS, ONCE, OBJECTS, INSPECT, ORIGINALS, PLAN, AHEAD,
+            RESUMED, SIGN, COUNTERS, CARRY) = (
+    "review", "review --whole", "review --counters", "review --tally", "extract", "extract --unlisted",
+    "extract --unlisted --unwrap", "questions", "questions --once", "questions --once --json", "inspect", "inspect --unwrap",
+    "plan", "plan --ahead", "plan --ahead --resume", "sign", "counters", "carry")
 
 # each shape, how large its smaller input is, the commands whose steps are counted, and those of which the rest is
 SHAPES = [
@@ -86,6 +86,8 @@ SHAPES = [
     (logs.totals, 900, [], [REVIEW]),
     (logs.spoilt, 900, [REVIEW], [INSPECT]),
     (logs.shortest, 3000, [REVIEW, INSPECT], []),
+    (logs.wraps, 900, [UNWRAPPED, ORIGINALS], []),
+    (logs.long_wrap, 100_000, [ORIGINALS], [UNWRAPPED]),
     (logs.long_text, 100_000, [], [REVIEW, INSPECT]),
     (logs.no_text, 100_000, [REVIEW], [INSPECT]),
     (logs.openings, 20_000, [REVIEW], [INSPECT]),
@@ -263,7 +265,7 @@ class Bench:
             with open(log + ".counters", "wb") as file:
                 file.writelines(line + b"\n" for line in made.counters)
             words = [log + ".counters", *words]
-        if command in (REVIEW, WHOLE, KEPT, TALLY, EXTRACT, UNLISTED, SIGN, COUNTERS, CARRY):
+        if command in (REVIEW, WHOLE, KEPT, TALLY, EXTRACT, UNLISTED, UNWRAPPED, SIGN, COUNTERS, CARRY):
             with open(log + ".answers", "wb") as file:
                 file.writelines(line + b"\n" for line in lines)
             words = words + ["--answers", log + ".answers"]
@@ -273,7 +275,7 @@ class Bench:
         if self.counter and stepped:
             with open(log, "rb") as file:
                 counts["steps"] = self.counter.count(words, stdin=file, env={**self.environment, **TUNED}) or 0
-        return counts, fault_of(said, made.says[command], command in (EXTRACT, UNLISTED, SIGN, CARRY))
+        return counts, fault_of(said, made.says[command], command in (EXTRACT, UNLISTED, UNWRAPPED, SIGN, CARRY))
 
     def counts(self, made, name, commands, stepped):
         """The same of each command, as frames and as lines."""

@@ -89,7 +89,9 @@ def nothing(n=0):
         made.say(command, 0, {})
     made.say("extract", 0, 0)
     made.say("inspect", 0, {"end": 1})
+    made.say("inspect --unwrap", 0, {"end": 1})
     made.say("extract --unlisted", 0, 0)
+    made.say("extract --unlisted --unwrap", 0, 0)
     made.say("carry", 0, 0)
     made.say("counters", 0, {})
     made.whole(0)
@@ -478,6 +480,29 @@ def shortest(n):
     made.put(*[b"a", b"b"] * (n // 2))
     made.say("inspect", 0, {"unparsed": n, "end": 1})
     return made.review(1, unlisted=n)
+
+
+# ---- messages in wraps
+
+def wrapping(original):
+    return b"<13>1 - h s - wrapped - |" + original
+
+
+def wraps(n):
+    """Wraps of wraps, and of texts that aren't messages."""
+    made = Input()
+    made.put(*(wrapping(wrapping(number(i)) if i % 2 else number(i)) for i in range(n)))
+    made.say("extract --unlisted --unwrap", 1, n)
+    made.say("inspect", 0, {"plain": n, "end": 1})
+    made.say("inspect --unwrap", 0, {"wrapped-plain": n // 2, "wrapped-unparsed": n - n // 2, "end": 1})
+    return made.review(1, unlisted=n)
+
+
+def long_wrap(n):
+    """One wrap of a long message."""
+    made = one(wrapping(b"<13>1 - - - - - - " + b"x" * n), "plain")
+    made.say("extract --unlisted --unwrap", 1, 1)
+    return made.say("inspect --unwrap", 0, {"wrapped-plain": 1, "end": 1})
 
 
 # ---- one long message

@@ -1,6 +1,6 @@
 #!/usr/bin/env bash
 # `extract`: the messages that a review lists, in the order of its report, as frames, and the status of that review; with
-# `--unlisted` and `--place` others, and with `--lines-out` as lines.
+# `--unlisted` and `--place` others, with `--lines-out` as lines, and with `--unwrap` the originals of wraps.
 # shellcheck source=tests/lib.sh
 . "$(dirname -- "$0")/lib.sh"
 need_program
@@ -74,7 +74,21 @@ gives 'places as lines' 0 $'abd\nx\n' --place 6 --place 0 --lines-out <"$unsigne
 gives 'lines from lines' 0 $'a\nc\r\n' --lines --lines-out --place 0 --place 2 < <(printf 'a\nb\nc\r\n')
 gives 'no message as lines' 0 '' --lines-out </dev/null
 
+# The originals of wraps
+wrap='<13>1 - h s - wrapped - |'
+wraps=$scratch/wraps
+{ frame "${wrap}abc" && frame "$wrap$wrap$long" && frame "$wrap" && frame "$wrap"$'two\nlines' && frame "${wrap/ - |/ [a] |}x" && frame x; } >"$wraps"
+all=(--place 0 --place 1 --place 2 --place 3 --place 4 --place 5)
+gives 'originals' 0 "$(frame abc && frame "$wrap$long" && frame "$wrap" && frame $'two\nlines' && frame "${wrap/ - |/ [a] |}x" && frame x)" \
+    "${all[@]}" --unwrap <"$wraps"
+gives 'wraps, without the option' 0 "$(<"$wraps")" "${all[@]}" <"$wraps"
+gives 'unlisted originals' 1 '3 abd3 abc' --answers "$answers" --unlisted --unwrap < <(frame abd && frame "${wrap}abc" && cat -- "$log")
+gives 'listed messages that are no wraps' 0 "$both" --answers "$answers" --unwrap <"$log"
+gives 'originals as lines' 0 $'abc\nx\n' --place 0 --place 5 --unwrap --lines-out <"$wraps"
+gives 'originals from lines' 0 $'abc\nx\n' --lines --place 0 --place 1 --unwrap --lines-out < <(printf '%sabc\nx\n' "$wrap")
+
 holds 'logs by a seed' python3 -B "$root/tests/extracts.py" "$program"
+holds 'wraps by a seed' python3 -B "$root/tests/unwraps.py" "$program"
 
 # Refusals
 refused() {
@@ -96,6 +110,8 @@ refused 'a place that is missing before a line that is none' 'ssign: E1 7' --pla
 refused 'a message of two lines' 'ssign: E2 3' --place 6 --place 3 --lines-out <"$unsigned"
 refused 'an unlisted message of two lines' 'ssign: E2 3' --answers "$answers" --unlisted --lines-out <"$unsigned"
 refused 'a message that is a line feed' 'ssign: E2 0' --place 0 --lines-out < <(printf '1 \n')
+refused 'an original of two lines' 'ssign: E2 3' "${all[@]}" --unwrap --lines-out <"$wraps"
+refused 'a place past the end before an original of two lines' 'ssign: E1 6' --place 3 --place 6 --unwrap --lines-out <"$wraps"
 for place in 10000000 4294967296 '' x 1.5; do
     run extract --place="$place" <"$log"
     expect "the place '$place'" 2 '' 'SOME TEXT'
@@ -109,7 +125,10 @@ for command in "${commands[@]}"; do
     plan | sign) needed=(--payload '- N' --rsid 1) ;;
     explain) needed=(F1) ;;
     esac
-    for option in --unlisted --place=0 --lines-out; do
+    options=(--unlisted --place=0 --lines-out --unwrap)
+    # an inspection takes wraps off too
+    [[ $command == inspect ]] && unset 'options[3]'
+    for option in "${options[@]}"; do
         run "$command" "$option" "${needed[@]}" <"$log"
         expect "$command $option" 2 '' 'SOME TEXT'
     done

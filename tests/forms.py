@@ -26,7 +26,7 @@ ROOT = os.path.dirname(os.path.dirname(os.path.abspath(__file__)))
 SIZE = 6
 
 # how the lines begin that the findings of a command leave out
-LEFT_OUT = {"review": b"ok ", "inspect": b"plain "}
+LEFT_OUT = {"review": b"ok ", "inspect": b"plain ", "inspect --unwrap": b"plain "}
 
 passed = failed = 0
 
@@ -79,7 +79,7 @@ def check(what, log, *options):
     of_log = options[:options.index("--answers")] if "--answers" in options else options
     for command in ("review", "counters"):
         check_command(command, what, log, *options)
-    for command in ("inspect", "questions", "questions --once"):
+    for command in ("inspect", "inspect --unwrap", "questions", "questions --once"):
         check_command(command, what, log, *of_log)
     check_once(what, log, *of_log)
     check_details(what, log, *of_log)
@@ -106,6 +106,14 @@ def check_once(what, log, *options):
     except (IndexError, ValueError) as fault:
         said = fault
     tell(f"{what}: questions --once, resolved", "" if said == wanted else f"{said!r:.300}, and not {wanted!r:.300}")
+
+
+def messages_of(log):
+    """The messages of a log of frames."""
+    while log:
+        size, _, log = log.partition(b" ")
+        yield log[:int(size)]
+        log = log[int(size):]
 
 
 def check_details(what, log, *options):
@@ -239,6 +247,8 @@ def main():
         kinds = subprocess.run([sys.executable, "-B", os.path.join(ROOT, "tests", "kinds.py"), "make", "5", "4000"],
                                capture_output=True, check=True).stdout
         check_command("inspect", "messages of all kinds", kinds)
+        wraps = b"".join(frame(b"<13>1 - h s - wrapped - |" + it) for it in messages_of(kinds))
+        check_command("inspect --unwrap", "wraps of messages of all kinds", wraps)
         for command, words in itertools.product(("review", "inspect"), (["--json"], ["--findings"], ["--json", "--findings"])):
             said = run(command, b"x" + log, *words)
             tell(f"a refusal of {command} {' '.join(words)}", "" if said == (2, b"ssign: F1 0\n") else repr(said))

@@ -109,6 +109,50 @@ expect 'a value that is not UTF-8' 0 $'unparsed 0 M10 22\nend 1' ''
 run inspect < <(printf '22 <13>1 - - - - - - \357\273\277\377')
 expect 'a marked MSG that is not UTF-8' 0 $'unparsed 0 M12 18\nend 1' ''
 
+# Wraps are plain, and with --unwrap what the original in them is
+wrap='<13>1 - h s - wrapped - |'
+{ frame "${wrap}abc" && frame "$wrap<13>1 - - - - - -" && frame "$wrap$H$signature" && frame "$wrap$H$certificate" && frame "$wrap${H}[ssign]" &&
+    frame "$wrap$wrap<13>2" && frame "$wrap" && frame '<13>1 - h s - wrapped - x' && frame "$H$signature" && frame abc; } >"$scratch/wraps"
+run inspect <"$scratch/wraps"
+expect 'wraps' 0 'plain 0
+plain 1
+plain 2
+plain 3
+plain 4
+plain 5
+plain 6
+plain 7
+signature 8 h s - 1 0 0 0 1 2
+unparsed 9 M1 0
+end 10' ''
+run inspect --unwrap <"$scratch/wraps"
+expect 'originals' 0 'wrapped-unparsed 0 M1 0
+wrapped-plain 1
+wrapped-signature 2 h s - 1 0 0 0 1 2
+wrapped-certificate 3 h s - 1 0 0 27 1 27
+wrapped-spoilt 4 S2
+wrapped-plain 5
+wrapped-unparsed 6 M1 0
+plain 7
+signature 8 h s - 1 0 0 0 1 2
+unparsed 9 M1 0
+end 10' ''
+run inspect --unwrap --findings <"$scratch/wraps"
+expect 'originals stand in the findings' 0 'wrapped-unparsed 0 M1 0
+wrapped-plain 1
+wrapped-signature 2 h s - 1 0 0 0 1 2
+wrapped-certificate 3 h s - 1 0 0 27 1 27
+wrapped-spoilt 4 S2
+wrapped-plain 5
+wrapped-unparsed 6 M1 0
+signature 8 h s - 1 0 0 0 1 2
+unparsed 9 M1 0
+end 10' ''
+run inspect --unwrap --json < <(frame "${wrap}<13>2" && printf 3)
+expect 'an original as JSON, and a torn end' 1 '{"line":"wrapped-unparsed","place":0,"part":"M2","offset":4}
+{"line":"torn","offset":33}
+{"line":"end","count":1}' ''
+
 # Lines, limits and refusals, as in a review
 run inspect --lines < <(printf '%s\n' abc "$H$certificate" 'ab')
 expect 'lines' 0 $'unparsed 0 M1 0\ncertificate 1 h s - 1 0 0 27 1 27\nunparsed 2 M1 0\nend 3' ''

@@ -39,6 +39,9 @@ OTHER_KEYS = {
     "signature": [["place", *GROUP, "gbc", "first", "count"]],
     "certificate": [["place", *GROUP, "total", "index", "length"]],
 }
+# of a wrap, what its original is
+OTHER_KEYS.update({f"wrapped-{word}": keys for word, keys in [*OTHER_KEYS.items(), ("spoilt", [KEYS["spoilt"]])]
+                   if word in ("plain", "unparsed", "signature", "certificate", "spoilt")})
 TEXTS = {"line", "host", "app", "procid", "state", "why", "cause", "part", "payload", "octets", "signature", "ver"}
 # how many of its values a plain question has, the word among them
 PLAIN = {"trust": 2, "yes": 4}

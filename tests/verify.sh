@@ -195,6 +195,20 @@ damage() {
 damage put-in
 says 'a message put in' 1 '  place 3: <13>1 - - - - - - put in' \
     'Verdict: FINDINGS: of 10 announced messages 10 are present and unchanged; 1 stored message is unlisted.'
+# of a wrap the original is shown, escaped as any text is, and that it is one stands before the colon
+wrap='<13>1 - gate app - wrapped - |'
+{ frame "$wrap"$'\e[2J<34>su\\ \n  place 99: x' && frame ', in a wrap: x' && frame "${wrap/ - gate/ 2026-02-30T00:00:00Z gate}x" && cat signed; } >stored
+keys verify --key keys/public-key.pem stored
+says 'wraps put in front' 1 '  place 0, in a wrap: \x1b[2J<34>su\x5c \x0a  place 99: x' '  place 1: , in a wrap: x' \
+    "  place 2: ${wrap/ - gate/ 2026-02-30T00:00:00Z gate}x"
+keys verify --key keys/public-key.pem --json stored
+holds 'wraps as JSON: the message as it stands' grep -q '"place":0,.*,"text":"<13>1 - gate app - wrapped - |\\\\x1b\[2J' out
+LC_ALL=C sed 's/- - new user: name=mallory/wrapped - |r: name=mallory/' signed >stored
+keys verify --key keys/public-key.pem stored
+says 'a message changed into a wrap' 1 '  place 8, in a wrap: r: name=mallory, UID=1003' '    likely place 8, in a wrap: r: name=mallory, UID=1003'
+{ frame "$wrap$(printf 'y%.0s' {1..2049})" && cat signed; } >stored
+keys verify --key keys/public-key.pem stored
+says 'a long original' 1 "  place 0, in a wrap: $(printf 'y%.0s' {1..2048}) .. (2,049 octets)"
 damage twice
 says 'a copy too many' 1 'Verdict: FINDINGS: of 10 announced messages 10 are present and unchanged; 1 stored message is unlisted.' \
     'Unlisted messages (stored, and no number lists them: no verified block announces them, or they are copies too many):'

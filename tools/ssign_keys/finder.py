@@ -1,13 +1,14 @@
 """Finds the text, and the file, of the messages that a report names by their place."""
 from __future__ import annotations
 
-from typing import NamedTuple, Optional
+from typing import NamedTuple, Optional, Tuple
 
 from .logs import Log
 from .moments import stamp_of
 from .progress import Progress
 from .walk import Walk
 from .words import shown
+from .wraps import LONGEST_FRONT, original_begins
 
 # how many octets of a message are shown: of a block its front, and of an unlisted message so many that a change at its
 # end is seen. Each receiver should take messages of 2048 octets (RFC 5424, section 6.1)
@@ -28,6 +29,8 @@ class Found(NamedTuple):
     text: str
     timestamp: Optional[str]
     """As the message states it; None where it isn't one of RFC 5424."""
+    is_original: bool = False
+    """Whether length and text are those of the original in a wrap. The TIMESTAMP is that of the wrap."""
 
 
 class Finder:
@@ -39,7 +42,24 @@ class Finder:
         self._walk = Walk(log.file, log.are_lines)
 
     def find(self, place: int, most: int) -> Found:
-        """The message at this place of the log, with so many octets of its text."""
+        """The message at this place of the log as it stands, with so many octets of its text."""
+        text, octets = self._front(place, most)
+        return self._found(place, octets, text, stamp_of(text))
+
+    def find_original(self, place: int, most: int) -> Found:
+        """The same, but of a wrap the original in it."""
+        text, octets = self._front(place, most + LONGEST_FRONT)
+        begin = original_begins(text)
+        if begin is None:
+            return self._found(place, octets, text[:most], stamp_of(text))
+        return self._found(place, octets - begin, text[begin:][:most], stamp_of(text))._replace(is_original=True)
+
+    def _found(self, place: int, octets: int, text: bytes, timestamp: Optional[str]) -> Found:
+        part = self._log.part_of_place(place)
+        return Found(part.name, place - part.place, octets, shown(text), timestamp)
+
+    def _front(self, place: int, most: int) -> Tuple[bytes, int]:
+        """So many first octets of the message at this place, and how many it has."""
         if place < self._walk.place:
             self._walk = Walk(self._log.file, self._log.are_lines)
         walk = self._walk
@@ -50,6 +70,4 @@ class Finder:
         front = walk.front(most)
         if front is None:
             raise self._log.changed()
-        text, octets = front
-        part = self._log.part_of_place(place)
-        return Found(part.name, place - part.place, octets, shown(text), stamp_of(text))
+        return front

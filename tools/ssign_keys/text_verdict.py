@@ -315,7 +315,7 @@ class TextVerdict(StretchVisitor):
             self._runs.add(place)
             return
         self._shown += 1
-        self._put(f"  {self._where(place)}{f', {cause}' if cause else ''}: {self._text(place, kind)}")
+        self._put(f"  {self._where(place)}{f', {cause}' if cause else ''}{self._text(place, kind)}")
 
     def _where(self, place: int) -> str:
         log = self._reviewed.log
@@ -325,8 +325,10 @@ class TextVerdict(StretchVisitor):
         return f"place {place} (place {place - part.place} of {shown_name(part.name)})"
 
     def _text(self, place: int, kind: str) -> str:
-        found = self._reviewed.finder.find(place, most_shown(kind))
-        return found.text + (f" .. ({found.octets:,} octets)" if found.octets > most_shown(kind) else "")
+        # what is said of the text stands in front of its colon, where no text of a log can stand
+        found = self._reviewed.finder.find_original(place, most_shown(kind))
+        more = f" .. ({found.octets:,} octets)" if found.octets > most_shown(kind) else ""
+        return f"{', in a wrap' if found.is_original else ''}: {found.text}{more}"
 
     def _end_list(self) -> None:
         if not self._kind:
@@ -378,7 +380,7 @@ class TextVerdict(StretchVisitor):
             self._put(f"  missing {numbers_words(it.first, it.last)} of {session}, SG {it.group.sg}, SPRI {it.group.spri}: "
                       f"{neighbours_words(it.stretch)}")
             for place in it.places:
-                self._put(f"    likely {self._where(place)}: {texts[place]}")
+                self._put(f"    likely {self._where(place)}{texts[place]}")
         if self._pair_count > len(self._pairs):
             self._put(f"  and {grouped(self._pair_count - len(self._pairs), 'more likely pair')}")
 

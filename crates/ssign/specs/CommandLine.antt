@@ -39,6 +39,7 @@ use Rattle.ssign.specs.declared.options.once.TheConstants as once
 use Rattle.ssign.specs.declared.options.resume.TheConstants as resume
 use Rattle.ssign.specs.declared.options.tally.TheConstants as tally
 use Rattle.ssign.specs.declared.options.unlisted.TheConstants as unlisted
+use Rattle.ssign.specs.declared.options.unwrap.TheConstants as unwrap
 use Rattle.ssign.specs.declared.options.whole.TheConstants as whole
 use Rattle.ssign.specs.declared.options.wrap.TheConstants as wrap
 use Rattle.ssign.specs.LogOptions.{code_rule, flag_rule, limit_rules, place_rule}
@@ -93,13 +94,15 @@ abbrev pub payloads_of : Bool → Payloads
 payloads_of true = payloads.Once
 payloads_of false = payloads.InEach
 
--- how a log is reported, with or without these flags, `--whole`, which counters ask for too, `--tally` and `--once`
-abbrev pub reporting : (findings json whole tally once : Bool) → Reporting
-reporting findings json whole tally once = record {
+-- how a log is reported, with or without these flags, `--whole`, which counters ask for too, `--tally`, `--once` and
+-- `--unwrap`
+abbrev pub reporting : (findings json whole tally once unwrap : Bool) → Reporting
+reporting findings json whole tally once unwrap = record {
   form = report_form findings json;
   whole = whole;
   detail = detail_of tally;
   payloads = payloads_of once;
+  unwrap = unwrap;
 }
 
 -- the limits of a command with these numbers, and with or without `--lines`
@@ -132,8 +135,9 @@ task_rules Review =
     ∷ flag_rule tally.NAME.now ∷ text_rule counters_option.NAME.now ∷ []
 task_rules Questions = flag_rule json.NAME.now ∷ flag_rule once.NAME.now ∷ []
 task_rules Extract =
-    text_rule answers.NAME.now ∷ flag_rule unlisted.NAME.now ∷ place_rule ∷ flag_rule lines_out.NAME.now ∷ []
-task_rules Inspect = flag_rule findings.NAME.now ∷ flag_rule json.NAME.now ∷ []
+    text_rule answers.NAME.now ∷ flag_rule unlisted.NAME.now ∷ place_rule ∷ flag_rule lines_out.NAME.now
+    ∷ flag_rule unwrap.NAME.now ∷ []
+task_rules Inspect = flag_rule findings.NAME.now ∷ flag_rule json.NAME.now ∷ flag_rule unwrap.NAME.now ∷ []
 task_rules Counters = text_rule answers.NAME.now ∷ flag_rule json.NAME.now ∷ []
 task_rules Carry = text_rule answers.NAME.now ∷ []
 

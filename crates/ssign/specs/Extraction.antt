@@ -40,7 +40,8 @@ Selects unlisted texts (Err NoNumber) = (unlisted ≡ false)
     × IfSome texts (λ ts. (ns : List ℕ) → SpellNumbers ts ns → ¬ AllByRecursion (λ n. n < 2 ^ 32) ns) × IsSome texts
 Selects unlisted texts (Err Memory) = Unit {0}
 
--- the same, in the form with or without `--lines-out`
-abbrev pub GivesExtraction : Bool → Option (List (List ℕ)) → Bool → Result Extraction ExtractionFault → Type 0
-GivesExtraction unlisted texts lines (Ok e) = Selects unlisted texts (Ok e.selection) × (e.form ≡ form_of lines)
-GivesExtraction unlisted texts lines (Err fault) = Selects unlisted texts (Err fault)
+-- the same, in the form with or without `--lines-out`, and out of wraps with or without `--unwrap`
+abbrev pub GivesExtraction : Bool → Option (List (List ℕ)) → Bool → Bool → Result Extraction ExtractionFault → Type 0
+GivesExtraction unlisted texts lines unwrap (Ok e) =
+    Selects unlisted texts (Ok e.selection) × (e.form ≡ form_of lines) × (e.unwrap ≡ unwrap)
+GivesExtraction unlisted texts lines unwrap (Err fault) = Selects unlisted texts (Err fault)

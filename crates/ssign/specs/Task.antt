@@ -1,11 +1,12 @@
 -- What is asked of a log.
-use Rattle.std.specs.Prelude.{List, if◌then◌else◌}
+use Rattle.std.specs.Prelude.{false, List, if◌then◌else◌}
 use Rattle.ss_review.specs.sessions.Verified.{Answers}
 use Rattle.ss_review.specs.declared.counted.counter.Counter.{Counter}
 use Rattle.ss_report.specs.forms.Forms.{notation_of}
 use Rattle.ss_report.specs.runs.Run.{Job}
 use Rattle.ss_report.specs.runs.Jobs.{asking_as, counting, extracting_as, inspecting, reviewing_as, reviewing_whole}
 use Rattle.ss_frame.specs.declared.limits.Form.TheVariants.{Frames}
+use Rattle.ss_report.specs.declared.forms.inspection_form.InspectionForm.{InspectionForm}
 use Rattle.ss_report.specs.declared.runs.extraction.Extraction.{Extraction}
 use Rattle.ss_report.specs.declared.runs.extraction.Selection.TheVariants.{Carried}
 use Rattle.ssign.specs.declared.task.Reporting.{Reporting}
@@ -17,9 +18,13 @@ abbrev pub review_of : Answers → Reporting → List Counter → Job
 review_of says r counters = if r.whole then reviewing_whole r.form r.detail counters says
     else reviewing_as r.form r.detail says
 
--- what is carried over to the next log, as frames
+-- what is carried over to the next log, as frames, and as it stands
 abbrev pub carrying : Extraction
-carrying = record { selection = Carried; form = Frames }
+carrying = record { selection = Carried; form = Frames; unwrap = false }
+
+-- how an inspection is written
+abbrev pub inspection_form : Reporting → InspectionForm
+inspection_form r = record { lines = r.form; unwrap = r.unwrap }
 
 -- what a run makes of a log: under these answers, or without any, and as it is to be reported; of a review that is to
 -- be whole, up to these counters, and of an extract what is to be written
@@ -27,6 +32,6 @@ abbrev pub job_of : Answers → Reporting → List Counter → Extraction → Ta
 job_of says r counters e Review = review_of says r counters
 job_of says r counters e Questions = asking_as (notation_of r.form) r.payloads
 job_of says r counters e Extract = extracting_as e says
-job_of says r counters e Inspect = inspecting r.form
+job_of says r counters e Inspect = inspecting (inspection_form r)
 job_of says r counters e Counters = counting (notation_of r.form) says
 job_of says r counters e Carry = extracting_as carrying says

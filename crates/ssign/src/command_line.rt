@@ -23,6 +23,7 @@ ghost use Rattle.ssign.specs.declared.options.max_messages.TheConstants as max_m
 ghost use Rattle.ssign.specs.declared.options.once.TheConstants as once;
 ghost use Rattle.ssign.specs.declared.options.resume.TheConstants as resume;
 ghost use Rattle.ssign.specs.declared.options.tally.TheConstants as tally;
+ghost use Rattle.ssign.specs.declared.options.unwrap.TheConstants as unwrap;
 ghost use Rattle.ssign.specs.declared.options.whole.TheConstants as whole;
 ghost use Rattle.ssign.specs.declared.options.wrap.TheConstants as wrap;
 
@@ -229,9 +230,10 @@ fn extract<'a>(alloc: Global) -> Result<Command<'a>, AllocError>
     let extract = extract
         .arg(flag(alloc, options::unlisted::NAME, options::unlisted::HELP))?
         .arg(place(alloc))?;
+    let extract = extract.arg(flag(alloc, options::lines_out::NAME, options::lines_out::HELP))?;
     limited(
         alloc,
-        extract.arg(flag(alloc, options::lines_out::NAME, options::lines_out::HELP))?,
+        extract.arg(flag(alloc, options::unwrap::NAME, options::unwrap::WRITTEN))?,
     )
 }
 
@@ -246,9 +248,10 @@ fn inspect<'a>(alloc: Global) -> Result<Command<'a>, AllocError>
         commands::inspect::USAGE,
     )
     .arg(flag(alloc, options::findings::NAME, options::findings::PLAIN))?;
+    let inspect = inspect.arg(flag(alloc, options::json::NAME, options::json::HELP))?;
     limited(
         alloc,
-        inspect.arg(flag(alloc, options::json::NAME, options::json::HELP))?,
+        inspect.arg(flag(alloc, options::unwrap::NAME, options::unwrap::SHOWN))?,
     )
 }
 
@@ -443,18 +446,19 @@ fn payloads_of_questions(matches: &ArgMatches<'_>) -> Payloads
 /// How a log is to be reported: a review with what is missing beside it where `--whole` or `--counters` is given. A
 /// command without these flags has plain text alone.
 pub fn reporting_of(matches: &ArgMatches<'_>) -> Reporting
-    ensures { (findings_given json_given whole_given tally_given once_given : Bool)
+    ensures { (findings_given json_given whole_given tally_given once_given unwrap_given : Bool)
         → FlagIs matches.now findings.NAME.now findings_given → FlagIs matches.now json.NAME.now json_given
         → FlagIs matches.now whole.NAME.now whole_given → FlagIs matches.now tally.NAME.now tally_given
-        → FlagIs matches.now once.NAME.now once_given
+        → FlagIs matches.now once.NAME.now once_given → FlagIs matches.now unwrap.NAME.now unwrap_given
         → result ≡ reporting findings_given json_given (whole_given
-        || is_some (first_value (found_of matches.now) counters.NAME.now)) tally_given once_given }
+        || is_some (first_value (found_of matches.now) counters.NAME.now)) tally_given once_given unwrap_given }
 {
     Reporting {
         form: form_of_report(matches),
         whole: matches.get_flag(options::whole::NAME) || counters_file(matches).is_some(),
         detail: detail_of_report(matches),
         payloads: payloads_of_questions(matches),
+        unwrap: matches.get_flag(options::unwrap::NAME),
     }
 }
 

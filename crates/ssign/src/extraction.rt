@@ -8,6 +8,7 @@ ghost use Rattle.ssign.specs.Extraction.{AreInOrder, GivesExtraction, Selects, S
 ghost use Rattle.ssign.specs.declared.options.lines_out.TheConstants as lines_out;
 ghost use Rattle.ssign.specs.declared.options.place.TheConstants as place;
 ghost use Rattle.ssign.specs.declared.options.unlisted.TheConstants as unlisted;
+ghost use Rattle.ssign.specs.declared.options.unwrap.TheConstants as unwrap;
 ghost use Rattle.ssign.specs.declared.extraction.ExtractionFault.TheVariants.{Both, Memory, NoNumber};
 
 use crate::options;
@@ -36,11 +37,11 @@ impl<T: Drop> From<AllocFailed<T>> for ExtractionFault {
     }
 }
 
-/// What is to be extracted by the options. A command without them has the listed messages as frames.
+/// What is to be extracted by the options. A command without them has the listed messages as frames, as they stand.
 pub fn extraction_of(alloc: Global, matches: &ArgMatches<'_>) -> Result<Extraction, ExtractionFault>
-    ensures { (unlisted_given lines : Bool) → FlagIs matches.now unlisted.NAME.now unlisted_given
-        → FlagIs matches.now lines_out.NAME.now lines
-        → GivesExtraction unlisted_given (texts_given matches.now place.NAME.now) lines result }
+    ensures { (unlisted_given lines unwrap_given : Bool) → FlagIs matches.now unlisted.NAME.now unlisted_given
+        → FlagIs matches.now lines_out.NAME.now lines → FlagIs matches.now unwrap.NAME.now unwrap_given
+        → GivesExtraction unlisted_given (texts_given matches.now place.NAME.now) lines unwrap_given result }
 {
     let selection = selection_of(
         alloc,
@@ -48,7 +49,12 @@ pub fn extraction_of(alloc: Global, matches: &ArgMatches<'_>) -> Result<Extracti
         matches.get_flag(options::unlisted::NAME),
     )?;
     let form = form_out(matches);
-    Ok(Extraction { selection, form })
+    let unwrap = matches.get_flag(options::unwrap::NAME);
+    Ok(Extraction {
+        selection,
+        form,
+        unwrap,
+    })
 }
 
 /// The form in which messages are to be written.

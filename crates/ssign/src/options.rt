@@ -26,6 +26,7 @@ pub mod rsid;
 pub mod stamp;
 pub mod tally;
 pub mod unlisted;
+pub mod unwrap;
 pub mod ver;
 pub mod whole;
 pub mod wrap;

@@ -4,12 +4,12 @@ ghost use Rattle.ss_frame.specs.Watched.{has_failed, source_of, sink_of};
 ghost use Rattle.ss_review.specs.declared.questions.question.Question.{Question};
 ghost use Rattle.ss_review.specs.sessions.Verified.{answers};
 ghost use Rattle.ss_report.specs.runs.Run.{Runs, Stops};
-ghost use Rattle.ssign.specs.Task.{carrying, review_of, job_of};
+ghost use Rattle.ssign.specs.Task.{carrying, inspection_form, review_of, job_of};
 
 use ss_frame::{Form, Limits, Watched};
 use ss_report::{
-    Detail, Extraction, Payloads, ReportForm, Run, RunFault, Selection, Verdict, run_counters,
-    run_extract_as, run_inspect, run_questions_as, run_review_as, run_review_whole,
+    Detail, Extraction, InspectionForm, Payloads, ReportForm, Run, RunFault, Selection, Verdict,
+    run_counters, run_extract_as, run_inspect, run_questions_as, run_review_as, run_review_whole,
 };
 use ss_review::{Counter, Judge};
 use std::alloc::Global;
@@ -44,6 +44,8 @@ pub struct Reporting {
     pub detail: Detail,
     /// Whether questions have each payload in each question about it, or once.
     pub payloads: Payloads,
+    /// Whether an inspection says of a wrap what the octets in it are.
+    pub unwrap: bool,
 }
 
 /// What is asked of a log.
@@ -110,19 +112,30 @@ pub fn run_task<R: Read, W: Write, J: Judge + Drop>(
         Task::Review => run_reported(run, reporting, counters, judge),
         Task::Questions => run_questions_as(run, notation, reporting.payloads),
         Task::Extract => run_extract_as(run, judge, extraction),
-        Task::Inspect => run_inspect(run, reporting.form),
+        Task::Inspect => run_inspect(run, inspection_form(reporting)),
         Task::Counters => run_counters(run, judge, notation),
         Task::Carry => run_extract_as(run, judge, carrying()),
     }
 }
 
-/// What is carried over to the next log, as octet-counted frames (RFC 6587, section 3.4.1).
+/// What is carried over to the next log, as octet-counted frames (RFC 6587, section 3.4.1), and as it stands.
 fn carrying() -> Extraction
     ensures { result ≡ carrying }
 {
     Extraction {
         selection: Selection::Carried,
         form: Form::Frames,
+        unwrap: false,
+    }
+}
+
+/// How an inspection is written that is reported so.
+fn inspection_form(reporting: Reporting) -> InspectionForm
+    ensures { result ≡ inspection_form reporting }
+{
+    InspectionForm {
+        lines: reporting.form,
+        unwrap: reporting.unwrap,
     }
 }
 

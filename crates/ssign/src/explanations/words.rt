@@ -4,7 +4,7 @@ use super::Explanation;
 
 /// Words of a verdict, lines of a report, states of a session, lines of an inspection, and lines of answers, plans and
 /// questions.
-pub static WORDS: [Explanation; 37] = [
+pub static WORDS: [Explanation; 42] = [
     Explanation {
         code: "verified",
         text: "Of a block: its session is joined, and its own signature is valid under the session's payload. Only \
@@ -196,6 +196,37 @@ pub static WORDS: [Explanation; 37] = [
         text: "A certificate block: first its session, then its group (SG and SPRI). TPBL is the length of the \
             session's payload. INDEX is where the block's fragment begins in the payload, from 1, and FLEN is how long \
             the fragment is. Run ssign review to see whether it is verified.",
+    },
+    Explanation {
+        code: "wrapped-plain",
+        text: "Only ssign inspect --unwrap writes this line. The message at this place is a wrap. The original in it \
+            is a message of RFC 5424 without an element ssign or ssign-cert, so it could be signed. If the log was \
+            signed with --wrap, the original is itself in the form of a wrap, and was stored so. ssign extract \
+            --unwrap writes the original.",
+    },
+    Explanation {
+        code: "wrapped-unparsed",
+        text: "Only ssign inspect --unwrap writes this line. The message at this place is a wrap. The original in it \
+            isn't a message of RFC 5424. M1 to M12 names the first part that fails, and the number after it is the \
+            octet of the original, from 0, where it fails. ssign extract --unwrap writes the original.",
+    },
+    Explanation {
+        code: "wrapped-signature",
+        text: "Only ssign inspect --unwrap writes this line. The message at this place is a wrap. The original in it \
+            is a signature block, and its fields follow, as in a signature line. A review doesn't look into wraps: \
+            this block announces nothing.",
+    },
+    Explanation {
+        code: "wrapped-certificate",
+        text: "Only ssign inspect --unwrap writes this line. The message at this place is a wrap. The original in it \
+            is a certificate block, and its fields follow, as in a certificate line. A review doesn't look into wraps: \
+            this block states no key.",
+    },
+    Explanation {
+        code: "wrapped-spoilt",
+        text: "Only ssign inspect --unwrap writes this line. The message at this place is a wrap. The original in it \
+            has an element ssign or ssign-cert, but isn't a block. The line ends with the first cause, S1 to S9. ssign \
+            extract --unwrap writes the original.",
     },
     Explanation {
         code: "count",

@@ -6,4 +6,5 @@ returns c =
     let one = with_argument c.in_ok-extract.ensures c.over_log.ensures c.file.ensures.rule c.file.ensures.local in
     let two = with_argument c.in_ok-arg.ensures one c.flag.ensures.rule c.flag.ensures.local in
     let three = with_argument c.in_ok-extract-2.ensures two c.place.ensures.rule c.place.ensures.local in
-    c.limited.ensures _ (with_argument c.in_ok-arg-2.ensures three c.flag-2.ensures.rule c.flag-2.ensures.local)
+    let four = with_argument c.in_ok-extract-3.ensures three c.flag-2.ensures.rule c.flag-2.ensures.local in
+    c.limited.ensures _ (with_argument c.in_ok-arg-2.ensures four c.flag-3.ensures.rule c.flag-3.ensures.local)
