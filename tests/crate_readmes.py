@@ -31,7 +31,7 @@ TEST_CRATES = {
     "ss_signing": "test_signings",
 }
 # libraries of laws alone, which have no example
-LAW_CRATES = {"ss_ahead", "ss_carried", "ss_nights", "ss_parts"}
+LAW_CRATES = {"ss_ahead", "ss_carried", "ss_nights", "ss_parts", "ss_plans"}
 
 
 def lines_of(*path):

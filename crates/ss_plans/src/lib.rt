@@ -1,0 +1,4 @@
+//! What plans and counters that were written ahead hold, where they are used.
+#![tactic(auto)]
+
+pub mod laws;
