@@ -1,12 +1,12 @@
 mod AnswerLaws
 mod AnswerLines
-mod Base64Text
+pub mod Base64Text
 mod CounterLaws
-mod CounterWords
-mod Cuts
+pub mod CounterWords
+pub mod Cuts
 mod Decoded
 mod KeptLines
 mod LineLaws
 mod OrderedLines
 mod ReadLines
-mod Starts
+pub mod Starts
