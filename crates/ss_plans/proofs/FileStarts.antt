@@ -1,5 +1,5 @@
 -- Runs that go on by files are lives of a chain that goes on ahead.
-use Rattle.std.proofs.Common.{◌≡◌, ◌⊎◌, inl, inr, ℕ, zero, suc, ◌+◌, ◌<◌, ◌≤◌, Bool, true, false, cond, ◌==◌, max, flat_map, List, [], ◌∷◌, ◌++◌, All, refl, sym, ap, ◌∙◌, subst, arith, eq-or-lt_of_le, ⊎_elim}
+use Rattle.std.proofs.Common.{◌≡◌, ℕ, zero, suc, ◌+◌, ◌<◌, ◌≤◌, Bool, true, false, cond, ◌==◌, max, flat_map, List, [], ◌∷◌, ◌++◌, refl, sym, ap, ◌∙◌, subst, arith, eq-or-lt_of_le, ⊎_elim}
 use Rattle.std.specs.Prelude.{if◌then◌else◌}
 use Rattle.std.specs.List.{list_any, range_with_len}
 use Rattle.std.proofs.lemmas.Bool.{eqb-true, eqb-false}
@@ -12,7 +12,6 @@ use Rattle.ss_origin.specs.Counting as counting
 use Rattle.ss_origin.specs.Counting.{Start, anew, resumed, are_counters}
 use Rattle.ss_origin.specs.Groups.{group_of, sg_of}
 use Rattle.ss_origin.specs.Setting.{Setting, IsSetting}
-use Rattle.ss_origin.specs.State.{spris}
 use Rattle.ss_origin.proofs.Configs.{has_ranges}
 use Rattle.ss_block.specs.declared.session.Session.{Session}
 use Rattle.ss_review.specs.declared.counted.counter.Counter.{Counter}

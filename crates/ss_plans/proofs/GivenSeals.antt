@@ -1,18 +1,15 @@
 -- An answers file that has a seal for each line of a plan.
-use Rattle.std.proofs.Common.{◌≡◌, inl, inr, ℕ, ◌<◌, ◌≤◌, Bool, true, false, cond, List, [], ◌∷◌, length, find, Option, Some, None, Result, Ok, Err, refl, sym, ap, ◌∙◌, subst, arith}
+use Rattle.std.proofs.Common.{◌≡◌, inl, inr, ℕ, ◌<◌, Bool, true, false, cond, List, [], ◌∷◌, length, find, Some, None, Ok, Err, refl, sym, ap, ◌∙◌, subst, arith}
 use Rattle.std.specs.Prelude.{option_and_then}
-use Rattle.std.specs.List.{AllByRecursion}
 use Rattle.std.specs.Str.{bytes_eq}
-use Rattle.std.proofs.lemmas.Bool.{true≢false}
 use Rattle.std.proofs.lemmas.Option.{same_Some}
 use Rattle.std.proofs.lemmas.Slice.Eq.{bytes_eq-Decides}
 use Rattle.ss_octets.proofs.Members.{Has, all-has, contains_from_has, has_from_contains}
 use Rattle.ss_frame.specs.Laws.{OneReading}
-use Rattle.ss_origin.specs.declared.sealer.SealFault.{SealFault}
 use Rattle.ss_origin.specs.declared.sealer.SealFault.TheVariants.{Refused, Memory}
 use Rattle.ss_answers.specs.Answers.{Answer, Trust, Yes, Seal, HasFields, HasLines, SaysTheSame, given_signature, is_seal, seal_of}
 use Rattle.ss_answers.specs.Seals.{seals_of}
-use Rattle.ss_plans.specs.SealedPlans.{HasSeals, IsSeal, IsWanted, PlansWithSealsAreNotRefused, SealsPlan}
+use Rattle.ss_plans.specs.SealedPlans.{HasSeals, PlansWithSealsAreNotRefused, SealsPlan}
 use Rattle.ss_plans.proofs.SealedPlans.{refuses_no_seal_of_plans}
 
 some_or_none : {X : Type 0} (x : X) → Some x ≡ None → ⊥

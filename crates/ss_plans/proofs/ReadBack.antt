@@ -1,36 +1,30 @@
 -- What is written ahead is read back.
-use Rattle.std.proofs.Common.{◌≡◌, ◌⊎◌, inl, inr, ℕ, ◌+◌, ◌<◌, ◌≤◌, ◌^◌, true, false, List, [], ◌∷◌, ◌++◌, length, map, reverse, flat_map, All, Option, Some, None, refl, sym, ap, ◌∙◌, subst, arith, append-nil, append_assoc, length-append}
+use Rattle.std.proofs.Common.{◌≡◌, ◌⊎◌, inl, inr, ℕ, ◌+◌, ◌<◌, ◌^◌, true, false, List, [], ◌∷◌, ◌++◌, length, reverse, All, Option, Some, None, refl, sym, ap, ◌∙◌, subst, arith, append-nil, length-append}
 use Rattle.std.specs.List.{AllByRecursion, list_any}
 use Rattle.std.specs.Io.KnownBytes.{Appends}
 use Rattle.std.proofs.lemmas.Bool.{true≢false}
 use Rattle.std.proofs.lemmas.Grind.{flat_map-append}
 use Rattle.std.proofs.lemmas.List.{append_cancel_left}
 use Rattle.std.proofs.lemmas.List.Elements.{All-from_recursion, recursion_from_All}
-use Rattle.std.proofs.lemmas.Option.{same_Some}
 use Rattle.ss_octets.specs.Ascii.{lf}
-use Rattle.ss_message.specs.Draft.{drafted_field}
 use Rattle.ss_message.specs.Message.{is_field}
-use Rattle.ss_message.specs.Stamp.{Moment}
 use Rattle.ss_frame.specs.Output.{WritesWhole}
 use Rattle.ss_frame.specs.Watched.{Sink}
-use Rattle.ss_payload.specs.Payload.{PayloadValue}
 use Rattle.ss_block.specs.declared.session.Session.{Session}
 use Rattle.ss_block.specs.Session.{field_from}
-use Rattle.ss_origin.specs.declared.config.Config.{Config}
 use Rattle.ss_origin.specs.declared.counters.Counters.{Counters}
 use Rattle.ss_origin.specs.declared.grouping.Grouping.{Grouping}
 use Rattle.ss_origin.specs.Calls.{Call}
-use Rattle.ss_origin.specs.Chain.{calls_of}
 use Rattle.ss_origin.specs.ChainLaws.{CountersStayInRange}
 use Rattle.ss_origin.specs.Counting.{Start, are_counters}
-use Rattle.ss_origin.specs.Groups.{is_grouping, sg_of}
+use Rattle.ss_origin.specs.Groups.{sg_of}
 use Rattle.ss_origin.specs.Setting.{Setting, IsSetting}
 use Rattle.ss_origin.specs.State.{state, counters_of}
 use Rattle.ss_origin.proofs.Configs.{has_ranges}
 use Rattle.ss_review.specs.declared.counted.counter.Counter.{Counter}
 use Rattle.ss_review.specs.counted.CounterRange.{IsName, IsSession, IsCounter}
 use Rattle.ss_review.specs.counted.CounterText.{counter_line, lines_of_counters}
-use Rattle.ss_review.specs.counted.Kept.{kept_gbc, kept_number, gbc_in, number_in}
+use Rattle.ss_review.specs.counted.Kept.{gbc_in, number_in}
 use Rattle.ss_answers.specs.declared.counters.fault.CounterFault.{CounterFault}
 use Rattle.ss_answers.specs.declared.counters.fault.CounterFault.TheVariants as reads
 use Rattle.ss_answers.specs.declared.counters.start_fault.StartFault.{StartFault}
@@ -44,7 +38,7 @@ use Rattle.ss_signing.specs.Ahead.{counters_text}
 use Rattle.ss_signing.specs.Jobs.{planned}
 use Rattle.ss_signing.proofs.Plans.{same_state}
 use Rattle.ss_plans.specs.Known.{Wrote}
-use Rattle.ss_plans.specs.ReadBack.{AheadIsReadAmongOthers, AheadIsReadBack, AreNoGreater, GoesOnAt, IsReadAmong, IsReadAs, IsReadBack, OlderCountersChangeNothing, RunsAheadAreReadBack, saved, saved_among, session_of, text_among}
+use Rattle.ss_plans.specs.ReadBack.{AheadIsReadAmongOthers, AheadIsReadBack, AreNoGreater, GoesOnAt, IsReadAs, IsReadBack, OlderCountersChangeNothing, RunsAheadAreReadBack, saved, saved_among, session_of, text_among}
 use Rattle.ss_plans.proofs.SavedNumbers.{AreInRange, are_in_range}
 use Rattle.ss_plans.proofs.SavedLines.{saved_are_counters, text_is_lines, text_is_short}
 use Rattle.ss_plans.proofs.SavedStarts.{goes_on_at_greater, greater_is_same, refused_for_others}

@@ -1,5 +1,5 @@
 -- The text of saved counters is the lines of the counters that it saves. These are in their ranges, and the text is short.
-use Rattle.std.proofs.Common.{◌≡◌, ℕ, ◌+◌, ◌*◌, ◌<◌, ◌≤◌, ◌^◌, true, ◌&&◌, codes, List, [], ◌∷◌, ◌++◌, length, map, flat_map, refl, sym, ap, ◌∙◌, arith, append-nil, append_assoc, length-append}
+use Rattle.std.proofs.Common.{◌≡◌, ℕ, ◌+◌, ◌*◌, ◌<◌, ◌≤◌, ◌^◌, ◌&&◌, codes, List, [], ◌∷◌, ◌++◌, length, map, flat_map, refl, ap, ◌∙◌, arith, append-nil, append_assoc, length-append}
 use Rattle.std.specs.Prelude.{decimal, nat_le, nat_lt}
 use Rattle.std.specs.List.{AllByRecursion, list_all}
 use Rattle.std.proofs.lemmas.Bool.{and_parts, leb-true}
@@ -15,7 +15,6 @@ use Rattle.ss_origin.specs.declared.counters.NextNumber.{NextNumber}
 use Rattle.ss_origin.specs.declared.grouping.Grouping.{Grouping}
 use Rattle.ss_origin.specs.declared.grouping.Grouping.TheVariants.{One, ByPri, Ranges}
 use Rattle.ss_origin.specs.Groups.{sg_of}
-use Rattle.ss_review.specs.declared.counted.counter.Counter.{Counter}
 use Rattle.ss_review.specs.declared.counted.counter.Counts.TheVariants.{Blocks, Messages}
 use Rattle.ss_review.specs.counted.CounterRange.{IsName, IsSession, IsCounter}
 use Rattle.ss_review.specs.counted.CounterText as spelling
@@ -28,7 +27,7 @@ use Rattle.ss_report.specs.declared.notation.Notation.TheVariants.{Plain}
 use Rattle.ss_answers.proofs.CounterWords.{is_text-word}
 use Rattle.ss_signing.specs.Ahead.{counters_text, number_line}
 use Rattle.ss_plans.specs.ReadBack.{number_saved, saved}
-use Rattle.ss_plans.proofs.SavedNumbers.{IsOwn, RiseFrom, AreInRange, few_numbers}
+use Rattle.ss_plans.proofs.SavedNumbers.{IsOwn, AreInRange, few_numbers}
 
 -- ---- a line
 

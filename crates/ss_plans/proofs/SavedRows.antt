@@ -1,5 +1,5 @@
 -- Small counters that are saved, computed.
-use Rattle.std.proofs.Common.{◌≡◌, ℕ, ◌<◌, ◌≤◌, Bool, true, false, cond, max, List, [], ◌∷◌, ◌++◌, All, refl, sym, ap, ◌∙◌, subst, arith}
+use Rattle.std.proofs.Common.{◌≡◌, ℕ, ◌≤◌, Bool, true, false, cond, max, [], refl, ap, ◌∙◌, subst, arith}
 use Rattle.std.specs.Cmp.{Equal-is}
 use Rattle.std.specs.List.{AllByRecursion}
 use Rattle.std.proofs.lemmas.List.Elements.{All-from_recursion}
@@ -9,14 +9,11 @@ use Rattle.ss_block.specs.Order.{group_cmp}
 use Rattle.ss_block.specs.OrderLaws.{group_cmp_exact}
 use Rattle.ss_origin.specs.Counting.{are_counters}
 use Rattle.ss_origin.specs.Groups.{group_of}
-use Rattle.ss_review.specs.declared.counted.counter.Counter.{Counter}
 use Rattle.ss_review.specs.counted.CounterRange.{IsCounter, IsSession}
-use Rattle.ss_review.specs.counted.CounterText.{lines_of_counters}
 use Rattle.ss_review.specs.counted.Kept.{gbc_in, kept_gbc, kept_number, number_in}
 use Rattle.ss_review.specs.report.Entries.{same_group}
-use Rattle.ss_signing.specs.Ahead.{counters_text}
-use Rattle.ss_plans.specs.ReadBack.{AreNoGreater, number_of, saved, saved_among}
-use Rattle.ss_plans.specs.SavedRows.{SavedRowsAreThese, blocks_at, newer, number_at, older, own, told, two}
+use Rattle.ss_plans.specs.ReadBack.{number_of, saved}
+use Rattle.ss_plans.specs.SavedRows.{SavedRowsAreThese, newer, number_at, older, own, told, two}
 use Rattle.ss_plans.proofs.SavedLines.{text_is_lines}
 
 is_own : IsSession own

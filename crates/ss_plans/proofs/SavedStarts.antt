@@ -1,10 +1,9 @@
 -- Where an originator goes on by saved counters among others.
-use Rattle.std.proofs.Common.{◌≡◌, ◌⊎◌, inl, inr, ℕ, ◌+◌, ◌<◌, ◌≤◌, Bool, true, false, cond, not, ◌&&◌, ◌||◌, ◌==◌, max, flat_map, List, [], ◌∷◌, ◌++◌, map, filter, refl, sym, ap, ◌∙◌, subst, arith}
-use Rattle.std.specs.Prelude.{if◌then◌else◌}
+use Rattle.std.proofs.Common.{◌≡◌, ◌⊎◌, inl, inr, ℕ, ◌+◌, Bool, true, false, cond, not, ◌&&◌, ◌==◌, max, flat_map, List, [], ◌∷◌, ◌++◌, map, filter, refl, sym, ap, ◌∙◌, arith}
 use Rattle.std.specs.Cmp.{Equal-is}
 use Rattle.std.specs.Ordering.{is_eq}
 use Rattle.std.specs.List.{AllByRecursion, list_any}
-use Rattle.std.proofs.lemmas.Bool.{and_from, and_right, eqb-true, eq-eqb, false_from_ne_true, ne_eqb, not_from_true, or_from, true≢false}
+use Rattle.std.proofs.lemmas.Bool.{and_from, and_right, eqb-true, eq-eqb, false_from_ne_true, not_from_true, or_from, true≢false}
 use Rattle.std.proofs.lemmas.Cmp.{tied_itself}
 use Rattle.ss_block.specs.declared.block.Group.{Group}
 use Rattle.ss_block.specs.declared.session.Session.{Session}
@@ -17,13 +16,13 @@ use Rattle.ss_origin.specs.Groups.{group_of, has_group, sg_of}
 use Rattle.ss_origin.specs.State.{spris}
 use Rattle.ss_review.specs.declared.counted.counter.Counter.{Counter}
 use Rattle.ss_review.specs.declared.counted.counter.Counts.TheVariants.{Blocks, Messages}
-use Rattle.ss_review.specs.counted.Kept.{counters_of, blocks_said, number_said, gbc_in, number_in, kept_gbc, kept_number}
+use Rattle.ss_review.specs.counted.Kept.{blocks_said, number_said, gbc_in, number_in, kept_gbc, kept_number}
 use Rattle.ss_review.specs.report.Entries.{same_group}
 use Rattle.ss_review.specs.sessions.Sessions.{same_session}
 use Rattle.ss_review.proofs.of_counters.Shortfalls.{same_is}
 use Rattle.ss_answers.specs.declared.counters.start_fault.StartFault.{StartFault}
 use Rattle.ss_answers.specs.declared.counters.start_fault.StartFault.TheVariants as starts
-use Rattle.ss_answers.specs.Start.{IsStartFault, counts_blocks, is_in, is_of_blocks, is_of_other, number_if_said, start_of}
+use Rattle.ss_answers.specs.Start.{IsStartFault, is_in, is_of_blocks, is_of_other, number_if_said, start_of}
 use Rattle.ss_answers.proofs.Starts.{none_is_first}
 use Rattle.ss_plans.specs.ReadBack.{number_saved, saved, saved_among, number_of, greater, AreNoGreater}
 use Rattle.ss_plans.proofs.Greatest.{greatest, greatest_more, of_all, any_there, any_among}

@@ -1,5 +1,5 @@
 -- A plan whose lines are sealed isn't refused for a seal.
-use Rattle.std.proofs.Common.{◌≡◌, ◌⊎◌, inl, inr, ℕ, suc, ◌<◌, ◌≤◌, ◌^◌, Bool, true, false, cond, List, [], ◌∷◌, ◌++◌, length, map, reverse, flat_map, take, drop, get_or, slice_get, Option, Some, None, Result, Ok, Err, refl, sym, ap, ◌∙◌, subst, arith, append-nil, append_assoc}
+use Rattle.std.proofs.Common.{◌≡◌, inl, inr, ℕ, suc, ◌≤◌, Bool, true, false, cond, List, [], ◌∷◌, ◌++◌, length, map, reverse, take, drop, slice_get, Option, Some, None, Result, Ok, Err, refl, sym, ap, ◌∙◌, subst, arith, append-nil, append_assoc}
 use Rattle.std.specs.Prelude.{if◌then◌else◌}
 use Rattle.std.specs.List.{enumerate_from, list_any}
 use Rattle.std.specs.Io.KnownBytes.{Consumes, IsAtEnd}
@@ -12,33 +12,30 @@ use Rattle.ss_octets.proofs.Members.{Has, has-append_right}
 use Rattle.ss_message.specs.Stamp.{Moment}
 use Rattle.ss_frame.specs.End.{Clean}
 use Rattle.ss_frame.specs.Laws.{OneReading}
-use Rattle.ss_frame.specs.Limits.{Allowance}
 use Rattle.ss_frame.specs.Stream.{reads}
-use Rattle.ss_frame.specs.Watched.{Source, Sink}
+use Rattle.ss_frame.specs.Watched.{Source}
 use Rattle.ss_payload.specs.Payload.{payload_text}
 use Rattle.ss_payload.proofs.CutLists.{same_cuts}
 use Rattle.ss_block.specs.declared.hash.Hash.{Hash}
 use Rattle.ss_origin.specs.declared.config.Config.{Config}
 use Rattle.ss_origin.specs.declared.fault.OriginFault.{OriginFault}
-use Rattle.ss_origin.specs.declared.fault.OriginFault.TheVariants.{AlreadyBegun, BadConfig, CounterSpent, HasBlock, Memory, NotBegun, NotSyslog, NumbersSpent, SealRefused, SignatureLength}
+use Rattle.ss_origin.specs.declared.fault.OriginFault.TheVariants.{SealRefused, SignatureLength}
 use Rattle.ss_origin.specs.declared.sealer.SealFault.{SealFault}
 use Rattle.ss_origin.specs.declared.sealer.SealFault.TheVariants as seals
 use Rattle.ss_origin.specs.declared.unsigned.Unsigned.{Unsigned}
 use Rattle.ss_origin.specs.Blocks.{unsigned_text}
 use Rattle.ss_origin.specs.Calls.{Call, Begin, Submit, Flush, stamp_of}
-use Rattle.ss_origin.specs.Chain.{Turn, calls_of}
 use Rattle.ss_origin.specs.Counting.{Start}
 use Rattle.ss_origin.specs.Emission.{AreDue, EmitsFrom, block_of, blocks_of, certificate_of}
 use Rattle.ss_origin.specs.Originator.{RefusesStart}
-use Rattle.ss_origin.specs.Refusals.{FailsToSeal, IsRefusal, Refuses, fault_of, faults_of, first_fault}
+use Rattle.ss_origin.specs.Refusals.{IsRefusal, Refuses, faults_of, first_fault}
 use Rattle.ss_origin.specs.Sealing.{Answers}
-use Rattle.ss_origin.specs.Setting.{Setting, IsSetting}
+use Rattle.ss_origin.specs.Setting.{Setting}
 use Rattle.ss_origin.specs.State.{State, pending_in, runs_closed, state}
 use Rattle.ss_origin.proofs.Configs.{has_ranges}
-use Rattle.ss_signing.specs.declared.fault.SignFault.TheVariants as faults
 use Rattle.ss_signing.specs.Accepted.{Accepts, RefusesNext, all_calls, calls_for}
 use Rattle.ss_signing.specs.Jobs.{planned, signing_from}
-use Rattle.ss_signing.specs.Run.{CanStart, RefusesAt, Stops}
+use Rattle.ss_signing.specs.Run.{CanStart, RefusesAt}
 use Rattle.ss_signing.specs.Wants.{want_lines}
 use Rattle.ss_signing.proofs.Plans.{same_state}
 use Rattle.ss_signing.proofs.Sending.{calls_split}

@@ -1,5 +1,5 @@
 -- What is signed of a block that is due is octets, each below 256.
-use Rattle.std.proofs.Common.{◌≡◌, inl, inr, ℕ, zero, suc, ◌+◌, ◌*◌, ◌-◌, ◌/◌, ◌%◌, ◌<◌, ◌≤◌, Bool, true, false, cond, ◌&&◌, ◌==◌, codes, List, [], ◌∷◌, ◌++◌, length, map, flat_map, take, drop, replicate, slice_index, Option, Some, None, refl, sym, ap, ◌∙◌, subst, arith}
+use Rattle.std.proofs.Common.{◌≡◌, ℕ, zero, suc, ◌+◌, ◌*◌, ◌-◌, ◌/◌, ◌%◌, ◌<◌, ◌≤◌, Bool, true, false, ◌&&◌, ◌==◌, codes, List, [], ◌∷◌, ◌++◌, length, map, flat_map, take, drop, replicate, slice_index, Option, Some, None, refl, subst, arith}
 use Rattle.std.specs.Prelude.{decimal, if◌then◌else◌, nat_le, nat_lt, not}
 use Rattle.std.specs.List.{AllByRecursion, enumerate_from, join_with_byte, list_all}
 use Rattle.std.proofs.lemmas.Bool.{and_parts, leb-true, ltb-true}
@@ -9,17 +9,15 @@ use Rattle.base64.specs.GeneralPurpose.{IsBytes, engine_symbols}
 use Rattle.base64.specs.Rfc4648.{encode_symbols}
 use Rattle.ss_octets.specs.Ascii.{closing_angle, digit_one, opening_angle, sp}
 use Rattle.ss_octets.specs.StrictBase64.{base64}
-use Rattle.ss_octets.proofs.Members.{Has, all-has, from_has-map}
+use Rattle.ss_octets.proofs.Members.{Has, from_has-map}
 use Rattle.ss_message.specs.declared.stamp.Offset.{Offset}
 use Rattle.ss_message.specs.declared.stamp.Offset.TheVariants.{Utc, Plus, Minus}
 use Rattle.ss_message.specs.Message.{ElementValue, ParameterValue, element_text, field_text, header_text, is_field, msg_text, parameter_text, structured_text, text, timestamp_text}
 use Rattle.ss_message.specs.Octets.{is_absent, is_printable, is_special, is_text}
 use Rattle.ss_message.specs.Raw.{escaped, escaped_octet}
 use Rattle.ss_message.specs.Stamp.{Moment, date_text, fraction_text, offset_text, padded, stamp_text, time_text}
-use Rattle.ss_payload.specs.declared.cuts.Cut.{Cut}
 use Rattle.ss_payload.specs.declared.kind.Kind.{Kind}
 use Rattle.ss_payload.specs.declared.kind.Kind.TheVariants as kinds
-use Rattle.ss_payload.specs.Cuts.{piece_of}
 use Rattle.ss_payload.specs.Payload.{PayloadValue, blob_text, letter, payload_text}
 use Rattle.ss_block.specs.declared.hash.Alg.{Alg}
 use Rattle.ss_block.specs.declared.hash.Alg.TheVariants as algs
@@ -27,8 +25,7 @@ use Rattle.ss_block.specs.declared.hash.Hash.{Hash}
 use Rattle.ss_block.specs.Block as block
 use Rattle.ss_block.specs.Head.{HeadValue, IsHead}
 use Rattle.ss_block.specs.Versions.{version_text}
-use Rattle.ss_block.specs.Writing.{block_message, certificate_parameters, hash_octets, hashes_text, parameter, signature_parameters, ssign_cert_element, ssign_element}
-use Rattle.ss_origin.specs.declared.config.Config.{Config}
+use Rattle.ss_block.specs.Writing.{block_message, certificate_parameters, hash_octets, hashes_text, parameter, signature_parameters}
 use Rattle.ss_origin.specs.declared.unsigned.Unsigned.{Unsigned}
 use Rattle.ss_origin.specs.declared.unsigned.Unsigned.TheVariants.{Certificate, Signature}
 use Rattle.ss_origin.specs.Blocks.{unsigned_text}

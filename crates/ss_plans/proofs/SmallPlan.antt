@@ -1,5 +1,5 @@
 -- The premises of the laws are met by a small log.
-use Rattle.std.proofs.Common.{◌≡◌, inl, inr, ℕ, ◌≤◌, true, false, List, [], ◌∷◌, ◌++◌, length, map, reverse, flat_map, replicate, All, Option, Some, None, Err, refl, sym, ap, ◌∙◌, subst, arith, append-nil}
+use Rattle.std.proofs.Common.{◌≡◌, inl, inr, ℕ, ◌≤◌, true, false, List, [], ◌∷◌, ◌++◌, length, flat_map, replicate, Option, Some, None, Err, refl, sym, ap, ◌∙◌, arith, append-nil}
 use Rattle.std.specs.List.{AllZip}
 use Rattle.std.proofs.lemmas.Bool.{le-ltb}
 use Rattle.std.specs.Fmt.{digits}
@@ -12,7 +12,7 @@ use Rattle.ss_origin.specs.declared.counters.Counters.{Counters}
 use Rattle.ss_origin.specs.declared.fault.OriginFault.TheVariants.{CounterSpent, SealRefused}
 use Rattle.ss_origin.specs.declared.sealer.SealFault.TheVariants.{Refused}
 use Rattle.ss_origin.specs.declared.unsigned.Unsigned.{Unsigned}
-use Rattle.ss_origin.specs.Calls.{Begin, Call, Flush, Submit, pending_of, stamp_of}
+use Rattle.ss_origin.specs.Calls.{Begin, Call, Flush, Submit, pending_of}
 use Rattle.ss_origin.specs.Chain.{AreTurns, Turn, calls_of}
 use Rattle.ss_origin.specs.ChainLaws.{CountersStayInRange}
 use Rattle.ss_origin.specs.Counting.{Start, anew, resumed}

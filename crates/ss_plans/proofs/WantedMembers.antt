@@ -1,15 +1,14 @@
 -- The octets of a plan's lines are those that are signed of its block messages, and a file can have a seal for each.
-use Rattle.std.proofs.Common.{◌≡◌, ◌⊎◌, ◌↔◌, inl, inr, ℕ, ◌<◌, ◌≤◌, Bool, true, false, codes, eqb, List, [], ◌∷◌, ◌++◌, length, map, flat_map, replicate, reverse, Option, Some, None, Result, Ok, Err, refl, sym, ap, ◌∙◌, subst, arith, append_assoc}
+use Rattle.std.proofs.Common.{◌≡◌, ◌⊎◌, inl, inr, ℕ, ◌<◌, ◌≤◌, true, codes, List, [], ◌∷◌, ◌++◌, length, map, flat_map, replicate, reverse, Option, Some, None, Result, Ok, Err, refl, sym, ap, ◌∙◌, subst, arith, append_assoc}
 use Rattle.std.specs.Prelude.{not}
 use Rattle.std.specs.List.{AllByRecursion, Contains}
 use Rattle.std.proofs.lemmas.Bool.{eqb-false, not-false}
-use Rattle.std.proofs.lemmas.Grind.{reverse_onto}
 use Rattle.std.proofs.lemmas.Option.{same_Some}
 use Rattle.base64.specs.GeneralPurpose.{IsBytes}
 use Rattle.ss_octets.specs.Ascii.{lf}
 use Rattle.ss_octets.specs.StrictBase64.{base64}
 use Rattle.ss_octets.proofs.Base64Text.{Clear, Clear-append}
-use Rattle.ss_octets.proofs.Members.{Has, all-has, contains_from_has, from_has-copies, from_has-flat_map, from_has-map, from_has-zipped, has-append_cases, has-flat_map, has-map, has_from_contains}
+use Rattle.ss_octets.proofs.Members.{Has, contains_from_has, from_has-copies, from_has-flat_map, from_has-map, from_has-zipped, has-append_cases, has-map, has_from_contains}
 use Rattle.ss_message.specs.declared.fault.BadPart.{BadPart}
 use Rattle.ss_message.specs.Message.{MessageValue, text}
 use Rattle.ss_message.specs.Layout.{Layout, value_at}
@@ -33,13 +32,12 @@ use Rattle.ss_origin.specs.Refusals.{fault_of, is_plain, is_unparsed}
 use Rattle.ss_origin.specs.Setting.{Setting}
 use Rattle.ss_origin.specs.State.{State, state}
 use Rattle.ss_origin.proofs.CountersInRange.{none_first}
-use Rattle.ss_answers.specs.Answers.{Answer, Seal, HasFields, HasLines, IsField, line_text}
-use Rattle.ss_answers.specs.Lines.{ended}
+use Rattle.ss_answers.specs.Answers.{Answer, Seal, HasFields, IsField}
 use Rattle.ss_answers.proofs.Base64Text.{base64-injective, no_line_feed}
 use Rattle.ss_answers.proofs.Cuts.{cut_clear}
 use Rattle.ss_signing.specs.PlanLaws.{octets_if_signed, signed_among}
 use Rattle.ss_signing.specs.Wants.{line_if_signed, want_line, want_lines, want_of}
-use Rattle.ss_plans.specs.SealedPlans.{AreLinesBefore, CanBeSealed, EachPlanCanBeSealed, HasSeals, IsWanted}
+use Rattle.ss_plans.specs.SealedPlans.{AreLinesBefore, EachPlanCanBeSealed, IsWanted}
 use Rattle.ss_plans.proofs.SmallOctets.{due_is_small}
 use Rattle.ss_plans.proofs.WantedOctets.{from_has-reverse, has_line}
 

@@ -1,5 +1,5 @@
 -- Each block that is due in a call of a plan has a line of the plan.
-use Rattle.std.proofs.Common.{◌≡◌, ◌⊎◌, inl, inr, ℕ, ◌≤◌, codes, List, [], ◌∷◌, ◌++◌, map, reverse, length, flat_map, Option, Some, None, refl, sym, ap, ◌∙◌, subst, arith, append-nil, append_assoc}
+use Rattle.std.proofs.Common.{◌≡◌, ◌⊎◌, inl, inr, ℕ, ◌≤◌, codes, List, [], ◌∷◌, ◌++◌, reverse, flat_map, Option, Some, None, refl, sym, ap, ◌∙◌, subst, append-nil, append_assoc}
 use Rattle.std.proofs.lemmas.Grind.{reverse_onto}
 use Rattle.base64.specs.GeneralPurpose.{IsBytes}
 use Rattle.ss_octets.specs.Ascii.{lf}

@@ -1,6 +1,6 @@
 -- Runs of one session that follow one another by files: each writes its counters ahead, and the next one goes on by a
 -- counters file that has these lines.
-use Rattle.std.specs.Prelude.{◌≡◌, ℕ, false, List, [], ◌∷◌, ◌++◌, map, All}
+use Rattle.std.specs.Prelude.{◌≡◌, false, List, [], ◌∷◌, ◌++◌, map, All}
 use Rattle.std.specs.List.{list_any}
 use Rattle.ss_origin.specs.Ahead.{IsChainAhead}
 use Rattle.ss_origin.specs.Counting.{Start, anew, resumed}

@@ -12,7 +12,6 @@ use Rattle.ss_origin.specs.declared.config.Config.{Config}
 use Rattle.ss_origin.specs.declared.counters.Counters.{Counters}
 use Rattle.ss_origin.specs.declared.counters.NextNumber.{NextNumber}
 use Rattle.ss_origin.specs.declared.grouping.Grouping.{Grouping}
-use Rattle.ss_origin.specs.Calls.{Call}
 use Rattle.ss_origin.specs.Counting.{Start, are_counters}
 use Rattle.ss_origin.specs.Groups.{group_of, is_grouping, sg_of}
 use Rattle.ss_origin.specs.State.{state, counters_of, spris}
@@ -28,9 +27,9 @@ use Rattle.ss_answers.specs.declared.counters.start_fault.StartFault.TheVariants
 use Rattle.ss_answers.specs.CounterInput.{IsCounterFault}
 use Rattle.ss_answers.specs.CounterLine.{HasCounters, HasOnly}
 use Rattle.ss_answers.specs.Start.{IsStartFault, is_of_other, number_if_said, start_of}
-use Rattle.ss_signing.specs.Accepted.{all_calls, Accepts}
+use Rattle.ss_signing.specs.Accepted.{all_calls}
 use Rattle.ss_signing.specs.Ahead.{counters_text}
-use Rattle.ss_signing.specs.Jobs.{going_ahead, planned}
+use Rattle.ss_signing.specs.Jobs.{going_ahead}
 use Rattle.ss_signing.specs.Run.{Signs}
 use Rattle.ss_plans.specs.Known.{Wrote}
 
