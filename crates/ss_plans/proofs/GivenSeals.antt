@@ -55,5 +55,5 @@ seals_plan file plan lines answers read says has octets wanted (Err Refused) giv
 seals_plan file plan lines answers read says has octets wanted (Err Memory) gives = tt
 
 pub plans_with_seals_are_not_refused : OneReading → PlansWithSealsAreNotRefused
-plans_with_seals_are_not_refused one s start stamp limits log plan file lines answers range p read says has =
-    refuses_no_seal_of_plans one (seals_of (Some answers)) s start stamp limits log plan range p (seals_plan file plan lines answers read says has)
+plans_with_seals_are_not_refused one s start stamp wraps limits log plan file lines answers range p read says has =
+    refuses_no_seal_of_plans one (seals_of (Some answers)) s start stamp wraps limits log plan range p (seals_plan file plan lines answers read says has)

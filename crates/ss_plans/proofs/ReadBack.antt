@@ -34,6 +34,7 @@ use Rattle.ss_answers.specs.CounterLine.{HasCounters, HasFirstBadCounter, HasOnl
 use Rattle.ss_answers.specs.Input.{GivesAll, GivesMore}
 use Rattle.ss_answers.specs.Start.{IsStartFault, is_of_other, start_of}
 use Rattle.ss_signing.specs.Accepted.{all_calls, Accepts}
+use Rattle.ss_signing.specs.Prepared.{prepared_for}
 use Rattle.ss_signing.specs.Ahead.{counters_text}
 use Rattle.ss_signing.specs.Jobs.{planned}
 use Rattle.ss_signing.proofs.Plans.{same_state}
@@ -165,8 +166,8 @@ written_is was is text octets wrote writes =
     append_cancel_left wrote.0 text octets appends
 
 pub runs_ahead_are_read_back : CountersStayInRange → AheadIsReadBack → RunsAheadAreReadBack
-runs_ahead_are_read_back stay back config payload start stamp limits before after was is text are run wrote =
-    let calls = all_calls start stamp run.sends.messages in
+runs_ahead_are_read_back stay back config payload start stamp wraps limits before after was is text are run wrote =
+    let calls = all_calls start stamp (prepared_for wraps config.head stamp run.sends.messages) in
     let k = counters_of (state config start (reverse calls)) in
     let setting = run.sends.accepted.setting in
     let ends : are_counters config.grouping k ≡ true

@@ -35,6 +35,7 @@ use Rattle.ss_origin.specs.State.{State, pending_in, runs_closed, state}
 use Rattle.ss_origin.proofs.Configs.{has_ranges}
 use Rattle.ss_signing.specs.Accepted.{Accepts, RefusesNext, all_calls, calls_for}
 use Rattle.ss_signing.specs.Jobs.{planned, signing_from}
+use Rattle.ss_signing.specs.Prepared.{prepared_for}
 use Rattle.ss_signing.specs.Run.{CanStart, RefusesAt}
 use Rattle.ss_signing.specs.Wants.{want_lines}
 use Rattle.ss_signing.proofs.Plans.{same_state}
@@ -163,13 +164,13 @@ begin_among start stamp messages is =
     ap (λ b. cond b submits (Begin stamp ∷ submits) ++ Flush stamp ∷ []) is
 
 pub refuses_no_seal_of_messages : (answers : Answers) → RefusesNoSealOfMessages answers
-refuses_no_seal_of_messages answers s start stamp messages for_plan plan sealed None fault (inl refused) =
+refuses_no_seal_of_messages answers s start stamp messages for_plan plan sealed wraps form None fault (inl refused) =
     not_of_seal fault (start_is_none (CanStart s start) fault refused)
-refuses_no_seal_of_messages answers s start stamp messages for_plan plan sealed None fault (inr (inl begin)) =
+refuses_no_seal_of_messages answers s start stamp messages for_plan plan sealed wraps form None fault (inr (inl begin)) =
     not_of_seal fault (next_is_none s start answers (all_calls start stamp messages) for_plan plan sealed [] (map (λ m. Submit m stamp) messages ++ Flush stamp ∷ []) (Begin stamp) fault (begin_among start stamp messages begin.is_new) begin.refused)
-refuses_no_seal_of_messages answers s start stamp messages for_plan plan sealed None fault (inr (inr flush)) =
+refuses_no_seal_of_messages answers s start stamp messages for_plan plan sealed wraps form None fault (inr (inr flush)) =
     not_of_seal fault (next_is_none s start answers (all_calls start stamp messages) for_plan plan sealed (calls_for start stamp messages) [] (Flush stamp) fault refl flush)
-refuses_no_seal_of_messages answers s start stamp messages for_plan plan sealed (Some place) fault refused =
+refuses_no_seal_of_messages answers s start stamp messages for_plan plan sealed wraps form (Some place) fault refused =
     not_of_seal fault (next_is_none s start answers (all_calls start stamp messages) for_plan plan sealed (calls_for start stamp (take place messages)) (map (λ m. Submit m stamp) (drop (suc place) messages) ++ Flush stamp ∷ []) (Submit refused.message stamp) fault (submit_among start stamp messages place refused.message refused.stands_there) refused.refused)
 
 -- ---- from octets to octets
@@ -182,7 +183,7 @@ whole_stream source after log stream shown consumes ended = by after (subst (λ 
     by (Some rest) taken end = sym (taken ∙ ap (λ r. stream ++ r) end ∙ append-nil stream)
 
 pub refuses_no_seal_of_plans : OneReading → (answers : Answers) → RefusesNoSealOfPlans answers
-refuses_no_seal_of_plans one answers s start stamp limits log plan range p sealed before after was is place fault shown stops =
+refuses_no_seal_of_plans one answers s start stamp wraps limits log plan range p sealed form before after was is place fault shown stops =
     let sends = p.run.sends in
     let first = sends.read.reading in
     let second = stops.read.reading in
@@ -191,4 +192,5 @@ refuses_no_seal_of_plans one answers s start stamp limits log plan range p seale
     let same : stops.messages ≡ sends.messages
     = (one limits log stops.messages sends.messages _ _ range (subst (λ o. reads limits o stops.messages Clean) second_log second.reading) (subst (λ o. reads limits o sends.messages Clean) first_log first.reading)).0 in
     let text : plan ≡ want_lines p.run.emitted = written_is p.was p.is plan (want_lines p.run.emitted) p.plan_written p.run.written in
-    refuses_no_seal_of_messages answers s start stamp sends.messages p.run.emitted sends.accepted (subst (SealsPlan answers) text sealed) place fault (subst (λ ms. RefusesAt (signing_from start s answers stamp) ms place fault) same stops.refused)
+    refuses_no_seal_of_messages answers s start stamp (prepared_for wraps s.config.head stamp sends.messages) p.run.emitted sends.accepted (subst (SealsPlan answers) text sealed) wraps form place fault
+    (subst (λ ms. RefusesAt (signing_from start s answers stamp wraps form) (prepared_for wraps s.config.head stamp ms) place fault) same stops.refused)

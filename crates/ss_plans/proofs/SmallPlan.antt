@@ -27,6 +27,7 @@ use Rattle.ss_review.specs.deliveries.SmallChains as chains
 use Rattle.ss_answers.specs.Seals.{seals_of}
 use Rattle.ss_signing.specs.Accepted.{Accepts, all_calls}
 use Rattle.ss_signing.specs.GoingOn.{Sent, told_ahead}
+use Rattle.ss_frame.specs.declared.limits.Form.TheVariants.{Frames}
 use Rattle.ss_signing.specs.Jobs.{planned, signing_from}
 use Rattle.ss_signing.specs.PlanLaws.{octets_if_signed, signed_among}
 use Rattle.ss_signing.specs.Run.{RefusesAt}
@@ -92,7 +93,7 @@ module _ (case_of : IsCase whole) where
   unfolding text digits
   allowed = record { some_octet = omega arith; not_too_long = omega arith; fits = tt }
 
-  written : UnitsAreRead → IsPlanOfLog small anew None limits log (want_lines emitted)
+  written : UnitsAreRead → IsPlanOfLog small anew None false limits log (want_lines emitted)
   written read = record {
     before = record { left = Some log; failed = false };
     after = record { left = Some []; failed = false };
@@ -112,6 +113,7 @@ module _ (case_of : IsCase whole) where
           };
           no_read_failed = refl;
         };
+        fit = refl;
         accepted = plan;
       };
       written = (refl, refl);
@@ -130,7 +132,7 @@ module _ (case_of : IsCase whole) where
   refused_by [] (m ∷ messages) zip e = absurd zip
   refused_by (d ∷ due) messages zip e = (d, due, refl)
 
-  unsealed : RefusesAt (signing_from anew small (seals_of (Some [])) None) (message 49 ∷ []) None SealRefused
+  unsealed : RefusesAt (signing_from anew small (seals_of (Some [])) None false Frames) (message 49 ∷ []) None SealRefused
   unsealed =
       let e = begins in
       let w = refused_by e.due e.sent.messages e.sent.sealed e.sent.sent_are in

@@ -1,5 +1,5 @@
 -- What `run_ahead` writes, read as a counters file: which counters these are, and where an originator goes on by them.
-use Rattle.std.specs.Prelude.{◌≡◌, ◌⊎◌, ℕ, ◌<◌, ◌≤◌, ◌==◌, true, false, max, if◌then◌else◌}
+use Rattle.std.specs.Prelude.{◌≡◌, ◌⊎◌, ℕ, ◌<◌, ◌≤◌, ◌==◌, Bool, true, false, max, if◌then◌else◌}
 use Rattle.std.specs.Prelude.{List, [], ◌∷◌, ◌++◌, map, flat_map, reverse, All, Option, Some}
 use Rattle.std.specs.List.{list_any}
 use Rattle.ss_message.specs.Stamp.{Moment}
@@ -30,7 +30,7 @@ use Rattle.ss_answers.specs.Start.{IsStartFault, is_of_other, number_if_said, st
 use Rattle.ss_signing.specs.Accepted.{all_calls}
 use Rattle.ss_signing.specs.Ahead.{counters_text}
 use Rattle.ss_signing.specs.Jobs.{going_ahead}
-use Rattle.ss_signing.specs.Run.{Signs}
+use Rattle.ss_signing.specs.Run.{Signs, submitted}
 use Rattle.ss_plans.specs.Known.{Wrote}
 
 -- ---- the counters of the lines
@@ -135,10 +135,11 @@ session_of c = head_session c.head c.rsid
 -- the originator started at counters in their ranges, as a new one does.
 abbrev pub RunsAheadAreReadBack : Type 0
 RunsAheadAreReadBack =
-    (config : Config) (payload : PayloadValue) (start : Start) (stamp : Option Moment) (limits : Allowance)
+    (config : Config) (payload : PayloadValue) (start : Start) (stamp : Option Moment) (wraps : Bool) (limits : Allowance)
     (before after : Source) (was is : Sink) (text : List ℕ)
     → are_counters config.grouping start.counters ≡ true
-    → (run : Signs (going_ahead start config payload stamp) limits before after was is)
+    → (run : Signs (going_ahead start config payload stamp wraps) limits before after was is)
     → Wrote was is text
     → IsReadBack (session_of config) config.grouping
-    (counters_of (state config start (reverse (all_calls start stamp run.sends.messages)))) text
+    (counters_of (state config start (reverse
+    (all_calls start stamp (submitted (going_ahead start config payload stamp wraps) run.sends.messages))))) text

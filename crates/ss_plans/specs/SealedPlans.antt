@@ -1,10 +1,11 @@
 -- A plan whose lines all have a seal: where the same log is signed with these seals, none is refused.
-use Rattle.std.specs.Prelude.{◌≡◌, ◌⊎◌, ◌↔◌, ℕ, ◌≤◌, List, [], ◌∷◌, ◌++◌, length, map, Option, Some}
+use Rattle.std.specs.Prelude.{◌≡◌, ◌⊎◌, ◌↔◌, ℕ, ◌≤◌, Bool, List, [], ◌∷◌, ◌++◌, length, map, Option, Some}
 use Rattle.std.specs.Prelude.{Result, Ok, Err, Contains}
 use Rattle.base64.specs.GeneralPurpose.{IsBytes}
 use Rattle.ss_octets.specs.Ascii.{lf}
 use Rattle.ss_message.specs.Stamp.{Moment}
 use Rattle.ss_frame.specs.Limits.{Allowance, InRange}
+use Rattle.ss_frame.specs.declared.limits.Form.{Form}
 use Rattle.ss_frame.specs.Watched.{Source, Sink}
 use Rattle.ss_origin.specs.declared.fault.OriginFault.{OriginFault}
 use Rattle.ss_origin.specs.declared.fault.OriginFault.TheVariants.{SealRefused, SignatureLength}
@@ -60,46 +61,47 @@ IsOfSeal fault = (fault ≡ SealRefused) ⊎ (fault ≡ SignatureLength)
 
 -- The calls for some messages were accepted where a plan was made. If this sealer seals its lines, signing the same
 -- messages isn't refused for a seal: no call, and not at the start. The start, the stamp and the payload are the same, and
--- so is the configuration except `copies`. The scheme is any.
+-- so is the configuration except `copies`. The scheme is any, and so is the form in which messages are written.
 abbrev pub RefusesNoSealOfMessages : Answers → Type 0
 RefusesNoSealOfMessages answers =
     (s : Setting) (start : Start) (stamp : Option Moment) (messages for_plan : List (List ℕ))
     → Accepts (planned s.config s.payload) start (all_calls start stamp messages) for_plan
     → SealsPlan answers (want_lines for_plan)
-    → (place : Option ℕ) (fault : OriginFault)
-    → RefusesAt (signing_from start s answers stamp) messages place fault → ¬ IsOfSeal fault
+    → (wraps : Bool) (form : Form) (place : Option ℕ) (fault : OriginFault)
+    → RefusesAt (signing_from start s answers stamp wraps form) messages place fault → ¬ IsOfSeal fault
 
 -- so it is of each sealer of a type
 abbrev pub SealedMessagesAreNotRefused : {J : Type 0} → (J → Answers) → Type 0
 SealedMessagesAreNotRefused {J} answers = (sealer : J) → RefusesNoSealOfMessages (answers sealer)
 
 -- A plan was written of a log: by a run that succeeded, whose reader showed the log, and whose writer shows the plan.
-pub record IsPlanOfLog (s : Setting) (start : Start) (stamp : Option Moment) (limits : Allowance) (log plan : List ℕ) :
-    Type 0 where
+pub record IsPlanOfLog (s : Setting) (start : Start) (stamp : Option Moment) (wraps : Bool) (limits : Allowance)
+    (log plan : List ℕ) : Type 0 where
   pub before : Source
   pub after : Source
   pub was : Sink
   pub is : Sink
   pub log_shown : Shows before log
-  pub run : Signs (planning_from start s.config s.payload stamp) limits before after was is
+  pub run : Signs (planning_from start s.config s.payload stamp wraps) limits before after was is
   pub plan_written : Wrote was is plan
 
--- A run that signs the log, with this sealer, isn't refused for a seal.
-abbrev pub RefusesNoSeal : Setting → Start → Option Moment → Allowance → Answers → (log : List ℕ) → Type 0
-RefusesNoSeal s start stamp limits answers log =
-    (before after : Source) (was is : Sink) (place : Option ℕ) (fault : OriginFault)
+-- A run that signs the log, with this sealer and the same choice of wraps, isn't refused for a seal.
+abbrev pub RefusesNoSeal : Setting → Start → Option Moment → (wraps : Bool) → Allowance → Answers → (log : List ℕ)
+    → Type 0
+RefusesNoSeal s start stamp wraps limits answers log =
+    (form : Form) (before after : Source) (was is : Sink) (place : Option ℕ) (fault : OriginFault)
     → Shows before log
-    → Stops (signing_from start s answers stamp) limits before after was is (Origin fault place)
+    → Stops (signing_from start s answers stamp wraps form) limits before after was is (Origin fault place)
     → ¬ IsOfSeal fault
 
 -- The same from octets to octets, for the same log and limits.
 abbrev pub RefusesNoSealOfPlans : Answers → Type 0
 RefusesNoSealOfPlans answers =
-    (s : Setting) (start : Start) (stamp : Option Moment) (limits : Allowance) (log plan : List ℕ)
+    (s : Setting) (start : Start) (stamp : Option Moment) (wraps : Bool) (limits : Allowance) (log plan : List ℕ)
     → InRange limits.max_len limits.max_messages
-    → IsPlanOfLog s start stamp limits log plan
+    → IsPlanOfLog s start stamp wraps limits log plan
     → SealsPlan answers plan
-    → RefusesNoSeal s start stamp limits answers log
+    → RefusesNoSeal s start stamp wraps limits answers log
 
 abbrev pub SealedPlansAreNotRefused : {J : Type 0} → (J → Answers) → Type 0
 SealedPlansAreNotRefused {J} answers = (sealer : J) → RefusesNoSealOfPlans (answers sealer)
@@ -116,14 +118,14 @@ pub record HasSeals (lines : List Answer) (plan : List ℕ) : Type 0 where
 -- for each line of the plan, the run that signs isn't refused for a seal.
 abbrev pub PlansWithSealsAreNotRefused : Type 0
 PlansWithSealsAreNotRefused =
-    (s : Setting) (start : Start) (stamp : Option Moment) (limits : Allowance) (log plan : List ℕ)
+    (s : Setting) (start : Start) (stamp : Option Moment) (wraps : Bool) (limits : Allowance) (log plan : List ℕ)
     (file : List ℕ) (lines answers : List Answer)
     → InRange limits.max_len limits.max_messages
-    → IsPlanOfLog s start stamp limits log plan
+    → IsPlanOfLog s start stamp wraps limits log plan
     → HasLines file lines
     → SaysTheSame lines answers
     → HasSeals lines plan
-    → RefusesNoSeal s start stamp limits (seals_of (Some answers)) log
+    → RefusesNoSeal s start stamp wraps limits (seals_of (Some answers)) log
 
 -- ---- the premises can be met
 

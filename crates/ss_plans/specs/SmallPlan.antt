@@ -33,9 +33,9 @@ emitted = certificate ∷ message 49 ∷ block 0 1 (message 49 ∷ []) ∷ []
 pub record SmallPlanIsThis : Type 0 where
   pub range : InRange limits.max_len limits.max_messages
   pub accepted : Accepts (planned small.config small.payload) anew (all_calls anew None (message 49 ∷ [])) emitted
-  pub of_log : IsPlanOfLog small anew None limits log (want_lines emitted)
+  pub of_log : IsPlanOfLog small anew None false limits log (want_lines emitted)
   pub two_lines : length (signed_among emitted) ≡ 2
-  pub unsealed : RefusesAt (signing_from anew small (seals_of (Some [])) None) (message 49 ∷ []) None SealRefused
+  pub unsealed : RefusesAt (signing_from anew small (seals_of (Some [])) None false Frames) (message 49 ∷ []) None SealRefused
   pub first : Sent small
   pub first_is_new : first.start ≡ anew
   pub next : Sent small
