@@ -1,6 +1,7 @@
 #!/usr/bin/env bash
 # The tables of codes in docs/guide.md are what `ssign explain` lists: the same codes, and of each the same text but for
-# backquotes. It explains codes too that the program never prints, and finds a code in what a refusal prints.
+# backquotes. It explains codes too that the program never prints, and finds a code in what a refusal prints. The three nights
+# of one session that docs/guide.md and README.md show print what is shown there.
 # shellcheck source=tests/lib.sh
 . "$(dirname -- "$0")/lib.sh"
 need_program
@@ -96,5 +97,32 @@ unknown ssign ssign F1
 unknown SSIGN: SSIGN: F1
 unknown F1: 'F1: 0'
 unknown ssign:F1 ssign:F1
+
+# ---- three nights of one session
+# nights FILE: runs the block of commands with `--new-session`, in a folder of its own, and compares its last line with the block
+# that follows.
+nights() {
+    local commands shown
+    commands=$(awk '/^    /{ block = block substr($0, 5) "\n"; next } block ~ /--new-session/ { printf "%s", block; exit } { block = "" }' "$1")
+    shown=$(awk '/^    /{ if (wanted) { print substr($0, 5); exit } if (/--new-session/) seen = 1; next }
+        seen && /^The last line is, with status 0,$/ { wanted = 1 }' "$1")
+    holds "${1##*/} shows three nights" test "$(grep -c 'ssign-keys sign' <<<"$commands")" = 3 -a -n "$shown"
+    mkdir -- "$scratch/nights"
+    ln -s -- "$root/tools" "$root/examples" "$scratch/nights"
+    mkdir -m 700 -- "$scratch/nights/keys"
+    "$root/tools/ssign-keys" make "$scratch/nights/keys"
+    (cd -- "$scratch/nights" && HOME=$scratch/nights SSIGN=$program timeout "$patience" bash -e -c "$commands") >"$scratch/out" 2>"$scratch/err"
+    status=$?
+    holds "${1##*/}: the status of three nights" test "$status" = 0
+    holds "${1##*/}: the last line of three nights" test "$(tail -n 1 "$scratch/out")" = "$shown"
+    holds "${1##*/}: no complaint" test ! -s "$scratch/err"
+    rm -r -- "$scratch/nights"
+}
+if python3 -c 'import cryptography' 2>"$scratch/err"; then
+    nights "$root/README.md"
+    nights "$guide"
+else
+    echo "$name: skipped the three nights of one session, since the Python module cryptography is missing"
+fi
 
 finish

@@ -13,6 +13,7 @@ from __future__ import annotations
 import errno
 import fcntl
 import hashlib
+import io
 import os
 import re
 import shutil
@@ -27,9 +28,10 @@ sys.path.insert(0, os.path.join(ROOT, "tools"))
 
 from origin_model import Chain, Config  # noqa: E402
 from review_runs import frame, read_frames  # noqa: E402
-from ssign_keys import cli  # noqa: E402
+from ssign_keys import cli, programs, progress, session_state  # noqa: E402
 # loaded once here, and not in each child
 from ssign_keys import keys, ongoing, session_file, sign, verify  # noqa: E402,F401
+from ssign_keys.faults import Fault  # noqa: E402
 from ssign_keys.written import Signature, read_written  # noqa: E402
 
 SIGN = re.compile(rb' SIGN="[^"]*"\]')
@@ -96,6 +98,8 @@ def run(*words: str, given: bytes = b"", stop: int = 0, kind: str = "none") -> S
             os.close(opened)
         if kind != "none":
             counted(stop, kind)
+        # a run that hangs ends by it
+        signal.alarm(600)
         status = 70
         try:
             status = cli.main(list(words))
@@ -370,7 +374,8 @@ def ends(trials: Trials) -> None:
     fresh()
     first = trials.sign(1, "--new-session", "--rsid", "7", *NAMES)
     trials.refused("an RSID that was used", trials.sign(2, "--new-session", "--rsid", "7", *NAMES),
-                   "--rsid 7: the state S knows a session with the RSID 7, and one that begins needs a greater one")
+                   "--rsid 7: the state S knows a session with the RSID 7, and one that begins needs a greater one; without --new-session "
+                   "that session goes on")
     trials.refused("another RSID without --new-session", trials.sign(2, "--rsid", "8"),
                    '--rsid "8": the RSID of the session of the state S is "7"; --new-session begins another')
     trials.holds("the RSID may be given again", trials.sign(2, "--rsid", "07").status == 0)
@@ -448,11 +453,15 @@ def damaged(trials: Trials, is_all: bool) -> None:
         body = b"".join(lines[:-1]).replace(old, new, 1)
         cases[what] = body + b"end %s\n" % hashlib.sha256(body).hexdigest().encode()
     faults: List[object] = []
-    for what, octets in cases.items():
+    for at, (what, octets) in enumerate(cases.items()):
+        if octets == whole or is_read(octets):
+            faults.append(f"{what}: it is read")
+        if at % 8 and not is_all:
+            continue
         write("S/session", octets)
         for words in ([], ["--new-session"]) if what in ("empty", "doubled") else ([],):
             said = trials.sign(2, *words)
-            if octets == whole or said.status != 2 or said.out or "Nobody knows which numbers were given, so none is given" not in said.err:
+            if said.status != 2 or said.out or "Nobody knows which numbers were given, so none is given" not in said.err:
                 faults.append(f"{what} {words}: {said.status} {said.err}")
             if read("S/session") != octets:
                 faults.append(f"{what}: it was changed")
@@ -471,6 +480,179 @@ def damaged(trials: Trials, is_all: bool) -> None:
     trials.holds("the session after it", b'RSID="9000000001"' in trials.sign(2, "--new-session", *NAMES).out)
     write("S/session.new", whole[:100])
     trials.holds("a passing file that a run left is no matter", trials.sign(3).status == 0)
+
+
+def is_read(octets: bytes) -> bool:
+    """Whether octets are read as a session."""
+    try:
+        session_file.read_ongoing(octets)
+    except ValueError:
+        return False
+    return True
+
+
+def put_back(trials: Trials) -> None:
+    """The file of the session is an older copy of it, or that of a session that ended: the counters beside it go further."""
+    fresh()
+    files = []
+    for night, words in ((1, ["--new-session", "--rsid", "7", *NAMES, "--groups", "pri"]), (2, []), (3, ["--new-session", "--rsid", "9"])):
+        trials.sign(night, *words)
+        files.append(read("S/session"))
+    ended = (files[1], "counters-9")
+    for octets, name in ((files[0], "counters-9"), ended):
+        write("S/session", octets)
+        trials.refused("the session that ended is put back", trials.sign(2), f"the session S/session is older than {name} beside it, as "
+                       "where an old copy was put back, so it would give numbers again: --new-session begins another")
+    os.unlink("S/counters-9")
+    write("S/session", files[0])
+    kept = read("S/counters-7")
+    trials.refused("an older copy of the session is put back", trials.sign(2), "the session S/session is older than counters-7 beside it, .*")
+    trials.holds("it is left as it is", read("S/session") == files[0], read("S/counters-7") == kept)
+    said = trials.sign(2, "--new-session", *NAMES)
+    trials.holds("another session may begin then", said.status == 0, b'RSID="7"' not in said.out)
+    trials.holds("the counters that go further stay", read("S/counters-7") == kept)
+    # a counters file that is gone or was changed says nothing, and is written again
+    for octets in (None, b"", b"count h s - 7 9\n"):
+        fresh()
+        trials.sign(1, "--new-session", "--rsid", "7", *NAMES)
+        os.unlink("S/counters-7")
+        if octets is not None:
+            write("S/counters-7", octets)
+        said = trials.sign(2)
+        trials.holds(f"counters that are {octets!r}", said.status == (2 if octets else 0), not octets or "older than counters-7" in said.err)
+
+
+def odd_files(trials: Trials) -> None:
+    """Something else stands where a file of the state is to be put: a pipe, a link, a folder."""
+    makes: Dict[str, Callable[[str], None]] = {
+        "a pipe": os.mkfifo, "a link": lambda it: os.symlink("../victim", it), "a second name": lambda it: os.link("victim", it),
+        "a link to nothing": lambda it: os.symlink("nowhere", it)}
+    for name in ("session.new", "counters-7.new"):
+        for what, make in makes.items():
+            fresh()
+            trials.sign(1, "--new-session", "--rsid", "7", *NAMES)
+            write("victim", b"precious")
+            make(f"S/{name}")
+            said = [trials.sign(night) for night in (2, 3)]
+            trials.holds(f"{what} in place of {name}", *(it.status == 0 for it in said), read("victim") == b"precious",
+                         not os.path.islink("S/session"), os.lstat("S/session").st_nlink == 1)
+    for name, words in {"counters-7": "the counters S/counters-7 can't be read: it is no regular file",
+                        "session.new": "S/session.new can't be written: Is a directory",
+                        "lock": "the state S can't be locked: Is a directory"}.items():
+        fresh()
+        trials.sign(1, "--new-session", "--rsid", "7", *NAMES)
+        kept = read("S/session")
+        if name != "session.new":
+            os.unlink(f"S/{name}")
+        os.mkdir(f"S/{name}")
+        trials.refused(f"a folder in place of {name}", trials.sign(2), words)
+        trials.holds(f"a folder in place of {name} uses no number up", read("S/session") == kept)
+    os.rmdir("S/lock")
+    os.symlink("elsewhere", "S/lock")
+    trials.refused("a link in place of the lock", trials.sign(2), "the state S can't be locked: S/lock is a link")
+    fresh()
+    write("S", b"")
+    trials.refused("a file in place of the folder", trials.sign(1, "--new-session"), "S, which --state names, is no folder")
+    os.unlink("S")
+    # a session that this user may not read isn't lost
+    trials.sign(1, "--new-session", "--rsid", "7", *NAMES)
+    real = os.open
+
+    def denied(path: str, *more: int, **named: int) -> int:
+        if path == "S/session":
+            raise PermissionError(errno.EACCES, os.strerror(errno.EACCES), path)
+        return real(path, *more, **named)
+    os.open = denied  # type: ignore[assignment]
+    trials.refused("a session that may not be read", trials.sign(2), "the session S/session can't be read: Permission denied")
+    os.open = real
+
+
+def words_of_options(trials: Trials) -> None:
+    """Words that say the same, or nearly so; a number that is none; a limit that is another one in a later run."""
+    fresh()
+    for word in ("+7", "-0", "7 ", "10000000000", "\u0667"):
+        trials.refused(f"--rsid={word}", trials.sign(1, "--new-session", f"--rsid={word}", *NAMES), f'--rsid "{re.escape(word)}": it has to '
+                       "be a number from 0 to 9999999999")
+    trials.sign(1, "--new-session", "--rsid", "007", "--host", "42", "--app", "s", "--pri", "013")
+    for word in ("--rsid=7", "--pri=13", "--count=099"):
+        trials.holds(f"{word} is the same number", trials.sign(2, word).status == 0)
+    trials.refused("a name of digits isn't a number", trials.sign(2, "--host", "042"), '--host "042": the HOSTNAME of .* is "42"; .*')
+    trials.refused("a VER isn't a number", trials.sign(2, "--ver", "121"), '--ver "121": the VER of .* is "0121"; .*')
+    trials.refused("two folders", trials.sign(2, "--state", "T"), "--state can be given only once .*")
+    trials.refused("the first run again", trials.sign(1, "--new-session", "--rsid", "7", "--host", "42", "--app", "s"),
+                   "--rsid 7: the state S knows a session with the RSID 7, and one that begins needs a greater one; without --new-session "
+                   "that session goes on")
+    said = [trials.sign(2, "--max-len", "900", count=40), trials.sign(2, "--max-len", "900", "--count", "99", count=40), trials.sign(2, count=40)]
+    longest = [max(len(it) for it in messages_of(one.out) if b"[ssign " in it) for one in said]
+    trials.holds("--max-len has room for the blocks, as without --state", longest[0] <= 900, longest[1] > 900, longest[2] > 900)
+
+
+def limits(trials: Trials) -> None:
+    """The last numbers that there are, a clock that goes back, a session that is too long to be kept, and logs without a message."""
+    fresh()
+    trials.sign(1, "--new-session", "--rsid", "7", *NAMES)
+    body = read("S/session").rpartition(b"end ")[0].replace(b" 7 1\n", b" 7 9999999998\n").replace(b" 0 0 6\n", b" 0 0 9999999990\n")
+    write("S/session", body + b"end %s\n" % hashlib.sha256(body).hexdigest().encode())
+    said = trials.sign(2, "--count", "2")
+    spent = "standard input: its messages or blocks can't be counted up to 9999999999 in this session: begin another with --new-session"
+    trials.refused("more blocks than there are", said, rf"{spent} \(O9\)")
+    trials.holds("the last but one block", trials.sign(2).status == 0)
+    trials.refused("one message more than there is a number for", trials.sign(3, count=6), rf"{spent} \(O8\)")
+    said = trials.sign(3)
+    trials.holds("the last block, and the last number", said.status == 0, b'GBC="9999999999" FMN="9999999995" CNT="5"' in said.out)
+    trials.refused("no number is left", trials.sign(1, count=1), rf"{spent} \(O8\)")
+    trials.holds("a log without a message needs none", trials.sign(1, count=0).status == 0)
+    trials.holds("the counters are the last ones", read("S/counters-7") == b"count h s - 7 10000000000\ncount h s - 7 0 0 10000000000\n")
+    real = time.time
+    time.time = lambda: real() - 1e9
+    try:
+        fresh()
+        said = trials.sign(1, "--new-session", "--rsid", str(int(real())), *NAMES)
+        again = trials.sign(2, "--new-session", *NAMES)
+        trials.holds("the clock goes back: the RSID rises", b'RSID="%d"' % (int(re.findall(rb'RSID="(\d+)"', said.out)[0]) + 1) in again.out)
+    finally:
+        time.time = real
+    fresh()
+    logs = [trials.sign(night, *words, count=count) for night, words, count in ((1, ["--new-session", "--rsid", "7", *NAMES], 0), (2, [], 0), (3, [], 5))]
+    report = trials.review([it.out for it in logs], counters())
+    trials.holds("logs without a message begin a session, and go on", logs[0].out == logs[1].out, report.status == 0, report.out.count(b"\nok ") == 5)
+    # what can't be read again isn't begun
+    fresh()
+    session_state.LONGEST, longest = 3000, session_state.LONGEST
+    trials.refused("a session that is too long to be kept", trials.sign(1, "--new-session", "--copies", "9", *NAMES),
+                   "the certificate blocks of the session are too long to be kept: .*")
+    session_state.LONGEST = longest
+
+
+class NoRoom:
+    """A workplace in a folder that is full."""
+
+    def new_file(self, name: str) -> Unwritable:
+        """A passing file to which nothing can be written."""
+        return Unwritable(name, "w+b")
+
+    def start(self, words: Sequence[str], *files: object) -> subprocess.Popen[bytes]:
+        """Starts a program, whose words are lost."""
+        return subprocess.Popen(words, stdin=subprocess.DEVNULL, stdout=subprocess.DEVNULL, stderr=subprocess.DEVNULL)
+
+
+class Unwritable(io.FileIO):
+    """A file to which nothing can be written."""
+
+    def write(self, octets: object) -> int:
+        """Fails."""
+        raise OSError(errno.ENOSPC, os.strerror(errno.ENOSPC))
+
+
+def no_room_for_words(trials: Trials) -> None:
+    """ssign refuses, and its words have no room where passing files stand."""
+    words = ""
+    try:
+        programs.Run("sh", ["-c", "exit 2"], NoRoom(), progress.Progress(), 0, 1).end(lambda: None)  # type: ignore[arg-type]
+    except Fault as fault:
+        words = str(fault)
+    trials.holds("ssign has no room for its words", words == "a passing file can't be written: No space left on device; TMPDIR names the "
+                 "folder for it")
 
 
 def full_disk(trials: Trials) -> None:
@@ -502,7 +684,9 @@ def main(keys_folder: str, program: str, *more: str) -> int:
     trials = Trials(keys_folder, program)
     chosen: List[Callable[[], None]] = [
         lambda: three_nights(trials), lambda: stops(trials, "all" in more), lambda: two_at_once(trials), lambda: ends(trials),
-        lambda: others(trials), lambda: damaged(trials, "all" in more), lambda: full_disk(trials)]
+        lambda: others(trials), lambda: damaged(trials, "all" in more), lambda: full_disk(trials),
+        lambda: put_back(trials), lambda: odd_files(trials), lambda: words_of_options(trials), lambda: limits(trials),
+        lambda: no_room_for_words(trials)]
     only: Optional[str] = next((it for it in more if it.isdigit()), None)
     for at, it in enumerate(chosen):
         if only is None or str(at) == only:

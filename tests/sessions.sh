@@ -134,18 +134,22 @@ holds 'the manifest lacks its numbers' grep -qxF 'line 11: skipped, no line befo
 holds 'that is a finding' test "$status" = 1
 
 # states that are damaged, or were put back
-cp state/session/session kept
+cp -r state/session kept
 echo >>state/session/session
 night 11
 rotated --one-session logs/night11
 holds 'a session that was changed: nothing is signed' test "$status" = 1 -a ! -e logs/night11.frames
 holds 'a session that was changed: why' grep -qF "logs/night11 isn't signed: the session $scratch/state/session/session isn't as it was written" err
-cp kept state/session/session
+cp kept/session state/session/session
 rotated --one-session
 expect 'put right again' 0 '' ''
-cp kept state/session/session
+cp kept/session state/session/session
 night 12
 rotated --one-session logs/night12
+holds 'an old file of the session: the log waits' grep -qF "logs/night12 isn't signed: the session $scratch/state/session/session is older than counters-4 beside it" err
+rm -r state/session
+cp -r kept state/session
+rotated --one-session
 holds 'an old session: the log waits' grep -qF 'the session h signer - 4 goes further in the entry 12 of the manifest than in the state' err
 holds 'an old session: nothing is signed' test "$status" = 1 -a ! -e logs/night12.frames
 rotated --one-session --new-session

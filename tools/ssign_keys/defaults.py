@@ -7,7 +7,7 @@ from typing import List, Optional
 from .faults import Fault
 from .keys import PublicKey
 from .payloads import present_stamp, state_key
-from .schemes import SCHEMES, USUAL, scheme_for
+from .schemes import SCHEMES, USUAL, Scheme, scheme_for
 from .stated import refuse_other_key
 
 # The most hashes of a signature block (RFC 5848, section 4.2.6): the fewer blocks, the fewer signatures.
@@ -27,18 +27,24 @@ def fill(arguments: argparse.Namespace, key: PublicKey) -> None:
         refuse_other_key(text.encode("utf-8", "surrogateescape"), key, "the payload of --payload")
     arguments.payload = arguments.payload or [state_key(key, present_stamp()).decode("ascii")]
     arguments.ver = arguments.ver or [scheme_for(key.numbers.q.bit_length()).name]
-    scheme = SCHEMES.get(arguments.ver[0].encode("utf-8", "surrogateescape"), USUAL)
+    scheme = scheme_of(arguments)
     if key.numbers.q.bit_length() > scheme.hash_bits:
         raise Fault(f"--ver {arguments.ver[0]} has a hash of {scheme.hash_bits} bits, and the number q of the key has "
                     f"{key.numbers.q.bit_length()}: leave --ver out, or use another key")
-    arguments.count = arguments.count or [str(usual_count(arguments, scheme.hash_octets, key))]
+    arguments.count = arguments.count or [str(most_hashes(arguments, key))]
 
 
-def usual_count(arguments: argparse.Namespace, hash_octets: int, key: PublicKey) -> int:
+def scheme_of(arguments: argparse.Namespace) -> Scheme:
+    """What --ver says. Another word is for ssign to refuse."""
+    return SCHEMES.get(arguments.ver[0].encode("utf-8", "surrogateescape"), USUAL)
+
+
+def most_hashes(arguments: argparse.Namespace, key: PublicKey) -> int:
     """The most hashes for a block that is no longer than --max-len, so that a reader with the same limit reads it.
 
     At least 1: where no block fits, a reader refuses the signed log.
     """
+    hash_octets = scheme_of(arguments).hash_octets
     given = {name: only(getattr(arguments, name)) or usual for name, usual in USUAL_FIELDS.items()}
     header = "<{pri}>1 {stamp} {host} {app} {procid} {msgid} ".format(**given)
     element = ELEMENT.format(rsid=only(arguments.rsid))

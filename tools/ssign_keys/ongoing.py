@@ -12,7 +12,7 @@ import subprocess
 from typing import BinaryIO, Callable, List, Optional
 
 from .blocks import Session
-from .defaults import USUAL_FIELDS, fill, only
+from .defaults import USUAL_FIELDS, fill, most_hashes, only
 from .faults import Fault
 from .frames import frame_at
 from .keys import PublicKey
@@ -20,9 +20,10 @@ from .logs import Log, Part
 from .output import file_pieces, write_out
 from .programs import Run
 from .progress import Progress
+from .refusals import RANGES
 from .sealed import Sessions, record_of
 from .seal import Check
-from .session_file import KEPT, START, Ends, Ongoing, read_ends
+from .session_file import KEPT, MOST_RSID, START, Ends, Ongoing, read_ends
 from .session_state import NEW, SessionState
 from .texts import quoted
 from .workplace import Workplace, finish, put
@@ -46,7 +47,9 @@ class Rsid(argparse.Action):
 
     def __call__(self, parser: argparse.ArgumentParser, namespace: argparse.Namespace, values: object,
                  option_string: Optional[str] = None) -> None:
-        """Keeps the folder."""
+        """Keeps the folder. Of two, nobody would see which one is used."""
+        if getattr(namespace, self.dest) is not None:
+            parser.error(f"{option_string} can be given only once")
         setattr(namespace, self.dest, values)
         for action in parser._actions:
             if "--rsid" in action.option_strings:
@@ -73,6 +76,7 @@ def settle(arguments: argparse.Namespace, state: SessionState, key: PublicKey) -
     assert ongoing is not None
     if ongoing.key != key.fingerprint:
         raise Fault(f"the session of the state {state.name} is that of another key; {NEW}")
+    is_usual = not arguments.count
     for option in KEPT:
         kept = ongoing.options[option]
         given: List[str] = getattr(arguments, option) or [kept]
@@ -80,35 +84,47 @@ def settle(arguments: argparse.Namespace, state: SessionState, key: PublicKey) -
             setattr(arguments, option, given)
             continue
         for it in given:
-            if not is_same(it, kept):
+            if not is_same(option, it, kept):
                 what = NAMES.get(option, f"--{option}")
                 raise Fault(f"--{option} {quoted(it)}: {what} of the session of the state {state.name} is {quoted(kept)}; {NEW}")
         # ssign refuses an option that is given twice
         setattr(arguments, option, [kept] * len(given))
     fill(arguments, key)
+    most = most_hashes(arguments, key)
+    if is_usual and int(ongoing.options["count"]) > most:
+        # --max-len may be less than in the run that began the session
+        arguments.count = [str(most)]
     return ongoing
 
 
-def is_same(given: str, kept: str) -> bool:
-    """Whether two words say the same."""
-    are_numbers = given.isascii() and given.isdigit() and kept.isdigit() and max(len(given), len(kept)) < 20
+def is_same(option: str, given: str, kept: str) -> bool:
+    """Whether two words of an option say the same. A name of digits isn't a number."""
+    are_numbers = option in RANGES and is_number(given) and is_number(kept)
     return given == kept or (are_numbers and int(given) == int(kept))
+
+
+def is_number(word: str) -> bool:
+    """Whether a word is a number, in digits alone."""
+    return word.isascii() and word.isdigit() and len(word) < 20
 
 
 def begin(arguments: argparse.Namespace, state: SessionState, key: PublicKey) -> Ongoing:
     """A session that begins, with a greater RSID than each before."""
     last = state.last_rsid()
+    ongoing = state.ongoing
     # of a session without certificate blocks nothing was written
-    is_unused = state.ongoing is not None and not state.ongoing.certificates and state.ongoing.rsid == last
+    is_unused = ongoing is not None and not ongoing.certificates and ongoing.rsid > state.last_counted()
     given = only(arguments.rsid)
     if given is None:
         arguments.rsid = [str(state.next_rsid())]
-    elif given.isascii() and given.isdigit() and len(given) < 20:
-        rsid = int(given)
-        if rsid < last or rsid == last and not is_unused:
-            raise Fault(f"--rsid {given}: the state {state.name} knows a session with the RSID {last}, and one that begins needs a "
-                        "greater one")
-        arguments.rsid = [str(rsid)] * len(arguments.rsid)
+    elif not is_number(given) or int(given) > MOST_RSID:
+        raise Fault(f"--rsid {quoted(given)}: it has to be a number from {RANGES['rsid']}")
+    elif int(given) < last or int(given) == last and not is_unused:
+        more = "; without --new-session that session goes on" if ongoing is not None and int(given) == ongoing.rsid else ""
+        raise Fault(f"--rsid {given}: the state {state.name} knows a session with the RSID {last}, and one that begins needs a "
+                    f"greater one{more}")
+    else:
+        arguments.rsid = [str(int(given))] * len(arguments.rsid)
     fill(arguments, key)
     for option in KEPT:
         if not getattr(arguments, option):

@@ -13,7 +13,7 @@ from typing import BinaryIO, Callable, Dict, Iterable, Iterator, List, Optional,
 from .faults import Fault
 from .progress import Progress
 from .words import shown_name
-from .workplace import Workplace, notify
+from .workplace import Workplace, finish, notify, put
 
 # `ssign: F1 0`, the line of a refusal
 REFUSAL = re.compile(r"ssign: ([A-Z][0-9]{1,2})(?: ([0-9]+))?\s*")
@@ -112,6 +112,10 @@ class Run:
                 self._pass_on()
                 tick()
         self._pass_on(is_end=True)
+        if status == 2 and not self._passed:
+            # whether it had no room for its words
+            put(self._said, b"\n")
+            finish(self._said)
         self._said.close()
         if status == 2:
             raise self._refusal()

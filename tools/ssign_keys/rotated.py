@@ -449,7 +449,7 @@ class Rotation:
         """The session that goes on; None where one begins. A session to which nothing was added yet is the one that begins."""
         if not self._arguments.one_session:
             return None
-        ongoing = read_session(self.path("session"))
+        ongoing = read_session(self.path("session"), self._is_new)
         # a log that was signed as a session of its own has ended it
         is_over = ongoing is None or ongoing.rsid < self._rsid or self._is_new and ongoing.rsid == self._rsid
         return None if is_over else ongoing

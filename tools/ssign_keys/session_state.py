@@ -16,7 +16,7 @@ from typing import Optional, Type
 from .faults import Fault
 from .files import reason
 from .rotation_state import replace, sync_folder
-from .session_file import MOST_RSID, Ongoing, read_ongoing
+from .session_file import MOST_RSID, START, Ends, Ongoing, read_ends, read_ongoing
 from .words import shown_name
 
 SESSION = "session"
@@ -43,7 +43,7 @@ class SessionState:
         self._make_folder()
         self._lock = self._open_lock()
         try:
-            self.ongoing = self._read()
+            self.ongoing = self.look()
             if self.ongoing is None and not self._is_new:
                 raise Fault(f"the state {self.name} has no session: begin one with --new-session")
         except BaseException:
@@ -70,14 +70,19 @@ class SessionState:
             os.mkdir(self._folder, 0o750)
             sync_folder(os.path.dirname(os.path.abspath(self._folder)))
         except OSError as fault:
-            raise Fault(f"the folder {self.name} can't be made: {reason(fault)}") from fault
+            if not isinstance(fault, FileExistsError):
+                raise Fault(f"the folder {self.name} can't be made: {reason(fault)}") from fault
+            # unless another run has made it meanwhile
+            if not os.path.isdir(self._folder):
+                raise Fault(f"{self.name}, which --state names, is no folder") from fault
 
     def _open_lock(self) -> int:
         """A lock, which ends with this process. Its file stays, because another run may wait to lock it."""
         try:
             lock = os.open(self.path("lock"), os.O_RDWR | os.O_CREAT | os.O_NOFOLLOW | os.O_CLOEXEC, 0o600)
         except OSError as fault:
-            raise Fault(f"the state {self.name} can't be locked: {reason(fault)}") from fault
+            why = f"{shown_name(self.path('lock'))} is a link" if fault.errno == errno.ELOOP else reason(fault)
+            raise Fault(f"the state {self.name} can't be locked: {why}") from fault
         try:
             fcntl.flock(lock, fcntl.LOCK_EX | fcntl.LOCK_NB)
         except OSError as fault:
@@ -88,28 +93,29 @@ class SessionState:
 
     # ---- what stands there
 
+    def look(self) -> Optional[Ongoing]:
+        """The session that goes on, or None where the folder has none. Raises Fault where it can't be used.
+
+        An old one doesn't go on: where a session is begun, it is as if it weren't there.
+        """
+        ongoing = self._read()
+        further = None if ongoing is None else self._further(ongoing)
+        if further is None:
+            return ongoing
+        if not self._is_new:
+            raise Fault(f"the session {shown_name(self.path(SESSION))} is older than {further} beside it, as where an old copy was "
+                        f"put back, so it would give numbers again: {NEW}")
+        return None
+
     def _read(self) -> Optional[Ongoing]:
-        """The session that goes on, or None where the folder has none."""
-        path = self.path(SESSION)
+        """The session in the file, or None where there is no such file."""
         try:
-            number = os.open(path, os.O_RDONLY | os.O_NOFOLLOW | os.O_NONBLOCK | os.O_CLOEXEC)
-        except FileNotFoundError:
-            return None
+            text = read_plain(self.path(SESSION))
+            return None if text is None else read_ongoing(text)
+        except PermissionError as fault:
+            raise Fault(f"the session {shown_name(self.path(SESSION))} can't be read: {reason(fault)}") from fault
         except OSError as fault:
-            why = "it is a link" if fault.errno == errno.ELOOP else reason(fault)
-            raise self._unreadable(f"can't be read: {why}") from fault
-        if not stat.S_ISREG(os.fstat(number).st_mode):
-            os.close(number)
-            raise self._unreadable("is no regular file")
-        with os.fdopen(number, "rb") as file:
-            try:
-                text = file.read(LONGEST + 1)
-            except OSError as fault:
-                raise self._unreadable(f"can't be read: {reason(fault)}") from fault
-        try:
-            if len(text) > LONGEST:
-                raise ValueError("it is too long")
-            return read_ongoing(text)
+            raise self._unreadable(f"can't be read: {reason(fault)}") from fault
         except ValueError as fault:
             raise self._unreadable(f"isn't as it was written: {fault}") from fault
 
@@ -118,14 +124,36 @@ class SessionState:
         return Fault(f"the session {shown_name(self.path(SESSION))} {what}. Nobody knows which numbers were given, so none is "
                      "given: move this file away, and begin another session with --new-session")
 
-    def last_rsid(self) -> int:
-        """The greatest RSID of the sessions that the folder knows of; -1 where there is none."""
-        known = [-1 if self.ongoing is None else self.ongoing.rsid]
+    def _further(self, ongoing: Ongoing) -> Optional[str]:
+        """The name of a counters file that goes further than the session does, which is always saved before."""
+        rsid = self.last_counted()
+        if rsid < ongoing.rsid:
+            return None
+        name = f"{COUNTERS}{rsid}"
+        return name if rsid > ongoing.rsid or not self._counted(name, ongoing).is_before(ongoing.ends) else None
+
+    def _counted(self, name: str, ongoing: Ongoing) -> Ends:
+        """How far a counters file of the session goes: nowhere where it isn't as it was written."""
+        path = self.path(name)
+        try:
+            text = read_plain(path)
+            return START if text is None else read_ends(text.splitlines(), ongoing.session)
+        except OSError as fault:
+            raise Fault(f"the counters {shown_name(path)} can't be read: {reason(fault)}") from fault
+        except ValueError:
+            return START
+
+    def last_counted(self) -> int:
+        """The greatest RSID of which there is a counters file; -1 where there is none."""
         try:
             names = os.listdir(self._folder)
         except OSError as fault:
             raise Fault(f"the folder {self.name} can't be read: {reason(fault)}") from fault
-        return max(known + [int(it[1]) for it in (re.fullmatch(COUNTERS + "([0-9]{1,10})", name) for name in names) if it])
+        return max((int(it[1]) for it in (re.fullmatch(COUNTERS + "([0-9]{1,10})", name) for name in names) if it), default=-1)
+
+    def last_rsid(self) -> int:
+        """The greatest RSID of the sessions that the folder knows of; -1 where there is none."""
+        return max(self.last_counted(), -1 if self.ongoing is None else self.ongoing.rsid)
 
     def next_rsid(self) -> int:
         """The RSID of a session that begins: the present time in seconds since 1970, and more than that of any before."""
@@ -142,9 +170,13 @@ class SessionState:
 
         The counters of a session that ends stand there before the next one does.
         """
+        text = ongoing.spell()
+        if len(text) > LONGEST:
+            raise Fault("the certificate blocks of the session are too long to be kept: give a greater --frag, fewer --copies, or "
+                        "a shorter --payload")
         if self.ongoing is not None and self.ongoing.rsid != ongoing.rsid:
             self._save_counters(self.ongoing)
-        replace(self.path(SESSION), ongoing.spell())
+        replace(self.path(SESSION), text)
         self.ongoing = ongoing
         self._save_counters(ongoing)
 
@@ -154,9 +186,30 @@ class SessionState:
             replace(self.path(f"{COUNTERS}{ongoing.rsid}"), ongoing.ends.lines(ongoing.session))
 
 
-def read_session(folder: str) -> Optional[Ongoing]:
-    """The session in a folder of state; None where it has none. Nobody is kept from it meanwhile."""
-    return SessionState(folder, True)._read()
+def read_plain(path: str) -> Optional[bytes]:
+    """What stands in a regular file; None where there is no such file. Raises OSError where it is something else, or too long."""
+    try:
+        number = os.open(path, os.O_RDONLY | os.O_NOFOLLOW | os.O_NONBLOCK | os.O_CLOEXEC)
+    except FileNotFoundError:
+        return None
+    except OSError as fault:
+        raise OSError(fault.errno, "it is a link" if fault.errno == errno.ELOOP else reason(fault)) from fault
+    if not stat.S_ISREG(os.fstat(number).st_mode):
+        os.close(number)
+        raise OSError(errno.EINVAL, "it is no regular file")
+    with os.fdopen(number, "rb") as file:
+        text = file.read(LONGEST + 1)
+    if len(text) > LONGEST:
+        raise OSError(errno.EFBIG, "it is too long")
+    return text
+
+
+def read_session(folder: str, is_new: bool) -> Optional[Ongoing]:
+    """The session in a folder of state, or None where it has none. Nobody is kept from it meanwhile.
+
+    Where another session is begun, it is None for an old one too; else that is refused.
+    """
+    return SessionState(folder, is_new).look() if os.path.isdir(folder) else None
 
 
 def last_rsid(folder: str) -> int:
@@ -164,5 +217,5 @@ def last_rsid(folder: str) -> int:
     if not os.path.isdir(folder):
         return -1
     state = SessionState(folder, True)
-    state.ongoing = state._read()
+    state.ongoing = state.look()
     return state.last_rsid()
