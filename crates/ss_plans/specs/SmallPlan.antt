@@ -1,5 +1,5 @@
 -- A small log, its plan, and the counters that were written ahead for it: the premises of the laws are met.
-use Rattle.std.specs.Prelude.{◌≡◌, ℕ, List, [], ◌∷◌, length, Some, None}
+use Rattle.std.specs.Prelude.{◌≡◌, ℕ, false, List, [], ◌∷◌, length, Some, None}
 use Rattle.ss_frame.specs.Frame.{frames}
 use Rattle.ss_frame.specs.Limits.{Allowance, InRange}
 use Rattle.ss_frame.specs.declared.limits.Form.TheVariants.{Frames}
