@@ -18,8 +18,7 @@ from review_runs import frame, line
 ROOT = os.path.dirname(os.path.dirname(os.path.abspath(__file__)))
 sys.path.insert(0, os.path.join(ROOT, "tools"))
 
-# pylint: disable=wrong-import-position
-from ssign_keys.wraps import LONGEST_FRONT, original_begins  # noqa: E402
+from ssign_keys.wraps import LONGEST_FRONT, original_begins
 
 COUNT = 3000
 BLOCK = (b'<110>1 - h s - - [ssign VER="0111" RSID="1" SG="0" SPRI="0" GBC="0" FMN="1" CNT="1" '
