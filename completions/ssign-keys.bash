@@ -123,7 +123,7 @@ _ssign_keys_words() {
         ;;
     sign)
         if [[ $2 == -* ]]; then
-            _ssign_keys_offer words '--help --state --new-session --set-aside --key --lines --frames --max-len --max-messages --max-expanded --rsid --host --app --procid --msgid --pri --stamp --payload --ver --groups --count --frag --copies --ssign'
+            _ssign_keys_offer words '--help --state --new-session --set-aside --wrap --no-wrap --key --lines --frames --max-len --max-messages --max-expanded --rsid --host --app --procid --msgid --pri --stamp --payload --ver --groups --count --frag --copies --ssign'
         else
             _ssign_keys_offer files
         fi

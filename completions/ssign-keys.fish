@@ -28,6 +28,8 @@ complete -c ssign-keys -n '__ssign_keys_command sign' -l help -s h -d 'show this
 complete -c ssign-keys -n '__ssign_keys_command sign' -l state -x -a '(__fish_complete_directories)' -d 'sign in the session that FOLDER keeps, and go on with its numbers'
 complete -c ssign-keys -n '__ssign_keys_command sign' -l new-session -d 'begin a session in the folder of --state'
 complete -c ssign-keys -n '__ssign_keys_command sign' -l set-aside -r -F -d 'write each message that can\'t be signed to FILE, as frames, and its place to FILE.places, and sign the others'
+complete -c ssign-keys -n '__ssign_keys_command sign' -l wrap -d 'sign each message that can\'t be signed in a wrap'
+complete -c ssign-keys -n '__ssign_keys_command sign' -l no-wrap -d 'refuse a log with a message that can\'t be signed, with --state too'
 complete -c ssign-keys -n '__ssign_keys_command sign' -l key -r -F -d 'the private key to sign with'
 complete -c ssign-keys -n '__ssign_keys_command sign' -l lines -d 'the log is one message a line (default where it begins with <)'
 complete -c ssign-keys -n '__ssign_keys_command sign' -l frames -d 'the log is octet-counted frames (default where it doesn\'t)'

@@ -240,6 +240,13 @@ def is_block(case: Case) -> str:
         "sign the log without them"
 
 
+def long_wrap(case: Case) -> str:
+    """O11."""
+    name, place = case.place()
+    return f"{name}: the message at place {place} can't be signed as it is, and its wrap would be longer than --max-len says: " \
+        "give a greater --max-len, up to 1048576, or use --set-aside"
+
+
 def after(case: Case) -> str:
     """After which message a block is due."""
     if not case.has_place:
@@ -360,7 +367,7 @@ SENTENCES: Dict[str, Callable[[Case], str]] = {
     "F1": bad_length, "F2": too_long, "F3": unreadable, "F4": no_memory_for_log, "F5": too_many, "F9": empty_line,
     "P1": broken_off, "P2": text_out_of_form,
     "O1": payload_too_long, "O2": no_message, "O3": is_block, "O6": no_seal, "O7": long_seal, "O8": used_up, "O9": used_up,
-    "O10": no_memory_to_sign,
+    "O10": no_memory_to_sign, "O11": long_wrap,
     "A1": own_answers, "A2": own_answers, "A3": long_answers, "A4": no_memory_for_answers,
     "C1": bad_counter, "C2": unreadable_counters, "C3": long_counters, "C4": no_memory_for_counters, "C5": no_session,
     "C6": other_group,

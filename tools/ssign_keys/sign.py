@@ -10,6 +10,7 @@ from . import expand as expand_options
 from . import form as forms
 from . import ongoing
 from . import set_aside as set_aside_options
+from . import wrapping as wrapping_options
 from .defaults import fill
 from .faults import Fault
 from .keys import PrivateKey, read_private_key
@@ -23,6 +24,7 @@ from .session_state import SessionState
 from .set_aside import SetAside
 from .unsigned import warning
 from .workplace import Workplace, finish, put, notify
+from .wrapping import Wrapping
 
 # the options of `ssign plan` that are handed on, with what each is
 OPTIONS = {
@@ -50,6 +52,7 @@ def add_arguments(parser: argparse.ArgumentParser) -> None:
         parser.add_argument(f"--{name}", action="append", required=name == "rsid", metavar=value, help=meaning)
     ongoing.add_arguments(parser)
     set_aside_options.add_arguments(parser)
+    wrapping_options.add_arguments(parser)
     forms.add_arguments(parser)
     add_limit_arguments(parser)
     expand_options.add_arguments(parser)
@@ -64,6 +67,7 @@ def run(arguments: argparse.Namespace) -> int:
     log: Optional[Log] = None
     try:
         with Workplace() as workplace, SetAside(arguments.set_aside) as aside, state_of(arguments) as state:
+            wrapping = Wrapping(arguments)
             aside.check()
             named_form = forms.named_form(arguments)
             key = read_private_key(arguments.key)
@@ -76,7 +80,8 @@ def run(arguments: argparse.Namespace) -> int:
             words = log_words(arguments, log.are_lines)
             warn(arguments.log, log)
             signable = aside.sort_out(program, words, log, workplace, progress)
-            words += handed_on(arguments, list(OPTIONS))
+            wrapping.count(program, words, signable, workplace, progress)
+            words += handed_on(arguments, list(OPTIONS)) + wrapping.words()
 
             def seal_log(words: List[str], log: Log, check: Optional[Check] = None) -> str:
                 return seal(program, words, key, log, workplace, progress, check)
@@ -91,6 +96,7 @@ def run(arguments: argparse.Namespace) -> int:
                 status = signing.sign(words, signable, seal_log, write_log)
             progress.clear()
             aside.notify()
+            wrapping.notify()
             return max(status, 1) if aside.count else status
     except Refused as refused:
         progress.clear()

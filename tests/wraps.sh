@@ -1,0 +1,125 @@
+#!/usr/bin/env bash
+# `ssign-keys sign` with wraps, with real keys: a log of messages that can't be signed as they are is signed, verified, and
+# taken out of its wraps octet for octet; with --state that is the default; and each option that refuses it still does.
+# shellcheck source=tests/lib.sh
+. "$(dirname -- "$0")/lib.sh"
+need_program
+export SSIGN=$program
+keys_program=$root/tools/ssign-keys
+if ! python3 -c 'import cryptography' 2>/dev/null; then
+    echo "$name: no cryptography for python3 here (apt-get install python3-cryptography), so nothing of ssign-keys is run"
+    holds 'ssign-keys is there' test -x "$keys_program"
+    finish
+fi
+cd -- "$scratch" || exit 1
+
+# keys ARG..: runs ssign-keys as `run` does the program.
+keys() {
+    timeout "$patience" "$keys_program" "$@" >"$scratch/out" 2>"$scratch/err"
+    status=$?
+}
+mkdir keys
+keys make keys --ver 0121
+
+# ---- messages as real senders make them, a line each: none of RFC 5424, with an element of a block, or in a wrap already
+tag=$(printf 'x%.0s' {1..60})
+odd=(
+    "<13>Nov 27 14:00:01 gate cron[12]: a message of RFC 3164" "no header at all" "<999>1 - h a p - - x" "<192>1 - h a p - - x"
+    "<013>1 - h a p - - x" "<13>2 - h a p - - x" "<13>1 2026-11-27T14:00:60Z h a p - - a leap second"
+    "<13>1 2026-11-27T14:00:00.123456789Z h a p - - nine decimals" "<13>1 2026-11-27T14:00:00 h a p - - no zone"
+    "<13>1 2026-11-27T14:00:00z h a p - - a small z" "<13>1 - hé a p - - x" "<13>1 - h $tag p - - a long tag" "<13>1 - h a p - -x"
+    '<13>1 - h a p - [a x="1"][a x="2"] twice' '<13>1 - h a p - [a x="1] x' '<13>1 - h a p - [a b="c" d] x'
+    '<13>1 - h a p - [ssign x="1"] x' '<13>1 - h a p - [ssign-cert] x' '<13>1 - h a p - [q x="1"][ssign VER="0111"] x'
+    $'<13>1 - h a p - - \xef\xbb\xbf\xff no UTF-8' $'<13>1 - h a p - [a x="\xff"] x' "<13>1 - h a p wrapped - |x"
+    "<13>1 - - - - wrapped - |" " " "<13>" $'\t\x01\x7f' "<13>1 - h a p"
+)
+printf '%s\n' "${odd[@]}" '<13>1 - h a p - - an ordinary message' >odd.log
+count=${#odd[@]}
+holds 'there are 27 odd messages' test "$count" = 27
+
+# told: standard error says how many messages were wrapped, and the place of each of the first 20
+told() {
+    local place
+    head -n 1 err | grep -qx "ssign-keys: $count messages were signed in a wrap each, which holds all its octets:" || return 1
+    for ((place = 0; place < 20; place++)); do
+        grep -q "^  place $place: " err || return 1
+    done
+}
+# clean WHAT LOG: the signed log verifies as clean, and gives back the log, octet for octet.
+clean() {
+    keys verify --key keys/public-key.pem --raw --answers-out answers "$2"
+    holds "$1: its status" test "$status" = 0
+    "$program" extract --answers answers --unwrap --lines-out <"$2" >back
+    holds "$1: each octet comes back" cmp back odd.log
+    rm -f answers
+}
+
+keys sign --key keys/private-key.pem --rsid 1 --lines odd.log
+holds 'without --wrap: refused' test "$status" = 2 -a ! -s out
+keys sign --key keys/private-key.pem --rsid 1 --lines --wrap odd.log
+holds 'with --wrap: signed' test "$status" = 0
+holds 'with --wrap: what is said' told
+cp out signed
+clean 'with --wrap' signed
+keys sign --key keys/private-key.pem --rsid 1 --lines --no-wrap odd.log
+holds 'with --no-wrap: refused' test "$status" = 2 -a ! -s out
+
+# ---- with --state it is the default, and the session goes on
+keys sign --key keys/private-key.pem --state state --new-session --lines odd.log
+holds 'with --state: signed' test "$status" = 0
+holds 'with --state: what is said' told
+cp out monday
+keys sign --key keys/private-key.pem --state state --lines odd.log
+cp out tuesday
+clean 'the first night' monday
+keys verify --key keys/public-key.pem monday tuesday
+holds 'two nights of a session: status 0' test "$status" = 0
+keys sign --key keys/private-key.pem --state state --lines --no-wrap odd.log
+holds 'with --state --no-wrap: refused' test "$status" = 2 -a ! -s out
+keys sign --key keys/private-key.pem --state state --lines --set-aside aside odd.log
+holds 'with --state --set-aside: set aside' test "$status" = 1 -a -s aside
+holds 'with --state --set-aside: no wrap' test "$(grep -c 'signed in a wrap' err)" = 0
+printf '<13>1 - h a p - - an ordinary message\n' >plain.log
+keys sign --key keys/private-key.pem --state state --lines plain.log
+holds 'a log without odd messages: nothing is said' test "$status" = 0 -a ! -s err
+
+# ---- refusals
+keys sign --key keys/private-key.pem --rsid 1 --lines --wrap --set-aside more odd.log
+expect 'both options' 2 '' 'ssign-keys: --wrap and --set-aside: a message is signed in a wrap or set aside, so leave one of the two out'
+holds 'both options: no file is left' test ! -e more
+{ head -c 200 /dev/zero | tr '\0' x && echo; } >long.log
+keys sign --key keys/private-key.pem --rsid 1 --lines --max-len 205 --wrap long.log
+expect 'a wrap that is too long' 2 '' "ssign-keys: long.log: the message at place 0 can't be signed as it is, and its wrap would be longer than --max-len says: give a greater --max-len, up to 1048576, or use --set-aside (O11)"
+printf 'no LF at the end' >torn.log
+keys sign --key keys/private-key.pem --rsid 1 --lines --wrap torn.log
+holds 'a torn log: refused' test "$status" = 2 -a ! -s out
+
+# ---- what another program wrote: rsyslog's file format, where it is here
+if command -v rsyslogd >/dev/null && command -v logger >/dev/null; then
+    cat >rsyslog.conf <<CONF
+module(load="imuxsock" SysSock.Use="off")
+input(type="imuxsock" Socket="$scratch/socket")
+template(name="as_came" type="string" string="%rawmsg%\n")
+*.* action(type="omfile" file="$scratch/rsyslog.log" template="as_came")
+CONF
+    rsyslogd -n -f rsyslog.conf -i "$scratch/pid" 2>rsyslog.err &
+    for ((wait = 0; wait < 100; wait++)); do
+        [[ -S socket ]] && break
+        sleep 0.1
+    done
+    for message in "${odd[@]}"; do
+        printf '%s' "$message" | python3 -c 'import socket, sys; s = socket.socket(socket.AF_UNIX, socket.SOCK_DGRAM); s.connect(sys.argv[1]); s.send(sys.stdin.buffer.read())' socket
+    done
+    sleep 1
+    kill "$(<pid)"
+    wait
+    keys sign --key keys/private-key.pem --rsid 2 --lines --wrap rsyslog.log
+    holds 'a file of rsyslog: signed' test "$status" = 0
+    cp out signed
+    cp rsyslog.log odd.log
+    clean 'a file of rsyslog' signed
+else
+    echo "$name: skipped a file of rsyslog, which isn't here (apt-get install rsyslog)"
+fi
+
+finish

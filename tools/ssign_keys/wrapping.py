@@ -1,0 +1,80 @@
+"""Messages that can't be signed as they are: ssign signs each in a wrap, and here it is said how many these are, and why.
+
+`ssign inspect --unwrap` says which messages these are: those that `ssign sign` refuses with O2 or O3, and those that have the
+form of a wrap already, each of which gets a wrap of its own.
+"""
+from __future__ import annotations
+
+import argparse
+import subprocess
+from typing import Dict, List
+
+from .faults import Fault
+from .logs import Log
+from .programs import Run
+from .progress import Progress
+from .set_aside import BLOCKS, NAMED, Odd
+from .words import counted
+from .workplace import Workplace, notify
+
+WRAPPED = "wrapped-"
+
+
+def add_arguments(parser: argparse.ArgumentParser) -> None:
+    """Says whether messages are wrapped; `wrap` and `no_wrap` of the parsed arguments."""
+    which = parser.add_mutually_exclusive_group()
+    which.add_argument("--wrap", action="store_true", help="sign each message that can't be signed in a wrap: a message of RFC "
+                       "5424 that holds all its octets (default with --state; else such a log is refused)")
+    which.add_argument("--no-wrap", action="store_true", help="refuse a log with a message that can't be signed, with --state too")
+
+
+class Wrapping:
+    """Which messages are signed in wraps. It decides nothing: ssign does."""
+
+    def __init__(self, arguments: argparse.Namespace) -> None:
+        """As the options say: with --state messages are wrapped, unless they are refused or set aside."""
+        if arguments.wrap and arguments.set_aside is not None:
+            raise Fault("--wrap and --set-aside: a message is signed in a wrap or set aside, so leave one of the two out")
+        goes_on = arguments.state is not None and arguments.set_aside is None
+        self._is_asked: bool = arguments.wrap or goes_on and not arguments.no_wrap
+        self._named: List[Odd] = []
+        self._kinds: Dict[str, int] = {}
+
+    def words(self) -> List[str]:
+        """The option of ssign."""
+        return ["--wrap"] if self._is_asked else []
+
+    def count(self, program: str, words: List[str], log: Log, workplace: Workplace, progress: Progress) -> None:
+        """Counts the messages that are wrapped. A torn log isn't refused here."""
+        if not self._is_asked:
+            return
+        inspecting = Run(program, ["inspect", "--findings", "--unwrap", *words], workplace, progress, log.rewind(),
+                         subprocess.PIPE)
+        for line in inspecting.lines(lambda: progress.show("inspecting", log.position(), log.size, "octets")):
+            word, *fields = line.decode("ascii").rstrip("\n").split(" ")
+            if word.startswith(WRAPPED):
+                self._take(Odd(int(fields[0]), WRAPPED), "it has the form of a wrap")
+            elif word == "unparsed" or word in BLOCKS:
+                odd = Odd(int(fields[0]), " ".join((word, *fields[1:])) if word in ("unparsed", "spoilt") else word)
+                self._take(odd, odd.why)
+            elif word not in ("torn", "end"):
+                raise Fault(f"ssign inspect wrote a line that isn't known here: {word}")
+
+    def _take(self, odd: Odd, why: str) -> None:
+        """Counts a message."""
+        if len(self._named) < NAMED:
+            self._named.append(Odd(odd.place, why))
+        kind = why.split(": ")[-1]
+        self._kinds[kind] = self._kinds.get(kind, 0) + 1
+
+    def notify(self) -> None:
+        """Says how many messages were wrapped and why, once the signed log is written."""
+        count = sum(self._kinds.values())
+        if not count:
+            return
+        notify(f"ssign-keys: {counted(count, 'message was', 'messages were')} signed in a wrap each, which holds all its octets:")
+        for it in self._named:
+            notify(f"  place {it.place}: {it.what}")
+        if count > len(self._named):
+            for kind, many in sorted(self._kinds.items()):
+                notify(f"  in all: {kind}, {counted(many, 'message')}")
