@@ -21,7 +21,7 @@ from signing_model import Zeros, messages, output, want_lines
 from wrap_model import original
 
 PROGRAM = sys.argv[1]
-CHAINS = 60
+CHAINS = 2000
 PAYLOAD = "2009-05-03T14:00:39Z K S0VZ"
 GROUPS = ("one", "pri", "191", "13,100,191", "0,1,2,191", "47,95,143,191")
 LIMIT = 10_000_000_000

@@ -1,6 +1,6 @@
 //! Logs with messages that can't be signed: each is signed as the log that has, in their place, the wraps that were
 //! written by hand. And wraps that are too long.
-use crate::run::{Done, Job, Sizes, Task, run, run_by};
+use crate::run::{Done, Job, Sizes, Start, Task, run, run_by};
 use crate::sealing::Seal;
 use ss_frame::{Form, FrameFault, Limits, Watched, put_frame};
 use ss_origin::OriginFault;
@@ -75,20 +75,32 @@ fn written(rt: &(impl Abort + AllocGlobal), task: &Task, log: &[u8]) -> Vec<u8> 
     writer.into_inner()
 }
 
+/// A run of blocks of three hashes.
+fn task(job: Job, start: Option<Start>, wrap: bool, limits: Limits) -> Task {
+    Task {
+        job,
+        start,
+        sizes: (3, 1),
+        out: Form::Frames,
+        wrap,
+        limits,
+    }
+}
+
 /// A run with wraps writes what one without them writes of the wraps themselves.
-fn sees_wraps(rt: &(impl Abort + AllocGlobal), task: Task) -> Result<(), AllocError> {
+fn sees_wraps(
+    rt: &(impl Abort + AllocGlobal),
+    job: Job,
+    start: Option<Start>,
+) -> Result<(), AllocError> {
+    let limits = Limits::standard();
     let wraps = log(rt.alloc(), Form::Frames, true)?;
-    let wanted = written(rt, &task, wraps.as_slice());
-    let task = Task { wrap: true, ..task };
+    let wanted = written(rt, &task(job, start, false, limits), wraps.as_slice());
     let frames = log(rt.alloc(), Form::Frames, false)?;
-    let found = written(rt, &task, frames.as_slice());
+    let found = written(rt, &task(job, start, true, limits), frames.as_slice());
     assert!(rt; found.as_slice() == wanted.as_slice());
-    let task = Task {
-        limits: task.limits.lines(),
-        ..task
-    };
     let lines = log(rt.alloc(), Form::Lines, false)?;
-    let found = written(rt, &task, lines.as_slice());
+    let found = written(rt, &task(job, start, true, limits.lines()), lines.as_slice());
     assert!(rt; found.as_slice() == wanted.as_slice());
     Ok(())
 }
@@ -97,15 +109,7 @@ fn sees_wraps(rt: &(impl Abort + AllocGlobal), task: Task) -> Result<(), AllocEr
 fn odd_messages_are_signed(rt: HostRuntime) -> Result<(), Fail> {
     for job in [Job::Plan, Job::Ahead, SIGN] {
         for start in [None, Some((7, Some(5)))] {
-            let task = Task {
-                job,
-                start,
-                sizes: (3, 1),
-                out: Form::Frames,
-                wrap: false,
-                limits: Limits::standard(),
-            };
-            sees_wraps(&rt, task)?;
+            sees_wraps(&rt, job, start)?;
         }
     }
     Ok(())
