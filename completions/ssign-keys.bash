@@ -76,6 +76,7 @@ _ssign_keys() {
     'verify --counters') _ssign_keys_offer files ;;
     'verify --manifest') _ssign_keys_offer files ;;
     'verify --manifest-last') _ssign_keys_offer text ;;
+    'verify --html') _ssign_keys_offer files ;;
     'verify --answers-out') _ssign_keys_offer files ;;
     'verify --counters-out') _ssign_keys_offer files ;;
     'verify --jobs') _ssign_keys_offer text ;;
@@ -130,7 +131,7 @@ _ssign_keys_words() {
         ;;
     verify)
         if [[ $2 == -* ]]; then
-            _ssign_keys_offer words '--help --key --session-key --ca --cert --at-signing-time --allow-sha1 --lines --frames --max-len --max-messages --max-expanded --max-payload --whole --counters --manifest --manifest-last --findings --details --hostname --raw --json --answers-out --counters-out --jobs --ssign'
+            _ssign_keys_offer words '--help --key --session-key --ca --cert --at-signing-time --allow-sha1 --lines --frames --max-len --max-messages --max-expanded --max-payload --whole --counters --manifest --manifest-last --findings --details --hostname --raw --json --html --answers-out --counters-out --jobs --ssign'
         else
             _ssign_keys_offer files
         fi

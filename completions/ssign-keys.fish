@@ -74,6 +74,7 @@ complete -c ssign-keys -n '__ssign_keys_command verify' -l details -d 'also prin
 complete -c ssign-keys -n '__ssign_keys_command verify' -l hostname -d 'name this machine in what was checked'
 complete -c ssign-keys -n '__ssign_keys_command verify' -l raw -d 'print the report of `ssign review` as it stands'
 complete -c ssign-keys -n '__ssign_keys_command verify' -l json -d 'print a JSON object for each line of the report, and one for the verdict'
+complete -c ssign-keys -n '__ssign_keys_command verify' -l html -r -F -d 'also write a page of HTML about the check, beside the usual output'
 complete -c ssign-keys -n '__ssign_keys_command verify' -l answers-out -r -F -d 'keep the answers file, for `ssign review --answers`'
 complete -c ssign-keys -n '__ssign_keys_command verify' -l counters-out -r -F -d 'keep the counters of the log, as `ssign counters` writes them'
 complete -c ssign-keys -n '__ssign_keys_command verify' -l jobs -x -d 'check signatures by so many processes (default'

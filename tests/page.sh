@@ -30,6 +30,7 @@ cp "$root/examples/signed/signed.frames" signed
 cp "$root/examples/signed/public-key.pem" key.pem
 cp "$root/examples/signed/signed.counters" counters
 pages make .
+"$keys_program" make . --ver 0121 && mv public-key.pem other.pem && rm -f private-key.pem payload
 
 # ---- what was checked, in JSON
 keys verify --key key.pem --json --counters counters signed
@@ -78,5 +79,159 @@ holds 'missing messages: one object' pages runs out 4-6
 keys verify --key key.pem --json --counters counters cut.frames
 holds 'a log that was cut: one object up to the counters' pages tail out 9 10 2026-01-15T09:20:02Z
 holds 'TIMESTAMPs are ordered by the time that they state' pages moments "$root/tools"
-holds 'no passing file is left' test -z "$(ls -A -- "$TMPDIR")"
+
+# ---- the page
+text() {
+    python3 -B "$root/tests/page_text.py" "$@"
+}
+# page WHAT STATUS WORD..: the page of a check by these words has its form, and its text is what the JSON says. It is
+# WHAT.html, and the JSON WHAT.json.
+page() {
+    local what=$1 wanted=$2
+    shift 2
+    keys verify --json --html "$what.html" "$@"
+    cp out "$what.json"
+    holds "$what: status $wanted" test "$status" = "$wanted"
+    holds "$what: nothing on standard error" test ! -s err
+    holds "$what: the form of the page" text form "$what.html"
+    holds "$what: the page is what the JSON says" text same "$what.json" "$what.html"
+    holds "$what: the page has a limit" text limits "$what.html"
+}
+page clean 0 --key key.pem --whole signed
+page changed 1 --key key.pem changed.frames
+page cut 1 --key key.pem --counters counters cut.frames
+page stranger 1 --key other.pem signed
+page unsigned 1 --key key.pem unsigned.frames
+page empty 1 --key key.pem empty.frames
+page several 0 --session-key 'gate.example.org * * *' key.pem --hostname --counters counters first.frames second.frames.gz
+holds 'a likely pair stands in the page of a changed log' grep -q '<table id="pairs"' changed.html
+keys verify --key key.pem --counters counters cut.frames
+cp out plain
+keys verify --key key.pem --counters counters --html beside.html cut.frames
+holds 'the usual output stays as it is' cmp out plain
+keys verify --key key.pem --counters counters --raw --html raw.html cut.frames
+holds 'beside the report alone too' text same cut.json <(sed "s/ --json / /" raw.html)
+text commands cut.html >commands
+sed "s|^ssign-keys |'$keys_program' |" commands >repeated
+bash repeated >said 2>err
+holds 'the commands of a page repeat its check' cmp <(sed -n 's/^.*    # \([0-9a-f]\{64\}\)$/\1  -/p; $s/^.*    # //p' commands) \
+    <(sed -n '1,2p; $p' said)
+holds 'the commands of a page: the same text' cmp <(sed '1,2d; $d' said) plain
+
+# ---- hostile texts: in messages, names of files and sessions, and certificates
+evil=$'<img src=x onerror=alert(1)>\e[31m\u202e\u3164&amp;"\'\\.frames'
+pages hostile . "$evil"
+keys make . --ver 0121
+# the names of a session are visible ASCII
+keys sign --key private-key.pem --host '<script>alert(1)</script>' --app '"><b>&lt;' --procid "'x" --rsid 1 --count 3 --lines texts
+cp out "$evil"
+cp public-key.pem $'key\n<b>\u202e.pem'
+cp counters $'counters\u2066.txt'
+given=(--key $'key\n<b>\u202e.pem' --key key.pem --counters $'counters\u2066.txt')
+if openssl req -x509 -new -key private-key.pem -utf8 -days 9999 -subj $'/CN=<script>alert(2)<\\/script>\u202e\u3164' -out evil.crt 2>openssl.log &&
+    [[ -s evil.crt ]]; then
+    given+=(--cert evil.crt)
+else
+    echo "$name: no openssl that makes a certificate here, so none with a hostile name is tried"
+fi
+page hostile 1 "${given[@]}" "$evil" signed hostile.frames
+holds 'hostile: a name is spelled' grep -qF '&lt;img src=x onerror=alert(1)&gt;\x1b[31m\xe2\x80\xae\xe3\x85\xa4&amp;amp;' hostile.html
+text commands hostile.html | sed "s|^ssign-keys |'$keys_program' |" >repeated
+bash repeated >said 2>err
+holds 'hostile: its commands name the files' test "$(tail -n 1 said).$(wc -c <err)" = 1.0
+
+# ---- the file of a page
+taken() {
+    holds "$1: status" test "$status" = 2
+    holds "$1: what is said" grep -qFx -- "ssign-keys: $2" err
+    holds "$1: no verdict" test ! -s out
+}
+cp clean.html older.html
+ln -s older.html link.html
+keys verify --key key.pem --html older.html cut.frames
+holds 'an older page is replaced' grep -q '<strong>.*Findings</strong>' older.html
+cp signed log.frames
+keys verify --key key.pem --html log.frames signed
+taken 'another file is not overwritten' 'the file log.frames is there already, and is no page of --html, so it isn'\''t overwritten'
+holds 'another file stays' cmp log.frames signed
+keys verify --key key.pem --html link.html signed
+taken 'a link is not followed' 'the file link.html is there already, and is no page of --html, so it isn'\''t overwritten'
+for input in signed key.pem counters ./signed; do
+    keys verify --key key.pem --counters counters --html "$input" signed
+    taken "an input is not overwritten: $input" "--html $input: this is an input of the check, and isn't overwritten"
+done
+# a page may be read as a log of lines, and is an input then
+ln clean.html same.html
+keys verify --key key.pem --lines --html same.html clean.html
+taken 'a page that is a log' "--html same.html: this is an input of the check, and isn't overwritten"
+keys verify --key key.pem --html none/page.html signed
+taken 'no folder' "the page can't be kept in none/page.html: there is no folder none"
+keys verify --key key.pem --html - signed
+taken 'no file' '--html -: the page stands in a file of its own, beside the usual output'
+keys verify --key key.pem --html '' signed
+taken 'an empty name' '--html has an empty name'
+keys verify --key key.pem --html unmade.html none.frames
+holds 'a refusal leaves no page' test ! -e unmade.html
+"$keys_program" verify --key key.pem --html full.html signed >/dev/full 2>err
+holds 'an output that is full: status' test "$?" = 2
+holds 'an output that is full leaves no page' test ! -e full.html
+if [[ $(id -u) != 0 ]]; then
+    mkdir shut && chmod a-w shut
+    keys verify --key key.pem --html shut/page.html signed
+    taken 'a folder that is shut' "the page can't be kept in shut/page.html: Permission denied"
+fi
+holds 'nothing passing is left beside a page' test -z "$(find . -name '.ssign-keys-*')"
+
+# ---- 100,000 messages, and as many findings: a page of bounded size, and no time that grows with the square
+if [[ -z ${SSIGN_SMALL-} ]]; then
+    seq -f '<13>1 2026-01-01T00:00:00Z h a - - - message %.0f' 100000 >messages
+    keys sign --key private-key.pem --rsid 1 --host h --app s --count 99 --lines messages
+    cp out large
+    pages halve large half quarter
+    rm -f out
+    for log in large half; do
+        keys verify --key public-key.pem --findings --json --html "$log.html" "$log"
+        holds "$log: the form of the page" text form "$log.html"
+        holds "$log: the page has a limit" text limits "$log.html"
+    done
+    holds 'a large log: its page is small' test "$(stat -c %s large.html)" -lt 20000
+    holds 'a large log with 50,000 runs: its page' test "$(stat -c %s half.html)" -lt 200000
+    holds 'a large log: how many findings' grep -q '<h2>Findings (50,000)</h2>' half.html
+    small=$(milliseconds "$keys_program" verify --key public-key.pem --html quarter.html quarter)
+    great=$(milliseconds "$keys_program" verify --key public-key.pem --html again.html half)
+    echo "$name: 25,000 messages with 12,500 runs: $small ms; four times as many: $great ms"
+    holds 'four times as many findings take at most six times as long' test "$great" -lt $((6 * small))
+fi
+
+# ---- in Chromium, where it is installed: what it says, asks for and draws. It reaches no network.
+browser=$(command -v chromium || command -v chromium-browser || command -v google-chrome)
+if [[ -z $browser ]]; then
+    echo "$name: no chromium here (apt-get install chromium), so no page is looked at in a browser"
+else
+    apart=()
+    unshare -rn true 2>unshare.log && apart=(unshare -rn)
+    # browse PAGE WANTED: what the browser made of a page stands in dom.html, and what it said is as wanted.
+    browse() {
+        rm -rf profile dom.html net.json shot.png
+        timeout 300 "${apart[@]}" "$browser" --headless --no-sandbox --disable-gpu --hide-scrollbars --no-first-run \
+            --disable-extensions --disable-background-networking --disable-component-update --disable-sync --disable-default-apps \
+            --host-resolver-rules='MAP * ~NOTFOUND' --user-data-dir="$scratch/profile" --enable-logging=stderr \
+            --window-size=900,1600 --screenshot="$scratch/shot.png" --dump-dom --log-net-log="$scratch/net.json" \
+            "file://$scratch/$1" >dom.html 2>browser.log
+        holds "in Chromium: $1" text browser browser.log net.json shot.png "$2"
+    }
+    for each in clean changed cut stranger hostile; do
+        browse "$each.html" fine
+        holds "in Chromium: the text of $each.html" text same "$each.json" dom.html
+    done
+    # the same checks see a script and a request, and that the policy stops both
+    sed 's|<h1>|<img src="http://page.invalid/x.png"><script>document.title="run"</script><h1>|' clean.html >put-in.html
+    grep -v Content-Security-Policy put-in.html >open.html
+    browse put-in.html blocked
+    holds 'in Chromium: no script is run' grep -q '<title>Clean: ' dom.html
+    browse open.html let
+    holds 'in Chromium: without the policy it would be run' grep -q '<title>run</title>' dom.html
+    rm -rf profile
+fi
+holds 'no passing file is left' test -z "$(find "$TMPDIR" -mindepth 1 -name 'ssign-keys-*')"
 finish

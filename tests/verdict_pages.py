@@ -2,6 +2,8 @@
 """Helps tests/page.sh: makes logs, and looks at what `ssign-keys verify` says of what it checked.
 
     verdict_pages.py make FOLDER                        makes logs of FOLDER/signed, cut and damaged
+    verdict_pages.py hostile FOLDER NAME                makes messages that could be taken for something else
+    verdict_pages.py halve LOG HALF QUARTER             makes a log without each second message, and its front
     verdict_pages.py checked JSON WORD.. -- NAME[=FILE].. what was checked is these files, by these words
     verdict_pages.py member JSON PATH                   prints a member of what was checked
     verdict_pages.py options HELP TOOLS                 each option of the help is known to whoever repeats a check
@@ -55,6 +57,33 @@ def make(folder: str) -> None:
     write(f"{folder}/second.frames.gz", gzip.compress(b"".join(map(frame, stored[plain[6]:])), mtime=0))
     put("lost.frames", [it for place, it in enumerate(stored) if place not in plain[3:6]])
     put("cut.frames", stored[:plain[8]])
+    changed = list(stored)
+    changed[plain[4]] = stored[plain[4]][:-3] + b"<script>alert(1)</script>&amp;"
+    put("changed.frames", [*changed, b"<13>1 2026-01-15T09:40:00+02:00 - - - - - put in"])
+    put("unsigned.frames", [stored[it] for it in plain])
+    put("empty.frames", [])
+
+
+def hostile(folder: str, name: str) -> None:
+    """Makes messages with what a page, a terminal or a parser could take for something else. `name` is that of a log."""
+    odd = [b"<script>alert(1)</script>", b"</td></table><h1>CLEAN</h1>", b"<!-- -->", b"]]>", b"&lt;&#60;&amp;", b"\"'`",
+           b"\x1b]0;owned\x07\x1b[2J", b"\xe2\x80\xae\xe2\x81\xa6 turned", b"\xe3\x85\xa4\xef\xb8\x8f\xcd\x8f", b"\x80\xff\\x1b",
+           b"\r\n\x7f\0", b"\xf3\xa0\x84\x81", b"javascript:alert(1)", b"{{7*7}}${7}", name.encode("utf-8", "surrogateescape"),
+           b"a" * 3000, b"\xe2\x80\xae" * 900]
+    texts = [b"<13>1 2026-01-01T00:00:0%dZ h a - - - %s" % (at % 10, it) for at, it in enumerate(odd)]
+    write(f"{folder}/texts", b"".join(it.replace(b"\n", b" ").replace(b"\0", b" ") + b"\n" for it in texts))
+    stray = [*texts, *odd, b"<13>1 2026-99-99T00:00:00Z h a - - - no time", b"<13>1 - <b> <i> - - [ssign VER=\"<u>\"] x",
+             b'<13>1 - <b> <i> - - [ssign a="<script>"] x']
+    write(f"{folder}/hostile.frames", b"".join(map(frame, stray)))
+
+
+def halve(whole: str, half: str, quarter: str) -> None:
+    """Makes a log without each second message, and the front of it."""
+    stored = read_frames(read(whole))[0]
+    messages = [it for it in stored if b"[ssign" not in it]
+    gone = set(messages[1::2])
+    write(half, b"".join(frame(it) for it in stored if it not in gone))
+    write(quarter, b"".join(frame(it) for it in stored[:len(stored) // 4] if it not in gone))
 
 
 def digest(path: str) -> Dict[str, object]:
@@ -141,6 +170,10 @@ def main(command: str, *words: str) -> None:
     """Does one of the commands."""
     if command == "make":
         make(*words)
+    elif command == "hostile":
+        hostile(*words)
+    elif command == "halve":
+        halve(*words)
     elif command == "checked":
         check_checked(*words)
     elif command == "member":

@@ -53,6 +53,10 @@ class Survey(ReportVisitor):
         totals = self.totals
         return totals.messages - totals.listed - totals.unlisted - totals.refused - totals.spoilt
 
+    def count_named(self, first: int, end: int) -> int:
+        """How many of the places from a first one up to an end have a line."""
+        return self._seen.count(1, first, end)
+
     @property
     def has_findings(self) -> bool:
         """Whether a line is a finding."""

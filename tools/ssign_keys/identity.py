@@ -3,7 +3,7 @@ from __future__ import annotations
 
 from typing import Any, Dict, List, NamedTuple, Optional
 
-from .words import shown, shown_name
+from .words import is_seen, shown, shown_name
 
 
 class CertificateFacts(NamedTuple):
@@ -78,8 +78,8 @@ def certificate_words(certificate: CertificateFacts) -> str:
 
 
 def shown_text(text: str) -> str:
-    """A text of a certificate: letters of every language stay, and all that isn't printable becomes `\\xNN`."""
-    return "".join(it if it.isprintable() and it != "\\" else shown(it.encode("utf-8", "surrogatepass")) for it in text)
+    """A text of a certificate: letters of every language stay, and all that can't be seen becomes `\\xNN`."""
+    return "".join(it if is_seen(it) and it != "\\" else shown(it.encode("utf-8", "surrogatepass")) for it in text)
 
 
 def note_of(finding: Finding) -> List[object]:

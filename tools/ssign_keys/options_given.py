@@ -11,7 +11,9 @@ from .words import shown_name
 VALUED = ("key", "ca", "cert", "max-payload", "max-len", "max-messages", "max-expanded", "counters", "manifest", "manifest-last")
 FLAGS = ("at-signing-time", "allow-sha1", "lines", "frames", "whole", "findings", "raw", "json", "details", "hostname")
 PAIRS = ("session-key",)
-LEFT_OUT = ("answers-out", "counters-out", "jobs", "ssign", "help")
+LEFT_OUT = ("html", "answers-out", "counters-out", "jobs", "ssign", "help")
+# those that say how much is printed, which a page doesn't repeat
+REPEATED_NOT = tuple(f"--{it}" for it in ("findings", "raw", "json", "details", "hostname"))
 DEFAULTS = {"max-payload": 65536}
 # where the value of an option stands, if not under its name
 PLACES = {"key": "keys"}
@@ -28,6 +30,13 @@ def given_options(arguments: argparse.Namespace) -> List[str]:
         for first, second in getattr(arguments, name.replace("-", "_")):
             words += [f"--{name}", first, second]
     return words + [f"--{name}" for name in FLAGS if getattr(arguments, name.replace("-", "_"))]
+
+
+def given_files(arguments: argparse.Namespace, program: str) -> List[str]:
+    """The names of all files that a check reads."""
+    named = [*arguments.logs, *arguments.keys, *arguments.ca, *arguments.cert, *(it for _, it in arguments.session_key),
+             *(arguments.counters or []), *([arguments.manifest] if arguments.manifest else []), program]
+    return [it for it in named if it != "-"]
 
 
 def option(name: str, value: str) -> List[str]:

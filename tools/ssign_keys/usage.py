@@ -31,7 +31,7 @@ GROUPS: Dict[str, Tuple[str, ...]] = {
     "the session": ("--rsid", "--host", "--app", "--procid", "--msgid", "--pri", "--stamp"),
     "the blocks": ("--payload", "--ver", "--groups", "--count", "--frag", "--copies"),
     "what is reported": ("--whole", "--counters", "--manifest", "--manifest-last", "--findings", "--details", "--hostname", "--raw",
-                         "--json", "--answers-out", "--counters-out"),
+                         "--json", "--html", "--answers-out", "--counters-out"),
     "the run": ("--jobs", "--ssign"),
 }
 

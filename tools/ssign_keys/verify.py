@@ -27,7 +27,10 @@ from .logs import Log, open_log
 from .json_verdict import JsonVerdict
 from .manifested import Listed
 from .numbers import add_jobs
+from .options_given import given_files
 from .output import file_pieces, write_out
+from .page import FRONT, Page
+from .page_file import PageFile
 from .payloads import present_stamp
 from .program_facts import ssign_facts, tool_facts
 from .text_verdict import TextVerdict
@@ -74,6 +77,8 @@ def add_arguments(parser: argparse.ArgumentParser) -> None:
     parser.add_argument("--hostname", action="store_true", help="name this machine in what was checked")
     parser.add_argument("--findings", action="store_true", help="leave out what is no finding; of --raw and --json, the "
                         "lines `ok`")
+    parser.add_argument("--html", metavar="FILE", help="also write a page of HTML about the check, beside the usual output; "
+                        "FILE may not be there yet, unless it is such a page")
     parser.add_argument("--answers-out", metavar="FILE", help="keep the answers file, for `ssign review --answers`; FILE "
                         "may not be there yet")
     parser.add_argument("--counters-out", metavar="FILE", help="keep the counters of the log, as `ssign counters` writes them; "
@@ -113,7 +118,9 @@ class Verification:
         """Prints the verdict, and gives its status. What is kept of the run goes if it fails."""
         arguments = self._arguments
         with Workplace() as workplace, KeptFile("--answers-out", "the answers", arguments.answers_out) as answers_out, \
-                KeptFile("--counters-out", "the counters", arguments.counters_out) as counters_out:
+                KeptFile("--counters-out", "the counters", arguments.counters_out) as counters_out, \
+                PageFile(arguments.html, FRONT.encode("ascii")) as page_file:
+            page_file.check(given_files(arguments, self._program))
             answers_out.check()
             counters_out.check()
             refuse_raw_details(arguments)
@@ -124,16 +131,19 @@ class Verification:
             log, verifier = self._open(listed, workplace)
             verifier.answer(trust, arguments.jobs)
             reviewed = verifier.review(listed, arguments.allow_sha1)
-            if arguments.json or arguments.details:
+            if arguments.json or arguments.details or arguments.html is not None:
                 reviewed = reviewed._replace(details=self._details(verifier, reviewed, trust, listed))
             verifier.name_unused(trust)
             pieces = verifier.output(reviewed, arguments, listed)
+            if arguments.html is not None:
+                page_file.prepare(verifier.page(reviewed, listed))
             if arguments.counters_out is not None:
                 counters_out.keep(verifier.count())
             log.check_unchanged()
             answers_out.keep(verifier.answers_path)
             self.progress.clear()
             write_out(pieces)
+            page_file.name()
             return reviewed.facts.status
 
     def _open(self, listed: Optional[Listed], workplace: Workplace) -> Tuple[Log, Verifier]:
@@ -320,6 +330,17 @@ class Verifier:
         front = form.verdict()
         finish(out)
         return chain([front], file_pieces(out))
+
+    def page(self, reviewed: Reviewed, listed: Optional[Listed]) -> str:
+        """Makes the page, and gives the path of its passing file."""
+        found = [] if listed is None else [(it.where, it.what) for it in listed.found]
+        # what was read beside the report once is read again
+        page = Page(reviewed._replace(notes=Notes(self._notes)), found)
+        Reading(page).read(self._report, self._progress)
+        with self._workplace.new_file("page") as file:
+            page.write(file)
+            finish(file)
+        return self._workplace.path("page")
 
     def _reading(self, phase: str) -> Callable[[], None]:
         return lambda: self._progress.show(phase, self._log.position(), self._log.size, "octets")
