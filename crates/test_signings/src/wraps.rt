@@ -100,7 +100,11 @@ fn sees_wraps(
     let found = written(rt, &task(job, start, true, limits), frames.as_slice());
     assert!(rt; found.as_slice() == wanted.as_slice());
     let lines = log(rt.alloc(), Form::Lines, false)?;
-    let found = written(rt, &task(job, start, true, limits.lines()), lines.as_slice());
+    let found = written(
+        rt,
+        &task(job, start, true, limits.lines()),
+        lines.as_slice(),
+    );
     assert!(rt; found.as_slice() == wanted.as_slice());
     Ok(())
 }
