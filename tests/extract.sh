@@ -126,8 +126,9 @@ for command in "${commands[@]}"; do
     explain) needed=(F1) ;;
     esac
     options=(--unlisted --place=0 --lines-out --unwrap)
-    # an inspection takes wraps off too
+    # an inspection takes wraps off too, and `sign` writes lines
     [[ $command == inspect ]] && unset 'options[3]'
+    [[ $command == sign ]] && unset 'options[2]'
     for option in "${options[@]}"; do
         run "$command" "$option" "${needed[@]}" <"$log"
         expect "$command $option" 2 '' 'SOME TEXT'
