@@ -622,7 +622,7 @@ def sent_wrapped(n):
 
 def sent_wrapped_long(n):
     """Messages of many elements, of which the last is a block's, each in a wrap."""
-    elements = b"".join(b"[%d]" % i for i in range(n // 8)) + b"[ssign]"
+    elements = b"".join(b"[%05d]" % i for i in range(n // 8)) + b"[ssign]"
     return sending(10, 2, "--wrap", text=lambda i, octets: b"<13>1 - - - - - " + elements)
 
 
