@@ -145,7 +145,7 @@ _ssign_keys_words() {
         ;;
     rotated)
         if [[ $2 == -* ]]; then
-            _ssign_keys_offer words '--help --keys --state --kept --one-session --new-session --wait --pending --remove --forget --last --host --app --ssign'
+            _ssign_keys_offer words '--help --keys --state --kept --one-session --own-sessions --new-session --wait --pending --remove --forget --last --host --app --ssign'
         else
             _ssign_keys_offer files
         fi

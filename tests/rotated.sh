@@ -112,6 +112,18 @@ echo 0 >state/rsid
 rotated logs/two
 holds 'an RSID that was used: status 2' test "$status" = 2 -a ! -e logs/two.frames
 
+# ---- two logs of one run, of which the first can't get its name
+fresh
+cp "$root/examples/signed/ten-messages.log" logs/two
+mkdir state/kept
+: >state/kept/counters-1
+rotated logs/one logs/two
+holds 'a name that is taken: both logs wait' test "$status.$(grep -c 'isn'"'"'t signed' err).$(ls logs/*.frames 2>&1 | wc -l)" = 1.2.1
+rm state/kept/counters-1
+rotated
+expect 'the name is free again: both are signed' 0 '' ''
+holds 'each with its RSID' test "$(sed 's/.*"name":"\([a-z]*\).*"rsid":\([0-9]*\),.*/\1 \2/' state/kept/manifest.jsonl | tr '\n' ' ')" = 'one 1 two 2 '
+
 # ---- what was copied is removed, as long as it is what was copied
 fresh
 rotated logs/one

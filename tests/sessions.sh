@@ -115,13 +115,34 @@ holds 'with the next RSID' test "$(<state/rsid)" = 2 -a "$(tail -n 1 "$manifest"
 holds 'the counters of the one before stay' test "$(ls state/session)" = $'counters-1\ncounters-2\nlock\nsession'
 night 8
 rotated logs/night8
-expect 'a log as a session of its own' 0 '' ''
+expect 'without an option, a night as the last one' 0 '' ''
+rotated --new-session
+expect 'another session begins, where nothing waits' 0 '' ''
+rotated --own-sessions --new-session
+expect 'two options that contradict each other' 2 '' 'ssign-keys: --new-session goes with --one-session, and not with --own-sessions'
 night 9
-rotated --one-session logs/night9
-expect 'it ended the one session' 0 '' ''
-holds 'so another one begins' test "$(sed 's/.*"rsid":\([0-9]*\),.*/\1/' "$manifest" | tr '\n' ' ')" = '1 1 1 1 1 1 1 2 3 4 '
-rotated --new-session logs/night9
-expect '--new-session alone' 2 '' 'ssign-keys: --new-session goes with --one-session'
+rotated --own-sessions logs/night9
+expect 'a log as a session of its own' 0 '' ''
+night 9a
+rotated logs/night9a
+expect 'without an option, another one' 0 '' ''
+rotated --new-session
+expect '--new-session without a session' 2 '' 'ssign-keys: --new-session goes with --one-session, or with a state that has a session that goes on'
+night 9b
+rotated --one-session logs/night9b
+expect 'they ended the one session' 0 '' ''
+holds 'so another one begins' test "$(sed 's/.*"rsid":\([0-9]*\),.*/\1/' "$manifest" | tr '\n' ' ')" = '1 1 1 1 1 1 1 2 2 3 4 5 '
+
+# a night that couldn't get its name, and then another session
+night 9c
+: >state/kept/counters-5-13
+rotated --one-session logs/night9c
+holds 'a name that is taken: the log waits' grep -qF "logs/night9c isn't signed: $scratch/logs/night9c.frames can't get its name: File exists" err
+rm state/kept/counters-5-13
+night 9d
+rotated --one-session --new-session logs/night9d
+expect 'it gets its name, and another session begins' 0 '' ''
+holds 'each has its session' test "$(tail -n 2 "$manifest" | sed 's/.*"rsid":\([0-9]*\),.*/\1/' | tr '\n' ' ')" = '5 6 '
 
 # numbers that no entry has
 night 10
@@ -130,7 +151,7 @@ holds 'a log is signed besides' test "$status" = 0
 rotated --one-session logs/night10
 holds 'the next night goes on after it' test "$status" = 0
 keys manifest check "$manifest" logs --logs '*.frames'
-holds 'the manifest lacks its numbers' grep -qxF 'line 11: skipped, no line before it has the numbers 3 to 4 of SG 0, SPRI 0 of the session h signer - 4' out
+holds 'the manifest lacks its numbers' grep -qxF 'line 15: skipped, no line before it has the numbers 3 to 4 of SG 0, SPRI 0 of the session h signer - 6' out
 holds 'that is a finding' test "$status" = 1
 
 # states that are damaged, or were put back
@@ -146,11 +167,11 @@ expect 'put right again' 0 '' ''
 cp kept/session state/session/session
 night 12
 rotated --one-session logs/night12
-holds 'an old file of the session: the log waits' grep -qF "logs/night12 isn't signed: the session $scratch/state/session/session is older than counters-4 beside it" err
+holds 'an old file of the session: the log waits' grep -qF "logs/night12 isn't signed: the session $scratch/state/session/session is older than counters-6 beside it" err
 rm -r state/session
 cp -r kept state/session
 rotated --one-session
-holds 'an old session: the log waits' grep -qF 'the session h signer - 4 goes further in the entry 12 of the manifest than in the state' err
+holds 'an old session: the log waits' grep -qF 'the session h signer - 6 goes further in the entry 16 of the manifest than in the state' err
 holds 'an old session: nothing is signed' test "$status" = 1 -a ! -e logs/night12.frames
 rotated --one-session --new-session
 expect 'an old session: another one begins' 0 '' ''
@@ -158,7 +179,7 @@ rm -rf state/session
 night 13
 rotated --one-session logs/night13
 expect 'the session is gone: another one begins' 0 '' ''
-holds 'each with its RSID' test "$(<state/rsid)" = 6
+holds 'each with its RSID' test "$(<state/rsid)" = 8
 echo 1 >state/rsid
 rotated --one-session logs/night12
 holds 'an old number of the last session' test "$status" = 2

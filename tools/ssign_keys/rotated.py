@@ -29,7 +29,7 @@ from .open_files import wait_until_closed
 from .programs import add_program_argument, find_program
 from .rotation_state import NO_ENTRY, Current, Signed, read_state, replace, sync_folder, write_state
 from .session_file import Ongoing
-from .session_state import last_rsid, read_session
+from .session_state import has_counters, last_rsid, read_session
 from .streams import Output
 from .words import counted, shown_name
 from .workplace import Workplace, finish, put, notify
@@ -55,9 +55,11 @@ def add_arguments(parser: argparse.ArgumentParser) -> None:
                         "a copy belongs on another machine (default: kept in the folder of --state)")
     parser.add_argument("--host", metavar="TEXT", help="HOSTNAME of all blocks (default: the name of this machine)")
     parser.add_argument("--app", default="signer", metavar="TEXT", help="APP-NAME of all blocks (default: signer)")
-    parser.add_argument("--one-session", action="store_true", help="sign the logs as nights of one session; the folder session "
-                        "in that of --state keeps it (default: each log is a session of its own)")
-    parser.add_argument("--new-session", action="store_true", help="end the session of --one-session, and begin another")
+    kind = parser.add_mutually_exclusive_group()
+    kind.add_argument("--one-session", action="store_true", help="sign the logs as nights of one session; the folder session "
+                      "in that of --state keeps it (default: as the last log; without one, each log is a session of its own)")
+    kind.add_argument("--own-sessions", action="store_true", help="sign each log as a session of its own; one that went on ends")
+    parser.add_argument("--new-session", action="store_true", help="end the session that goes on, and begin another")
     parser.add_argument("--wait", type=seconds, default=60.0, metavar="SECONDS", help="how long is waited at most until nobody "
                         "writes to a log any more (default: 60)")
     what = parser.add_mutually_exclusive_group()
@@ -144,9 +146,10 @@ class Rotation:
         self._logs = [os.path.abspath(it) for it in arguments.logs]
         self._manifest = os.path.join(self._kept, "manifest.jsonl")
         self._unusual = False
-        if arguments.new_session and not arguments.one_session:
-            raise Fault("--new-session goes with --one-session")
+        if arguments.new_session and arguments.own_sessions:
+            raise Fault("--new-session goes with --one-session, and not with --own-sessions")
         self._is_new = arguments.new_session
+        self._is_one = arguments.one_session
 
     def path(self, name: str) -> str:
         """The path of a file of state."""
@@ -166,6 +169,7 @@ class Rotation:
             self._rsid = self._read_rsid()
             if self._state.current is not None:
                 self._publish(self._state.current)
+            self._is_one = self._is_one_session()
             self._check_rsid()
         except Fault as fault:
             self._note(str(fault))
@@ -289,6 +293,9 @@ class Rotation:
         frames = name + ".frames"
         if os.path.lexists(frames):
             raise Fault(f"{shown_name(frames)} is there already, and isn't overwritten")
+        if self._state.current is not None:
+            # a log that got no name in this run is the first to get one
+            self._publish(self._state.current)
         # what has no entry can't be missed later, so it gets no name
         name_for(frames)
         self._check_manifest()
@@ -308,6 +315,7 @@ class Rotation:
         self._state.current = current
         self._save()
         self._publish(current)
+        self._is_new = False
 
     def _run_sign(self, log: str, source: BinaryIO, start: int, size: int, passing: Passing, night: Night) -> None:
         """Has the signed log written under a passing name."""
@@ -406,7 +414,6 @@ class Rotation:
         if self._rsid < current.rsid:
             replace(self.path("rsid"), b"%d\n" % current.rsid)
             self._rsid = current.rsid
-        self._is_new = False
         self._add_entry(current)
         found = self._state.signed_of(current.log)
         if found is None:
@@ -445,9 +452,18 @@ class Rotation:
 
     # ---- the session
 
+    def _is_one_session(self) -> bool:
+        """Whether the logs are nights of one session: as the options say, or else as the last log was."""
+        if self._arguments.one_session or self._arguments.own_sessions:
+            return bool(self._arguments.one_session)
+        is_one = has_counters(self.path("session"), self._rsid)
+        if self._is_new and not is_one:
+            raise Fault("--new-session goes with --one-session, or with a state that has a session that goes on")
+        return is_one
+
     def _ongoing(self) -> Optional[Ongoing]:
         """The session that goes on; None where one begins. A session to which nothing was added yet is the one that begins."""
-        if not self._arguments.one_session:
+        if not self._is_one:
             return None
         ongoing = read_session(self.path("session"), self._is_new)
         # a log that was signed as a session of its own has ended it
@@ -458,7 +474,7 @@ class Rotation:
         """What the next log has of its session."""
         # a session that began, and to which no signed log was added yet, has its RSID too
         rsid = max(self._rsid, last_rsid(self.path("session"))) + 1
-        if not self._arguments.one_session:
+        if not self._is_one:
             return Night(rsid, [f"--rsid={rsid}"], str(rsid), [])
         manifest = read_manifest(self._manifest)
         label = manifest.last.number + 1

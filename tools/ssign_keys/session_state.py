@@ -212,6 +212,11 @@ def read_session(folder: str, is_new: bool) -> Optional[Ongoing]:
     return SessionState(folder, is_new).look() if os.path.isdir(folder) else None
 
 
+def has_counters(folder: str, rsid: int) -> bool:
+    """Whether a folder of state keeps counters of a session, so that something of it was signed there."""
+    return os.path.lexists(os.path.join(folder, f"{COUNTERS}{rsid}"))
+
+
 def last_rsid(folder: str) -> int:
     """The greatest RSID of the sessions that a folder of state knows of; -1 where it isn't there."""
     if not os.path.isdir(folder):
