@@ -148,8 +148,8 @@ taken() {
 }
 cp clean.html older.html
 ln -s older.html link.html
-keys verify --key key.pem --html older.html cut.frames
-holds 'an older page is replaced' grep -q '<strong>.*Findings</strong>' older.html
+keys verify --key key.pem --html older.html lost.frames
+holds 'an older page is replaced' grep -q "<title>Findings: " older.html
 cp signed log.frames
 keys verify --key key.pem --html log.frames signed
 taken 'another file is not overwritten' 'the file log.frames is there already, and is no page of --html, so it isn'\''t overwritten'
