@@ -229,7 +229,7 @@ def extracts():
     wraps = [b"<13>1 - h s - wrapped - |" + it for it in (b"a", b"b\nc", C)]
     octets, places = b"".join(map(frame, wraps)), [it for place in range(3) for it in ("--place", str(place))]
     yield Case("extract of wraps", ["extract", *places, "--unwrap"], octets,
-               Said(0, frame(b"a") + frame(b"b\nc") + frame(C), b""), None, True)
+               Said(0, frame(b"a") + frame(b"b\nc") + frame(C), b""))
     yield Case("extract of a wrap with LF as a line", ["extract", *places, "--unwrap", "--lines-out"], octets, refused("E2 1"))
 
 
@@ -258,7 +258,7 @@ def inspections():
                b"abc\n<13>1 - - - - - -\n", Said(0, b"unparsed 0 M1 0\nplain 1\nend 2\n", b""))
     wraps = [b"<13>1 - h s - wrapped - |" + it for it in (b"a", b"<13>1 - - - - - -", b"<13>1 - - - - - [ssign]")]
     yield Case("inspect of wraps", ["inspect", "--unwrap"], b"".join(map(frame, wraps)),
-               Said(0, b"wrapped-unparsed 0 M1 0\nwrapped-plain 1\nwrapped-spoilt 2 S2\nend 3\n", b""), None, True)
+               Said(0, b"wrapped-unparsed 0 M1 0\nwrapped-plain 1\nwrapped-spoilt 2 S2\nend 3\n", b""))
     yield Case("inspect of a long line", ["inspect", "--lines", "--max-len", "3"], b"abc\nabcd\n", refused("F2 7"))
 
 
