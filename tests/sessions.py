@@ -426,7 +426,7 @@ def others(trials: Trials) -> None:
 def refused_log(trials: Trials) -> bool:
     """Whether a log with a message that can't be signed leaves the state as it was, and the session that goes on."""
     kept = read("S/session")
-    said = [run("sign", "--key", trials.key(), "--state", "S", "--lines", *words, "-", given=b"<13>1 - h a p m - one\nno message\n")
+    said = [run("sign", "--key", trials.key(), "--state", "S", "--lines", "--no-wrap", *words, "-", given=b"<13>1 - h a p m - one\nno message\n")
             for words in ([], ["--new-session"], ["--new-session", "--host", "no host"])]
     return all(it.status == 2 and not it.out for it in said) and "(O2)" in said[1].err and "(P2)" in said[2].err and read("S/session") == kept
 
