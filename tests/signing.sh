@@ -395,6 +395,7 @@ printf '%s\n' "count $session 7" "count $session 3 100 5" >"$counters"
 rejected 'SG 3' 'ssign: C6 2' --groups pri "${going[@]}"
 
 # ---- counters near their end
+frame '<13>1 - - - - - - a' >"$log"
 printf '%s\n' "count $session 7" "count $session 0 0 9999999999" >"$counters"
 run plan --ahead "${going[@]}" <"$log"
 expect 'the last number is given' 0 "count $session 8
