@@ -389,7 +389,8 @@ def check_strip(picture: Node, kinds: List[str]) -> None:
 def check_browser(log: str, net: str, png: str, wanted: str) -> None:
     """What Chromium said, asked for and drew."""
     with open(log, encoding="utf-8", errors="replace") as file:
-        said = [it for it in file if "CONSOLE" in it]
+        # Chromium's own pages say what they like, for example of a slow network
+        said = [it for it in file if "CONSOLE" in it and "source: chrome://" not in it]
     with open(net, encoding="utf-8") as file:
         events = json.load(file)["events"]
     # what Chromium asks for by itself has another key
