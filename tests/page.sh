@@ -1,5 +1,5 @@
 #!/usr/bin/env bash
-# What `ssign-keys verify` says of what it checked: files, keys, programs, options and times, in JSON, as text and as a
+# What `ssign-keys verify` reports about what it checked: files, keys, programs, options and times, in JSON, as text and as a
 # page of HTML. verdict_pages.py has second ways to each of these.
 # shellcheck source=tests/lib.sh
 . "$(dirname -- "$0")/lib.sh"

@@ -1,5 +1,5 @@
 #!/usr/bin/env python3
-"""Helps tests/page.sh: makes logs, and looks at what `ssign-keys verify` says of what it checked.
+"""Helps tests/page.sh: makes logs, and looks at what `ssign-keys verify` reports about what it checked.
 
     verdict_pages.py make FOLDER                        makes logs of FOLDER/signed, cut and damaged
     verdict_pages.py hostile FOLDER NAME                makes messages that could be taken for something else

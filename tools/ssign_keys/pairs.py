@@ -18,7 +18,7 @@ class Stretch(NamedTuple):
     """Numbers of one kind that follow one another in a group, and aren't listed."""
 
     kind: str
-    """`lost` or `disputed`, as a report says of a number, or `hole`."""
+    """`lost` or `disputed`, as in a report, or `hole`."""
     first: int
     last: int
     before: Optional[Neighbour]
