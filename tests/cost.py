@@ -42,9 +42,9 @@ TUNED = {"GLIBC_TUNABLES": "glibc.cpu.x86_rep_movsb_threshold=1000000000:glibc.c
 ROOM, ROOM_FOR_EACH = 1 << 19, 32
 # a run that takes more seconds hangs, however busy the machine is
 PATIENCE = 300
-COMMANDS = (REVIEW, WHOLE, KEPT, TALLY, EXTRACT, UNLISTED, UNWRAPPED, QUESTIONS, ONCE, OBJECTS, INSPECT, ORIGINALS, PLAN, AHEAD,
-            RESUMED, SIGN, COUNTERS, CARRY) = (
-    "review", "review --whole", "review --counters", "review --tally", "extract", "extract --unlisted",
+COMMANDS = (REVIEW, WHOLE, KEPT, NIGHT, TALLY, EXTRACT, UNLISTED, UNWRAPPED, QUESTIONS, ONCE, OBJECTS, INSPECT, ORIGINALS, PLAN,
+            AHEAD, RESUMED, SIGN, COUNTERS, CARRY) = (
+    "review", "review --whole", "review --counters", "review --from", "review --tally", "extract", "extract --unlisted",
     "extract --unlisted --unwrap", "questions", "questions --once", "questions --once --json", "inspect", "inspect --unwrap",
     "plan", "plan --ahead", "plan --ahead --resume", "sign", "counters", "carry")
 
@@ -65,6 +65,10 @@ SHAPES = [
     (logs.kept_groups, 768, [KEPT], []),
     (logs.kept_absent, 900, [KEPT], []),
     (logs.kept_equal, 6000, [KEPT], []),
+    (logs.nights_of_sessions, 900, [NIGHT], []),
+    (logs.nights_of_groups, 768, [NIGHT], []),
+    (logs.idle_nights, 900, [NIGHT], []),
+    (logs.outside_of_the_night, 900, [NIGHT], []),
     (logs.apart, 900, [WHOLE], []),
     (logs.far_apart, 900, [WHOLE], []),
     (logs.disputed, 900, [REVIEW], []),
@@ -261,11 +265,15 @@ class Bench:
         if command == SIGN:
             wants = run([self.program, PLAN] + words, log)[1].splitlines()
             lines += [b"seal " + line[5:] + b" AAAA" for line in wants]
-        if command in (KEPT, RESUMED):
+        if command in (KEPT, NIGHT, RESUMED):
             with open(log + ".counters", "wb") as file:
                 file.writelines(line + b"\n" for line in made.counters)
             words = [log + ".counters", *words]
-        if command in (REVIEW, WHOLE, KEPT, TALLY, EXTRACT, UNLISTED, UNWRAPPED, SIGN, COUNTERS, CARRY):
+        if command == NIGHT:
+            with open(log + ".first", "wb") as file:
+                file.writelines(line + b"\n" for line in made.first)
+            words = [log + ".first", "--counters", *words]
+        if command in (REVIEW, WHOLE, KEPT, NIGHT, TALLY, EXTRACT, UNLISTED, UNWRAPPED, SIGN, COUNTERS, CARRY):
             with open(log + ".answers", "wb") as file:
                 file.writelines(line + b"\n" for line in lines)
             words = words + ["--answers", log + ".answers"]

@@ -20,13 +20,13 @@ PARSED = b"[ssign]"
 
 
 class Input:
-    """A log, its answers, the counters that were kept of it, and what each command says."""
+    """A log, its answers, the counters that were kept of it and before it, and what each command says."""
 
     def __init__(self, *options, payload=PAYLOAD, answered=True):
         self.messages, self.options, self.says = [], list(options), {}
         self.payload = b64(payload)
         self.answers = [b"trust " + self.payload] if answered else []
-        self.counters = []
+        self.counters, self.first = [], []
 
     def put(self, *texts):
         self.messages += texts
@@ -40,6 +40,10 @@ class Input:
     def keep(self, number, rsid=7, group=None, names=NAMES):
         """A counter of a session, or of a group."""
         self.counters.append(b"count %s %d" % (names, rsid) + (b" %d %d" % group if group else b"") + b" %d" % number)
+
+    def begin(self, number, rsid=7, group=None, names=NAMES):
+        """A counter at which the night begins."""
+        self.first.append(b"count %s %d" % (names, rsid) + (b" %d %d" % group if group else b"") + b" %d" % number)
 
     def say(self, command, status, told):
         self.says[command] = (status, told)
@@ -55,6 +59,10 @@ class Input:
     def kept(self, status, **words):
         """The same, up to the counters."""
         return self.say("review --counters", status, {**words, "end": 1})
+
+    def night(self, status, **words):
+        """The same, between the first counters and these."""
+        return self.say("review --from", status, {**words, "end": 1})
 
     def ahead(self, groups):
         """The counters of so many groups, and of the blocks, of a plan that looks ahead."""
@@ -96,6 +104,7 @@ def nothing(n=0):
     made.say("counters", 0, {})
     made.whole(0)
     made.kept(0)
+    made.night(0)
     made.tally(0)
     return made.review(0)
 
@@ -282,6 +291,39 @@ def kept_equal(n):
     for i in range(n):
         made.keep(2 + i, 7, (0, 0))
     return made.kept(1, session=1, tail=1)
+
+
+def nights_of_sessions(n):
+    """Many sessions between two counters, of which the first lies behind what the log has."""
+    made = kept_sessions(n)
+    for i in range(n):
+        made.begin(2, i * 7919 % n)
+        made.begin(3, i * 7919 % n, (0, 0))
+    return made.night(1, session=n, gap=n, early=n, tail=n, blocks=n)
+
+
+def nights_of_groups(n):
+    """The same of 768 groups in each session, without a counter of blocks."""
+    made = kept_groups(n)
+    for i in range(n):
+        made.begin(2, i // 768, (i % 768 // 192, i % 192))
+    more = -(-n // 768) - 1
+    return made.night(1, session=1 + more, gap=n, early=n, tail=n, **({"blocks": more} if more else {}))
+
+
+def idle_nights(n):
+    """As many sessions that the log has no block of, and that sent nothing in the night."""
+    made = kept_absent(n)
+    made.first = list(made.counters)
+    return made.night(0)
+
+
+def outside_of_the_night(n):
+    """Numbers with a hole in front of each, all of them below the first counter of their group and above the second one."""
+    made = apart(n)
+    made.begin(LAST + 1, 7, (0, 0))
+    made.keep(1, 7, (0, 0))
+    return made.night(1, session=1, gap=n, early=n, beyond=n, blocks=n)
 
 
 def apart(n):

@@ -197,7 +197,7 @@ def objects_by_hand():
 def main():
     """Makes all checks."""
     visible = "".join(map(chr, range(33, 127)))
-    assert len(KEYS) == 11
+    assert len(KEYS) == 13
     with tempfile.TemporaryDirectory() as folder:
         count = 0
         for name, made in shapes():
@@ -255,8 +255,9 @@ def main():
         for command in ("questions", "questions --once", "counters"):
             said = run(command, b"x" + log, "--json")
             tell(f"a refusal of {command}", "" if said == (2, b"ssign: F1 0\n") else repr(said))
-        # the lines `blocks` are those of `--whole`, and counts those of `--tally`: tests/whole.py and tally.py
-        wanted = {*KEYS, *OTHER_KEYS} - {"blocks", "tail", "tally", "unlisted-count", "refused-count", "spoilt-count"}
+        # the lines `blocks` are those of `--whole`, `tail` of `--counters`, `early` and `beyond` of `--from`, and counts those of
+        # `--tally`: tests/whole.py, kept.py, between.py and tally.py
+        wanted = {*KEYS, *OTHER_KEYS} - {"blocks", "tail", "early", "beyond", "tally", "unlisted-count", "refused-count", "spoilt-count"}
         tell("each kind of line was seen", "" if words_seen == wanted else f"{wanted ^ words_seen}")
     print(f"forms: {passed} passed, {failed} failed")
     return 1 if failed else 0

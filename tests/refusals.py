@@ -24,6 +24,7 @@ import tempfile
 import threading
 
 import cost_logs as logs
+from between import between_text
 from counters import counters_text
 from kept import kept_text, status_of as kept_status_of
 from nights import Told, carried
@@ -53,8 +54,8 @@ WORDS_ALONE = 80
 BUFFER = 65536
 
 # `wanted` is all that a run says, or its status; `some` is whether some allocations are refused alone; `counters` are those up
-# to which a log is reviewed, and those at which an originator goes on
-Case = collections.namedtuple("Case", "name words log wanted answers some counters", defaults=[None, False, None])
+# to which a log is reviewed, and those at which an originator goes on; `first` are those at which a night begins
+Case = collections.namedtuple("Case", "name words log wanted answers some counters first", defaults=[None, False, None, None])
 Said = collections.namedtuple("Said", "status out err")
 
 passed = failed = 0
@@ -198,6 +199,29 @@ def kept_reviews():
         yield Case("counters: " + name, ["review"], octets, refused("C1 %d" % len(lines)), text, counters=joined(lines))
     yield Case("counters: a folder", ["review", "--counters", HERE], octets, refused("C2"), text)
     yield Case("counters: a bad line, and one of the answers", ["review"], octets, refused("C1 1"), b"want\n", counters=b"count\n")
+
+
+# what was kept before: with numbers of EVERYTHING below it, and of a session that sent nothing in the night
+FIRST = ["count h s - 1 2", "count i s - 7 2", "count h s - 1 0 0 9", "count i s - 7 0 0 3", "count h s - 1 0 0 4"]
+
+
+def night_reviews():
+    """Reviews of one night, and refusals of the files of its counters."""
+    everything = answers_of(EVERYTHING, (lambda payload: payload == P1, accepted))
+    text = answers_text(*everything)
+    for unit, words in ((frame, []), (line, ["--lines"])):
+        octets = b"".join(map(unit, EVERYTHING)) + unit(M1)[:-1]
+        messages, torn = (read_lines if words else read_frames)(octets)
+        for kept in (KEPT, None):
+            wanted = between_text(Log(messages), *everything, FIRST, kept, torn)
+            yield Case("review of a night of everything" + ", to its end" * (kept is not None) + ", as lines" * bool(words),
+                       ["review", *words], octets, Said(1, joined(wanted), b""), text, counters=kept and joined(kept), first=joined(FIRST))
+    yield Case("review of an empty night", ["review"], b"", 0, None, counters=joined(FIRST * 20), first=joined(FIRST * 20))
+    octets, own = b"".join(map(frame, EXAMPLE)), b"count h s - 1 1\n"
+    yield Case("a night: a bad line", ["review"], octets, refused("C1 2"), text, counters=own, first=own + b"\n")
+    yield Case("a night: a bad line of its end", ["review"], octets, refused("C1 2"), text, counters=own + b"\n", first=own)
+    yield Case("a night: two bad lines", ["review"], octets, refused("C1 1"), text, counters=own + b"\n", first=b"\n")
+    yield Case("a night: a folder", ["review", "--from", HERE], octets, refused("C2"), text, counters=b"count\n")
 
 
 def tallies():
@@ -467,14 +491,16 @@ class Runner:
 
     def case(self, place, case, first):
         """Faults, the codes, and how often the run did without memory; `first` is the first allocation to refuse."""
-        log, answers, counters = (os.path.join(self.folder, "%d.%s" % (place, end)) for end in ("log", "answers", "counters"))
-        for path, octets in ((log, case.log), (answers, case.answers), (counters, case.counters)):
+        log, answers, counters, first_ones = (os.path.join(self.folder, "%d.%s" % (place, end))
+                                              for end in ("log", "answers", "counters", "first"))
+        for path, octets in ((log, case.log), (answers, case.answers), (counters, case.counters), (first_ones, case.first)):
             if octets is not None:
                 with open(path, "wb") as file:
                     file.write(octets)
         words = case.words + ([] if case.answers is None else ["--answers", answers])
         option = "--resume" if case.words and case.words[0] in ("plan", "sign") else "--counters"
         words += [] if case.counters is None else [option, counters]
+        words += [] if case.first is None else ["--from", first_ones]
         clean, count = self.run(words, log, 0)
         wanted = clean._replace(status=case.wanted) if isinstance(case.wanted, int) else case.wanted
         faults = ["" if clean == wanted else "it says %r, and not %r" % (clean, wanted)]
@@ -510,7 +536,7 @@ def firsts(cases):
     """The first allocation to refuse of each case."""
     seen = set()
     for case in cases:
-        words = (*case.words, case.answers is None, case.counters is None)
+        words = (*case.words, case.answers is None, case.counters is None, case.first is None)
         yield WORDS_ALONE if words in seen else 1
         seen.add(words)
 
@@ -527,7 +553,7 @@ def main():
     parser.add_argument("library", nargs="?", default="")
     parser.add_argument("--show", action="store_true")
     given = parser.parse_args()
-    cases = [case for make in (reviews, kept_reviews, tallies, extracts, inspections, answers, signings, resumed_signings,
+    cases = [case for make in (reviews, kept_reviews, night_reviews, tallies, extracts, inspections, answers, signings, resumed_signings,
                                wrapped_signings, refused_signings, others, long_outputs)
              for case in make()]
     first = cases[0].wanted.out.decode().splitlines()

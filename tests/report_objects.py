@@ -15,6 +15,8 @@ KEYS = {
     "ok": [*GROUP, "number", "place"],
     "gap": [*GROUP, "number", "why"],
     "hole": [*GROUP, "first", "last"],
+    "early": [*GROUP, "first", "last"],
+    "beyond": [*GROUP, "first", "last"],
     "tail": [*GROUP, "first", "last"],
     "blocks": [*SESSION, "first", "last"],
     "unlisted": ["place"],

@@ -145,6 +145,13 @@ refused 'sign: a line that is no answer' 'A1 1' "The answers file is --answers \
 refused 'no such file' 'A2' 'The answers file is --answers "no\n\u{1b}[31m file".' extract --answers $'no\n\e[31m file'
 refused 'a folder' 'A2' 'The answers file is --answers "/".' sign "${given[@]}" --answers /
 
+# ---- the counters files of a review
+printf 'count\n' >"$scratch/counters"
+refused 'review: a bad line of the counters' 'C1 1' "The counters file is --counters \"$scratch/counters\"." review --counters "$scratch/counters"
+refused 'review: a bad line of the first counters' 'C1 1' "The counters file is --from \"$scratch/counters\"." \
+    review --from "$scratch/counters" --counters /
+refused 'review: a folder of first counters' 'C2' 'The counters file is --from "/".' review --counters "$scratch/counters" --from /
+
 # ---- the counters file of an originator that goes on
 printf 'count - - - 1 3\ncount - - - 1 1 13 5\n' >"$scratch/counters"
 for command in plan 'plan --ahead' sign; do

@@ -4,4 +4,7 @@ pub mod CountersWritten
 pub mod LogCounters
 pub mod Tallies
 pub mod TakenLines
+pub mod OutsideLines
+pub mod NightLines
+pub mod IdleSessions
 pub mod SettledReports

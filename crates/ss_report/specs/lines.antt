@@ -4,4 +4,5 @@ pub mod Taken
 pub mod Settled
 pub mod Listed
 pub mod Whole
+pub mod Between
 pub mod Records

@@ -31,6 +31,7 @@ pub use runs::questions::run_questions;
 pub use runs::questions_as::run_questions_as;
 pub use runs::review::run_review;
 pub use runs::review_as::run_review_as;
+pub use runs::review_between::run_review_between;
 pub use runs::review_whole::run_review_whole;
 pub use runs::run::Run;
 pub use verdict::verdict::Verdict;

@@ -1,12 +1,17 @@
 //! The lines of a report: what one is, the one walk that hands them on, and their visitors.
 pub(crate) mod detail;
+pub(crate) mod idle;
+pub(crate) mod left;
 pub(crate) mod line;
 pub(crate) mod listed;
+pub(crate) mod night;
+pub(crate) mod outside;
 pub(crate) mod record;
 pub(crate) mod settled;
 pub(crate) mod tally;
 pub(crate) mod visitor;
 pub(crate) mod walk;
+pub(crate) mod walk_between;
 pub(crate) mod walk_whole;
 pub(crate) mod whole;
 pub(crate) mod writing;

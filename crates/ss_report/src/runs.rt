@@ -11,6 +11,7 @@ pub(crate) mod questions;
 pub(crate) mod questions_as;
 pub(crate) mod review;
 pub(crate) mod review_as;
+pub(crate) mod review_between;
 pub(crate) mod review_whole;
 pub(crate) mod run;
 pub(crate) mod selecting;

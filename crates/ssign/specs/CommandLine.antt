@@ -33,6 +33,7 @@ use Rattle.ssign.specs.declared.options.ahead.TheConstants as ahead
 use Rattle.ssign.specs.declared.options.answers.TheConstants as answers
 use Rattle.ssign.specs.declared.options.counters.TheConstants as counters_option
 use Rattle.ssign.specs.declared.options.findings.TheConstants as findings
+use Rattle.ssign.specs.declared.options.from.TheConstants as from
 use Rattle.ssign.specs.declared.options.json.TheConstants as json
 use Rattle.ssign.specs.declared.options.lines_out.TheConstants as lines_out
 use Rattle.ssign.specs.declared.options.once.TheConstants as once
@@ -94,8 +95,8 @@ abbrev pub payloads_of : Bool → Payloads
 payloads_of true = payloads.Once
 payloads_of false = payloads.InEach
 
--- how a log is reported, with or without these flags, `--whole`, which counters ask for too, `--tally`, `--once` and
--- `--unwrap`
+-- how a log is reported, with or without these flags, `--whole`, which counters of a night's beginning or end ask for
+-- too, `--tally`, `--once` and `--unwrap`
 abbrev pub reporting : (findings json whole tally once unwrap : Bool) → Reporting
 reporting findings json whole tally once unwrap = record {
   form = report_form findings json;
@@ -132,7 +133,7 @@ task_name Carry = carry.NAME.now
 abbrev pub task_rules : Task → List Rule
 task_rules Review =
     text_rule answers.NAME.now ∷ flag_rule findings.NAME.now ∷ flag_rule json.NAME.now ∷ flag_rule whole.NAME.now
-    ∷ flag_rule tally.NAME.now ∷ text_rule counters_option.NAME.now ∷ []
+    ∷ flag_rule tally.NAME.now ∷ text_rule counters_option.NAME.now ∷ text_rule from.NAME.now ∷ []
 task_rules Questions = flag_rule json.NAME.now ∷ flag_rule once.NAME.now ∷ []
 task_rules Extract =
     text_rule answers.NAME.now ∷ flag_rule unlisted.NAME.now ∷ place_rule ∷ flag_rule lines_out.NAME.now

@@ -15,6 +15,7 @@ ghost use Rattle.ssign.specs.declared.options.answers.TheConstants as answers;
 ghost use Rattle.ssign.specs.declared.options.code.TheConstants as code;
 ghost use Rattle.ssign.specs.declared.options.counters.TheConstants as counters;
 ghost use Rattle.ssign.specs.declared.options.findings.TheConstants as findings;
+ghost use Rattle.ssign.specs.declared.options.from.TheConstants as from;
 ghost use Rattle.ssign.specs.declared.options.json.TheConstants as json;
 ghost use Rattle.ssign.specs.declared.options.lines.TheConstants as lines;
 ghost use Rattle.ssign.specs.declared.options.lines_out.TheConstants as lines_out;
@@ -193,9 +194,10 @@ fn review<'a>(alloc: Global) -> Result<Command<'a>, AllocError>
     let review = review
         .arg(flag(alloc, options::whole::NAME, options::whole::HELP))?
         .arg(flag(alloc, options::tally::NAME, options::tally::HELP))?;
+    let review = review.arg(file(alloc, options::counters::NAME, options::counters::HELP))?;
     limited(
         alloc,
-        review.arg(file(alloc, options::counters::NAME, options::counters::HELP))?,
+        review.arg(file(alloc, options::from::NAME, options::from::HELP))?,
     )
 }
 
@@ -403,6 +405,13 @@ pub fn counters_file<'a>(matches: &ArgMatches<'a>) -> Option<&'a str>
     matches.get_str(options::counters::NAME)
 }
 
+/// The file of the counters at which a night begins, if one was given.
+pub fn from_file<'a>(matches: &ArgMatches<'a>) -> Option<&'a str>
+    ensures { option_map (λ s. s.now) result ≡ first_value (found_of matches.now) from.NAME.now }
+{
+    matches.get_str(options::from::NAME)
+}
+
 /// The form of a report that the flags ask for. A command without these flags has plain text.
 fn form_of_report(matches: &ArgMatches<'_>) -> ReportForm
     ensures { (findings_given json_given : Bool) → FlagIs matches.now findings.NAME.now findings_given
@@ -443,19 +452,22 @@ fn payloads_of_questions(matches: &ArgMatches<'_>) -> Payloads
     }
 }
 
-/// How a log is to be reported: a review with what is missing beside it where `--whole` or `--counters` is given. A
-/// command without these flags has plain text alone.
+/// How a log is to be reported: a review with what is missing beside it where `--whole`, `--counters` or `--from` is
+/// given. A command without these flags has plain text alone.
 pub fn reporting_of(matches: &ArgMatches<'_>) -> Reporting
     ensures { (findings_given json_given whole_given tally_given once_given unwrap_given : Bool)
         → FlagIs matches.now findings.NAME.now findings_given → FlagIs matches.now json.NAME.now json_given
         → FlagIs matches.now whole.NAME.now whole_given → FlagIs matches.now tally.NAME.now tally_given
         → FlagIs matches.now once.NAME.now once_given → FlagIs matches.now unwrap.NAME.now unwrap_given
         → result ≡ reporting findings_given json_given (whole_given
-        || is_some (first_value (found_of matches.now) counters.NAME.now)) tally_given once_given unwrap_given }
+        || is_some (first_value (found_of matches.now) counters.NAME.now)
+        || is_some (first_value (found_of matches.now) from.NAME.now)) tally_given once_given unwrap_given }
 {
     Reporting {
         form: form_of_report(matches),
-        whole: matches.get_flag(options::whole::NAME) || counters_file(matches).is_some(),
+        whole: matches.get_flag(options::whole::NAME)
+            || counters_file(matches).is_some()
+            || from_file(matches).is_some(),
         detail: detail_of_report(matches),
         payloads: payloads_of_questions(matches),
         unwrap: matches.get_flag(options::unwrap::NAME),

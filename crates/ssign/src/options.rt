@@ -8,6 +8,7 @@ pub mod count;
 pub mod counters;
 pub mod findings;
 pub mod frag;
+pub mod from;
 pub mod groups;
 pub mod host;
 pub mod json;

@@ -3,10 +3,11 @@ ghost use Rattle.std.specs.Prelude.{◌≡◌, ◌≤◌, map, string_bytes, Non
 ghost use Rattle.std.specs.List.{find};
 ghost use Rattle.ssign.specs.CommandLine.{AreMistaken, signing_status, status_of};
 ghost use Rattle.ssign.specs.Explanation.{entries_of, has_code};
+ghost use Rattle.ssign.specs.Task.{given};
 
 use crate::command_line::{
-    Order, answers_file, asked_code, command, counters_file, extract_conflict, limits_of, order_of,
-    reporting_of, resume_file, sending_of,
+    Order, answers_file, asked_code, command, counters_file, extract_conflict, from_file,
+    limits_of, order_of, reporting_of, resume_file, sending_of,
 };
 use crate::explain::explanation_of;
 use crate::explanations::{Tables, all_tables};
@@ -29,7 +30,7 @@ use clap::error::ErrorKind;
 use ss_answers::{open_answers, open_counters};
 use ss_frame::Form;
 use ss_report::{RunFault, Verdict};
-use ss_review::Counters;
+use ss_review::{Counter, Counters};
 use ss_signing::SignFault;
 use std::alloc::AllocError;
 use std::rt::{Clock, Env, Files};
@@ -106,7 +107,8 @@ fn run_command<R: Input + Print + Eprint + Screen + Files + Clock + AllocGlobal>
     }
 }
 
-/// Makes a run over standard input. The counters file is read before, and then the answers file.
+/// Makes a run over standard input. Before it the counters files are read, that of `--from` first, and then the answers
+/// file.
 fn run_log<R: Input + Print + Eprint + Screen + Files + Clock + AllocGlobal>(
     rt: &R,
     task: Task,
@@ -121,21 +123,39 @@ fn run_log<R: Input + Print + Eprint + Screen + Files + Clock + AllocGlobal>(
         Ok(extraction) => extraction,
         Err(fault) => return refuse_extraction(rt, fault),
     };
-    let counters = match counters_file(options) {
-        None => Counters::from_vec(Vec::new(rt.alloc())),
+    let first = match from_file(options) {
+        None => None,
         Some(file) => match open_counters(rt, file) {
-            Ok(counters) => counters,
+            Ok(counters) => Some(counters),
+            Err(fault) => return refuse(rt, &fault.code(), Remark::FromFile(file)),
+        },
+    };
+    let counters = match counters_file(options) {
+        None => None,
+        Some(file) => match open_counters(rt, file) {
+            Ok(counters) => Some(counters),
             Err(fault) => return refuse(rt, &fault.code(), Remark::CountersFile(file)),
         },
     };
     let request = TaskRequest {
         task,
         reporting: reporting_of(options),
-        counters: counters.as_slice(),
+        first: given(&first),
+        counters: given(&counters),
         extraction,
         limits,
     };
     run_request(rt, request, options)
+}
+
+/// The counters of a file, where one was given.
+fn given(counters: &Option<Counters>) -> Option<&[Counter]>
+    ensures { given result ≡ counters.now }
+{
+    match counters {
+        Some(counters) => Some(counters.as_slice()),
+        None => None,
+    }
 }
 
 /// Makes a run over standard input. The answers file is read before.

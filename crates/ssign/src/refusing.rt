@@ -6,7 +6,7 @@ use crate::asked::asked_word;
 use crate::explain::explanation_of;
 use crate::explanations::{Tables, all_tables};
 use crate::likely_cause::LikelyCause;
-use crate::options::{answers, counters, resume};
+use crate::options::{answers, counters, from, resume};
 use crate::settings::SettingsFault;
 use crate::text_option::TextOption;
 use arrayvec::ArrayString;
@@ -36,6 +36,8 @@ pub enum Remark<'a> {
     AnswersFile(&'a str),
     /// This counters file.
     CountersFile(&'a str),
+    /// This counters file, at which a night was to begin.
+    FromFile(&'a str),
     /// This counters file, at which an originator was to go on.
     ResumeFile(&'a str),
     /// This option, and its text.
@@ -53,6 +55,9 @@ impl Display for Remark<'_> {
             }
             Remark::CountersFile(file) => {
                 writeln!(f, "The counters file is --{} {file:?}.", counters::NAME)
+            }
+            Remark::FromFile(file) => {
+                writeln!(f, "The counters file is --{} {file:?}.", from::NAME)
             }
             Remark::ResumeFile(file) => {
                 writeln!(f, "The counters file is --{} {file:?}.", resume::NAME)

@@ -4,12 +4,14 @@ ghost use Rattle.ss_frame.specs.Watched.{has_failed, source_of, sink_of};
 ghost use Rattle.ss_review.specs.declared.questions.question.Question.{Question};
 ghost use Rattle.ss_review.specs.sessions.Verified.{answers};
 ghost use Rattle.ss_report.specs.runs.Run.{Runs, Stops};
-ghost use Rattle.ssign.specs.Task.{carrying, inspection_form, review_of, job_of};
+ghost use Rattle.ss_report.specs.lines.Between.{end_counters};
+ghost use Rattle.ssign.specs.Task.{carrying, given, inspection_form, review_of, job_of};
 
 use ss_frame::{Form, Limits, Watched};
 use ss_report::{
     Detail, Extraction, InspectionForm, Payloads, ReportForm, Run, RunFault, Selection, Verdict,
-    run_counters, run_extract_as, run_inspect, run_questions_as, run_review_as, run_review_whole,
+    run_counters, run_extract_as, run_inspect, run_questions_as, run_review_as, run_review_between,
+    run_review_whole,
 };
 use ss_review::{Counter, Judge};
 use std::alloc::Global;
@@ -44,7 +46,7 @@ pub struct Reporting {
     pub detail: Detail,
     /// Whether questions have each payload in each question about it, or once.
     pub payloads: Payloads,
-    /// Whether an inspection says of a wrap what the octets in it are.
+    /// Whether an inspection reports what the octets in a wrap are.
     pub unwrap: bool,
 }
 
@@ -55,8 +57,10 @@ pub struct TaskRequest<'c> {
     pub task: Task,
     /// How that is reported.
     pub reporting: Reporting,
-    /// Up to which counters a review is to be whole.
-    pub counters: &'c [Counter],
+    /// At which counters a review of one night is to begin, if it is one.
+    pub first: Option<&'c [Counter]>,
+    /// Up to which counters a review is to be whole, if they are given.
+    pub counters: Option<&'c [Counter]>,
     /// Which messages an extract writes, and in which form.
     pub extraction: Extraction,
     /// In which form the log is stored, and how long it and its messages may be.
@@ -64,7 +68,7 @@ pub struct TaskRequest<'c> {
 }
 
 /// Reads a log to its end, and writes what is asked of it in the form that is wanted. A whole review goes up to these
-/// counters, and an extract has the messages that are wanted. Questions, inspections and extracts of given places ask
+/// counters, one of a night begins at the first ones, and an extract has the messages that are wanted. Questions, inspections and extracts of given places ask
 /// the judge nothing. The judge is freed once it is known which blocks are verified.
 ///
 /// Nothing is written before the log is read and the output can be written. `RunFault::Write` exactly where a call of
@@ -83,13 +87,13 @@ pub fn run_task<R: Read, W: Write, J: Judge + Drop>(
     requires sound { J.sound judge }
     requires askable { (q : Question) → J.askable judge q }
     ensures done { IfOk result
-        (Runs (job_of (answers J.trusted J.valid judge) request.entry.reporting request.entry.counters.now
-        request.entry.extraction request.entry.task) request.entry.limits
+        (Runs (job_of (answers J.trusted J.valid judge) request.entry.reporting (given request.entry.first)
+        (given request.entry.counters) request.entry.extraction request.entry.task) request.entry.limits
         (source_of R.remaining reader.old) (source_of R.remaining reader.new)
         (sink_of W.contents writer.old) (sink_of W.contents writer.new)) }
     ensures stopped { IfErr result
-        (Stops (job_of (answers J.trusted J.valid judge) request.entry.reporting request.entry.counters.now
-        request.entry.extraction request.entry.task) request.entry.limits
+        (Stops (job_of (answers J.trusted J.valid judge) request.entry.reporting (given request.entry.first)
+        (given request.entry.counters) request.entry.extraction request.entry.task) request.entry.limits
         (source_of R.remaining reader.old) (source_of R.remaining reader.new)
         (sink_of W.contents writer.old) (sink_of W.contents writer.new)) }
     ensures untouched { IfErr result (λ fault. fault ≢ RunFault.Write → writer.new ≡ writer.old) }
@@ -97,6 +101,7 @@ pub fn run_task<R: Read, W: Write, J: Judge + Drop>(
     let TaskRequest {
         task,
         reporting,
+        first,
         counters,
         extraction,
         limits,
@@ -109,7 +114,7 @@ pub fn run_task<R: Read, W: Write, J: Judge + Drop>(
     };
     let notation = reporting.form.notation();
     match task {
-        Task::Review => run_reported(run, reporting, counters, judge),
+        Task::Review => run_reported(run, reporting, first, counters, judge),
         Task::Questions => run_questions_as(run, notation, reporting.payloads),
         Task::Extract => run_extract_as(run, judge, extraction),
         Task::Inspect => run_inspect(run, inspection_form(reporting)),
@@ -143,7 +148,8 @@ fn inspection_form(reporting: Reporting) -> InspectionForm
 fn run_reported<R: Read, W: Write, J: Judge + Drop>(
     run: Run<'_, R, W>,
     reporting: Reporting,
-    counters: &[Counter],
+    first: Option<&[Counter]>,
+    counters: Option<&[Counter]>,
     judge: J,
 ) -> Result<Verdict, RunFault>
     requires reader { has_failed run.reader.now ≡ false }
@@ -151,11 +157,13 @@ fn run_reported<R: Read, W: Write, J: Judge + Drop>(
     requires sound { J.sound judge }
     requires askable { (q : Question) → J.askable judge q }
     ensures done { IfOk result
-        (Runs (review_of (answers J.trusted J.valid judge) reporting counters.now) run.entry.limits
+        (Runs (review_of (answers J.trusted J.valid judge) reporting (given first.entry) (given counters.entry))
+        run.entry.limits
         (source_of R.remaining run.entry.reader.now) (source_of R.remaining run.exit.0.now)
         (sink_of W.contents run.entry.writer.now) (sink_of W.contents run.exit.1.0.now)) }
     ensures stopped { IfErr result
-        (Stops (review_of (answers J.trusted J.valid judge) reporting counters.now) run.entry.limits
+        (Stops (review_of (answers J.trusted J.valid judge) reporting (given first.entry) (given counters.entry))
+        run.entry.limits
         (source_of R.remaining run.entry.reader.now) (source_of R.remaining run.exit.0.now)
         (sink_of W.contents run.entry.writer.now) (sink_of W.contents run.exit.1.0.now)) }
     ensures untouched { IfErr result (λ fault. fault ≢ RunFault.Write → run.exit.1.0.now ≡ run.entry.writer.now) }
@@ -166,9 +174,22 @@ fn run_reported<R: Read, W: Write, J: Judge + Drop>(
         detail,
         ..
     } = reporting;
+    if let Some(first) = first {
+        return run_review_between(run, judge, form, detail, first, counters);
+    }
     if whole {
-        run_review_whole(run, judge, form, detail, counters)
+        run_review_whole(run, judge, form, detail, up_to(counters))
     } else {
         run_review_as(run, judge, form, detail)
+    }
+}
+
+/// These counters, or none.
+fn up_to<'c>(counters: Option<&'c [Counter]>) -> &'c [Counter]
+    ensures { result.now ≡ end_counters (given counters.entry) }
+{
+    match counters {
+        Some(counters) => counters,
+        None => &[],
     }
 }

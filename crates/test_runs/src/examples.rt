@@ -1,8 +1,12 @@
-//! The examples of the READMEs of `ss_review` and `ss_report`, line by line.
+//! The examples of the READMEs of `ss_review`, `ss_between` and `ss_report`, line by line.
 use crate::book::Yes;
+use ss_between::{Bounds, entry_left};
+use ss_block::{Group, Session};
 use ss_frame::{Limits, Watched};
+use ss_message::Field;
+use ss_octets::NoMemory;
 use ss_report::{RunFault, Verdict, run_review};
-use ss_review::{Report, ReviewFault, Reviewer};
+use ss_review::{Counter, Counts, Entry, Report, ReviewFault, Reviewer};
 use std::alloc::Global;
 use std::test::Fail;
 
@@ -13,6 +17,28 @@ fn reviews(alloc: Global, messages: &[&[u8]], judge: &Yes) -> Result<Report, Rev
     }
     let report = reviewer.finish(judge)?;
     Ok(report)
+}
+
+fn left_of(
+    alloc: Global,
+    counters: &[Counter],
+    session: &Session,
+    group: Group,
+    entry: Entry,
+) -> Result<Option<Entry>, NoMemory> {
+    let night = Bounds::of(alloc, counters)?;
+    let number = night.number(session, group);
+    let left = entry_left(number, entry);
+    Ok(left)
+}
+
+fn unnamed_session() -> Session {
+    Session {
+        host: Field::Nil,
+        app: Field::Nil,
+        procid: Field::Nil,
+        rsid: 1,
+    }
 }
 
 fn reports(alloc: Global, log: &[u8], judge: &Yes) -> Result<(Verdict, Vec<u8>), RunFault> {
@@ -30,6 +56,27 @@ fn plain_messages_are_unlisted(rt: HostRuntime) -> Result<(), Fail> {
     let second = b"<34>1 - h su - ID47 - again".as_slice();
     let report = reviews(rt.alloc(), &[first, second], &Yes)?;
     assert_eq!(rt; report.unlisted.as_slice(), [0u32, 1u32].as_slice());
+    Ok(())
+}
+
+#[test]
+fn a_hole_is_cut_at_the_counter(rt: HostRuntime) -> Result<(), Fail> {
+    let group = Group { sg: 0, spri: 0 };
+    let mut counters = Vec::new(rt.alloc());
+    counters.push(Counter {
+        session: unnamed_session(),
+        counts: Counts::Messages(group),
+        next: 5,
+    })?;
+    let hole = Entry::Hole { first: 3, last: 8 };
+    let left = left_of(
+        rt.alloc(),
+        counters.as_slice(),
+        &unnamed_session(),
+        group,
+        hole,
+    )?;
+    assert_eq!(rt; left, Some(Entry::Hole { first: 5, last: 8 }));
     Ok(())
 }
 

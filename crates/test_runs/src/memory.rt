@@ -14,7 +14,7 @@ use ss_octets::{Bytes, NoMemory};
 use ss_report::report_text::report_text;
 use ss_report::{
     Detail, Notation, ReportForm, Run, RunFault, Verdict, run_counters, run_review_as,
-    run_review_whole,
+    run_review_between, run_review_whole,
 };
 use ss_review::{
     AskedSession, AskedSessions, Counter, Counts, Question, Questioner, Questions, Report,
@@ -187,11 +187,13 @@ enum Kind {
     Counters,
     Tally,
     Whole,
+    Night,
+    Older,
 }
 
 /// A run over the log of two messages and their blocks, and what it writes: a message was sent after the two, and one
-/// block.
-const RUNS: [(Kind, &[u8], Verdict); 3] = [
+/// block. A night begins at the second message, or it ends there.
+const RUNS: [(Kind, &[u8], Verdict); 5] = [
     (
         Kind::Counters,
         b"count h s - 1 1\ncount h s - 1 0 0 3\n",
@@ -209,6 +211,17 @@ const RUNS: [(Kind, &[u8], Verdict); 3] = [
             end 4\n",
         Verdict::Findings,
     ),
+    (
+        Kind::Night,
+        b"session h s - 1 joined\nok h s - 1 0 0 1 0\nok h s - 1 0 0 2 1\nearly h s - 1 0 0 1 1\ntail h s - 1 0 0 3 3\n\
+            blocks h s - 1 1 1\nend 4\n",
+        Verdict::Findings,
+    ),
+    (
+        Kind::Older,
+        b"session h s - 1 joined\nok h s - 1 0 0 1 0\nok h s - 1 0 0 2 1\nbeyond h s - 1 0 0 2 2\nend 4\n",
+        Verdict::Findings,
+    ),
 ];
 
 fn session(alloc: Global) -> Result<Session, AllocError> {
@@ -220,25 +233,26 @@ fn session(alloc: Global) -> Result<Session, AllocError> {
     })
 }
 
-/// Two blocks and three messages were sent.
-fn counters(alloc: Global) -> Result<Vec<Counter>, AllocError> {
+/// The counters of a session that goes on with this block and this message.
+fn counters(alloc: Global, block: u64, message: u64) -> Result<Vec<Counter>, AllocError> {
     let mut counters = Vec::new(alloc);
     counters.push(Counter {
         session: session(alloc)?,
         counts: Counts::Blocks,
-        next: 2,
+        next: block,
     })?;
     counters.push(Counter {
         session: session(alloc)?,
         counts: Counts::Messages(Group { sg: 0, spri: 0 }),
-        next: 4,
+        next: message,
     })?;
     Ok(counters)
 }
 
 /// Runs over the log octet by octet.
 fn make(alloc: Global, kind: Kind) -> Result<Done, AllocError> {
-    let counters = counters(alloc)?;
+    let sent = counters(alloc, 2, 4)?;
+    let before = counters(alloc, 1, 2)?;
     let mut reader = Watched::new(Pieces::new(LOG, 1));
     let mut writer = Watched::new(Paper::new(1));
     let run = Run {
@@ -251,7 +265,27 @@ fn make(alloc: Global, kind: Kind) -> Result<Done, AllocError> {
     let said = match kind {
         Kind::Counters => run_counters(run, Yes, Notation::Plain),
         Kind::Tally => run_review_as(run, Yes, form, Detail::Tally),
-        Kind::Whole => run_review_whole(run, Yes, form, Detail::Itemized, &counters),
+        Kind::Whole => run_review_whole(run, Yes, form, Detail::Itemized, &sent),
+        Kind::Night => {
+            run_review_between(
+                run,
+                Yes,
+                form,
+                Detail::Itemized,
+                &before,
+                Some(sent.as_slice()),
+            )
+        }
+        Kind::Older => {
+            run_review_between(
+                run,
+                Yes,
+                form,
+                Detail::Itemized,
+                &[],
+                Some(before.as_slice()),
+            )
+        }
     };
     Ok(Done {
         said,

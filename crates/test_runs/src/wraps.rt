@@ -253,20 +253,24 @@ fn wraps_are_taken_off_lines(rt: HostRuntime) -> Result<(), Fail> {
     Ok(())
 }
 
+/// The wraps of `a` and of `b`, LF and `c`, as frames.
+const TWO_WRAPS: &[u8] = b"26 <13>1 - h s - wrapped - |a28 <13>1 - h s - wrapped - |b\nc";
+
 /// `tests/memory.sh` refuses each allocation of this test in turn, and it passes each time: after "out of memory"
 /// nothing is written, and the next call gives the messages.
 #[test]
-fn wants_memory_or_takes_wraps_off(rt: HostRuntime) -> Result<(), Fail> {
-    let log = frames(rt.alloc(), &LOG)?;
+fn wants_memory_or_takes_wraps_off(rt: HostRuntime) {
+    let mut is_written = false;
     for _again in 0..2 {
-        let places = at(rt.alloc(), &[0, 1], Form::Frames, true)?;
-        let (said, paper) = extract(rt.alloc(), log.as_slice(), places);
-        if said.is_err() {
-            assert_eq!(rt; paper.writes, 0);
-        } else {
-            assert!(rt; paper.text() == b"1 a3 b\nc".as_slice());
-            return Ok(());
+        if let Ok(places) = at(rt.alloc(), &[0, 1], Form::Frames, true) {
+            let (said, paper) = extract(rt.alloc(), TWO_WRAPS, places);
+            if said.is_err() {
+                assert_eq!(rt; paper.writes, 0);
+            } else {
+                assert!(rt; paper.text() == b"1 a3 b\nc".as_slice());
+                is_written = true;
+            }
         }
     }
-    Err("no memory twice")?
+    assert!(rt; is_written);
 }

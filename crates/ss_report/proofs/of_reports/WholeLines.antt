@@ -1,5 +1,5 @@
 -- The lines and the verdict that are made of a report, and of what was found to be missing beside it.
-use Rattle.std.proofs.Common.{◌≡◌, false, List, ℕ, flat_map, refl, ap, ◌∙◌}
+use Rattle.std.proofs.Common.{◌≡◌, false, Option, List, ℕ, flat_map, refl, ap, ◌∙◌}
 use Rattle.ss_frame.specs.Limits.{Allowance}
 use Rattle.ss_frame.specs.Watched.{Source}
 use Rattle.ss_frame.specs.declared.step.Tail.{Tail}
@@ -20,8 +20,15 @@ use Rattle.ss_report.specs.forms.Forms.{line_as}
 use Rattle.ss_report.specs.declared.forms.report_form.ReportForm.{ReportForm}
 use Rattle.ss_report.specs.declared.verdict.verdict.Verdict.{Verdict}
 use Rattle.ss_report.specs.lines.Whole.{lines_with, verdict_with}
+use Rattle.ss_report.specs.lines.Between.{end_counters, lines_between, verdict_between}
 use Rattle.ss_report.specs.runs.Run.{Makes}
-use Rattle.ss_report.specs.runs.Jobs.{reviewing_whole}
+use Rattle.ss_report.specs.runs.Jobs.{reviewing_between, reviewing_whole}
+
+-- what was found to be missing is what is missing of the log
+found_is : (counters : List Counter) (says : Answers) (messages : List (List ℕ)) (r : Report) (cs : List CountedSession) (short : LogShortfalls)
+    → r ≡ report says messages → cs ≡ counted_sessions says (blocks (notes messages)) → short ≡ log_shortfalls counters r.sessions cs → short ≡ shortfalls_of says messages counters
+found_is counters says messages r cs short told counted found =
+    found ∙ (ap (λ (x : Report). log_shortfalls counters x.sessions cs) told ∙ ap (log_shortfalls counters (report says messages).sessions) counted)
 
 pub makes_whole : (form : ReportForm) (detail : Detail) (counters : List Counter) (says : Answers) (limits : Allowance) (before after : Source) (messages : List (List ℕ)) (tail : Tail)
     → ReadsLog limits before after messages (tail_end tail) → after.failed ≡ false
@@ -29,8 +36,7 @@ pub makes_whole : (form : ReportForm) (detail : Detail) (counters : List Counter
     → r ≡ report says messages → cs ≡ counted_sessions says (blocks (notes messages)) → short ≡ log_shortfalls counters r.sessions cs → verdict ≡ verdict_with r short tail
     → Makes (reviewing_whole form detail counters says) limits before after (flat_map (line_as form) (lines_with detail r short tail)) verdict
 makes_whole form detail counters says limits before after messages tail reading no_read_failed r cs short verdict told counted found judged =
-    let of_log : short ≡ shortfalls_of says messages counters =
-    found ∙ (ap (λ (x : Report). log_shortfalls counters x.sessions cs) told ∙ ap (log_shortfalls counters (report says messages).sessions) counted) in
+    let of_log = found_is counters says messages r cs short told counted found in
     record {
       messages = messages;
       tail = tail;
@@ -39,4 +45,22 @@ makes_whole form detail counters says limits before after messages tail reading 
       unrefused = refl;
       output_is = ap (flat_map (line_as form)) (ap (λ x. lines_with detail x short tail) told ∙ ap (λ x. lines_with detail (report says messages) x tail) of_log);
       verdict_is = judged ∙ (ap (λ x. verdict_with x short tail) told ∙ ap (λ x. verdict_with (report says messages) x tail) of_log);
+    }
+
+pub makes_between : (form : ReportForm) (detail : Detail) (first : List Counter) (second : Option (List Counter)) (says : Answers) (limits : Allowance) (before after : Source) (messages : List (List ℕ)) (tail : Tail)
+    → ReadsLog limits before after messages (tail_end tail) → after.failed ≡ false
+    → (r : Report) (cs : List CountedSession) (short : LogShortfalls) (own : List Counter) (other : Option (List Counter)) (verdict : Verdict)
+    → r ≡ report says messages → cs ≡ counted_sessions says (blocks (notes messages)) → short ≡ log_shortfalls (end_counters second) r.sessions cs
+    → own ≡ first → other ≡ second → verdict ≡ verdict_between own other r short tail
+    → Makes (reviewing_between form detail first second says) limits before after (flat_map (line_as form) (lines_between detail own other r short tail)) verdict
+makes_between form detail first second says limits before after messages tail reading no_read_failed r cs short own other verdict told counted found is_first is_second judged =
+    let of_log = found_is (end_counters second) says messages r cs short told counted found in
+    record {
+      messages = messages;
+      tail = tail;
+      reading = reading;
+      no_read_failed = no_read_failed;
+      unrefused = refl;
+      output_is = λ i. flat_map (line_as form) (lines_between detail (is_first i) (is_second i) (told i) (of_log i) tail);
+      verdict_is = judged ∙ (λ i. verdict_between (is_first i) (is_second i) (told i) (of_log i) tail);
     }

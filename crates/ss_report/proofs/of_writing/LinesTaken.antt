@@ -1,7 +1,8 @@
 -- Lines that are visited one after the other.
-use Rattle.std.proofs.Common.{◌≡◌, ℕ, ◌+◌, ◌<◌, List, [], ◌∷◌, ◌++◌, length, get_or, take, map, flat_map, refl, sym, ap, ◌∙◌, subst, append-nil}
+use Rattle.std.proofs.Common.{◌≡◌, ℕ, ◌+◌, ◌<◌, Option, List, [], ◌∷◌, ◌++◌, length, get_or, take, map, flat_map, filter_map, refl, sym, ap, ◌∙◌, subst, append-nil}
 use Rattle.std.proofs.lemmas.Grind.{flat_map-append}
 use Rattle.std.proofs.lemmas.List.{map-append, take_more}
+use Rattle.std.proofs.lemmas.List.Elements.{filter_map-append}
 use Rattle.ss_report.specs.lines.Lines.{ReportLine}
 use Rattle.ss_report.specs.lines.Taken.{TakesAll}
 
@@ -41,3 +42,9 @@ pub line_more : {S X : Type 0} (takes : S → S → ReportLine → Type 0) (of :
     → TakesAll takes a b (map of (take i xs)) → takes b c told → told ≡ of (get_or xs i d) → TakesAll takes a c (map of (take (i + 1) xs))
 line_more takes of xs i d a b c told within so_far next is =
     taken_next takes (map of) (map-append of) xs i d a b c (told ∷ []) within so_far (one_line takes b c told next) (ap (λ l. l ∷ []) is)
+
+-- the lines of what is left of the items so far, and then that of what is left of the next one
+pub left_more : {S X Y : Type 0} (takes : S → S → ReportLine → Type 0) (of : Y → ReportLine) (h : X → Option Y) (xs : List X) (i : ℕ) (d : X) (a b c : S) → i < length xs
+    → TakesAll takes a b (map of (filter_map h (take i xs))) → TakesAll takes b c (map of (filter_map h (get_or xs i d ∷ []))) → TakesAll takes a c (map of (filter_map h (take (i + 1) xs)))
+left_more takes of h xs i d a b c within so_far next =
+    taken_next takes (λ ys. map of (filter_map h ys)) (λ ys zs. ap (map of) (filter_map-append h ys zs) ∙ map-append of (filter_map h ys) (filter_map h zs)) xs i d a b c _ within so_far next refl

@@ -1,5 +1,6 @@
 -- The lines of a report as data, in the order in which every form of it has them: one for each thing, or tallies. Those
--- of missing signature blocks, of tails and of absent sessions come if they are asked for (`Whole.antt`).
+-- of missing signature blocks, of tails and of absent sessions come if they are asked for (`Whole.antt`), and so do
+-- those of numbers that lie outside of a night (`Between.antt`).
 use Rattle.std.specs.Prelude.{ℕ, List, [], ◌∷◌, ◌++◌, length, map, flat_map}
 use Rattle.ss_frame.specs.declared.step.Tail.{Tail}
 use Rattle.ss_frame.specs.declared.step.Tail.TheVariants as tails
@@ -27,6 +28,8 @@ pub data ReportLine : Type 0 where
   OkLine : Session → Group → (number place : ℕ) → ReportLine
   GapLine : Session → Group → (number : ℕ) → Why → ReportLine
   HoleLine : Session → Group → (first last : ℕ) → ReportLine
+  EarlyLine : Session → Group → (first last : ℕ) → ReportLine
+  BeyondLine : Session → Group → (first last : ℕ) → ReportLine
   TailLine : Session → Group → (first last : ℕ) → ReportLine
   BlocksLine : Session → (first last : ℕ) → ReportLine
   AbsentLine : Session → ReportLine
@@ -84,6 +87,8 @@ seen (line.Session s state) = SessionLine s.now state
 seen (line.Ok s g number place) = OkLine s.now g number place
 seen (line.Gap s g number why) = GapLine s.now g number why
 seen (line.Hole s g first last) = HoleLine s.now g first last
+seen (line.Early s g first last) = EarlyLine s.now g first last
+seen (line.Beyond s g first last) = BeyondLine s.now g first last
 seen (line.Tail s t) = TailLine s.now t.group t.first t.last
 seen (line.Blocks s run) = BlocksLine s.now run.first run.last
 seen (line.Absent s) = AbsentLine s.now

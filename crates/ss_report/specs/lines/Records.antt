@@ -8,7 +8,7 @@ use Rattle.ss_report.specs.declared.lines.tally.Tally.{Tally}
 use Rattle.ss_report.specs.records.Record.{Value, Number, Word, Record, field}
 use Rattle.ss_report.specs.records.Fields.{session_fields, group_fields, cause_word}
 use Rattle.ss_report.specs.lines.Lines.{ReportLine, SessionLine, OkLine, GapLine, HoleLine, TailLine, BlocksLine}
-use Rattle.ss_report.specs.lines.Lines.{AbsentLine, TallyLine}
+use Rattle.ss_report.specs.lines.Lines.{EarlyLine, BeyondLine, AbsentLine, TallyLine}
 use Rattle.ss_report.specs.lines.Lines.{UnlistedLine, RefusedLine, SpoiltLine, UnlistedCountLine, RefusedCountLine}
 use Rattle.ss_report.specs.lines.Lines.{SpoiltCountLine, TornLine, EndLine}
 
@@ -36,6 +36,8 @@ kind_of (SessionLine s state) = codes "session"
 kind_of (OkLine s g number place) = codes "ok"
 kind_of (GapLine s g number why) = codes "gap"
 kind_of (HoleLine s g first last) = codes "hole"
+kind_of (EarlyLine s g first last) = codes "early"
+kind_of (BeyondLine s g first last) = codes "beyond"
 kind_of (TailLine s g first last) = codes "tail"
 kind_of (BlocksLine s first last) = codes "blocks"
 kind_of (AbsentLine s) = codes "session"
@@ -57,6 +59,10 @@ fields_of (GapLine s g number why) =
     session_fields s ++ group_fields g ++ field (codes "number") (Number number)
     ++ field (codes "why") (Word (why_word why))
 fields_of (HoleLine s g first last) =
+    session_fields s ++ group_fields g ++ field (codes "first") (Number first) ++ field (codes "last") (Number last)
+fields_of (EarlyLine s g first last) =
+    session_fields s ++ group_fields g ++ field (codes "first") (Number first) ++ field (codes "last") (Number last)
+fields_of (BeyondLine s g first last) =
     session_fields s ++ group_fields g ++ field (codes "first") (Number first) ++ field (codes "last") (Number last)
 fields_of (TailLine s g first last) =
     session_fields s ++ group_fields g ++ field (codes "first") (Number first) ++ field (codes "last") (Number last)

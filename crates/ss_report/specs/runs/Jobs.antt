@@ -1,5 +1,5 @@
 -- The runs over a log: what each writes of its messages and its tail, and its verdict.
-use Rattle.std.specs.Prelude.{true, false, ℕ, List, flat_map}
+use Rattle.std.specs.Prelude.{true, false, ℕ, Option, List, flat_map}
 use Rattle.ss_frame.specs.Frame.{frames, units_in}
 use Rattle.ss_frame.specs.Limits.{Allowance}
 use Rattle.ss_frame.specs.Watched.{Source, Sink}
@@ -15,6 +15,7 @@ use Rattle.ss_report.specs.texts.Inspection.{inspection}
 use Rattle.ss_report.specs.forms.Forms.{line_as, report_as, report_lines}
 use Rattle.ss_block.specs.declared.session.Session.{Session}
 use Rattle.ss_report.specs.lines.Whole.{TellsMissing, whole_lines, whole_verdict}
+use Rattle.ss_report.specs.lines.Between.{between_lines, between_verdict, end_counters}
 use Rattle.ss_review.specs.declared.counted.counter.Counter.{Counter}
 use Rattle.ss_report.specs.texts.QuestionForms.{questions_as}
 use Rattle.ss_report.specs.runs.Counters.{counter_lines}
@@ -62,6 +63,17 @@ abbrev pub reviewing_whole : ReportForm → Detail → List Counter → Answers 
 reviewing_whole form detail counters says = record {
   output = λ messages tail. flat_map (line_as form) (whole_lines detail says counters messages tail);
   verdict = λ messages tail. whole_verdict says counters messages tail;
+  reviews = true;
+  refusal = nothing;
+}
+
+-- the report of one night in a form: between these counters of each session, with what is missing of it up to the
+-- second ones, if they are given, and with what is announced outside of the night
+abbrev pub reviewing_between :
+    ReportForm → Detail → (first : List Counter) → (second : Option (List Counter)) → Answers → Job
+reviewing_between form detail first second says = record {
+  output = λ messages tail. flat_map (line_as form) (between_lines detail says first second messages tail);
+  verdict = λ messages tail. between_verdict says first second messages tail;
   reviews = true;
   refusal = nothing;
 }
@@ -129,3 +141,13 @@ pub record ReviewsWhole (form : ReportForm) (detail : Detail) (counters : List C
   pub missing : (s : Session) → TellsMissing says counters (blocks (notes run.messages)) s
   pub numbers_told : (k : Key) → NumberIsTold says run.messages counters k
   pub blocks_told : (s : Session) (gbc : ℕ) → BlockIsTold says run.messages counters s gbc
+
+-- the same of a review of one night in a form, which leaves out of what is missing up to the second counters what lies
+-- below the first ones
+pub record ReviewsBetween (form : ReportForm) (detail : Detail) (first : List Counter) (second : Option (List Counter))
+    (says : Answers) (limits : Allowance) (before after : Source) (was is : Sink) (verdict : Verdict) : Type 0 where
+  pub run : Runs (reviewing_between form detail first second says) limits before after was is verdict
+  pub listed : ListsWhatIsAnnounced says run.messages (report says run.messages)
+  pub missing : (s : Session) → TellsMissing says (end_counters second) (blocks (notes run.messages)) s
+  pub numbers_told : (k : Key) → NumberIsTold says run.messages (end_counters second) k
+  pub blocks_told : (s : Session) (gbc : ℕ) → BlockIsTold says run.messages (end_counters second) s gbc

@@ -32,6 +32,21 @@ pub(crate) enum Line<'r> {
         first: u64,
         last: u64,
     },
+    /// The numbers from `first` to `last` are announced, and lie below the first counter of their group.
+    Early {
+        session: &'r Session,
+        group: Group,
+        first: u64,
+        last: u64,
+    },
+    /// The numbers from `first` to `last` are announced, and the first lies at the second counter of their group or
+    /// above it.
+    Beyond {
+        session: &'r Session,
+        group: Group,
+        first: u64,
+        last: u64,
+    },
     /// None of these numbers of a group is announced. They come after all announced ones, and were sent before the
     /// counter was noted.
     Tail {

@@ -38,6 +38,8 @@ fn kind_of(line: Line<'_>) -> &'static [u8]
         Line::Ok { .. } => b"ok",
         Line::Gap { .. } => b"gap",
         Line::Hole { .. } => b"hole",
+        Line::Early { .. } => b"early",
+        Line::Beyond { .. } => b"beyond",
         Line::Tail { .. } => b"tail",
         Line::Blocks { .. } => b"blocks",
         Line::Tally { .. } => b"tally",
@@ -72,6 +74,18 @@ fn put_fields<W: Write>(writer: &mut Watched<W>, notation: Notation, line: Line<
             why,
         } => put_gap(writer, notation, session, group, number, why),
         Line::Hole {
+            session,
+            group,
+            first,
+            last,
+        }
+        | Line::Early {
+            session,
+            group,
+            first,
+            last,
+        }
+        | Line::Beyond {
             session,
             group,
             first,

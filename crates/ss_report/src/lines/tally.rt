@@ -1,7 +1,10 @@
 //! The tally of a group: how many of its numbers are listed, lost, disputed or in holes.
 ghost use Rattle.std.specs.Prelude.{◌≡◌, ◌≤◌, ◌+◌, ◌-◌, ◌^◌};
-ghost use Rattle.ss_report.specs.lines.Tally.{announcing, tally, HasOneMore, IsWithin};
+ghost use Rattle.std.specs.Prelude.{ℕ, [], ◌∷◌, filter_map, fold};
+ghost use Rattle.ss_between.specs.Between.{entry_left};
+ghost use Rattle.ss_report.specs.lines.Tally.{announcing, tally, with_entry, HasOneMore, IsWithin};
 
+use ss_between::entry_left;
 use ss_review::{Entry, Why};
 
 /// How many numbers of a group are listed, lost, disputed or in holes. The numbers are 1 to 9,999,999,999; `first` and
@@ -22,23 +25,49 @@ pub(crate) struct Tally {
     pub(crate) last: u64,
 }
 
+/// The tally of no entry.
+const NO_TALLY: Tally = Tally {
+    listed: 0,
+    lost: 0,
+    disputed: 0,
+    holes: 0,
+    first: 0,
+    last: 0,
+};
+
 impl Tally {
     /// The tally of the entries of a group.
     pub(crate) fn of(entries: &[Entry]) -> Tally
         ensures { result ≡ tally entries.now }
     {
-        let mut so_far = Tally {
-            listed: 0,
-            lost: 0,
-            disputed: 0,
-            holes: 0,
-            first: 0,
-            last: 0,
-        };
+        let mut so_far = NO_TALLY;
         for entry in entries {
             so_far = so_far.with(*entry);
         }
         so_far
+    }
+
+    /// The tally of the entries of a group, without the numbers of holes below this one.
+    pub(crate) fn of_left(number: u64, entries: &[Entry]) -> Tally
+        ensures { result ≡ tally (filter_map (entry_left number) entries.now) }
+    {
+        let mut so_far = NO_TALLY;
+        for entry in entries {
+            so_far = so_far.with_left(number, *entry);
+        }
+        so_far
+    }
+
+    /// The tally with what is left of one more entry from this number on, if anything is.
+    fn with_left(self, number: u64, entry: Entry) -> Tally
+        requires { IsWithin (2 ^ 63) self }
+        ensures told { result ≡ fold with_entry self (filter_map (entry_left number) (entry ∷ [])) }
+        ensures within { (count : ℕ) → IsWithin count self → IsWithin (count + 1) result }
+    {
+        match entry_left(number, entry) {
+            Some(left) => self.with(left),
+            None => self,
+        }
     }
 
     /// The tally with one more entry.

@@ -172,7 +172,7 @@ fn walk_entries<S, V: LineVisitor<S>>(
 }
 
 /// The line of an entry.
-fn line_of_entry(session: &Session, group: Group, entry: Entry) -> Line<'_>
+pub(crate) fn line_of_entry(session: &Session, group: Group, entry: Entry) -> Line<'_>
     ensures { seen result ≡ entry_line session.now group entry }
 {
     match entry {

@@ -2,10 +2,13 @@
 ghost use Rattle.std.specs.Prelude.{◌≡◌};
 ghost use Rattle.ss_report.specs.Verdict.{end_verdict, report_verdict, verdict_of};
 ghost use Rattle.ss_report.specs.lines.Whole.{verdict_with};
+ghost use Rattle.ss_report.specs.lines.Between.{verdict_between};
 
 use crate::lines::detail::Detail;
+use crate::lines::night::Night;
 use crate::lines::settled::Settling;
 use crate::lines::walk::walk_lines;
+use crate::lines::walk_between::walk_lines_between;
 use crate::lines::walk_whole::walk_lines_with;
 use crate::lines::whole::WholeReport;
 use ss_frame::Tail;
@@ -16,7 +19,8 @@ use ss_review::Report;
 pub enum Verdict {
     /// Of a review: each announced message is listed, each stored message is listed or a verified block, each session
     /// is joined, and the log has a clean end. Of a review that reports what is missing: nothing is missing either. Of
-    /// an inspection, of questions and of counters: the log has a clean end.
+    /// a review of one night: nothing is missing of it, and nothing is announced outside of it. Of an inspection, of
+    /// questions and of counters: the log has a clean end.
     Clean,
     /// One of these conditions doesn't hold.
     Findings,
@@ -47,6 +51,17 @@ pub(crate) fn verdict_with(whole: &WholeReport) -> Verdict
 {
     let mut settled = true;
     walk_lines_with(&Settling, &mut settled, whole, Detail::Itemized);
+    verdict_of(settled)
+}
+
+/// Whether no line of a report, and of what is missing beside it, leaves anything to look into between the counters of a
+/// night.
+pub(crate) fn verdict_between(whole: &WholeReport, night: &Night<'_>) -> Verdict
+    ensures { result
+        ≡ verdict_between night.now.first night.now.second whole.now.report whole.now.short whole.now.tail }
+{
+    let mut settled = true;
+    walk_lines_between(&Settling, &mut settled, whole, night, Detail::Itemized);
     verdict_of(settled)
 }
 

@@ -69,7 +69,7 @@ pub static REFUSALS: [Explanation; 32] = [
     Explanation {
         code: "C2",
         text: "The counters file can't be opened, is a folder, or reading it failed. See that the path after \
-            --counters or --resume is right, and that the file can be read.",
+            --counters, --from or --resume is right, and that the file can be read.",
     },
     Explanation {
         code: "C3",

@@ -4,7 +4,7 @@ use super::Explanation;
 
 /// Words of a verdict, lines of a report, states of a session, lines of an inspection, and lines of answers, plans and
 /// questions.
-pub static WORDS: [Explanation; 42] = [
+pub static WORDS: [Explanation; 44] = [
     Explanation {
         code: "verified",
         text: "Of a block: its session is joined, and its own signature is valid under the session's payload. Only \
@@ -33,7 +33,7 @@ pub static WORDS: [Explanation; 42] = [
         text: "A session is one run of a sender: its blocks share HOSTNAME, APP-NAME, PROCID and a number, the RSID. \
             The line ends with its state: joined, disputed, incomplete, malformed, untrusted or unaccepted, and with \
             --counters also absent. Only in a joined session can blocks be verified. The session's ok, gap and hole \
-            lines follow, and then its tail and blocks lines.",
+            lines follow, and then its early, beyond, tail and blocks lines.",
     },
     Explanation {
         code: "ok",
@@ -58,15 +58,32 @@ pub static WORDS: [Explanation; 42] = [
         text: "The line ends with the first and the last of some numbers. These numbers are unannounced: no verified \
             signature block announces them, but one announces a later number. The block for them is missing or \
             unverified. Look for refused lines, and for the block in the logs before and after this one. The messages \
-            of these numbers, if stored, are unlisted.",
+            of these numbers, if stored, are unlisted. With --from, numbers below the first counter of the group are \
+            left out.",
+    },
+    Explanation {
+        code: "early",
+        text: "Only ssign review --from writes this line. It ends with the first and the last of some numbers. \
+            Verified blocks announce them, and they lie below the first counter of their group: that of the file of \
+            --from. So blocks of an earlier night stand in this log, or the counters are those of a later night, or \
+            numbers were given twice. Each of these numbers has its ok or gap line too.",
+    },
+    Explanation {
+        code: "beyond",
+        text: "Only ssign review --from writes this line, and only with --counters. It ends with the first and the \
+            last of some numbers. Verified blocks announce them, and they lie at the second counter of their group or \
+            above it: that of the file of --counters. Or the group has no counter there. So blocks of a later night \
+            stand in this log, or the counters are older, or somebody else signs with this key. Each of these numbers \
+            has its ok or gap line too.",
     },
     Explanation {
         code: "blocks",
-        text: "Only ssign review --whole writes this line, and --counters. It ends with the first and the last of some \
-            values of GBC, which counts the signature blocks of a session from 0. No verified signature block has one \
-            of these values, but one has a greater value, or the counters file says that more were sent. So these \
-            blocks are missing or unverified, and their messages may be missing with them. Look for refused and spoilt \
-            lines, and for the blocks in the logs before and after this one, or in those of other collectors.",
+        text: "Only ssign review writes this line, with --whole, --counters or --from. It ends with the first and the \
+            last of some values of GBC, which counts the signature blocks of a session from 0. No verified signature \
+            block has one of these values, but one has a greater value, or the counters file says that more were sent. \
+            So these blocks are missing or unverified, and their messages may be missing with them. Look for refused \
+            and spoilt lines, and for the blocks in the logs before and after this one, or in those of other \
+            collectors. With --from, values below the first counter of the session are left out.",
     },
     Explanation {
         code: "tail",
@@ -74,7 +91,8 @@ pub static WORDS: [Explanation; 42] = [
             counters file says that messages with these numbers were signed. No verified signature block announces one \
             of them, or a later one. So the end of the group was cut off, its blocks are missing, or they are \
             unverified. Look for refused lines, for the state of the session, and for the blocks in the logs after \
-            this one. The messages of these numbers, if stored, are unlisted.",
+            this one. The messages of these numbers, if stored, are unlisted. With --from, numbers below the first \
+            counter of the group are left out.",
     },
     Explanation {
         code: "tally",
@@ -171,7 +189,8 @@ pub static WORDS: [Explanation; 42] = [
         code: "absent",
         text: "Only ssign review --counters writes this state. The counters file names the session, but no block of it \
             is in the log. Its messages, if stored, are unlisted. Look for the session in the logs before and after \
-            this one. If its log was reviewed by itself, leave its lines out of the counters for this one.",
+            this one. If its log was reviewed by itself, leave its lines out of the counters for this one. With \
+            --from, a session that has a first counter is absent only if something is missing from there on.",
     },
     Explanation {
         code: "plain",
@@ -234,7 +253,7 @@ pub static WORDS: [Explanation; 42] = [
             next signature block. Three numbers there are a group, SG and SPRI, and the number of the group's next \
             message. 10000000000 means that a counter is used up. Keep these lines elsewhere, where nobody who can \
             change the log can change them. Give them to a later ssign review with --counters: it reports what is \
-            missing up to them.",
+            missing up to them. A review of the next night begins at them with --from.",
     },
     Explanation {
         code: "want",

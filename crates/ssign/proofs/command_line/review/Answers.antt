@@ -8,4 +8,5 @@ returns c =
     let three = with_argument c.in_ok-review-2.ensures two c.flag-2.ensures.rule c.flag-2.ensures.local in
     let four = with_argument c.in_ok-arg-2.ensures three c.flag-3.ensures.rule c.flag-3.ensures.local in
     let five = with_argument c.in_ok-review-3.ensures four c.flag-4.ensures.rule c.flag-4.ensures.local in
-    c.limited.ensures _ (with_argument c.in_ok-arg-3.ensures five c.file-2.ensures.rule c.file-2.ensures.local)
+    let six = with_argument c.in_ok-review-4.ensures five c.file-2.ensures.rule c.file-2.ensures.local in
+    c.limited.ensures _ (with_argument c.in_ok-arg-3.ensures six c.file-3.ensures.rule c.file-3.ensures.local)

@@ -1,0 +1,8 @@
+use Rattle.std.proofs.Common.{take, map, filter_map}
+use Rattle.ss_between.specs.Between.{entry_left}
+use Rattle.ss_report.specs.lines.Lines.{entry_line}
+use Rattle.ss_report.specs.lines.Taken.{TakesAll}
+use Rattle.ss_report.proofs.lines.left.walk_entries_left.Given as goal
+
+abbrev pub invariant-loop-entry : goal.invariant-loop-entry
+invariant-loop-entry g l = TakesAll (g.V.LineVisitor.takes l.visitor) l.initial.into l.into (map (entry_line l.session l.group) (filter_map (entry_left l.number) (take l.entry-index l.entries)))
