@@ -1,0 +1,11 @@
+pub mod Left
+pub mod NightParts
+pub mod Runs
+pub mod Outside
+pub mod NightOutside
+pub mod CleanNights
+pub mod Missing
+pub mod OwnCounters
+pub mod OneHash
+pub mod IdleNights
+pub mod NightVerdicts

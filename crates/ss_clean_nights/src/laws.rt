@@ -1,0 +1,141 @@
+//! Laws on one night, from the first counter of each group on and below the second one.
+ghost use Rattle.ss_clean_nights.specs.CleanLaws.{CleanNightsAddUp, CleanNightsHaveAll, NumbersHaveOneHash};
+ghost use Rattle.ss_clean_nights.specs.MissingLaws.{MissingIsReportedOnce};
+ghost use Rattle.ss_clean_nights.specs.NightLaws.{BlocksOfNightsAreTold, NightsLeaveOutTheRest, NumbersOfNightsAreTold};
+ghost use Rattle.ss_clean_nights.specs.NightLaws.{NumbersOutsideAreThese};
+ghost use Rattle.ss_clean_nights.specs.NightRows.{NightsLeaveThese};
+ghost use Rattle.ss_clean_nights.specs.SmallNights.{AnnouncedAreBelowOwnCounters, CleanLogsAreCleanNights};
+ghost use Rattle.ss_clean_nights.specs.SmallNights.{IdleNightsAreClean, SmallNightIsClean};
+ghost use Rattle.ss_clean_nights.specs.VerdictLaws.{VerdictsAreOfNights};
+
+use ss_block::laws::readings::blocks_are_in_range;
+use ss_review::laws::cases::whole_is_reported;
+use ss_review::laws::counted::{
+    counted_are_verified, counted_or_missing, next_gbc_follows, next_numbers_follow,
+};
+use ss_review::laws::kept::{every_block_is_told, every_number_is_told};
+use ss_review::laws::reports::{announced_are_told, listed_are_assigned, reports_are_in_order};
+
+/// A night leaves out what lies below the first counters, and nothing else: each session stays with its state and its
+/// groups, each announced number stays, and so does each number of a hole or a tail and each GBC that is missing, from
+/// the first counter on. A session that the log has no block of is left out only if it has a first counter and nothing
+/// of it is missing.
+pub fn nights_leave_out_the_rest()
+    ensures { NightsLeaveOutTheRest }
+{}
+
+/// Each number from its group's first counter on and below the second one is exactly one of listed, a gap, in a hole
+/// and in a tail.
+pub fn numbers_of_nights_are_told()
+    ensures { NumbersOfNightsAreTold }
+{
+    every_number_is_told();
+    nights_leave_out_the_rest();
+}
+
+/// Each GBC from its session's first counter on and below the second one is that of a verified signature block, or it
+/// is missing, and never both.
+pub fn blocks_of_nights_are_told()
+    ensures { BlocksOfNightsAreTold }
+{
+    every_block_is_told();
+    nights_leave_out_the_rest();
+}
+
+/// The early numbers are exactly the announced ones below the first counter of their group, and those beyond the night
+/// exactly those from the second counter on. Both stand in greatest runs.
+pub fn numbers_outside_are_these()
+    ensures { NumbersOutsideAreThese }
+{
+    reports_are_in_order();
+}
+
+/// If a night is clean, the log lists each number from its group's first counter on and below the second one, and
+/// announces no other number. It has a verified signature block with each GBC of that kind.
+pub fn clean_nights_have_all()
+    ensures { CleanNightsHaveAll }
+{
+    announced_are_told();
+    nights_leave_out_the_rest();
+    numbers_of_nights_are_told();
+    blocks_of_nights_are_told();
+    numbers_outside_are_these();
+}
+
+/// If nights follow one another, no counter falls and each night is clean, each number from the counters at which the
+/// first one begins and below those at which the last one ends is listed in exactly one of their logs. Each GBC of that
+/// kind has a verified signature block in one.
+pub fn clean_nights_add_up()
+    ensures { CleanNightsAddUp }
+{
+    announced_are_told();
+    clean_nights_have_all();
+}
+
+/// If nights follow one another, no counter falls and each night is clean, a number that is announced is announced in
+/// one of their logs alone, and with one hash.
+pub fn numbers_have_one_hash()
+    ensures { NumbersHaveOneHash }
+{
+    listed_are_assigned();
+    clean_nights_have_all();
+}
+
+/// What is missing up to counters is reported once. A group has one tail at most, from the number after the last
+/// announced one to the counter, by rising group. The runs of a session's signature blocks are the greatest ones below
+/// its counter, or below the greatest GBC that is there.
+pub fn missing_is_reported_once()
+    ensures { MissingIsReportedOnce }
+{
+    announced_are_told();
+    reports_are_in_order();
+    next_numbers_follow();
+    counted_are_verified();
+    counted_or_missing();
+    next_gbc_follows();
+}
+
+/// Small reports between counters, computed: what is left of holes, tails and runs, which sessions are left out, and
+/// the runs of numbers outside of the night.
+pub fn nights_leave_these()
+    ensures { NightsLeaveThese }
+{}
+
+/// Each announced number of a log is at least 1, and below the counter that the log itself gives.
+pub fn announced_are_below_own_counters()
+    ensures { AnnouncedAreBelowOwnCounters }
+{
+    announced_are_told();
+    next_numbers_follow();
+    blocks_are_in_range();
+}
+
+/// A clean log of which nothing is missing up to its own counters is a clean night, from no counter up to these.
+pub fn clean_logs_are_clean_nights()
+    ensures { CleanLogsAreCleanNights }
+{
+    announced_are_told();
+    numbers_outside_are_these();
+    announced_are_below_own_counters();
+}
+
+/// A night in which nothing was sent is clean: its log is empty, and it ends at the counters at which it begins.
+pub fn idle_nights_are_clean()
+    ensures { IdleNightsAreClean }
+{}
+
+/// A small log meets the premises of the laws on clean nights, and so does a night after it in which nothing was sent.
+pub fn small_night_is_clean()
+    ensures { SmallNightIsClean }
+{
+    whole_is_reported();
+    announced_are_told();
+    announced_are_below_own_counters();
+    clean_logs_are_clean_nights();
+    idle_nights_are_clean();
+}
+
+/// The verdict of a review between counters is clean exactly if its night is, and the log has a clean end.
+pub fn verdicts_are_of_nights()
+    ensures { VerdictsAreOfNights }
+{}

@@ -1,0 +1,3 @@
+pub mod WholeNights
+pub mod WholeRows
+pub mod SmallNights
