@@ -1,0 +1,14 @@
+pub mod CountersSaid
+pub mod OneSession
+pub mod GreatestOfNights
+pub mod OwnCounters
+pub mod SmallNights
+pub mod CounterPremises
+pub mod AlikeAnswers
+pub mod OwnTogether
+pub mod OwnTexts
+pub mod SmallAnswers
+pub mod PremisesBefore
+pub mod CopiedLater
+pub mod LaterFiles
+pub mod KeptTexts
