@@ -14,7 +14,9 @@ from .blocks import Session
 from .encoding import decode
 from .faults import Fault
 from .keys import PrivateKey, PublicKey, read_private_key
+from .output import write_out
 from .payloads import read_payload
+from .seal_each import LastSessions, LastState
 from .sealed import Sessions, record_of
 from .stated import refuse_other_key
 from .state import State
@@ -94,6 +96,8 @@ def add_arguments(parser: argparse.ArgumentParser) -> None:
     parser.add_argument("--state", metavar="FILE", help="keep in FILE what was signed, and refuse a block that doesn't go "
                         "with it: of an older session, or with a counter or a number that other octets have")
     parser.add_argument("--new-state", action="store_true", help="begin the file of --state, which may not be there yet")
+    parser.add_argument("--each", action="store_true", help="answer each line at once, as `ssign-keys live` wants it; the file of "
+                        "--state remembers the last blocks then, and a block before them is refused")
 
 
 def run(arguments: argparse.Namespace) -> int:
@@ -102,6 +106,8 @@ def run(arguments: argparse.Namespace) -> int:
         raise Fault("--new-state goes with --state FILE")
     wanted = session_of(arguments)
     key = read_private_key(arguments.key)
+    if arguments.each:
+        return seal_each(arguments, key, wanted)
     with ExitStack() as stack:
         state: Optional[State] = None
         sessions = Sessions(is_ordered=False)
@@ -123,6 +129,32 @@ def run(arguments: argparse.Namespace) -> int:
         if state is not None:
             state.write()
         output.release()
+    return 0
+
+
+def seal_each(arguments: argparse.Namespace, key: PrivateKey, wanted: Dict[str, bytes]) -> int:
+    """Answers each line of standard input at once. Ends at the first one that is refused.
+
+    A block stands in the state, on the disk, before its seal is given out.
+    """
+    with ExitStack() as stack:
+        state: Optional[State] = None
+        sessions: Sessions = LastSessions()
+        if arguments.state is not None:
+            state = stack.enter_context(LastState(arguments.state, key.public.fingerprint, arguments.new_state))
+            sessions = state.sessions
+        payloads = Payloads()
+
+        def check(block: Written, octets: bytes, line: int) -> None:
+            refuse_other_session(block.session, wanted)
+            sessions.take(block.session, record_of(block, octets, 0))
+            payloads.take(block)
+            payloads.refuse_other_key(key.public)
+
+        for line in seals(input_lines(), key, check):
+            if state is not None:
+                state.write()
+            write_out([line])
     return 0
 
 

@@ -33,6 +33,10 @@ LONGEST = 600
 class State:
     """A state file, which no other run uses while this one does. Used with `with`."""
 
+    heading = HEADING
+    # with which option of `seal` such a file goes
+    mode = ""
+
     def __init__(self, path: str, key: str, is_new: bool) -> None:
         """The file, the fingerprint of the key whose seals it is about, and whether it is begun by this run."""
         self._name = shown_name(path)
@@ -40,7 +44,7 @@ class State:
         self._path = os.path.realpath(path)
         self._key = key.encode()
         self._is_new = is_new
-        self.sessions = Sessions(is_ordered=True)
+        self.sessions: Sessions = Sessions(is_ordered=True)
 
     def __enter__(self) -> State:
         """Locks and reads the file."""
@@ -130,10 +134,10 @@ class State:
 
     def _check_heading(self, line: bytes) -> None:
         """Refuses another file, and one of another key."""
-        start = HEADING[:HEADING.index(b"%s")]
+        start = self.heading[:self.heading.index(b"%s")]
         if not line.startswith(start):
-            raise Fault(f"{self._name} is no state file of ssign-keys seal")
-        if line != HEADING % self._key:
+            raise Fault(f"{self._name} is no state file of ssign-keys seal{self.mode}")
+        if line != self.heading % self._key:
             raise Fault(f"the state file {self._name} is that of another key")
 
     def _session(self, line: bytes, number: int) -> Session:
@@ -189,7 +193,7 @@ class State:
 
     def _lines(self) -> Iterator[bytes]:
         """The lines but for the last."""
-        yield HEADING % self._key
+        yield self.heading % self._key
         for session, records in self.sessions:
             yield b"session %s\n" % b" ".join(session)
             for it in records:

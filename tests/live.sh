@@ -1,0 +1,44 @@
+#!/usr/bin/env bash
+# `ssign-keys live`: stopped at each step by a kill, a loss of power and a full disk, in live_kills.py and live_power.py; what it
+# does as a process, in live_runs.py; and with rsyslog, in live_rsyslog.py. LIVE_ALL=1 tries each way at each step, which takes
+# some minutes more.
+# shellcheck source=tests/lib.sh
+. "$(dirname -- "$0")/lib.sh"
+need_program
+export SSIGN=$program
+keys_program=$root/tools/ssign-keys
+if ! python3 -c 'import cryptography' 2>/dev/null; then
+    echo "$name: no cryptography for python3 here (apt-get install python3-cryptography), so nothing is signed"
+    holds 'ssign-keys is there' test -x "$keys_program"
+    finish
+fi
+cd -- "$scratch" || exit 1
+all=()
+[[ ! ${LIVE_ALL-} ]] || all=(all)
+
+# adds WHAT COMMAND..: the checks of a script of Python, whose last line has its counts.
+adds() {
+    local what=$1 said counts
+    shift
+    said=$("$@" 2>&1)
+    counts=$(tail -n 1 <<<"$said" | grep -Eo '[0-9]+ passed, [0-9]+ failed$')
+    if [[ ! $counts ]]; then
+        tell "$what" "${said:-    it said nothing}"
+        return
+    fi
+    head -n -1 <<<"$said"
+    read -r more _ less _ <<<"${counts/,/}"
+    passed=$((passed + more)) failed=$((failed + less))
+}
+
+mkdir keys
+"$keys_program" make keys >made || exit 1
+adds 'losses of power' python3 -B "$root/tests/live_power.py" "$program" "${all[@]}"
+adds 'kills' python3 -B "$root/tests/live_kills.py" "$program" keys "${all[@]}"
+adds 'runs' python3 -B "$root/tests/live_runs.py" "$program" keys
+if command -v rsyslogd >found && ls /usr/lib/*/rsyslog/omprog.so >found 2>&1; then
+    adds 'rsyslog' python3 -B "$root/tests/live_rsyslog.py" "$program" keys
+else
+    echo "$name: no rsyslogd with omprog here (apt-get install rsyslog), so it hands nothing over"
+fi
+finish

@@ -1,0 +1,303 @@
+#!/usr/bin/env python3
+"""Lives of `ssign-keys live` on made-up disks: the power goes at each step, the disk is full, octets and states are changed.
+
+    live_power.py SSIGN [all]
+
+Wanted of each: one session for each boot, joined; nothing disputed; no number twice; each confirmed message listed; status 0
+up to the counters that were kept. With `all` each step is tried in each way; else each step in some of them. The last line
+is `live_power: N passed, M failed`.
+"""
+import collections
+import random
+import sys
+
+import live_disks
+from live_disks import STATE, OUT, MadeUpDisk, Review, Signer, WAYS, message
+
+from ssign_keys import live_state
+
+PROGRAM = sys.argv[1]
+IS_ALL = sys.argv[2:] == ["all"]
+passed = failed = 0
+told = 0
+
+
+def tell(what, faults):
+    """One check."""
+    global passed, failed, told
+    if not faults:
+        passed += 1
+        return
+    failed += 1
+    told += 1
+    if told <= 20:
+        print(f"live_power: {what}: FAILED")
+        for it in faults[:6]:
+            print(f"    {it}")
+
+
+def faults_of(review, wanted, sessions, is_once=False):
+    """What is wrong with a report on a log of these messages."""
+    faults = []
+    if review.status != 0 or review.findings:
+        faults.append(f"status {review.status}, {review.findings[:4]}")
+    if any(it[5] != "joined" for it in review.sessions):
+        faults.append(f"a session isn't joined: {review.sessions}")
+    if not 1 <= len(review.sessions) <= sessions:
+        faults.append(f"{len(review.sessions)} sessions, and not 1 to {sessions}")
+    missing = [it for it in wanted if review.listed[it] < 1]
+    if missing:
+        faults.append(f"not listed: {missing[:3]}")
+    twice = [it for it in wanted if review.listed[it] > 1]
+    if twice and is_once:
+        faults.append(f"listed twice: {twice[:3]}")
+    return faults
+
+
+def power():
+    """The power goes before each step, and again while the next start recovers."""
+    wanted = [message(n) for n in range(30)]
+    for is_far in (False, True):
+        for keeps in (False, True):
+            steps = whole(wanted, is_far, keeps)
+            runs = 0
+            for cut_at in range(1, steps + 1):
+                ways = [(way, names) for way in WAYS for names in (False, True)]
+                if not IS_ALL:
+                    ways = [ways[(cut_at + it + is_far + 2 * keeps) % len(ways)] for it in (0, 3)]
+                for way, names in ways:
+                    for second in (0, 1 + (cut_at * 7) % 11):
+                        runs += 1
+                        cut(wanted, is_far, keeps, cut_at, way, names, second)
+            print(f"live_power: the power goes, {'far' if is_far else 'near'} key, "
+                  f"{'kept' if keeps else 'new'} session: {steps} steps, {runs} runs")
+
+
+def whole(wanted, is_far, keeps):
+    """A life that nothing ends. Gives how many steps it has."""
+    signer = Signer(PROGRAM, is_far, keeps_session=keeps)
+    disk = MadeUpDisk({})
+    signer.run(disk, wanted)
+    tell("a life that nothing ends", faults_of(Review(PROGRAM, disk.image()), wanted, 1, True))
+    return disk.steps
+
+
+def cut(wanted, is_far, keeps, cut_at, way, names, second):
+    """One life that is cut off, perhaps one more, and one that goes to its end."""
+    what = f"cut at {cut_at}, {way}{' with names' if names else ''}, {'far' if is_far else 'near'}, {keeps=}, second at {second}"
+    signer = Signer(PROGRAM, is_far, keeps_session=keeps)
+    disk = MadeUpDisk({}, cut_at)
+    signer.run(disk, wanted)
+    image = disk.after_the_cut(way, names, cut_at)
+    if second:
+        signer.boot += 1
+        disk = MadeUpDisk(image, second)
+        signer.run(disk, wanted)
+        image = disk.after_the_cut(WAYS[(cut_at + second) % len(WAYS)], names, cut_at + second)
+    signer.boot += 1
+    disk = MadeUpDisk(image)
+    try:
+        signer.run(disk, wanted)
+    except Exception as fault:
+        tell(what, [f"{type(fault).__name__}: {fault}"])
+        return
+    tell(what, faults_of(Review(PROGRAM, disk.image()), wanted, 1 if keeps else 3))
+
+
+def full():
+    """The disk is full at each write, and has room again at the fourth try."""
+    wanted = [message(n) for n in range(30)]
+    disk = MadeUpDisk({})
+    Signer(PROGRAM).run(disk, wanted)
+    runs = 0
+    for at in disk.appends:
+        signer = Signer(PROGRAM)
+        disk = MadeUpDisk({}, full_at=at)
+        signer.run(disk, wanted)
+        runs += 1
+        faults = faults_of(Review(PROGRAM, disk.image()), wanted, 1, True)
+        if disk.full_left:
+            faults.append("the disk was never full")
+        tell(f"full at {at}", faults)
+    print(f"live_power: the disk is full: {runs} runs")
+
+
+def tampered():
+    """Octets are taken away that were on the disk. Nothing is given twice, and what is gone is reported."""
+    kinds = collections.Counter()
+    cases = 1000 if IS_ALL else 120
+    for seed in range(cases):
+        rng = random.Random(seed)
+        signer = Signer(PROGRAM, keeps_session=True)
+        wanted = [message(n) for n in range(rng.randrange(3, 40))]
+        disk = MadeUpDisk({}, rng.randrange(12, 90))
+        signer.run(disk, wanted)
+        image = disk.image()
+        outs = sorted(it for it in image if it[0] == OUT)
+        if not outs:
+            continue
+        gone = rng.randrange(len(image[outs[-1]]) + 1)
+        if rng.random() < .2 and len(outs) > 1:
+            del image[outs[-1]]
+        else:
+            image[outs[-1]] = image[outs[-1]][:gone]
+        earlier, later = signer.confirmed, [b"<13>1 - gate app 9 - - later %d" % n for n in range(rng.randrange(20))]
+        signer.confirmed = []
+        disk = MadeUpDisk(image)
+        signer.run(disk, later)
+        review = Review(PROGRAM, disk.image())
+        rows = [it.split(" ") for it in review.findings]
+        faults = [f"disputed: {it}" for it in rows if it[-1] == "disputed"]
+        faults += [f"not listed once: {it}" for it in later if review.listed[it] != 1]
+        faults += [f"not joined: {it}" for it in review.sessions if it[5] != "joined"]
+        reported = sum(1 for it in rows if it[0] == "gap")
+        reported += sum(int(it[-1]) - int(it[-2]) + 1 for it in rows if it[0] in ("hole", "tail"))
+        missing = sum(1 for it in earlier if not review.listed[it])
+        # one that had no number yet isn't known to the counters
+        if missing - reported > live_disks.MESSAGES_IN_BLOCK + live_disks.IN_TRANSACTION:
+            faults.append(f"{missing} missing, {reported} reported")
+        kinds.update({it[0] for it in rows} or {"clean"})
+        tell(f"octets taken away, seed {seed}", faults)
+    print(f"live_power: octets taken away: {cases} cases, {dict(sorted(kinds.items()))}")
+
+
+def refused(what, image, code, signer, is_new_refused=False):
+    """One check: a start on this image is refused with a code, and changes nothing; --new-session begins another session."""
+    faults = []
+    disk = MadeUpDisk(image)
+    try:
+        signer.live(disk)
+        faults.append("it was taken")
+    except Exception as fault:
+        if not str(fault).endswith(f"({code})"):
+            faults.append(f"{type(fault).__name__}: {fault}")
+    if disk.image() != image:
+        faults.append("something was changed")
+    if not is_new_refused:
+        signer.arguments.new_session = True
+        try:
+            later = [b"<13>1 - gate app 9 - - later %d" % n for n in range(4)]
+            signer.confirmed = []
+            signer.seconds = 900
+            disk = MadeUpDisk(image)
+            signer.run(disk, later)
+            review = Review(PROGRAM, disk.image())
+            faults += [f"not listed once: {it}" for it in later if review.listed[it] != 1]
+            rsids = [int(it[4]) for it in review.sessions]
+            if len(rsids) != 2 or max(rsids) <= 1000:
+                faults.append(f"RSIDs {rsids}")
+        except Exception as fault:
+            faults.append(f"with --new-session: {type(fault).__name__}: {fault}")
+        signer.arguments.new_session = False
+    tell(what, faults)
+
+
+def moments(wanted, what):
+    """What stands on the disk while the newest state is such a one, in the order of time."""
+    found = []
+    steps = MadeUpDisk({})
+    Signer(PROGRAM).run(steps, wanted)
+    for cut_at in range(1, steps.steps + 1):
+        disk = MadeUpDisk({}, cut_at)
+        Signer(PROGRAM).run(disk, wanted)
+        saved = live_state.newest(lambda name: disk.image().get((STATE, name)))
+        if saved is not None and what(saved):
+            found.append(disk.image())
+    return found
+
+
+def states():
+    """States that were cut, doubled, put back, or are of another key."""
+    wanted = [message(n) for n in range(30)]
+    images = []
+    signer = Signer(PROGRAM)
+    disk = MadeUpDisk({})
+    for part in (8, 16, 30):
+        signer.run(disk, wanted[:part])
+        images.append(disk.image())
+        disk = MadeUpDisk(images[-1])
+    image = images[-1]
+    files = [(STATE, it) for it in ("state-0", "state-1")]
+    newest = max(files, key=lambda it: int(image[it].split(b" ")[4].split(b"\n")[0]))
+    other = next(it for it in files if it != newest)
+    turned = {newest: image[other], other: image[newest]}
+    for what, changed, code in (
+            ("both files of the state are cut", {it: image[it][:len(image[it]) // 2] for it in files}, "L2"),
+            ("both files are empty", {it: b"" for it in files}, "L2"),
+            ("the newest file is cut", {newest: image[newest][:200]}, "L4"),
+            ("the newest file has one octet changed", {newest: image[newest].replace(b"groups one", b"groups two")}, "L4"),
+            ("the older file stands in both", {newest: image[other]}, "L2"),
+            ("the newest file stands in both", {other: image[newest]}, "L2"),
+            ("the two files are turned round", turned, "L2"),
+            ("the state of an earlier night", {it: images[1][it] for it in files}, "L4"),
+            ("the state of an earlier file", {it: images[0][it] for it in files}, "L4"),
+            ("the newest file is another kind of file", {newest: image[STATE, "counters-1000"]}, "L4")):
+        refused(what, {**image, **changed}, code, Signer(PROGRAM))
+    # the counters alone show it, where the output was put back too
+    put_back = {**{it: octets for it, octets in images[0].items() if it[0] == OUT}, **{it: images[0][it] for it in files},
+                (STATE, "counters-1000"): image[STATE, "counters-1000"]}
+    refused("state and output of an earlier file, with the present counters", put_back, "L4", Signer(PROGRAM))
+    for what, state in (("an earlier state, and nothing but a block shows it",
+                         moments(wanted, lambda saved: saved.at and saved.file == 1)[0]),
+                        ("the state before a file was begun, and nothing but the file shows it",
+                         moments(wanted, lambda saved: saved.file == 1)[-1])):
+        bare = {it: octets for it, octets in image.items() if it[0] == OUT}
+        if "block" in what:
+            bare = {it: octets for it, octets in bare.items() if it[1] == "signer-1000-000001.frames"}
+        refused(what, {**bare, **{it: state[it] for it in files}}, "L4", Signer(PROGRAM))
+    signer = Signer(PROGRAM)
+    signer.arguments.host = ["other"]
+    refused("another HOSTNAME", image, "L3", signer)
+    live_disks.Key.fingerprint = "cd" * 32
+    refused("another key", image, "L3", Signer(PROGRAM))
+    live_disks.Key.fingerprint = "ab" * 32
+    doubled = {**image, newest: image[newest] * 2}
+    signer = Signer(PROGRAM)
+    signer.confirmed = list(wanted)
+    disk = MadeUpDisk(doubled)
+    more = wanted + [message(n) for n in range(100, 108)]
+    signer.run(disk, more)
+    tell("a file of the state is doubled in itself", faults_of(Review(PROGRAM, disk.image()), more, 1, True))
+    lost_first = {files[1]: image[files[1]][:50]}
+    disk = MadeUpDisk(lost_first)
+    signer = Signer(PROGRAM)
+    signer.run(disk, wanted)
+    tell("the first save of all broke off", faults_of(Review(PROGRAM, disk.image()), wanted, 1, True))
+
+
+def clocks():
+    """The clock goes back from boot to boot, and the state is lost."""
+    image, signer, wanted = {}, Signer(PROGRAM), []
+    for boot, seconds in enumerate((2000, 1500, 1500, 10)):
+        signer.boot, signer.seconds = boot, seconds
+        wanted += [message(100 * boot + n) for n in range(4)]
+        disk = MadeUpDisk(image)
+        signer.run(disk, wanted)
+        image = disk.image()
+    review = Review(PROGRAM, image)
+    faults = faults_of(review, wanted, 4, True)
+    if [it[4] for it in review.sessions] != ["2000", "2001", "2002", "2003"]:
+        faults.append(f"sessions {review.sessions}")
+    tell("the clock goes back", faults)
+    lost = {it: octets for it, octets in image.items() if it[0] == OUT}
+    disk = MadeUpDisk(lost)
+    signer.confirmed, later = [], [message(n) for n in range(900, 904)]
+    signer.run(disk, later)
+    review = Review(PROGRAM, disk.image())
+    tell("the state is lost", faults_of(review, wanted + later, 5, True))
+    signer.seconds = 10000000000
+    signer.boot += 1
+    refused("no RSID is left", disk.image(), "L6", signer, is_new_refused=True)
+
+
+def main():
+    """Makes all checks."""
+    for it in (power, full, tampered, states, clocks):
+        it()
+    print(f"live_power: ssign was asked {live_disks.KnownEngine.asked} times, and ran {len(live_disks.KnownEngine.answers)} times")
+    print(f"live_power: {passed} passed, {failed} failed")
+    return 1 if failed else 0
+
+
+if __name__ == "__main__":
+    sys.exit(main())

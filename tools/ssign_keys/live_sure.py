@@ -1,0 +1,41 @@
+"""Which messages surely can be signed as they are, without asking ssign: a part of RFC 5424 that is easy to see.
+
+ssign decides in the end: what it refuses when it is to be signed is stored unsigned, and counted. A message that isn't sure
+here is asked about before it is stored. So a mistake here loses nothing.
+"""
+from __future__ import annotations
+
+import functools
+import re
+
+from .written import is_stamp
+
+# RFC 5424, section 6. Elements have ASCII alone and no escape, and their names no colon, which a block's never has either.
+NAME = rb"[A-Za-z][A-Za-z0-9.@_-]{0,31}"
+ELEMENT = rb"\[" + NAME + rb"(?: " + NAME + rb'="[ !#-\[^-~]*")*\]'
+SURE = re.compile(rb"<(?:[0-9]|[1-9][0-9]|1[0-8][0-9]|19[01])>1 (-|[0-9T:.Z+-]{20,32}) [!-~]{1,255} [!-~]{1,48} [!-~]{1,128} "
+                  rb"([!-~]{1,32}) (-|(?:" + ELEMENT + rb")+)(?: (.*))?", re.DOTALL)
+ID = re.compile(rb"\[(" + NAME + rb")")
+MARK = b"ssign"
+WRAPPED = b"wrapped"
+BOM = b"\xef\xbb\xbf"
+# so many TIMESTAMPs are remembered, because many messages have the same
+REMEMBERED = 4096
+
+
+@functools.lru_cache(REMEMBERED)
+def is_time(stamp: bytes) -> bool:
+    """Whether this is a TIMESTAMP, or `-`."""
+    return is_stamp(stamp)
+
+
+def is_sure(message: bytes) -> bool:
+    """Whether a message surely is one of RFC 5424, no block, and no wrap."""
+    found = SURE.fullmatch(message)
+    if found is None or found[2] == WRAPPED or not is_time(found[1]):
+        return False
+    if found[3] != b"-":
+        names = ID.findall(found[3])
+        if len(set(names)) != len(names) or any(it.startswith(MARK) for it in names) or found[3].count(b"[") != len(names):
+            return False
+    return not (found[4] or b"").startswith(BOM)
