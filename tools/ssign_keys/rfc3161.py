@@ -1,0 +1,294 @@
+"""Time stamps (RFC 3161): what the answer of a time stamp service says, and whether it is one of a given authority.
+
+What it says is read here, strictly, so that openssl and this module can't read two things in it. Whether its signature and
+its certificates are valid, openssl decides.
+"""
+from __future__ import annotations
+
+import hashlib
+import re
+from datetime import datetime, timezone
+from typing import Dict, List, NamedTuple, Optional, Sequence, Tuple
+
+from . import der
+from .certificates import Certificate, loaded, read_certificate, read_certificates
+from .commands import ask
+from .der import Bad, Item
+from .digests import Digest
+from .faults import Fault
+from .files import read_file
+from .identity import CertificateFacts, certificate_fields, shown_text
+from .trust import Given
+from .words import grouped, shown_name
+from .workplace import Workplace, finish, put
+
+from cryptography.hazmat.primitives.serialization import Encoding
+
+# a longer answer is none of a time stamp service: it has a few certificates
+LONGEST = 1 << 20
+SIGNED_DATA = "1.2.840.113549.1.7.2"
+TST_INFO = "1.2.840.113549.1.9.16.1.4"
+SHA256 = "2.16.840.1.101.3.4.2.1"
+# SHA-256, SHA-384 and SHA-512, and the same of SHA-3: for a shorter hash two texts with one hash may be made
+HASHES = frozenset(f"2.16.840.1.101.3.4.2.{it}" for it in (1, 2, 3, 8, 9, 10))
+# PKIStatus (RFC 3161, section 2.4.2): with the first two there is a stamp
+GRANTED = (0, 1)
+STATUSES = {2: "rejection", 3: "waiting", 4: "revocation warning", 5: "revocation notification"}
+FAILURES = {0: "badAlg", 2: "badRequest", 5: "badDataFormat", 14: "timeNotAvailable", 15: "unacceptedPolicy",
+            16: "unacceptedExtension", 17: "addInfoNotAvailable", 25: "systemFailure"}
+TIME = re.compile(rb"([0-9]{14})(\.[0-9]{1,9})?Z")
+# what a verdict calls a file that is stamped
+THESE = {"counters": "These counters", "manifest": "This manifest", "file": "This file"}
+# how many letters of a stranger's text a sentence holds
+SHOWN = 200
+# how openssl says what is wrong: the library, the function, the reason, the file, the line, and more
+SAID = re.compile(r"error:[0-9A-F]+:[^:]*:[^:]*:([^:]*):[^:]*:[0-9]+:(.*)")
+
+
+class TimeStamp(NamedTuple):
+    """What an answer says. Nobody knows yet whether it is true."""
+
+    time: str
+    """When, in UTC, as RFC 5424 spells it."""
+    moment: int
+    """The same in whole seconds since 1970."""
+    imprint: str
+    """The SHA-256 of what was stamped, in hexadecimal digits."""
+    serial: str
+    """The number of the stamp, in hexadecimal digits."""
+    policy: str
+    """The policy of the service, as numbers with dots."""
+    signer: Certificate
+    """The certificate of the service, as the answer has it."""
+
+
+class Stamped(NamedTuple):
+    """A time stamp that holds, of a file that was read."""
+
+    digest: Digest
+    """The file of the time stamp."""
+    of: str
+    """What it is of: `counters`, `manifest` or `file`."""
+    stamp: TimeStamp
+
+    @property
+    def service(self) -> str:
+        """Whose stamp it is."""
+        return name_of(self.stamp.signer.facts)
+
+    def sentence(self, what: str = "") -> str:
+        """What it shows of a file, as a verdict says it."""
+        return f"{what or THESE[self.of]} existed at {self.stamp.time}, by the time stamp of {self.service}."
+
+    def words(self) -> str:
+        """The same in a line about what was checked."""
+        return (f"{shown_name(self.digest.name)}, {grouped(self.digest.size, 'octet')}, SHA-256 {self.digest.sha256}; of the "
+                f"{self.of}, at {self.stamp.time}, by {self.service}; serial number {self.stamp.serial}, policy "
+                f"{self.stamp.policy}")
+
+    def fields(self) -> Dict[str, object]:
+        """As JSON has it."""
+        return {**self.digest.fields(), "of": self.of, "time": self.stamp.time, "serial": self.stamp.serial,
+                "policy": self.stamp.policy, "certificate": certificate_fields(self.stamp.signer.facts)}
+
+
+class Authorities(NamedTuple):
+    """The authorities that whoever checks a time stamp trusts."""
+
+    given: List[Given]
+    """Each certificate, for what was checked."""
+    pem: bytes
+
+
+def read_authorities(paths: Sequence[str]) -> Authorities:
+    """The certificates in the files of --tsa-ca. Raises Fault where one can't be read."""
+    given: List[Given] = []
+    pem = b""
+    for path in paths:
+        for it in read_certificates(path, read_file(path, "a certificate")):
+            given.append(Given("--tsa-ca", path, None, None, it.facts))
+            pem += loaded(it.der).public_bytes(Encoding.PEM)
+    return Authorities(given, pem)
+
+
+def name_of(facts: CertificateFacts) -> str:
+    """The name of a service, so that it sends a terminal no command."""
+    text = shown_text(facts.subject[:SHOWN]) + (" .." if len(facts.subject) > SHOWN else "")
+    return text or f"the certificate with the serial number {facts.serial}"
+
+
+# ---- what an answer says
+
+def read_answer(octets: bytes) -> TimeStamp:
+    """What the answer of a service says (RFC 3161, section 2.4.2). Raises Bad where it is none, or none with a stamp."""
+    if not octets:
+        raise Bad("it is empty")
+    if len(octets) > LONGEST:
+        raise Bad(f"it has more than {LONGEST:,} octets")
+    status, *rest = der.parts(der.only(octets, der.SEQUENCE, "the answer"), der.SEQUENCE, 1, "the answer")
+    refuse_status(status)
+    if len(rest) != 1:
+        raise Bad("the answer holds no time stamp")
+    kind, content = pair(rest[0], "the time stamp")
+    if der.oid(kind, "the type of the time stamp") != SIGNED_DATA:
+        raise Bad("the time stamp isn't signed")
+    return read_signed(der.only(inner(content), der.SEQUENCE, "what is signed"))
+
+
+def pair(item: Item, what: str) -> List[Item]:
+    """The two values of a sequence."""
+    found = der.parts(item, der.SEQUENCE, 2, what)
+    if len(found) != 2:
+        raise Bad(f"{what} has {len(found)} parts in place of 2")
+    return found
+
+
+def inner(item: Item) -> bytes:
+    """What stands in an explicit tag 0."""
+    return der.want(item, der.FIRST, "a part of the time stamp").body
+
+
+def refuse_status(item: Item) -> None:
+    """Refuses an answer that says there is no stamp."""
+    value, *rest = der.parts(item, der.SEQUENCE, 1, "the status")
+    status = der.number(value, "the status")
+    if status in GRANTED:
+        return
+    said: List[str] = [STATUSES.get(status, f"the status {status}")]
+    for it in rest:
+        if it.tag == der.SEQUENCE:
+            texts = [text.body.decode("utf-8", "replace") for text in der.items(it.body)]
+            said.append(f'"{shown_text(" ".join(texts)[:SHOWN])}"')
+        elif it.tag == der.BIT_STRING and len(it.body) > 1:
+            said += [name for bit, name in FAILURES.items()
+                     if bit // 8 + 1 < len(it.body) and it.body[bit // 8 + 1] >> 7 - bit % 8 & 1]
+    raise Bad(f"the service gave no time stamp, but {', '.join(said)}")
+
+
+def read_signed(item: Item) -> TimeStamp:
+    """The stamp in signed data (RFC 5652, section 5.1)."""
+    _, _, content, *rest = der.parts(item, der.SEQUENCE, 4, "what is signed")
+    kind, wrapped = pair(content, "the content")
+    if der.oid(kind, "the type of the content") != TST_INFO:
+        raise Bad("what is signed is no time stamp")
+    info = der.only(inner(wrapped), der.OCTET_STRING, "the content").body
+    certificates = [it for it in rest if it.tag == der.FIRST]
+    signers = der.items(der.want(rest[-1], der.SET, "the signers").body)
+    if len(signers) != 1:
+        raise Bad(f"it has {grouped(len(signers), 'signature')}, and a time stamp has one")
+    if len(certificates) != 1:
+        raise Bad("it holds no certificate of the service: ask for it, as `openssl ts -query -cert` does")
+    return read_info(info, signer_of(signers[0], der.items(certificates[0].body)))
+
+
+def signer_of(item: Item, held: Sequence[Item]) -> Certificate:
+    """The certificate of a signer (RFC 5652, section 5.3), which is one of those that are held.
+
+    openssl takes the first whose issuer and serial number fit. So there has to be one alone, or it might be another one.
+    """
+    _, whose, hashed, *_ = der.parts(item, der.SEQUENCE, 5, "the signature")
+    issuer, serial = pair(whose, "the name of the signer")
+    algorithm = der.oid(der.parts(hashed, der.SEQUENCE, 1, "the hash algorithm")[0], "the hash algorithm")
+    if algorithm not in HASHES:
+        raise Bad(f"it is signed over the hash algorithm {algorithm}: one of 256 bits or more is wanted")
+    wanted = der.number(serial, "the serial number of the signer's certificate")
+    found = [it for it in map(read_certificate, (it.whole for it in held)) if it is not None
+             and loaded(it.der).serial_number == wanted]
+    if len(found) > 1:
+        found = [it for it in found if it.issuer == issuer.whole or is_like(it, issuer.whole)]
+    if len(found) != 1:
+        raise Bad(f"it holds {grouped(len(found), 'certificate')} of its signer, and one is wanted")
+    return found[0]
+
+
+def is_like(certificate: Certificate, issuer: bytes) -> bool:
+    """Whether the name of an issuer may be the same for a reader who looks at letters and digits alone."""
+    return letters(certificate.issuer) == letters(issuer)
+
+
+def letters(octets: bytes) -> bytes:
+    """The letters and digits of ASCII in these octets, in small letters."""
+    return re.sub(rb"[^0-9a-z]", b"", octets.lower())
+
+
+def read_info(octets: bytes, signer: Certificate) -> TimeStamp:
+    """What is stamped, and when (TSTInfo of RFC 3161, section 2.4.2)."""
+    version, policy, imprint, serial, time, *_ = der.parts(der.only(octets, der.SEQUENCE, "the time stamp"), der.SEQUENCE, 5,
+                                                           "the time stamp")
+    if der.number(version, "the version") != 1:
+        raise Bad("the time stamp has another version than 1")
+    algorithm, hashed = pair(imprint, "what is stamped")
+    name = der.oid(der.parts(algorithm, der.SEQUENCE, 1, "the hash algorithm")[0], "the hash algorithm")
+    sha256 = der.want(hashed, der.OCTET_STRING, "the hash").body
+    if name != SHA256 or len(sha256) != hashlib.sha256().digest_size:
+        raise Bad(f"it is of a hash by the algorithm {name}, and not of a SHA-256")
+    text, moment = read_time(der.want(time, der.TIME, "the time").body)
+    return TimeStamp(text, moment, sha256.hex(), hexadecimal(der.number(serial, "the serial number")),
+                     der.oid(policy, "the policy"), signer)
+
+
+def read_time(octets: bytes) -> Tuple[str, int]:
+    """The time of a stamp, as a text and in seconds since 1970."""
+    found = TIME.fullmatch(octets)
+    try:
+        if found is None:
+            raise ValueError
+        when = datetime.strptime(found[1].decode("ascii"), "%Y%m%d%H%M%S").replace(tzinfo=timezone.utc)
+        moment = int(when.timestamp())
+    except (ValueError, OverflowError) as fault:
+        raise Bad("its time is no time in UTC") from fault
+    if moment < 0:
+        raise Bad("its time is before 1970")
+    return f"{when.strftime('%Y-%m-%dT%H:%M:%S')}{(found[2] or b'').decode('ascii')}Z", moment
+
+
+def hexadecimal(value: int) -> str:
+    """A number as openssl prints it, two digits for each octet."""
+    digits = f"{abs(value):X}"
+    return "-" * (value < 0) + digits.rjust(len(digits) + len(digits) % 2, "0")
+
+
+# ---- whether it holds
+
+def check_stamp(octets: bytes, name: str, wanted: Dict[str, str], authorities: Authorities, workplace: Workplace,
+                query: Optional[str] = None) -> Stamped:
+    """The time stamp that an answer is, where it is of one of the wanted files, and one of these authorities vouches for it.
+
+    `wanted` has the SHA-256 of each file, by a word of THESE. `name` is the file of the answer. `query` is the path of the
+    request that was sent, where that is known. Raises Fault with T1, T2 or T3.
+    """
+    shown = shown_name(name)
+    try:
+        stamp = read_answer(octets)
+    except Bad as fault:
+        raise Fault(f"the time stamp {shown} can't be read: {fault} (T3)") from fault
+    of = [what for what, sha256 in wanted.items() if sha256 == stamp.imprint]
+    if not of:
+        what = " or the ".join(wanted)
+        raise Fault(f"the time stamp {shown} isn't of the {what}: it is of a file with the SHA-256 {stamp.imprint} (T1)")
+    why = fault_of(octets, stamp, authorities, workplace, query)
+    if why is not None:
+        raise Fault(f"no authority of --tsa-ca vouches for the time stamp {shown}: {why} (T2)")
+    return Stamped(Digest(name, len(octets), hashlib.sha256(octets).hexdigest()), of[0], stamp)
+
+
+def fault_of(octets: bytes, stamp: TimeStamp, authorities: Authorities, workplace: Workplace,
+             query: Optional[str]) -> Optional[str]:
+    """What openssl has against a stamp at the stamp's own time, or None. Nothing that this machine trusts besides is taken."""
+    paths = []
+    for what, held in (("stamp", octets), ("authorities", authorities.pem)):
+        with workplace.new_file(what) as file:
+            put(file, held)
+            finish(file)
+        paths.append(workplace.path(what))
+    # level 1 leaves out certificates that are signed by MD5 and SHA-1, and an authority needn't be a root
+    words = ["openssl", "ts", "-verify", "-in", paths[0], "-CAfile", paths[1], "-attime", str(stamp.moment), "-auth_level", "1",
+             "-partial_chain"]
+    said = ask([*words, *(["-digest", stamp.imprint] if query is None else ["-queryfile", query])], b"", "openssl")
+    if said.returncode == 0:
+        return None
+    found = SAID.findall(said.stderr.decode("utf-8", "replace"))
+    if not found:
+        return "openssl came to no end with it"
+    reason, more = found[0]
+    return f"openssl says: {shown_text((more.rpartition('Verify error:')[2] or reason).strip()[:SHOWN])}"
