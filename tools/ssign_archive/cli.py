@@ -16,6 +16,7 @@ TOOL = usage.Tool(
         "part": "review one folder of a prepared archive",
         "batch": "review several folders of a prepared archive, in one process",
         "table": "put together the reports that are there",
+        "report": "write a page about what `table` prints, with a grid of nights by originators",
         "fixity": "read every log again, and compare it with what was reviewed",
     },
     examples={
@@ -26,6 +27,7 @@ TOOL = usage.Tool(
         "part": ("ssign-archive part results gate",),
         "batch": ("ssign-archive batch results 1",),
         "table": ("ssign-archive table results",),
+        "report": ("ssign-archive report results --html archive.html --pages pages",),
         "fixity": ("ssign-archive fixity results --jobs 4",),
     },
     package=__package__,

@@ -11,7 +11,7 @@ from ssign_keys.report import Reading, Totals
 
 from .findings import Emit, Finding, Places, empty_findings, file_findings
 from .locator import Locator
-from .settings import Settings
+from .settings import Bounds, Settings
 from .sources import Read
 
 
@@ -50,7 +50,7 @@ class Derived:
     reported: int
 
 
-def derive(part: str, settings: Settings, files: Sequence[Read], extra: Sequence[str], has_counters: bool, report: BinaryIO,
+def derive(part: str, settings: Settings, files: Sequence[Read], extra: Sequence[str], bounds: Bounds, report: BinaryIO,
            emit: Emit, sessions: Lines) -> Derived:
     """Goes over a report, gives on each finding, and has a line for each session and group. Raises Fault where it is none.
 
@@ -65,8 +65,7 @@ def derive(part: str, settings: Settings, files: Sequence[Read], extra: Sequence
 
     for finding in [*file_findings(part, files), *empty_findings(part, files), *(Finding(part, it) for it in extra)]:
         emit_counted(finding)
-    locator = Locator(part, Places(part, files), emit_counted, sessions.put, settings.is_whole,
-                      has_counters)
+    locator = Locator(part, Places(part, files), emit_counted, sessions.put, settings.is_whole, bounds)
     try:
         Reading(locator).read(report, Progress())
     except (ValueError, IndexError, TypeError, UnicodeDecodeError) as fault:

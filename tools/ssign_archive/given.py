@@ -3,12 +3,13 @@ from __future__ import annotations
 
 import hashlib
 import os
-from typing import Iterator, List, Optional, Set
+from typing import Dict, Iterator, List, Optional, Set
 
+from ssign_keys.blocks import Session
 from ssign_keys.faults import Fault
 from ssign_keys.files import reason
 from ssign_keys.manifest_findings import bare
-from ssign_keys.manifest_form import read_manifest
+from ssign_keys.manifest_form import Reached, read_manifest
 from ssign_keys.words import shown_name
 
 from .tree import look, order
@@ -51,6 +52,21 @@ def lines_of_entries(manifest: str, names: Set[str]) -> Iterator[bytes]:
     for it in read_manifest(manifest).entries:
         if it.name in names:
             yield "".join(f"{line}\n" for line in it.counters).encode("ascii")
+
+
+def begin_for(manifest: Optional[str], names: List[str]) -> bytes:
+    """The counters with which the nights of a part begin: those of the entries of each session before its logs."""
+    if manifest is None or not os.path.lexists(manifest):
+        return b""
+    own = {bare(it) for it in names}
+    begun: Set[Session] = set()
+    known: Dict[Session, Reached] = {}
+    for it in read_manifest(manifest).entries:
+        if it.name in own:
+            begun.add(it.session)
+        elif it.session not in begun:
+            known.setdefault(it.session, Reached()).go_on(it)
+    return b"".join(reached.lines(session) for session, reached in known.items() if session in begun)
 
 
 def sum_of(octets: bytes) -> str:

@@ -4,10 +4,10 @@ from __future__ import annotations
 from typing import Callable, List, Optional, Sequence
 
 from ssign_keys.blocks import Session
-from ssign_keys.kept import Counters
 from ssign_keys.report import Group, ReportVisitor
 
 from .findings import Emit, Finding, Places, Spot
+from .settings import Bounds
 
 # how many numbers before a listed one wait for it, so that both neighbours are named
 WAITING = 1000
@@ -17,8 +17,8 @@ class Locator(ReportVisitor):
     """Gives on each finding of a report, and writes a line for each session and group, with files and places."""
 
     def __init__(self, part: str, places: Places, emit: Emit, sessions: Callable[[str], None], is_whole: bool,
-                 has_counters: bool) -> None:
-        super().__init__(is_whole, Counters() if has_counters else None)
+                 bounds: Bounds) -> None:
+        super().__init__(is_whole, bounds.counters, bounds.begin)
         self._part = part
         self._places = places
         self._emit = emit
@@ -82,6 +82,10 @@ class Locator(ReportVisitor):
         if self._first is not None and self._last is not None:
             line += f" from {self._places.at(self._first).text()} to {self._places.at(self._last).text()}"
         self._sessions(line)
+
+    def outside(self, session: Session, sg: int, spri: int, first: int, last: int, is_early: bool) -> None:
+        """Finds announced numbers that don't belong to the nights of the part."""
+        self._find(f"{'early' if is_early else 'beyond'} {session} {sg} {spri} {first} {last}")
 
     def tail(self, session: Session, sg: int, spri: int, first: int, last: int) -> None:
         """Finds numbers after the last announced one, up to a counter."""

@@ -107,7 +107,7 @@ class PartReview:
     def _review(self, reader: Reader, report: BinaryIO) -> int:
         """Has ssign review the messages, and gives its status, 0 or 1."""
         settings = self._settings
-        words = ["review", *self._answers(reader), *self._counters(), *settings.words]
+        words = ["review", *self._answers(reader), *self._begin(), *self._counters(), *settings.words]
         return run_over(reader, settings.program, words, self._workplace, report)
 
     def _answers(self, reader: Reader) -> List[str]:
@@ -124,6 +124,16 @@ class PartReview:
         if given is not None and not os.path.isfile(given):
             raise Fault(f"the answers file {shown_name(given)} of this part isn't there")
         return [] if given is None else [f"--answers={given}"]
+
+    def _begin(self) -> List[str]:
+        """The word that names the counters with which the nights of the part begin, where that was asked for."""
+        begin = self._settings.begin_given(self._part)
+        if begin is None:
+            return []
+        with self._workplace.new_file("begin") as file:
+            put(file, begin)
+            finish(file)
+        return [f"--from={self._workplace.path('begin')}"]
 
     def _counters(self) -> List[str]:
         """The word that names the counters, where there are some. That there are none is a finding where some were given."""
@@ -144,8 +154,8 @@ class PartReview:
         """Goes over the report, and makes the record."""
         if self._trust is not None and [it.sha256 for it in self._asked] != [it.sha256 for it in files]:
             raise Fault(f"a file of {shown_name(self._settings.path_of(self._part))} was changed while it was read")
-        derived = derive(self._part, self._settings, files, self._extra, bool(self._given["counters"]), report,
-                         findings.put_finding, sessions)
+        bounds = self._settings.bounds_of(self._part, bool(self._given["counters"]))
+        derived = derive(self._part, self._settings, files, self._extra, bounds, report, findings.put_finding, sessions)
         if (status == 0) != (derived.reported == 0):
             raise Fault(f"ssign review ended with status {status}, which its report doesn't bear out")
         sums = {"report": sum_of(report), "findings": findings.sum, "sessions": sessions.sum}

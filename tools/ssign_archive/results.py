@@ -128,8 +128,8 @@ class Results:
         findings, sessions = Lines(), Lines()
         try:
             with open(os.path.join(folder, "report"), "rb") as report:
-                derived = derive(part, settings, record.files, record.extra, bool(record.given.get("counters")), report,
-                                 findings.put_finding, sessions)
+                bounds = settings.bounds_of(part, bool(record.given.get("counters")))
+                derived = derive(part, settings, record.files, record.extra, bounds, report, findings.put_finding, sessions)
         except (Fault, OSError) as fault:
             raise Changed("its report was changed") from fault
         if (findings.sum, sessions.sum) != (record.sums["findings"], record.sums["sessions"]):
@@ -141,7 +141,8 @@ class Results:
     def emit_findings(self, part: str, settings: Settings, record: Record, emit: Emit) -> None:
         """Gives on each finding of a part whose results count."""
         with open(os.path.join(self.folder_of(part), "report"), "rb") as report:
-            derive(part, settings, record.files, record.extra, bool(record.given.get("counters")), report, emit, Lines())
+            bounds = settings.bounds_of(part, bool(record.given.get("counters")))
+            derive(part, settings, record.files, record.extra, bounds, report, emit, Lines())
 
     def failure(self, part: str) -> str:
         """Why the last review of a part came to no end."""

@@ -7,22 +7,40 @@ import json
 import os
 import subprocess
 from dataclasses import asdict, dataclass
-from typing import Any, Dict, List, Optional, Tuple
+from typing import Any, Dict, List, NamedTuple, Optional, Tuple
 
 from ssign_keys import expand as expand_options
 from ssign_keys.asking import refuse_older
 from ssign_keys.faults import Fault
 from ssign_keys.files import reason
+from ssign_keys.kept import Counters
 from ssign_keys.programs import add_log_arguments, add_program_argument, find_program, log_words
 from ssign_keys.progress import Progress
 from ssign_keys.sizes import add_max_payload
 from ssign_keys.words import shown_name
 from ssign_keys.workplace import Workplace
 
-from .given import counters_for, own_file
+from .given import begin_for, counters_for, own_file
 from .given import sum_of as sum_of_octets
 from .messages import DEFAULT_LONGEST
 from .tree import files_of, look
+
+
+class Bounds(NamedTuple):
+    """Between which counters a part is reviewed."""
+
+    counters: Optional[Counters]
+    """Those that it goes up to, or None."""
+    begin: Optional[Counters]
+    """Those with which its nights begin; None where it begins with 1."""
+
+
+def counters_of(lines: bytes) -> Counters:
+    """The counters of a file that ssign didn't refuse."""
+    counters = Counters()
+    for line in lines.splitlines():
+        counters.add(line)
+    return counters
 
 
 @dataclass(frozen=True)
@@ -43,6 +61,8 @@ class Settings:
     manifest: Optional[str]
     # how many octets a compressed file may expand to, or None for the usual limit
     max_expanded: Optional[int]
+    # whether the nights of a part begin at the counters of the entries before them
+    from_manifest: bool = False
 
     @property
     def are_lines(self) -> bool:
@@ -92,9 +112,32 @@ class Settings:
         names = [it.name for it in files_of(self.path_of(part))]
         return counters_for(self.counters_of(part), self.manifest_of(part), names)
 
+    def begin_given(self, part: str) -> Optional[bytes]:
+        """The counters with which the nights of a part begin, as lines; None where a review begins with 1."""
+        if not self.from_manifest:
+            return None
+        return begin_for(self.manifest_of(part), [it.name for it in files_of(self.path_of(part))])
+
+    def bounds_of(self, part: str, has_counters: bool) -> Bounds:
+        """Between which counters a part is reviewed. If its nights begin with 1, it only matters whether there are some."""
+        begin = self.begin_given(part)
+        if begin is None:
+            return Bounds(Counters() if has_counters else None, None)
+        counters = self.counters_given(part)
+        return Bounds(None if counters is None else counters_of(counters), counters_of(begin))
+
     def given_to(self, part: str) -> Dict[str, str]:
         """What shows that the part's own files are others, by what they are; nothing of one that all parts have."""
-        return {"answers": self._answers_seen(part), "counters": self._counters_seen(part)}
+        given = {"answers": self._answers_seen(part), "counters": self._counters_seen(part)}
+        if self.from_manifest:
+            given["first counters"] = self._begin_seen(part)
+        return given
+
+    def _begin_seen(self, part: str) -> str:
+        try:
+            return sum_of_octets(self.begin_given(part) or b"")
+        except Fault:
+            return "they can't be read"
 
     def _answers_seen(self, part: str) -> str:
         path = self.answers_of(part)
@@ -142,6 +185,8 @@ def add_arguments(parser: argparse.ArgumentParser) -> None:
                         "counters")
     parser.add_argument("--manifest", metavar="FILE", help="compare the logs with this manifest, and use its counters; of a "
                         "folder, PART.manifest in it is for the part PART")
+    parser.add_argument("--from-manifest", action="store_true", help="judge the logs of a part as nights of sessions that go on: "
+                        "begin at the counters of the entries of the manifest that stand before them")
     add_log_arguments(parser)
     expand_options.add_arguments(parser)
     parser.add_argument("--whole", action="store_true", help="also find signature blocks of each session that are missing, "
@@ -172,9 +217,13 @@ def make(arguments: argparse.Namespace) -> Settings:
     if counters is not None and not os.path.isdir(counters):
         raise Fault(f"--counters {shown_name(arguments.counters)}: this is no folder with a file PART.counters for each "
                     "part")
+    if arguments.from_manifest:
+        if manifest is None:
+            raise Fault("--from-manifest begins at the counters of a manifest: name it with --manifest")
+        try_words(program, ["--from=/dev/null"])
     seen = [sum_of(program)] + [look_of(it.partition("=")[2]) for it in asked] + [sum_of(it) for it in files]
     return Settings(archive, program, answers, tuple(words), tuple(seen), trust, arguments.allow_sha1, counters, manifest,
-                    arguments.max_expanded)
+                    arguments.max_expanded, arguments.from_manifest)
 
 
 def given_path(path: Optional[str], option: str) -> Optional[str]:
@@ -238,7 +287,11 @@ def look_of(path: str) -> str:
 
 def to_text(settings: Settings) -> str:
     """The settings as JSON."""
-    return json.dumps(asdict(settings), indent=1, sort_keys=True) + "\n"
+    fields = asdict(settings)
+    if not settings.from_manifest:
+        # results of before have no such word
+        del fields["from_manifest"]
+    return json.dumps(fields, indent=1, sort_keys=True) + "\n"
 
 
 def from_text(text: str, path: str) -> Settings:
@@ -247,6 +300,6 @@ def from_text(text: str, path: str) -> Settings:
         read = json.loads(text)
         return Settings(read["archive"], read["program"], read["answers"], tuple(read["words"]), tuple(read["seen"]),
                         read["trust"], read["allows_sha1"], read["counters"], read["manifest"],
-                        read["max_expanded"])
+                        read["max_expanded"], read.get("from_manifest", False))
     except (ValueError, KeyError, TypeError) as fault:
         raise Fault(f"{shown_name(path)} holds no settings of ssign-archive") from fault

@@ -4,10 +4,11 @@ from __future__ import annotations
 import argparse
 import os
 from dataclasses import dataclass, field, fields
-from typing import Dict, Iterator, List, Mapping, Optional, Sequence, Tuple
+from typing import Any, Dict, Iterator, List, Mapping, Optional, Sequence, Set, Tuple
 
 from ssign_keys.json_text import compact
 from ssign_keys.manifest_findings import bare
+from ssign_keys.manifest_form import read_manifest
 from ssign_keys.numbers import number
 from ssign_keys.report import Totals
 from ssign_keys.words import counted, shown_name
@@ -140,7 +141,7 @@ class Table:
     def print(self, arguments: argparse.Namespace) -> int:
         """Prints everything, and gives the status."""
         if arguments.json:
-            print_lines(self._objects(arguments.findings))
+            print_lines(spelled(it) for it in self.objects(arguments.findings))
         else:
             most = SHOWN if arguments.findings is None else arguments.findings
             print_lines(self._lines(most, arguments.sessions))
@@ -190,9 +191,33 @@ class Table:
                     session, _, state = line.rpartition(" ")
                     if line.startswith("session ") and state != "absent":
                         parts.setdefault(session, []).append(row.part)
+        nights = self._night_sessions()
+        parts = {session: there for session, there in parts.items() if not nights.get(session, set()) >= set(there)}
         return [Finding(", ".join(there), f"{session} has blocks in {len(there)} parts; only one review of all "
                         "of them together "
                         "shows what is true of it") for session, there in sorted(parts.items()) if len(there) > 1]
+
+    def _night_sessions(self) -> Dict[str, Set[str]]:
+        """Sessions of which one manifest has the nights, each with the parts that have some of these nights.
+
+        Each of these parts was judged between its own counters, and no two entries of a manifest have one number.
+        """
+        settings = self._settings
+        nights: Dict[str, Set[str]] = {}
+        if not settings.from_manifest or settings.manifest is None or os.path.isdir(settings.manifest):
+            return nights
+        owners: Dict[str, Set[str]] = {}
+        for row in self.rows:
+            for it in [] if row.record is None else row.record.files:
+                owners.setdefault(bare(it.stored.name), set()).add(row.part)
+        doubled: Set[str] = set()
+        for entry in read_manifest(settings.manifest).entries:
+            session, there = f"session {entry.session}", owners.get(entry.name, set())
+            nights.setdefault(session, set()).update(there)
+            if len(there) > 1:
+                # a night in two parts has its numbers twice
+                doubled.add(session)
+        return {session: there for session, there in nights.items() if session not in doubled}
 
     def _lines(self, most: int, with_sessions: bool) -> Iterator[str]:
         for row in self.rows:
@@ -260,27 +285,27 @@ class Table:
         path = self._settings.manifest_of(part)
         return path is not None and os.path.lexists(path)
 
-    def _objects(self, most: Optional[int]) -> Iterator[str]:
-        """The lines of JSON: findings, parts, and the total."""
+    def objects(self, most: Optional[int]) -> Iterator[Dict[str, Any]]:
+        """The objects of JSON: findings, so many at most of each part, then the parts, and the total."""
         for row in self.rows:
             if row.record is not None:
                 found: List[Finding] = []
                 if row.derived.findings:
                     self._results.emit_findings(row.part, self._settings, row.record, found.append)
                 for it in [*(found if most is None else found[:most]), *row.more]:
-                    yield spelled(it.fields())
+                    yield {**it.fields()}
         for it in self._whole:
-            yield spelled(it.fields())
+            yield {**it.fields()}
         for row in self.rows:
-            yield spelled({"line": "part", "part": shown_name(row.part), "status": row.status, "verdict": row.verdict,
-                           **counts_of(row.record is not None, len(row.record.files) if row.record else 0, row.derived),
-                           "findings": row.findings})
+            yield {"line": "part", "part": shown_name(row.part), "status": row.status, "verdict": row.verdict,
+                   **counts_of(row.record is not None, len(row.record.files) if row.record else 0, row.derived),
+                   "findings": row.findings}
         files, total = self._sum()
         count = self._counts()
         findings = sum(it.findings for it in self.rows) + len(self._whole)
-        yield spelled({"line": "total", "status": self.status, "verdict": self._verdict(), "parts": len(self.rows),
-                       "clean": count[0], "with_findings": count[1], "not_reviewed": count[2],
-                       **counts_of(True, files, total), "findings": findings})
+        yield {"line": "total", "status": self.status, "verdict": self._verdict(), "parts": len(self.rows),
+               "clean": count[0], "with_findings": count[1], "not_reviewed": count[2],
+               **counts_of(True, files, total), "findings": findings}
 
     def _counts(self) -> Dict[int, int]:
         """How many parts have each status."""
