@@ -5,7 +5,7 @@ A report is surveyed before anything of it is shown: also one that is passed on 
 from __future__ import annotations
 
 from array import array
-from typing import NamedTuple, Optional, Sequence
+from typing import NamedTuple, Optional, Sequence, Set, Tuple
 
 from . import sha1
 from .blocks import Session
@@ -31,14 +31,17 @@ class Walked(NamedTuple):
 class Survey(ReportVisitor):
     """Counts the lines of a report, and keeps which messages are unlisted, and how far each group goes."""
 
-    def __init__(self, walked: Walked, notes: Notes, is_whole: bool, counters: Optional[Counters]) -> None:
+    def __init__(self, walked: Walked, notes: Notes, is_whole: bool, counters: Optional[Counters],
+                 begin: Optional[Counters] = None) -> None:
         """Nothing is surveyed yet."""
-        super().__init__(is_whole, counters)
+        super().__init__(is_whole, counters, begin)
         self.unlisted = array("I")
         self.reach = Reach(counters)
         self._notes = notes
         self._facts: Optional[BlockFacts] = None
         self._groups = 0
+        # the groups of the present session in which a number is announced
+        self._known: Set[Tuple[int, int]] = set()
         # how many sessions rest on SHA-1
         self.on_sha1 = 0
         # how many blocks of joined sessions are validly signed
@@ -61,7 +64,8 @@ class Survey(ReportVisitor):
     def has_findings(self) -> bool:
         """Whether a line is a finding."""
         totals = self.totals
-        return bool(totals.lost or totals.disputed or totals.unannounced or totals.tails or totals.unlisted
+        outside = totals.early or totals.beyond
+        return bool(totals.lost or totals.disputed or totals.unannounced or totals.tails or outside or totals.unlisted
                     or totals.refused or totals.spoilt or totals.torn is not None or self.missing
                     or sum(self.states.values()) != self.states.get("joined", 0))
 
@@ -98,7 +102,7 @@ class Survey(ReportVisitor):
 
     def session(self, session: Session, state: str) -> None:
         """Looks up what its blocks vouch for."""
-        self._facts = self._notes.of(session)
+        self._facts, self._known = self._notes.of(session), set()
         self.on_sha1 += sha1.weakness(self._facts, state) is not None
         if state == "joined" and self._facts is not None:
             self._valid += self._facts.valid
@@ -108,6 +112,7 @@ class Survey(ReportVisitor):
     def begin_group(self, group: Group) -> None:
         """Counts the group, which has a signature block at least."""
         self._groups += 1
+        self._known.add((group.sg, group.spri))
 
     def listed(self, group: Group, numbers: Sequence[int], places: Sequence[int]) -> None:
         """Takes places."""
@@ -123,11 +128,11 @@ class Survey(ReportVisitor):
         """Keeps how far the group goes."""
         greatest = None if self._facts is None else self._facts.greatest.get((group.sg, group.spri))
         self.reach.add(group.session, group.sg, group.spri, group.last, greatest, group.out_of_order,
-                       group.first_out_of_order if group.out_of_order else None)
+                       group.first_out_of_order if group.out_of_order else None, group.first)
 
     def tail(self, session: Session, sg: int, spri: int, first: int, last: int) -> None:
         """Keeps a group of which no other line has anything, because nothing of it is announced."""
-        if first == 1:
+        if (sg, spri) not in self._known:
             self.reach.add(session, sg, spri, 0, None)
 
     def stray(self, kind: str, place: int, cause: str) -> None:

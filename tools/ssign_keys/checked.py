@@ -3,7 +3,7 @@ from __future__ import annotations
 
 import argparse
 import socket
-from typing import Dict, List, NamedTuple, Optional, Sequence
+from typing import TYPE_CHECKING, Dict, List, NamedTuple, Optional, Sequence, Tuple
 
 from .digests import Digest, sum_of
 from .identity import certificate_fields, certificate_words
@@ -12,6 +12,9 @@ from .options_given import given_options, quoted
 from .program_facts import Program
 from .trust import Given
 from .words import grouped, shown_name
+
+if TYPE_CHECKING:
+    from .rfc3161 import Stamped
 
 
 class CheckedLog(NamedTuple):
@@ -66,6 +69,15 @@ class Checked(NamedTuple):
     manifest: Optional[Digest]
     answers: Digest
     """The answers file; its name is empty where it isn't kept."""
+    stamps: Sequence[Stamped]
+    """The time stamps of the counters and the manifest."""
+    begin: Optional[Digest] = None
+    """The counters with which the night begins, if it is one night of a session that goes on."""
+
+    def kept_files(self, counters: str, begin: str, manifest: str) -> List[Tuple[str, Optional[Digest]]]:
+        """What was kept apart, each with the word for it. Where a night begins is there only if it was given."""
+        night = [] if self.begin is None else [(begin, self.begin)]
+        return [(counters, self.counters), *night, (manifest, self.manifest)]
 
     def fields(self) -> Dict[str, object]:
         """As JSON has it."""
@@ -73,15 +85,16 @@ class Checked(NamedTuple):
             "time": self.time, "machine": None if self.machine is None else shown_name(self.machine),
             "tool": self.tool.fields(), "ssign": self.ssign.fields(), "options": [shown_name(it) for it in self.options],
             "files": [it.fields() for it in self.logs], "keys": [key_fields(it) for it in self.keys],
-            "counters": digest_fields(self.counters), "manifest": digest_fields(self.manifest),
+            **{what: digest_fields(it) for what, it in self.kept_files("counters", "from", "manifest")},
             "answers": dict(self.answers.fields(), name=shown_name(self.answers.name) or None),
+            "stamps": [it.fields() for it in self.stamps],
         }
 
     def lines(self) -> List[str]:
         """As lines for a person."""
         said = [line for it in self.logs for line in it.lines()] + [key_words(it) for it in self.keys]
-        said += [f"{what}: {digest_words(it)}" for what, it in (("counters", self.counters), ("manifest", self.manifest))
-                 if it is not None]
+        said += [f"{what}: {digest_words(it)}" for what, it in self.kept_files("counters", "from", "manifest") if it is not None]
+        said += [f"time stamp: {it.words()}" for it in self.stamps]
         answers = digest_words(self.answers._replace(name=self.answers.name or "not kept"))
         said += [f"answers: {answers}", f"program: {program_words(self.ssign)}", f"tool: {program_words(self.tool)}",
                  f"options: {quoted(self.options)}"]
@@ -133,9 +146,10 @@ def checked_logs(log: Log, messages: int) -> List[CheckedLog]:
 
 
 def make_checked(arguments: argparse.Namespace, time: str, programs: Sequence[Program], logs: List[CheckedLog],
-                 keys: List[Given], files: Sequence[Optional[Digest]], answers: Digest) -> Checked:
-    """What was checked: with the tool and ssign, and up to the counters and the manifest."""
+                 keys: List[Given], files: Sequence[Optional[Digest]], answers: Digest,
+                 stamps: Sequence[Stamped]) -> Checked:
+    """What was checked: with the tool and ssign, and up to the counters and the manifest, with their time stamps."""
     tool, ssign = programs
-    counters, manifest = files
+    counters, manifest, begin = files
     machine = socket.gethostname() if arguments.hostname else None
-    return Checked(time, machine, tool, ssign, given_options(arguments), logs, keys, counters, manifest, answers)
+    return Checked(time, machine, tool, ssign, given_options(arguments), logs, keys, counters, manifest, answers, stamps, begin)

@@ -12,8 +12,10 @@ TOOL = usage.Tool(
     commands={
         "make": "make a key pair, and the payload that states it",
         "sign": "sign a log with a private key",
+        "live": "sign messages as they come, for ever, and go on after any stop",
         "verify": "say what a signed log proves, with the originator's public key",
         "manifest": "keep a list of signed logs, and check logs against it",
+        "stamp": "have a time stamp service sign when counters or a manifest existed",
         "rotated": "sign rotated logs, and keep what a later review needs of each",
         "seal": "sign what `ssign plan` wants to have signed",
         "answer": "answer what `ssign questions` asks about keys and signatures",
@@ -25,11 +27,15 @@ TOOL = usage.Tool(
             "ssign-keys sign --key keys/private-key.pem --state session --new-session --host gate monday.log > monday.frames",
             "ssign-keys sign --key keys/private-key.pem --state session tuesday.log > tuesday.frames",
         ),
+        "live": (
+            "ssign-keys live --key keys/private-key.pem --state /var/lib/ssign/live --out /var/log/signed --lines < pipe",
+        ),
         "verify": ("ssign-keys verify --key keys/public-key.pem signed.frames",),
         "manifest": (
             "ssign-keys manifest add manifest signed.frames --counters counters",
             "ssign-keys manifest check manifest /srv/logs --logs '*.frames'",
         ),
+        "stamp": ("ssign-keys stamp counters --tsa https://tsa.example.org/tsr --tsa-ca tsa-ca.pem",),
         "rotated": ("ssign-keys rotated --keys /etc/ssign --state /var/lib/ssign /var/log/signed/messages.log-2026-11-23",),
         "seal": ("ssign-keys seal keys/private-key.pem < plan > seals",),
         "answer": ("ssign-keys answer keys/public-key.pem < questions > answers",),

@@ -34,7 +34,7 @@ class JsonVerdict(StretchVisitor):
     """Writes JSON into a passing file, as the report is read."""
 
     def __init__(self, out: BinaryIO, reviewed: Reviewed, only_findings: bool) -> None:
-        super().__init__(reviewed.is_whole, reviewed.counters, reviewed.survey.unlisted)
+        super().__init__(reviewed.survey)
         self._out = out
         self._reviewed = reviewed
         self._only_findings = only_findings
@@ -85,6 +85,12 @@ class JsonVerdict(StretchVisitor):
         number, place = neighbour
         return {"number": number, "place": place, "timestamp": self._reviewed.detailed().times.of_neighbour(neighbour)}
 
+    def outside(self, session: Session, sg: int, spri: int, first: int, last: int, is_early: bool) -> None:
+        """Writes announced numbers that don't belong to the night."""
+        word = "early" if is_early else "beyond"
+        self._put({"line": word, **names_of(session), "sg": sg, "spri": spri, "first": first, "last": last,
+                   "count": last - first + 1, "finding": word})
+
     def tail_after(self, session: Session, sg: int, spri: int, first: int, last: int, before: Optional[Neighbour]) -> None:
         """Writes numbers that are missing up to a counter."""
         self._put({"line": "tail", **names_of(session), "sg": sg, "spri": spri, "first": first, "last": last,
@@ -116,6 +122,7 @@ class JsonVerdict(StretchVisitor):
         facts, survey, totals = self._reviewed.facts, self._reviewed.survey, self.totals
         missing: Fields = {} if self.counters is None else {"missing_up_to_counters": totals.tails}
         missing.update({} if self.missing is None else {"missing_blocks": self.missing})
+        missing.update({} if self.begin is None else {"early": totals.early, "beyond": totals.beyond})
         self._put({
             "line": "verdict", "status": facts.status, "review_status": facts.review_status, "verdict": sentence(facts),
             "sessions": dict(sorted(self.states.items())), "listed": totals.listed, "missing": totals.lost,

@@ -61,19 +61,31 @@ def is_standard_pipe(path: str) -> bool:
         return False
 
 
+def copy_begin(path: str, workplace: Workplace) -> str:
+    """Copies the counters with which a night begins, and gives the path of the copy. With none the first night begins."""
+    with workplace.new_file("begin") as copy:
+        copy_file(path, copy)
+    return workplace.path("begin")
+
+
 def copy_counters(path: str, workplace: Workplace) -> str:
     """Copies a counters file to a passing one, and gives its path. It is read more than once, and may be a pipe."""
     with workplace.new_file("counters") as copy:
-        try:
-            with open(path, "rb") as source:
-                copy_octets(source, copy)
-        except (OSError, ValueError) as fault:
-            raise Fault(f"the counters file {shown_name(path)} can't be read: {reason(fault)}") from fault
-        finish(copy)
+        copy_file(path, copy)
         if not os.fstat(copy.fileno()).st_size:
             raise Fault(f"the counters file {shown_name(path)} is empty, so it shows nothing: `ssign counters` writes a line "
                         "for each joined session, so make it again from a log that is whole")
     return workplace.path("counters")
+
+
+def copy_file(path: str, copy: BinaryIO) -> None:
+    """Copies a counters file into an open one."""
+    try:
+        with open(path, "rb") as source:
+            copy_octets(source, copy)
+    except (OSError, ValueError) as fault:
+        raise Fault(f"the counters file {shown_name(path)} can't be read: {reason(fault)}") from fault
+    finish(copy)
 
 
 def copy_octets(source: BinaryIO, copy: BinaryIO) -> None:

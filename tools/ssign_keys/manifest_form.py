@@ -115,6 +115,30 @@ class Entry:
         return f"{self.number}:{self.sum}"
 
 
+class Reached:
+    """How far a session has gone: the GBC of its next block, and the number of the next message of each group."""
+
+    def __init__(self) -> None:
+        """It hasn't begun."""
+        self.gbc = 0
+        self.groups: Dict[Tuple[int, int], int] = {}
+
+    def lines(self, session: Session) -> bytes:
+        """As lines of a counters file; none where it hasn't begun."""
+        if not self.gbc and not self.groups:
+            return b""
+        said = [f"count {session} {self.gbc}"]
+        said += [f"count {session} {sg} {spri} {number}" for (sg, spri), number in sorted(self.groups.items())]
+        return "".join(f"{it}\n" for it in said).encode("ascii")
+
+    def go_on(self, entry: Entry) -> None:
+        """Takes a night into account."""
+        self.gbc = max(self.gbc, entry.gbc)
+        for it in entry.groups:
+            group = it.sg, it.spri
+            self.groups[group] = max(self.groups.get(group, 1), it.last + 1)
+
+
 @dataclass(frozen=True)
 class Copied:
     """A copy of a signed log, which was compared with its entry."""

@@ -10,7 +10,7 @@ from .faults import Fault
 from .kept import Counters
 from .logs import Log
 from .manifest_findings import Found, Names, Reviewed, Stored, bare, of_manifest, of_review, of_sessions
-from .manifest_form import Entry, Extent, Manifest, Mark, read_manifest, read_mark
+from .manifest_form import Entry, Extent, Manifest, Mark, Reached, read_manifest, read_mark
 from .progress import Progress
 from .report import Group, Reading, ReportVisitor
 from .words import counted, shown_name
@@ -21,6 +21,8 @@ def add_arguments(parser: argparse.ArgumentParser) -> None:
     """Says how a manifest is given."""
     parser.add_argument("--manifest", metavar="FILE", help="also compare the logs with their entries in this manifest, and "
                         "use the counters of these as those of --counters; each difference is a finding")
+    parser.add_argument("--from-manifest", action="store_true", help="judge nights of a session that goes on: begin at the "
+                        "counters of the entries of the session that stand before those of the logs, as --from does")
     parser.add_argument("--manifest-last", metavar="N:SHA256", help="the last entry of the manifest, which was kept apart; "
                         "that it isn't there is a finding")
 
@@ -28,9 +30,10 @@ def add_arguments(parser: argparse.ArgumentParser) -> None:
 class Extents(ReportVisitor):
     """Keeps the states of the sessions, and the first and last number of each group."""
 
-    def __init__(self) -> None:
+    def __init__(self, counters: Optional[Counters], begin: Optional[Counters]) -> None:
+        """The counters that the review was given, and those with which the night begins."""
         # a report that was made with counters has more lines
-        super().__init__(True, Counters())
+        super().__init__(True, Counters() if begin is None else counters, begin)
         self.reviewed = Reviewed({}, {}, {})
         self._first = 0
 
@@ -85,6 +88,8 @@ class Listed:
         if arguments.manifest is None:
             if arguments.manifest_last is not None:
                 raise Fault("--manifest-last says something of a manifest: name it with --manifest")
+            if arguments.from_manifest:
+                raise Fault("--from-manifest begins at the counters of a manifest: name it with --manifest")
             return None
         kept = None if arguments.manifest_last is None else read_mark(arguments.manifest_last, "--manifest-last")
         return cls(read_manifest(arguments.manifest), kept)
@@ -105,6 +110,17 @@ class Listed:
             self._take(names, Stored(shown_name(part.name), name, size, sha256))
         return [f"{line}\n".encode("ascii") for it in self._entries for line in it.counters]
 
+    def begin(self) -> bytes:
+        """The counters with which the nights begin that the logs are, as lines of a counters file."""
+        firsts: Dict[Session, int] = {}
+        for entry in self._entries:
+            firsts[entry.session] = min(entry.number, firsts.get(entry.session, entry.number))
+        known: Dict[Session, Reached] = {}
+        for entry in self._manifest.entries:
+            if entry.number < firsts.get(entry.session, 0):
+                known.setdefault(entry.session, Reached()).go_on(entry)
+        return b"".join(it.lines(session) for session, it in known.items())
+
     def _take(self, names: Names, stored: Stored) -> None:
         """Compares a log with its entry."""
         found = names.look(stored)
@@ -120,9 +136,9 @@ class Listed:
         self._labels[entry.number] = stored.label
         self._entries.append(entry)
 
-    def compare(self, report: BinaryIO) -> None:
+    def compare(self, report: BinaryIO, counters: Optional[Counters], begin: Optional[Counters]) -> None:
         """Compares the sessions and numbers of the entries with those of a report."""
-        visitor = Extents()
+        visitor = Extents(counters, begin)
         Reading(visitor).read(report, Progress())
         nights: Dict[Session, List[Entry]] = {}
         for it in self._entries:
@@ -133,9 +149,9 @@ class Listed:
                 self.found.append(found)
         self.found += of_sessions(self._entries, visitor.reviewed)
 
-    def count(self, report: BinaryIO) -> int:
+    def count(self, report: BinaryIO, counters: Optional[Counters], begin: Optional[Counters]) -> int:
         """Compares a report, and gives how many findings there are in all."""
-        self.compare(report)
+        self.compare(report, counters, begin)
         return len(self.found)
 
     def sentence(self) -> str:

@@ -2,7 +2,9 @@
 from __future__ import annotations
 
 import html
+import os
 from typing import Dict, Iterable, Union
+from urllib.parse import quote
 
 from .words import is_seen
 
@@ -57,6 +59,23 @@ def drawn(name: str, attributes: Dict[str, str]) -> Markup:
 def named(text: str) -> Markup:
     """A name or a text of a stranger, which doesn't turn the direction of what stands beside it."""
     return plain("bdi", text)
+
+
+def link(path: str, *children: Child) -> Markup:
+    """A link to a file beside the page, which is named from the page on. No octet of it is taken for a part of an address."""
+    return element("a", {"href": quote(os.fsencode(path), safe="/")}, *children)
+
+
+def swatch(kind: str) -> Markup:
+    """A small field in the colour and the pattern of a kind."""
+    field = element("svg", {"class": "swatch", "viewBox": "0 0 24 12", "aria-hidden": "true", "focusable": "false"},
+                    drawn("rect", {"width": "24", "height": "12", "class": kind}))
+    return Markup(field.text.rstrip("\n"))
+
+
+def legend(*items: Child) -> Markup:
+    """A list of what colours and patterns mean."""
+    return element("ul", {"class": "key"}, *(plain("li", it) for it in items))
 
 
 def code(text: str) -> Markup:

@@ -8,15 +8,17 @@ from typing import List, Sequence, Tuple
 from .words import shown_name
 
 # options that the verdict, or its form, depends on. The others say where something is kept, or how fast the run is
-VALUED = ("key", "ca", "cert", "max-payload", "max-len", "max-messages", "max-expanded", "counters", "manifest", "manifest-last")
-FLAGS = ("at-signing-time", "allow-sha1", "lines", "frames", "whole", "findings", "raw", "json", "details", "hostname")
+VALUED = ("key", "ca", "cert", "max-payload", "max-len", "max-messages", "max-expanded", "counters", "from", "manifest",
+          "manifest-last", "stamped", "tsa-ca")
+FLAGS = ("from-manifest", "at-signing-time", "allow-sha1", "lines", "frames", "whole", "findings", "raw", "json", "details",
+         "hostname")
 PAIRS = ("session-key",)
-LEFT_OUT = ("html", "answers-out", "counters-out", "jobs", "ssign", "help")
+LEFT_OUT = ("nights", "html", "answers-out", "counters-out", "jobs", "ssign", "help")
 # those that say how much is printed, which a page doesn't repeat
 REPEATED_NOT = tuple(f"--{it}" for it in ("findings", "raw", "json", "details", "hostname"))
 DEFAULTS = {"max-payload": 65536}
 # where the value of an option stands, if not under its name
-PLACES = {"key": "keys"}
+PLACES = {"key": "keys", "from": "begin"}
 
 
 def given_options(arguments: argparse.Namespace) -> List[str]:
@@ -35,7 +37,8 @@ def given_options(arguments: argparse.Namespace) -> List[str]:
 def given_files(arguments: argparse.Namespace, program: str) -> List[str]:
     """The names of all files that a check reads."""
     named = [*arguments.logs, *arguments.keys, *arguments.ca, *arguments.cert, *(it for _, it in arguments.session_key),
-             *(arguments.counters or []), *([arguments.manifest] if arguments.manifest else []), program]
+             *(arguments.counters or []), *(arguments.begin or []), *([arguments.manifest] if arguments.manifest else []),
+             *arguments.stamped, *arguments.tsa_ca, program]
     return [it for it in named if it != "-"]
 
 

@@ -11,19 +11,19 @@ from .blocks import Session
 from .finder import Found, most_shown
 from .identity import identity_lines
 from .markup import Child, Markup, code, element, joined, listing, named, plain, table
+from .page_frame import front_of, write_page
 from .page_parts import checked_part, limits_part, repeat_part, verdict_part
-from .page_style import patterns, policy, style
 from .pairs import Neighbour, Stretch
 from .report import Group
 from .reviewed import Reviewed
 from .stretch_visitor import StretchVisitor
 from .strips import Strip
-from .text_verdict import STATES, blocks_words, group_words, neighbours_words, numbers_words, session_words, times_words
+from .text_verdict import (STATES, blocks_words, group_words, neighbours_words, numbers_words, outside_words, session_words,
+                           times_words)
 from .words import grouped, shown, shown_name
-from .workplace import put
 
 # the first octets of a page, by which one is known
-FRONT = "<!DOCTYPE html>\n<!-- made by ssign-keys verify --html -->\n"
+FRONT = front_of("ssign-keys verify --html")
 # how many rows of a kind of finding are shown, sessions in full, sessions in a table, strips and pairs
 MOST_ROWS, MOST_SESSIONS, MOST_OTHERS, MOST_STRIPS, MOST_PAIRS = 200, 40, 500, 60, 100
 # how many characters all texts of messages have together; then each has so many at most
@@ -54,7 +54,7 @@ class Page(StretchVisitor):
 
     def __init__(self, reviewed: Reviewed, other_findings: Sequence[Tuple[str, str]]) -> None:
         """Findings that a report doesn't have, as those of a manifest: each with where it is, and what it is."""
-        super().__init__(reviewed.is_whole, reviewed.counters, reviewed.survey.unlisted)
+        super().__init__(reviewed.survey)
         self._reviewed = reviewed
         self._times = reviewed.detailed().times
         # how many rows of each kind there are, and those that are shown
@@ -68,7 +68,9 @@ class Page(StretchVisitor):
         self._session_lines: List[str] = []
         self._groups: Dict[Tuple[int, int], Drawn] = {}
         self._strips = 0
-        self._ends_of = {(it.session, it.sg, it.spri): max(it.last, (it.next_number or 1) - 1) for it in reviewed.survey.reach}
+        # the first and the last number of each group that a line is about
+        self._spans = {(it.session, it.sg, it.spri): (it.first, max(it.last, (it.next_number or 1) - 1))
+                       for it in reviewed.survey.reach}
         self._pairs: List[Pair] = []
         self._pair_count = 0
         self._places = Strip(0, reviewed.survey.totals.messages - 1)
@@ -145,7 +147,14 @@ class Page(StretchVisitor):
         self._groups[group.sg, group.spri] = Drawn(group, self._new_strip(group.sg, group.spri))
 
     def _new_strip(self, sg: int, spri: int) -> Strip:
-        return Strip(1, self._ends_of.get((self._session, sg, spri), 1))
+        first, last = self._spans.get((self._session, sg, spri), (1, 1))
+        return Strip(self._first_of(sg, spri, first), last)
+
+    def _first_of(self, sg: int, spri: int, first: int) -> int:
+        """Where a strip begins: with 1, or with the night or an announced number before it."""
+        if self.begin is None:
+            return 1
+        return min(first, max(1, self.begin.next_number(self._session, sg, spri) or 1))
 
     def listed(self, group: Group, numbers: Sequence[int], places: Sequence[int]) -> None:
         """Draws listed numbers."""
@@ -168,6 +177,12 @@ class Page(StretchVisitor):
                             for it in range(stretch.first, min(stretch.last + 1, stretch.first + room))]
         elif room > 0:
             self._pairs.append(Pair(group, stretch.first, stretch.last, stretch, stretch.likely))
+
+    def outside(self, session: Session, sg: int, spri: int, first: int, last: int, is_early: bool) -> None:
+        """Adds a row of announced numbers that don't belong to the night."""
+        kind = "early" if is_early else "beyond"
+        if self._takes(kind):
+            self._add(kind, joined(whose(session, sg, spri), f", {numbers_words(first, last)}"), "", outside_words(is_early))
 
     def tail_after(self, session: Session, sg: int, spri: int, first: int, last: int, before: Optional[Neighbour]) -> None:
         """Draws what is missing up to a counter, and adds a row."""
@@ -258,19 +273,9 @@ class Page(StretchVisitor):
         reviewed, checked = self._reviewed, self._reviewed.detailed().checked
         clean = reviewed.facts.status == 0
         word = "Clean" if clean else "Findings" if self.totals.listed else "Nothing is shown"
-        text = style()
-        head = plain(
-            "head", element("meta", {"charset": "utf-8"}),
-            element("meta", {"http-equiv": "Content-Security-Policy", "content": policy(text)}),
-            element("meta", {"name": "viewport", "content": "width=device-width, initial-scale=1"}),
-            element("meta", {"name": "referrer", "content": "no-referrer"}),
-            plain("title", f"{word}: check of a signed log, {checked.time}"), plain("style", Markup(text)))
         pieces = [verdict_part(reviewed, self.totals, self.missing, word), self._findings(), *self._likely(), self._sessions_part(),
                   self._places_part(), checked_part(checked), limits_part(reviewed), repeat_part(checked, reviewed.facts.status)]
-        put(out, FRONT.encode("ascii") + b'<html lang="en">\n')
-        put(out, head.text.encode("utf-8", "backslashreplace"))
-        for it in (Markup("<body>\n"), patterns(), Markup("<main>\n"), *pieces, Markup("</main>\n</body>\n</html>\n")):
-            put(out, it.text.encode("utf-8", "backslashreplace"))
+        write_page(out, FRONT, f"{word}: check of a signed log, {checked.time}", pieces)
 
     def _findings(self) -> Markup:
         """The table of findings."""

@@ -99,25 +99,13 @@ class PageFile:
                 os.replace(self._part, self._wanted)
                 self._part = None
             else:
-                self._link(self._part, self._wanted)
+                name_new(self._part, self._wanted)
             self._remove_part()
             sync_folder(os.path.dirname(self._wanted) or ".")
         except FileExistsError as fault:
             raise Fault(f"the file {shown_name(self._wanted)} is there already, and isn't overwritten") from fault
         except OSError as fault:
             raise self._unkept(fault) from fault
-
-    @staticmethod
-    def _link(part: str, wanted: str) -> None:
-        """Names a file where no file has the name, however short a time before."""
-        try:
-            os.link(part, wanted)
-        except OSError as fault:
-            if fault.errno not in NO_LINKS:
-                raise
-            # without hard links, the name is taken by an empty file, which the page then replaces
-            open(wanted, "xb").close()
-            os.replace(part, wanted)
 
     def _unkept(self, fault: OSError) -> Fault:
         return Fault(f"the page can't be kept in {shown_name(self._wanted or '')}: {reason(fault)}")
@@ -135,3 +123,15 @@ def copy_synced(finished: str, path: str) -> None:
         shutil.copyfileobj(source, made)
         made.flush()
         os.fsync(made.fileno())
+
+
+def name_new(part: str, wanted: str) -> None:
+    """Names a file where no file has the name, however short a time before. Raises FileExistsError where one has it."""
+    try:
+        os.link(part, wanted)
+    except OSError as fault:
+        if fault.errno not in NO_LINKS:
+            raise
+        # without hard links, the name is taken by an empty file, which the finished one then replaces
+        open(wanted, "xb").close()
+        os.replace(part, wanted)

@@ -39,8 +39,11 @@ def verdict_part(reviewed: Reviewed, totals: Totals, missing_blocks: Optional[in
     ]
     if reviewed.counters is not None:
         counts.insert(4, ("missing up to the counters", totals.tails, "missing or unlisted, by the counters"))
+    if reviewed.begin is not None:
+        counts[4:4] = [("early", totals.early, "announced, and below the counters that the night begins with"),
+                       ("beyond", totals.beyond, "announced, and not below the counters that the night ends with")]
     if missing_blocks is not None:
-        counts.insert(5, ("missing blocks", missing_blocks, "signature blocks that are missing or unverified"))
+        counts.insert(5 if reviewed.begin is None else 6, ("missing blocks", missing_blocks, "signature blocks that are missing or unverified"))
     rows: List[List[Child]] = [[name, f"{count:,}", what] for name, count, what in counts]
     stored = f"The log has {grouped(totals.messages, 'stored message')}" + ("." if totals.torn is None else ", and breaks off.")
     return plain("section", plain("h1", "Check of a signed log"),
@@ -61,7 +64,8 @@ def checked_part(checked: Checked) -> Markup:
                                                                           "SHA-256 of the key", "Certificate"), keys))
     pieces += cut(len(checked.keys) - MOST_KEYS, "more key")
     rows: List[List[Child]] = [[what, code(digest_words(it)) if it else "none"]
-                               for what, it in (("Counters", checked.counters), ("Manifest", checked.manifest))]
+                               for what, it in checked.kept_files("Counters", "From counters", "Manifest")]
+    rows += [["Time stamp", code(it.words())] for it in checked.stamps]
     rows.append(["Answers", code(answers_words(checked.answers))])
     rows += [["Program", program_cell(checked.ssign)], ["Tool", program_cell(checked.tool)],
              ["Options", code(quoted(checked.options) or "none")], ["Time of the check", checked.time]]
@@ -135,7 +139,8 @@ def repeat_part(checked: Checked, status: int) -> Markup:
     lines: List[str] = ["# in the folder in which the check was made; each sum has to be the one beside it"]
     shown_logs = checked.logs[:MOST_LOGS]
     files = [(it.digest.name, it.digest.sha256) for it in shown_logs]
-    files += [(it.name, it.sha256) for it in (checked.counters, checked.manifest) if it is not None]
+    stamps = [it.digest for it in checked.stamps]
+    files += [(it.name, it.sha256) for it in (checked.counters, checked.begin, checked.manifest, *stamps) if it is not None]
     for name, sha256 in files:
         if name == "-":
             lines.append(f"# standard input had the SHA-256 {sha256}")

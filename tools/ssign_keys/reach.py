@@ -34,6 +34,8 @@ class Reached:
     """The GBC of the next signature block of its session, by the counters."""
     out_of_order: int = 0
     first_out_of_order: Optional[int] = None
+    first: int = 1
+    """The first number that a line is about."""
 
     @property
     def is_covered(self) -> bool:
@@ -61,14 +63,14 @@ class Reach:
         return len(self._groups)
 
     def add(self, session: Session, sg: int, spri: int, last: int, gbc: Optional[int], out_of_order: int = 0,
-            first_out_of_order: Optional[int] = None) -> None:
+            first_out_of_order: Optional[int] = None, first: int = 1) -> None:
         """Adds a group of the present session, where its SG and SPRI belong."""
         counters = self._counters or Counters()
         place = len(self._groups)
         while place and self._stands_behind(self._groups[place - 1], session, sg, spri):
             place -= 1
         self._groups.insert(place, Reached(session, sg, spri, last, gbc, counters.next_number(session, sg, spri),
-                                           counters.next_gbc(session), out_of_order, first_out_of_order))
+                                           counters.next_gbc(session), out_of_order, first_out_of_order, first))
 
     def pass_over(self, session: Session) -> None:
         """Takes a session of the log that isn't joined, so it has no group of its own: only counters can say how far it

@@ -306,7 +306,7 @@ def counters_name(case: Case) -> str:
     """The counters file."""
     if state_name(case):
         return f"the counters of the state {state_name(case)}"
-    given = getattr(case.arguments, "counters", None)
+    given = getattr(case.arguments, "read_counters", None) or getattr(case.arguments, "counters", None)
     return f"the counters file {shown_name(given[0])}" if given else "the counters file"
 
 

@@ -9,7 +9,7 @@ import operator
 import re
 from abc import ABC, abstractmethod
 from dataclasses import dataclass
-from typing import BinaryIO, Dict, Iterator, List, Optional, Sequence
+from typing import BinaryIO, Dict, Iterator, List, Optional, Sequence, Tuple
 
 from .blocks import Session
 from .faults import Fault
@@ -20,8 +20,8 @@ from .words import shown
 # lines are read by so many octets, so that a long stretch of `ok` lines is taken at once
 PIECE = 1 << 16
 # the words of a report, with how many fields follow each, and where they stand among the others
-FIELDS = {b"session": 5, b"ok": 8, b"gap": 8, b"hole": 8, b"tail": 8, b"blocks": 6, b"unlisted": 1, b"refused": 1,
-          b"spoilt": 2, b"torn": 1, b"end": 1}
+FIELDS = {b"session": 5, b"ok": 8, b"gap": 8, b"hole": 8, b"early": 8, b"beyond": 8, b"tail": 8, b"blocks": 6, b"unlisted": 1,
+          b"refused": 1, b"spoilt": 2, b"torn": 1, b"end": 1}
 ORDER = {b"unlisted": 1, b"refused": 2, b"spoilt": 3, b"torn": 4, b"end": 5}
 STATES = ("joined", "disputed", "incomplete", "malformed", "untrusted", "unaccepted", "absent")
 # what follows the front of `ok` lines: numbers and places
@@ -47,13 +47,26 @@ class Group:
     out_of_order: int = 0
     first_out_of_order: int = 0
     place: int = -1
+    # where the night begins, 1 in a whole log, and where it ends, if counters say that
+    begin: int = 1
+    end: Optional[int] = None
+    # how many announced numbers lie before the night, and after it
+    early: int = 0
+    beyond: int = 0
 
     def reach(self, first: int, last: int) -> None:
-        """Takes numbers into account. A report has a line about each of them from 1 on."""
-        if first != self.last + 1 or last < first:
+        """Takes numbers into account. A report has a line about each of them from 1 on, or from where the night begins."""
+        is_next = first == self.last + 1 or self.last < first <= self.begin
+        if not is_next or last < first:
             raise wrong(f"number {first} of the group SG {self.sg}, SPRI {self.spri} follows number {self.last}")
         self.first = self.first or first
         self.last = last
+
+    def announce(self, first: int, last: int) -> None:
+        """Counts announced numbers that don't belong to the night."""
+        self.early += max(0, min(last + 1, self.begin) - first)
+        if self.end is not None:
+            self.beyond += max(0, last + 1 - max(first, self.end))
 
     def list(self, numbers: Sequence[int], places: Sequence[int]) -> None:
         """Takes listed messages into account."""
@@ -61,6 +74,7 @@ class Group:
         if len(numbers) > 1 and list(numbers) != list(range(numbers[0], numbers[0] + len(numbers))):
             raise wrong(f"the numbers from {numbers[0]} to {numbers[-1]} aren't all there")
         self.listed += len(numbers)
+        self.announce(numbers[0], numbers[-1])
         before = [self.place, *places[:-1]]
         out_of_order = sum(map(operator.gt, before, places))
         if out_of_order and not self.out_of_order:
@@ -79,6 +93,9 @@ class Totals:
     unannounced: int = 0
     # numbers of `tail` lines, which only counters bring about
     tails: int = 0
+    # announced numbers before the night and after it, which only first counters bring about
+    early: int = 0
+    beyond: int = 0
     out_of_order: int = 0
     unlisted: int = 0
     refused: int = 0
@@ -98,16 +115,19 @@ class Totals:
 class ReportVisitor(ABC):
     """Tells of the lines of a report, one after the other. What is counted stands in `totals` and `states`."""
 
-    def __init__(self, is_whole: bool = False, counters: Optional[Counters] = None) -> None:
+    def __init__(self, is_whole: bool = False, counters: Optional[Counters] = None, begin: Optional[Counters] = None) -> None:
         """A whole report, of `ssign review --whole`, also has lines about missing signature blocks.
 
-        So has one with counters, of `--counters`, which also reports what is missing up to them.
+        So has one with counters, of `--counters`, which also reports what is missing up to them, and one of a night that
+        begins at counters, of `--from`.
         """
         self.totals = Totals()
         self.states: Dict[str, int] = {}
         self.counters = counters
+        self.begin = begin
         # how many signature blocks are missing; None where the report doesn't speak of them
-        self.missing: Optional[int] = 0 if is_whole or counters is not None else None
+        is_asked = is_whole or counters is not None or begin is not None
+        self.missing: Optional[int] = 0 if is_asked else None
 
     @abstractmethod
     def session(self, session: Session, state: str) -> None:
@@ -132,6 +152,9 @@ class ReportVisitor(ABC):
     @abstractmethod
     def end_group(self, group: Group) -> None:
         """Reports a group of which all lines were read."""
+
+    def outside(self, session: Session, sg: int, spri: int, first: int, last: int, is_early: bool) -> None:
+        """Reports announced numbers before the night, or after it. Only first counters bring such a line about."""
 
     def tail(self, session: Session, sg: int, spri: int, first: int, last: int) -> None:
         """Reports numbers after the last announced one, up to a counter. Only counters bring such a line about."""
@@ -179,6 +202,8 @@ class Reading:
         self._group: Optional[Group] = None
         # the group before it in the session
         self._before = (-1, -1)
+        # of the present session, the announced numbers of each group before the night and after it, less those of its lines
+        self._outside: Dict[Tuple[int, int, bool], int] = {}
         # the front of an `ok` line of the present group, up to its number
         self._front = b""
         # where the last line stands among the others, and the place that it has
@@ -222,6 +247,7 @@ class Reading:
         if order < self._order or order == ORDER[b"end"] == self._order:
             raise wrong(f"the line {text_of(line)} stands too late")
         if order != self._order:
+            self._check_outside()
             self._order, self._place = order, -1
         if word in (b"ok", b"gap", b"hole"):
             self._take_number(word, fields)
@@ -229,6 +255,10 @@ class Reading:
         self._close_group()
         if word == b"session":
             self._take_session(fields)
+        elif word == b"early" and self._visitor.begin is not None:
+            self._take_outside(fields, True)
+        elif word == b"beyond" and self._visitor.begin is not None and self._visitor.counters is not None:
+            self._take_outside(fields, False)
         elif word == b"tail" and self._visitor.counters is not None:
             self._take_tail(fields)
         elif word == b"blocks" and self._visitor.missing is not None:
@@ -250,6 +280,7 @@ class Reading:
             raise wrong(f"it has a session whose state is {text_of(fields[4])}")
         if session == self._session:
             raise wrong(f"it has the session {text_of(bytes(str(session), 'ascii'))} twice")
+        self._check_outside()
         self._session, self._state, self._before = session, state, (-1, -1)
         self._visitor.states[state] = self._visitor.states.get(state, 0) + 1
         self._visitor.session(session, state)
@@ -260,10 +291,40 @@ class Reading:
             raise wrong(f"a line about {text_of(b' '.join(fields[:4]))} stands below the session "
                         f"{text_of(bytes(str(self._session), 'ascii'))}")
 
+    def _begin_of(self, sg: int, spri: int) -> int:
+        """The number with which the night begins in a group of the present session."""
+        begin = self._visitor.begin
+        return 1 if begin is None else max(1, begin.next_number(self._session, sg, spri) or 1)
+
+    def _end_of(self, sg: int, spri: int) -> Optional[int]:
+        """The number before which the night ends there; None where nothing says it. A group without a counter has none."""
+        counters = self._visitor.counters
+        if self._visitor.begin is None or counters is None:
+            return None
+        return max(1, counters.next_number(self._session, sg, spri) or 1)
+
+    def _take_outside(self, fields: List[bytes], is_early: bool) -> None:
+        self._check_session(fields)
+        sg, spri, first, last = map(number_of, fields[4:])
+        count = last - first + 1
+        if count < 1:
+            raise wrong(f"it has numbers outside of the night from {first} to {last}")
+        key = sg, spri, is_early
+        self._outside[key] = self._outside.get(key, 0) - count
+        self._visitor.totals.early += count if is_early else 0
+        self._visitor.totals.beyond += 0 if is_early else count
+        self._visitor.outside(self._session, sg, spri, first, last, is_early)
+
+    def _check_outside(self) -> None:
+        """Sees that each announced number outside of the night has its line, and no other number has one."""
+        if any(self._outside.values()):
+            raise wrong("its lines about numbers outside of the night aren't those of its groups")
+        self._outside = {}
+
     def _take_tail(self, fields: List[bytes]) -> None:
         self._check_session(fields)
         sg, spri, first, last = map(number_of, fields[4:])
-        if not 0 < first <= last:
+        if not self._begin_of(sg, spri) <= first <= last:
             raise wrong(f"it has a tail from {first} to {last}")
         self._visitor.totals.tails += last - first + 1
         self._visitor.tail(self._session, sg, spri, first, last)
@@ -271,7 +332,8 @@ class Reading:
     def _take_blocks(self, fields: List[bytes]) -> None:
         self._check_session(fields)
         first, last = map(number_of, fields[4:])
-        if last < first:
+        begin = self._visitor.begin
+        if last < first or begin is not None and first < (begin.next_gbc(self._session) or 0):
             raise wrong(f"it has missing blocks from {first} to {last}")
         self._visitor.missing = (self._visitor.missing or 0) + last - first + 1
         self._visitor.missing_blocks(self._session, first, last)
@@ -295,7 +357,7 @@ class Reading:
             if (sg, spri) <= self._before:
                 raise wrong(f"the group SG {sg}, SPRI {spri} stands after a later one")
             self._before = sg, spri
-            group = self._group = Group(self._session, sg, spri)
+            group = self._group = Group(self._session, sg, spri, begin=self._begin_of(sg, spri), end=self._end_of(sg, spri))
             self._front = b" ".join([b"ok", *fields[:6], b""])
             self._visitor.begin_group(group)
         if word == b"ok":
@@ -304,12 +366,15 @@ class Reading:
             self._take_gap(group, number, fields[7].decode("ascii", "replace"))
         else:
             last = number_of(fields[7])
+            if number < group.begin:
+                raise wrong(f"it has a hole from {number} to {last}, before the night")
             group.reach(number, last)
             group.unannounced += last - number + 1
             self._visitor.hole(group, number, last)
 
     def _take_gap(self, group: Group, number: int, why: str) -> None:
         group.reach(number, number)
+        group.announce(number, number)
         if why == "lost":
             group.lost += 1
         elif why == "disputed":
@@ -319,9 +384,13 @@ class Reading:
         self._visitor.gap(group, number, why)
 
     def _close_group(self) -> None:
-        if self._group is not None:
-            self._visitor.totals.add(self._group)
-            self._visitor.end_group(self._group)
+        group = self._group
+        if group is not None:
+            for is_early, count in ((True, group.early), (False, group.beyond)):
+                if count:
+                    self._outside[group.sg, group.spri, is_early] = count
+            self._visitor.totals.add(group)
+            self._visitor.end_group(group)
         self._group, self._front = None, b""
 
 

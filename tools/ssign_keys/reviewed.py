@@ -22,6 +22,8 @@ class Reviewed(NamedTuple):
     facts: Facts
     is_whole: bool
     counters: Optional[Counters]
+    begin: Optional[Counters] = None
+    """The counters with which the night begins, if it is one night of a session that goes on."""
     details: Optional[Details] = None
     """What was checked, and the times; None where no form shows it."""
 

@@ -1,5 +1,5 @@
-"""Signs rotated logs of lines, and keeps what a later review needs to know of each. Each is a session of its own, or all
-are nights of one session that goes on.
+"""Signs rotated logs of lines, and keeps what a later review needs to know of each. All are
+nights of one session that goes on, or each is a session of its own.
 
 A log is signed once nobody writes to it any more. What was signed is verified with the public key before it gets its name,
 its counters are kept, and an entry of the manifest names it. A log that couldn't be signed waits, and is tried again in
@@ -57,7 +57,7 @@ def add_arguments(parser: argparse.ArgumentParser) -> None:
     parser.add_argument("--app", default="signer", metavar="TEXT", help="APP-NAME of all blocks (default: signer)")
     kind = parser.add_mutually_exclusive_group()
     kind.add_argument("--one-session", action="store_true", help="sign the logs as nights of one session; the folder session "
-                      "in that of --state keeps it (default: as the last log; without one, each log is a session of its own)")
+                      "in that of --state keeps it (default: as the last log was signed; the first log begins one session)")
     kind.add_argument("--own-sessions", action="store_true", help="sign each log as a session of its own; one that went on ends")
     parser.add_argument("--new-session", action="store_true", help="end the session that goes on, and begin another")
     parser.add_argument("--wait", type=seconds, default=60.0, metavar="SECONDS", help="how long is waited at most until nobody "
@@ -125,8 +125,8 @@ class Night(NamedTuple):
     """The words of `ssign-keys sign` that name it."""
     label: str
     """How the names of its report and its counters end."""
-    before: List[bytes]
-    """The lines of a report on this log alone for the numbers that earlier logs of the session have."""
+    begin: bytes
+    """The counters with which it begins, as lines of a counters file; none where the session begins."""
 
 
 class Rotation:
@@ -345,19 +345,21 @@ class Rotation:
             self._unusual = True
 
     def _verify(self, passing: Passing, night: Night) -> None:
-        """Verifies the signed log with the public key, and keeps the report and the counters.
-
-        The numbers that earlier logs of the session have are missing in it, and no others.
-        """
+        """Verifies the signed log with the public key, from where its night begins, and keeps the report and the counters."""
+        words = ["verify", f"--key={os.path.join(self._keys, PUBLIC)}", "--raw", "--allow-sha1", f"--max-len={MAX_LEN}",
+                 f"--counters-out={passing.counters}"]
+        if night.begin:
+            with self._workplace.new_file("begin") as begin:
+                put(begin, night.begin)
+                finish(begin)
+            words.append(f"--from={self._workplace.path('begin')}")
         with open(passing.report, "xb") as out:
-            self._keys_command(
-                ["verify", f"--key={os.path.join(self._keys, PUBLIC)}", "--raw", "--allow-sha1", f"--max-len={MAX_LEN}",
-                 f"--counters-out={passing.counters}", "--", passing.frames], out)
+            self._keys_command([*words, "--", passing.frames], out)
             os.fsync(out.fileno())
         with open(passing.report, "rb") as report:
             for line in report:
                 is_clean = line.startswith((b"ok ", b"end ")) or line.startswith(b"session ") and line.endswith(b" joined\n")
-                if not is_clean and line not in night.before:
+                if not is_clean:
                     raise Fault("what was signed isn't clean when it is verified with the public key: "
                                 f"{line.decode('ascii', 'replace').rstrip()}")
 
@@ -453,10 +455,10 @@ class Rotation:
     # ---- the session
 
     def _is_one_session(self) -> bool:
-        """Whether the logs are nights of one session: as the options say, or else as the last log was."""
+        """Whether the logs are nights of one session: as the options say, or else as the last log was; the first one is."""
         if self._arguments.one_session or self._arguments.own_sessions:
             return bool(self._arguments.one_session)
-        is_one = has_counters(self.path("session"), self._rsid)
+        is_one = self._state.manifest == NO_ENTRY or has_counters(self.path("session"), self._rsid)
         if self._is_new and not is_one:
             raise Fault("--new-session goes with --one-session, or with a state that has a session that goes on")
         return is_one
@@ -475,16 +477,15 @@ class Rotation:
         # a session that began, and to which no signed log was added yet, has its RSID too
         rsid = max(self._rsid, last_rsid(self.path("session"))) + 1
         if not self._is_one:
-            return Night(rsid, [f"--rsid={rsid}"], str(rsid), [])
+            return Night(rsid, [f"--rsid={rsid}"], str(rsid), b"")
         manifest = read_manifest(self._manifest)
         label = manifest.last.number + 1
         words = [f"--state={self.path('session')}"]
         ongoing = self._ongoing()
         if ongoing is None:
-            return Night(rsid, [*words, "--new-session", f"--rsid={rsid}"], f"{rsid}-{label}", [])
+            return Night(rsid, [*words, "--new-session", f"--rsid={rsid}"], f"{rsid}-{label}", b"")
         refuse_old(ongoing, manifest)
-        before = [f"hole {ongoing.session} {sg} {spri} 1 {number - 1}\n".encode("ascii") for sg, spri, number in ongoing.ends.groups]
-        return Night(ongoing.rsid, words, f"{ongoing.rsid}-{label}", before)
+        return Night(ongoing.rsid, words, f"{ongoing.rsid}-{label}", ongoing.ends.lines(ongoing.session))
 
     # ---- the manifest
 

@@ -4,8 +4,8 @@ from __future__ import annotations
 from abc import abstractmethod
 from typing import Dict, Optional, Sequence, Tuple
 
+from .agreement import Survey
 from .blocks import Session
-from .kept import Counters
 from .pairs import Neighbour, Stretch, Stretches
 from .report import Group, ReportVisitor
 
@@ -13,10 +13,10 @@ from .report import Group, ReportVisitor
 class StretchVisitor(ReportVisitor):
     """Tells of stretches, once the listed number after them is known. Their order is that of the report."""
 
-    def __init__(self, is_whole: bool, counters: Optional[Counters], unlisted: Sequence[int]) -> None:
-        """The places of all unlisted messages, which rise."""
-        super().__init__(is_whole, counters)
-        self._stretches = Stretches(unlisted)
+    def __init__(self, survey: Survey) -> None:
+        """The same report was surveyed already."""
+        super().__init__(survey.missing is not None, survey.counters, survey.begin)
+        self._stretches = Stretches(survey.unlisted)
         # the last listed number of each group of the present session
         self._ends: Dict[Tuple[int, int], Optional[Neighbour]] = {}
 

@@ -3,7 +3,7 @@ from __future__ import annotations
 
 from typing import Dict, List, Sequence
 
-from .markup import Markup, drawn, element, joined, listing, plain
+from .markup import Markup, drawn, element, joined, legend, plain, swatch
 from .words import grouped
 
 BINS = 600
@@ -103,9 +103,4 @@ class Strip:
 
 def key_of(kinds: Sequence[str]) -> Markup:
     """What the colours and patterns of a strip mean."""
-    items = []
-    for it in kinds:
-        swatch = element("svg", {"class": "swatch", "viewBox": "0 0 24 12", "aria-hidden": "true", "focusable": "false"},
-                         drawn("rect", {"width": "24", "height": "12", "class": it}))
-        items.append(joined(Markup(swatch.text.rstrip("\n")), f"{WORDS.get(it, (it,))[0]}: {MEANINGS[it]}"))
-    return Markup(listing(*items).text.replace("<ul>", '<ul class="key">', 1))
+    return legend(*(joined(swatch(it), f"{WORDS.get(it, (it,))[0]}: {MEANINGS[it]}") for it in kinds))

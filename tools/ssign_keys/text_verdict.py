@@ -109,6 +109,13 @@ def counters_words(group: Reached) -> str:
     return f"the counters cover only the front, up to message {last}{block}"
 
 
+def outside_words(is_early: bool) -> str:
+    """What numbers outside of a night are."""
+    if is_early:
+        return "early, announced here and below the counters that the night begins with"
+    return "beyond, announced here and not below the counters that the night ends with"
+
+
 def times_words(first: Optional[str], last: Optional[str]) -> str:
     """The earliest and the latest TIMESTAMP of a session's listed messages."""
     if first is None:
@@ -134,7 +141,7 @@ class TextVerdict(StretchVisitor):
 
     def __init__(self, out: BinaryIO, reviewed: Reviewed, only_findings: bool, is_detailed: bool = False) -> None:
         """Shows what was checked, and the times, where it is to be detailed."""
-        super().__init__(reviewed.is_whole, reviewed.counters, reviewed.survey.unlisted)
+        super().__init__(reviewed.survey)
         self._out = out
         self._reviewed = reviewed
         self._only_findings = only_findings
@@ -160,6 +167,7 @@ class TextVerdict(StretchVisitor):
 
     def _begin_lists(self) -> None:
         self._missing, self._holes, self._disputed, self._tails, self._blocks = Few(), Few(), Few(), Few(), Few()
+        self._outside = Few()
 
     # ---- sessions
 
@@ -195,6 +203,12 @@ class TextVerdict(StretchVisitor):
             self._left.left -= 1
             self._left = None
 
+    def outside(self, session: Session, sg: int, spri: int, first: int, last: int, is_early: bool) -> None:
+        """Shows announced numbers that don't belong to the night."""
+        if self._outside.takes(last - first + 1):
+            self._need_session()
+            self._put(f"  {outside_words(is_early)}: {group_words(sg, spri)}, {numbers_words(first, last)}")
+
     def tail_after(self, session: Session, sg: int, spri: int, first: int, last: int, before: Optional[Neighbour]) -> None:
         """Shows what is missing up to a counter."""
         if not self._tails.takes(last - first + 1):
@@ -211,6 +225,9 @@ class TextVerdict(StretchVisitor):
             self._put(f"  {blocks_words(first, last)}")
 
     def _end_session(self) -> None:
+        if self._outside.left:
+            self._put(f"  and {grouped(self._outside.left, 'more run')} of messages before the night or after it "
+                      f"({grouped(self._outside.left_numbers, 'message')})")
         if self._tails.left:
             self._put(f"  and {grouped(self._tails.left, 'more run')} of messages, missing or unlisted by the counters "
                       f"({grouped(self._tails.left_numbers, 'message')})")

@@ -28,7 +28,7 @@ class Owners(StretchVisitor):
 
     def __init__(self, survey: Survey) -> None:
         """Nothing is read yet."""
-        super().__init__(survey.missing is not None, survey.counters, survey.unlisted)
+        super().__init__(survey)
         # the number of a session, from 1; 0 where none lists the message
         self.owners = array("I", bytes(4 * survey.totals.messages))
         self.sessions: List[Session] = []

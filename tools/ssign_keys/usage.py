@@ -26,12 +26,14 @@ from .workplace import notify
 HELP = "print this help, or that of a command"
 # the headings of a help, each with the options that stand below it; all others stand below `options`
 GROUPS: Dict[str, Tuple[str, ...]] = {
-    "keys": ("--key", "--session-key", "--ca", "--cert", "--at-signing-time", "--allow-sha1"),
+    "keys": ("--key", "--seal-command", "--public", "--session-key", "--ca", "--cert", "--at-signing-time", "--allow-sha1",
+             "--tsa-ca"),
     "the log": ("--lines", "--frames", "--max-len", "--max-messages", "--max-expanded", "--max-payload"),
     "the session": ("--rsid", "--host", "--app", "--procid", "--msgid", "--pri", "--stamp"),
     "the blocks": ("--payload", "--ver", "--groups", "--count", "--frag", "--copies"),
-    "what is reported": ("--whole", "--counters", "--manifest", "--manifest-last", "--findings", "--details", "--hostname", "--raw",
-                         "--json", "--html", "--answers-out", "--counters-out"),
+    "what is reported": ("--whole", "--from", "--counters", "--nights", "--manifest", "--from-manifest", "--manifest-last",
+                         "--stamped", "--findings", "--details", "--hostname", "--raw", "--json", "--html", "--answers-out",
+                         "--counters-out"),
     "the run": ("--jobs", "--ssign"),
 }
 

@@ -4,7 +4,7 @@ Each claim has its condition here. A verdict that isn't the best one never says 
 """
 from __future__ import annotations
 
-from dataclasses import dataclass
+from dataclasses import dataclass, field
 from typing import Dict, List, Optional
 
 from . import sha1
@@ -36,6 +36,10 @@ class Facts:
     on_sha1: int = 0
     """How many sessions rest on SHA-1."""
     is_sha1_allowed: bool = False
+    is_night: bool = False
+    """Whether the log is judged from counters on."""
+    stamps: List[str] = field(default_factory=list)
+    """What time stamps show, each in a sentence."""
 
     @property
     def status(self) -> int:
@@ -53,7 +57,7 @@ def sentence(facts: Facts) -> str:
     said += order(facts.totals) + facts.broken.sentences()
     if not facts.totals.listed:
         said += f" {NOTHING}"
-    return said + covered(facts)
+    return " ".join([said + covered(facts), *facts.stamps])
 
 
 def clean(totals: Totals) -> str:
@@ -104,6 +108,10 @@ def other_findings(facts: Facts) -> List[str]:
     unjoined = sum(facts.states.values()) - absent - facts.states.get("joined", 0)
     return [
         several(totals.unannounced, "number is unannounced", "numbers are unannounced"),
+        several(totals.early, "number lies below the counters that the night begins with",
+                "numbers lie below the counters that the night begins with"),
+        several(totals.beyond, "number isn't below the counters that the night ends with",
+                "numbers aren't below the counters that the night ends with"),
         tails(totals),
         several(facts.missing_blocks, f"signature block is missing or unverified, {UNSEEN}",
                 f"signature blocks are missing or unverified, {UNSEEN}"),
@@ -143,7 +151,8 @@ def covered(facts: Facts) -> str:
         return ""
     other = " else" if totals.lost or totals.disputed or totals.unannounced else ""
     part = ", which cover only a part of this log" if coverage is Coverage.PART else ""
-    return f" Nothing{other} is missing up to the counters{part}."
+    reach = "between the counters" if facts.is_night else "up to the counters"
+    return f" Nothing{other} is missing {reach}{part}."
 
 
 def are(count: int) -> str:

@@ -10,7 +10,9 @@ from typing import Callable, Iterator, List, NamedTuple, Optional, Tuple, Union
 from . import expand as expand_options
 from . import form as forms
 from . import manifested
+from . import nights
 from . import sha1
+from . import stamped as stamp_options
 from . import trust as trust_options
 from .agreement import Survey, Walked
 from .answer import told_answers
@@ -21,7 +23,7 @@ from .checked import checked_logs, make_checked
 from .details import Details
 from .digests import Digest, digest_of
 from .faults import Fault
-from .kept import Counters, copy_counters, is_standard_pipe, read_counters
+from .kept import Counters, copy_begin, copy_counters, is_standard_pipe, read_counters
 from .kept_file import KeptFile
 from .logs import Log, open_log
 from .json_verdict import JsonVerdict
@@ -40,6 +42,7 @@ from .refusals import fault_of, warn_of_form
 from .report import Reading
 from .reviewed import Reviewed
 from .finder import Finder
+from .stamped import NONE, Stamps, check_stamps
 from .times import Owners, Times
 from .trust import Trust
 from .verdict import NOTHING, Facts
@@ -65,8 +68,13 @@ def add_arguments(parser: argparse.ArgumentParser) -> None:
     parser.add_argument("--counters", action="append", metavar="FILE", help="also say what is missing up to the "
                         "counters of FILE, as `ssign counters` wrote them, and do what --whole does; each loss is a "
                         "finding")
+    parser.add_argument("--from", dest="begin", action="append", metavar="FILE", help="judge one night of a session that goes "
+                        "on, which begins at the counters of FILE, as `ssign counters` wrote them of the night before: "
+                        "nothing below them is missing; also does what --whole does")
     add_jobs(parser)
     manifested.add_arguments(parser)
+    nights.add_arguments(parser)
+    stamp_options.add_arguments(parser)
     form = parser.add_mutually_exclusive_group()
     form.add_argument("--raw", action="store_true", help="print the report of `ssign review` as it stands; the status is "
                       "that of the verdict")
@@ -90,6 +98,8 @@ def add_arguments(parser: argparse.ArgumentParser) -> None:
 
 def run(arguments: argparse.Namespace) -> int:
     """Prints the verdict, and gives its status: that of `ssign review`, or 1 where nothing is listed."""
+    if arguments.nights is not None:
+        return nights.run(arguments)
     verification = Verification(arguments)
     try:
         return verification.run()
@@ -113,6 +123,7 @@ class Verification:
         self.progress = Progress()
         # once it is open
         self._log: Optional[Log] = None
+        self._stamps = NONE
 
     def run(self) -> int:
         """Prints the verdict, and gives its status. What is kept of the run goes if it fails."""
@@ -124,13 +135,16 @@ class Verification:
             answers_out.check()
             counters_out.check()
             refuse_raw_details(arguments)
-            refuse_two_counters(arguments.counters)
-            refuse_one_pipe(arguments.counters, arguments.logs)
+            refuse_two_counters("--counters", arguments.counters)
+            refuse_two_counters("--from", arguments.begin)
+            stamp_options.refuse_lone(arguments)
+            refuse_two_begins(arguments)
+            refuse_one_pipe(arguments.begin, arguments.counters, arguments.logs)
             trust = Trust.from_arguments(arguments)
             listed = Listed.from_arguments(arguments)
             log, verifier = self._open(listed, workplace)
             verifier.answer(trust, arguments.jobs)
-            reviewed = verifier.review(listed, arguments.allow_sha1)
+            reviewed = verifier.review(listed, arguments.allow_sha1, self._stamps)
             if arguments.json or arguments.details or arguments.html is not None:
                 reviewed = reviewed._replace(details=self._details(verifier, reviewed, trust, listed))
             verifier.name_unused(trust)
@@ -151,19 +165,24 @@ class Verification:
         arguments, program, progress = self._arguments, self._program, self.progress
         named_form = forms.named_form(arguments)
         missing = find_missing(program, arguments, workplace, progress)
+        # of the octets that were read for this check, before anything else is put after them
+        self._stamps = check_stamps(arguments, missing.digest, None if listed is None else listed.digest, workplace)
         log = self._log = open_log(arguments.logs, named_form, workplace, progress, arguments.max_expanded)
         warn_of_form(log)
         if listed is not None:
             missing = add_counters(missing, listed.look(log), program, workplace, progress)
+            if arguments.from_manifest:
+                missing = add_begin(missing, listed.begin(), program, workplace, progress)
         return log, Verifier(program, log_words(arguments, log.are_lines), missing, log, workplace, progress)
 
     def _details(self, verifier: Verifier, reviewed: Reviewed, trust: Trust, listed: Optional[Listed]) -> Details:
         """What was checked, and the times of the log."""
         programs = tool_facts(TOOL), ssign_facts(self._program)
         logs = checked_logs(reviewed.log, reviewed.survey.totals.messages)
-        files = verifier.missing.digest, None if listed is None else listed.digest
+        files = verifier.missing.digest, None if listed is None else listed.digest, verifier.missing.begin_digest
         answers = digest_of(self._arguments.answers_out or "", verifier.answers_path)
-        checked = make_checked(self._arguments, self._time, programs, logs, trust.given, files, answers)
+        checked = make_checked(self._arguments, self._time, programs, logs, [*trust.given, *self._stamps.authorities], files,
+                               answers, self._stamps.stamped)
         return Details(checked, verifier.times(reviewed))
 
     def fault_of(self, refused: Refused) -> Optional[Fault]:
@@ -181,6 +200,10 @@ class Missing(NamedTuple):
     """The counters that were given."""
     digest: Optional[Digest] = None
     """The counters file that was given."""
+    begin: Optional[Counters] = None
+    """The counters with which the night begins."""
+    begin_digest: Optional[Digest] = None
+    """The file of these, which was given."""
 
 
 class Verifier:
@@ -248,18 +271,18 @@ class Verifier:
             self._progress.show("looking for blocks", walk.offset, self._log.size, "octets")
         self._walked = Walked(walk.place, walk.offset, self._log.size, marked)
 
-    def review(self, listed: Optional[Listed], is_sha1_allowed: bool) -> Reviewed:
+    def review(self, listed: Optional[Listed], is_sha1_allowed: bool, stamps: Stamps) -> Reviewed:
         """Has ssign review the log under the answers that were kept, and sees that all that is known of it agrees."""
         status = self._review([f"--answers={self.answers_path}", *self.missing.words])
-        is_whole, counters = bool(self.missing.words), self.missing.counters
-        survey = Survey(self._walked, Notes(self._notes), is_whole, counters)
+        is_whole, counters, begin = bool(self.missing.words), self.missing.counters, self.missing.begin
+        survey = Survey(self._walked, Notes(self._notes), is_whole, counters, begin)
         Reading(survey).read(self._report, self._progress)
         survey.check(status, self._valid)
         facts = Facts(status, survey.totals, survey.states, survey.missing or 0, survey.reach.coverage(),
-                      self._broken_blocks(survey), 0 if listed is None else listed.count(self._report), survey.on_sha1,
-                      is_sha1_allowed)
+                      self._broken_blocks(survey), 0 if listed is None else listed.count(self._report, counters, begin),
+                      survey.on_sha1, is_sha1_allowed, begin is not None, stamps.sentences)
         finder = Finder(self._log, self._progress)
-        return Reviewed(self._log, finder, Notes(self._notes), survey, facts, is_whole, counters)
+        return Reviewed(self._log, finder, Notes(self._notes), survey, facts, is_whole, counters, begin)
 
     def times(self, reviewed: Reviewed) -> Times:
         """The times that the messages of the log state."""
@@ -319,6 +342,8 @@ class Verifier:
                 sha1.say_finding(reviewed.facts.on_sha1)
             if not reviewed.facts.totals.listed:
                 notify(f"ssign-keys: {NOTHING}")
+            for it in reviewed.facts.stamps:
+                notify(f"ssign-keys: {it}")
             pieces = file_pieces(self._report)
             return without_listed(pieces) if arguments.findings else pieces
         out = self._workplace.new_file("out")
@@ -360,29 +385,47 @@ def refuse_raw_details(arguments: argparse.Namespace) -> None:
         raise Fault("--details doesn't go with --raw, which prints the report alone: --json has them too")
 
 
-def refuse_two_counters(paths: Optional[List[str]]) -> None:
+def refuse_two_counters(option: str, paths: Optional[List[str]]) -> None:
     """Refuses a second counters file, before anything is done."""
     if paths is not None and len(paths) > 1:
-        raise Fault("--counters can be given only once: put the files one after another (`cat`)")
+        raise Fault(f"{option} can be given only once: put the files one after another (`cat`)")
 
 
-def refuse_one_pipe(paths: Optional[List[str]], logs: List[str]) -> None:
-    """Refuses a pipe for both the log and the counters, because the log would be empty after the counters."""
-    if paths and "-" in logs and is_standard_pipe(paths[0]):
+def refuse_two_begins(arguments: argparse.Namespace) -> None:
+    """Refuses two places from which a night begins."""
+    if arguments.begin and arguments.from_manifest:
+        raise Fault("--from doesn't go with --from-manifest: a night begins at one of them")
+
+
+def refuse_one_pipe(begin: Optional[List[str]], counters: Optional[List[str]], logs: List[str]) -> None:
+    """Refuses a pipe for both the log and counters, because what reads it later would find it empty."""
+    pipes = [paths[0] for paths in (begin, counters) if paths and is_standard_pipe(paths[0])]
+    if pipes and "-" in logs:
         raise Fault("standard input can't be both the log and the counters file")
+    if len(pipes) > 1:
+        raise Fault("standard input can't be both the counters of --from and those of --counters")
 
 
 def find_missing(program: str, arguments: argparse.Namespace, workplace: Workplace, progress: Progress) -> Missing:
     """Refuses what can't be asked, before the log is read: by an older ssign, or up to a bad counters file."""
     words = ["--whole"] if arguments.whole else []
-    if not arguments.counters:
-        if words:
-            refuse_without(program, words, "--whole", "which signature blocks are missing", workplace, progress)
-        return Missing(words, None)
-    path = copy_counters(arguments.counters[0], workplace)
-    words.append(f"--counters={path}")
-    refuse_without(program, words, "--counters", "what is missing up to counters", workplace, progress)
-    return Missing(words, read_counters(path), digest_of(arguments.counters[0], path))
+    missing = Missing(words, None)
+    if words and not (arguments.begin or arguments.counters):
+        refuse_without(program, words, "--whole", "which signature blocks are missing", workplace, progress)
+    if arguments.begin:
+        path = copy_begin(arguments.begin[0], workplace)
+        words.append(f"--from={path}")
+        # a refusal names the file that is read last
+        arguments.read_counters = arguments.begin
+        refuse_without(program, words, "--from", "what is missing of one night", workplace, progress)
+        missing = missing._replace(begin=read_counters(path), begin_digest=digest_of(arguments.begin[0], path))
+    if arguments.counters:
+        path = copy_counters(arguments.counters[0], workplace)
+        words.append(f"--counters={path}")
+        arguments.read_counters = arguments.counters
+        refuse_without(program, words, "--counters", "what is missing up to counters", workplace, progress)
+        missing = missing._replace(counters=read_counters(path), digest=digest_of(arguments.counters[0], path))
+    return missing
 
 
 def add_counters(missing: Missing, lines: List[bytes], program: str, workplace: Workplace, progress: Progress) -> Missing:
@@ -402,7 +445,18 @@ def add_counters(missing: Missing, lines: List[bytes], program: str, workplace: 
     words = [it for it in missing.words if not it.startswith("--counters=")] + [f"--counters={path}"]
     if missing.counters is None:
         refuse_without(program, words, "--counters", "what is missing up to the manifest's counters", workplace, progress)
-    return Missing(words, read_counters(path), missing.digest)
+    return missing._replace(words=words, counters=read_counters(path))
+
+
+def add_begin(missing: Missing, lines: bytes, program: str, workplace: Workplace, progress: Progress) -> Missing:
+    """Has the review begin at these counters, which are lines of a counters file; with none the first night begins."""
+    with workplace.new_file("begin") as file:
+        put(file, lines)
+        finish(file)
+    path = workplace.path("begin")
+    words = [*missing.words, f"--from={path}"]
+    refuse_without(program, words, "--from", "what is missing of one night", workplace, progress)
+    return missing._replace(words=words, begin=read_counters(path))
 
 
 def refuse_without(program: str, words: List[str], option: str, what: str, workplace: Workplace,

@@ -94,15 +94,18 @@ class Workplace:
         except OSError as error:
             raise no_room(error) from error
 
-    def start(self, words: Sequence[str], stdin: Stream, stdout: Stream, stderr: Stream,
-              env: Optional[Mapping[str, str]] = None) -> subprocess.Popen[bytes]:
+    def start(self, words: Sequence[str], stdin: Stream, stdout: Stream, stderr: Optional[Stream],
+              env: Optional[Mapping[str, str]] = None, has_group: bool = False) -> subprocess.Popen[bytes]:
         """Starts a program, which is ended with the block, where it hasn't ended by itself. Raises as Popen does.
+
+        With a group of its own, whoever starts it ends what the program starts: the number of the group is the child's.
 
         A signal that comes while it starts is raised once the child is known here: else the child would be left.
         """
         self._is_starting = True
         try:
-            child = subprocess.Popen(words, stdin=stdin, stdout=stdout, stderr=stderr, env=env)
+            child = subprocess.Popen(words, stdin=stdin, stdout=stdout, stderr=stderr, env=env,
+                                     start_new_session=has_group)
             self._children.append(child)
         finally:
             self._is_starting = False
