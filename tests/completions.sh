@@ -72,6 +72,8 @@ behind() {
     case "$1 $2" in
     'ssign explain') tr ' ' '\n' <<<"$codes" ;;
     *' help') commands "$1" | grep -vx help ;;
+    # it has options alone
+    'ssign-keys live') return 1 ;;
     # what it does is no file
     'ssign-keys manifest') echo ;;
     'ssign-keys make') echo sub ;;

@@ -26,12 +26,13 @@ TEST_CRATES = {
     "ss_origin": "test_origins",
     "ss_wrap": "test_origins",
     "ss_review": "test_runs",
+    "ss_between": "test_runs",
     "ss_report": "test_runs",
     "ss_answers": "test_signings",
     "ss_signing": "test_signings",
 }
 # libraries of laws alone, which have no example
-LAW_CRATES = {"ss_ahead", "ss_carried", "ss_nights", "ss_parts", "ss_plans"}
+LAW_CRATES = {"ss_ahead", "ss_carried", "ss_clean_nights", "ss_keeper", "ss_nights", "ss_parts", "ss_plans", "ss_whole_nights"}
 
 
 def lines_of(*path):

@@ -177,12 +177,11 @@ def add_line(house: House, line: bytes) -> None:
 
 
 def sign_anew(house: House) -> None:
-    """Whoever has the key signs a changed log again, under its number."""
+    """Whoever has the key signs a changed log again, in a session of the same number."""
     rewrite(house.log(LAST), changed)
-    rsid = str(len(NIGHTS))
     with open(house.signed(LAST), "wb") as out:
         subprocess.run([os.path.join(ROOT, "tools", "ssign-keys"), "sign", "--ssign", SSIGN, "--key",
-                        house.path("keys", "private-key.pem"), "--rsid", rsid, "--host", os.uname().nodename, "--app", "signer",
+                        house.path("keys", "private-key.pem"), "--rsid", "1", "--host", os.uname().nodename, "--app", "signer",
                         "--lines", house.log(LAST)], stdout=out, check=True, timeout=300)
 
 
@@ -258,18 +257,18 @@ DAMAGES = [
            "review", 1, "line 6: broken"),
     Damage("a line of it stands twice", on_manifest(lambda found: found.insert(4, found[4])), "review", 1, "line 6: twice"),
     Damage("the public key is another", lambda house: other_keys(house, "public-key.pem"), "review", 1, "findings"),
-    Damage("the private key is another", lambda house: (other_keys(house, "private-key.pem"), add_line(house, b"<13>1 - - - - - - x")),
-           "sign", 1, "what was signed isn't clean when it is verified with the public key"),
+    Damage("the private key is another", lambda house: (other_keys(house, "private-key.pem"), add_line(
+        house, b"<13>1 - - - - - - x")), "sign", 1, "the session of the state .* is that of another key"),
     Damage("the file rsid is gone", lambda house: (os.unlink(house.path("state", "rsid")), add_line(house, b"<13>1 - - - - - - x")),
            "sign", 2, "there is no file .*rsid with the number of the last session"),
-    Damage("the file rsid is an old one", lambda house: (rewrite(house.path("state", "rsid"), lambda _: b"6\n"), add_line(
-        house, b"<13>1 - - - - - - x")), "sign", 2, "has the number 6, and the manifest has a session with the RSID 7"),
+    Damage("the file rsid is an old one", lambda house: (rewrite(house.path("state", "rsid"), lambda _: b"0\n"), add_line(
+        house, b"<13>1 - - - - - - x")), "sign", 2, "has the number 0, and the manifest has a session with the RSID 1"),
     Damage("the state is gone", lambda house: (os.unlink(house.path("state", "state")), add_line(house, b"<13>1 - - - - - - x")),
            "sign", 1, "ends with the entry 14:"),
     Damage("the state is spoilt", lambda house: (rewrite(house.path("state", "state"), lambda it: it[:-20]), add_line(
         house, b"<13>1 - - - - - - x")), "sign", 2, "the state .* isn't as it was written"),
     Damage("a report and counters in the folder of copies are gone, which no review reads", lambda house: [os.unlink(house.path(
-        "state", "kept", f"{it}-14")) for it in ("report", "counters")], "review", 0, "clean"),
+        "state", "kept", f"{it}-1-14")) for it in ("report", "counters")], "review", 0, "clean"),
     Damage("a message has a tag of 60 letters", lambda house: add_line(house, b"<13>1 - h " + b"t" * 60 + b" - - - x"), "sign", 1,
            "1 message can't be signed, and was set aside"),
     Damage("a stranger sends an element ssign", lambda house: add_line(house, b'<13>1 - h a - - [ssign x="1"] x'), "sign", 1,

@@ -1,7 +1,7 @@
 #!/usr/bin/env bash
 # The tables of codes in docs/guide.md are what `ssign explain` lists: the same codes, and of each the same text but for
 # backquotes. It explains codes too that the program never prints, and finds a code in what a refusal prints. The three nights
-# of one session that docs/guide.md and README.md show print what is shown there.
+# of one session that docs/guide.md and README.md show print what is shown there, and the pages of five cases begin so.
 # shellcheck source=tests/lib.sh
 . "$(dirname -- "$0")/lib.sh"
 need_program
@@ -118,11 +118,32 @@ nights() {
     holds "${1##*/}: no complaint" test ! -s "$scratch/err"
     rm -r -- "$scratch/nights"
 }
+# ---- the heads of the pages of five cases
+# blocks: the blocks of the section, each in a file of its own: commands, what the page of these begins with, commands and so on
+blocks() {
+    awk -v folder="$1" '/^#/ { inside = ($0 == "### The head of the page in five cases") }
+        inside && /^    / { if (!block) { block = 1; count++ } print substr($0, 5) >(folder "/block-" count); next } { block = 0 }' "$guide"
+}
+heads() {
+    local commands number page
+    mkdir -- "$scratch/heads"
+    ln -s -- "$root/tools" "$root/examples" "$scratch/heads"
+    blocks "$scratch/heads"
+    holds 'five cases are shown' test "$(find "$scratch/heads" -name 'block-*' | wc -l)" = 10
+    for number in 1 3 5 7 9; do
+        commands=$(<"$scratch/heads/block-$number")
+        page=$(sed -n 's/.* --html \([a-z]*\.html\) .*/\1/p' <<<"$commands")
+        (cd -- "$scratch/heads" && SSIGN=$program timeout "$patience" bash -c "$commands") >"$scratch/out" 2>"$scratch/err"
+        holds "$page: no complaint" test ! -s "$scratch/err"
+        holds "$page begins as it is shown" diff "$scratch/heads/block-$((number + 1))" <(python3 -B "$root/tests/page_text.py" head "$scratch/heads/$page")
+    done
+}
 if python3 -c 'import cryptography' 2>"$scratch/err"; then
     nights "$root/README.md"
     nights "$guide"
+    heads
 else
-    echo "$name: skipped the three nights of one session, since the Python module cryptography is missing"
+    echo "$name: skipped the three nights of one session and the pages, since the Python module cryptography is missing"
 fi
 
 finish

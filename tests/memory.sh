@@ -47,6 +47,7 @@ plays "$runs" memory::goes_on_after_want_of_memory asking::asking
 plays "$runs" memory::wants_memory_or_gives_the_output keeping::keeping
 plays "$runs" stops::wants_memory_or_gives_the_output rows::rows
 plays "$runs" inspections::wants_memory_or_says_what_there_is ends::ends
+plays "$runs" wraps::wants_memory_or_takes_wraps_off keeping::keeping
 plays "$signings" stops::wants_memory_or_gives_the_output rows::makes
 plays "$signings" wraps::wraps_or_wants_memory wraps::long_wraps_are_refused
 plays "$signings" answers::goes_on_after_want_of_memory answers::refuses

@@ -84,8 +84,8 @@ rotated
 expect 'a log that waits is signed in the next run' 0 '' ''
 holds 'the next number' test "$(<state/rsid)" = 42
 holds 'the signed log has it' grep -qaF 'RSID="42"' logs/one.frames
-holds 'its report is kept' test "$(grep -c '^ok ' state/kept/report-42)" = 10
-holds 'its counters are kept' cmp state/kept/counters-42 <(printf 'count %s\n' "$(uname -n) signer - 42 1" "$(uname -n) signer - 42 0 0 11")
+holds 'its report is kept' test "$(grep -c '^ok ' state/kept/report-42-1)" = 10
+holds 'its counters are kept' cmp state/kept/counters-42-1 <(printf 'count %s\n' "$(uname -n) signer - 42 1" "$(uname -n) signer - 42 0 0 11")
 holds 'the manifest has its entry' test "$(sed 's/.*"name":"\([^"]*\)".*"rsid":\([0-9]*\),.*/\1 \2/' "$manifest")" = 'one.frames 42'
 holds 'the log stays' cmp logs/one "$root/examples/signed/ten-messages.log"
 holds 'its rights are those of the log' test "$(stat -c %a logs/one.frames)" = 640
@@ -236,10 +236,10 @@ holds 'odd messages: the manifest names the file' grep -q '"name":"odd.frames".*
 
 # an RSID that is less than one that was used, and a manifest that is gone
 cp state/rsid rsid
-echo 42 >state/rsid
+echo 41 >state/rsid
 cp "$root/examples/signed/ten-messages.log" logs/next
 rotated logs/next
-expect 'an old number' 2 '' "ssign-keys: $scratch/state/rsid has the number 42, and the manifest has a session with the RSID 43: no RSID may be used twice"
+expect 'an old number' 2 '' "ssign-keys: $scratch/state/rsid has the number 41, and the manifest has a session with the RSID 42: no RSID may be used twice"
 cp rsid state/rsid
 mv "$manifest" away
 rotated logs/next
@@ -369,7 +369,7 @@ told() {
 }
 mkdir seen
 reviewed
-clean="<6>ssign-review: $signed: clean. All 10 announced messages are present and unchanged, and each other stored message is a verified block. Nothing is missing up to the counters."
+clean="<6>ssign-review: $signed: clean. All 10 announced messages are present and unchanged, and each other stored message is a verified block. Nothing is missing between the counters."
 told 'a clean log' 0 "$clean"
 holds 'the last entry is remembered' test "$(<seen/last)" = "1:$(sha256sum "$manifest" | cut -d ' ' -f 1)"
 with_manifest=nowhere reviewed

@@ -143,8 +143,8 @@ def try_rotated(tool: str, ssign: str, keys: str, folder: str) -> Tuple[str, str
         file.write("0\n")
     found = calls(tool, ["rotated", "--ssign", ssign, "--keys", keys, "--state", state, "--host", "h", "--wait", "0", log], "1")
     kept = os.path.join(state, "kept")
-    names = [f"{log}.frames", f"{log}.set-aside.frames", f"{log}.set-aside.frames.places", os.path.join(kept, "report-1"),
-             os.path.join(kept, "counters-1"), os.path.join(state, "rsid"), os.path.join(state, "state"),
+    names = [f"{log}.frames", f"{log}.set-aside.frames", f"{log}.set-aside.frames.places", os.path.join(kept, "report-1-1"),
+             os.path.join(kept, "counters-1-1"), os.path.join(state, "rsid"), os.path.join(state, "state"),
              os.path.join(kept, "manifest.jsonl")]
     look("rotated", found, names)
     # the number of the session is used up once there is something that has it, and not before

@@ -7,6 +7,8 @@
                                                 is `blocked`, that the policy stopped what was put in, or where it is `let`,
                                                 that a page without the policy is seen to ask
     page_text.py commands PAGE                  prints the commands that repeat the check
+    page_text.py head PAGE                      prints the head of the page: the verdict, the counts that aren't 0, the kinds
+                                                of findings
     page_text.py limits PAGE                    how large the page is, in octets, rows and rectangles, within limits
 """
 from __future__ import annotations
@@ -20,7 +22,7 @@ import sys
 import unicodedata
 import zlib
 from html.parser import HTMLParser
-from typing import Any, Dict, Iterator, List, Optional, Tuple
+from typing import Any, Dict, Iterator, List, Optional, Set, Tuple
 
 ALONE = {"meta", "br", "link", "img", "input", "hr"}
 ALLOWED = {
@@ -104,19 +106,21 @@ def read_page(path: str) -> Node:
 
 # ---- the form
 
-def check_form(path: str) -> None:
-    """Everything about a page that doesn't depend on its log."""
+def check_form(path: str, made_by: str = "ssign-keys verify --html", more: Optional[Dict[str, Set[str]]] = None) -> None:
+    """Everything about a page that doesn't depend on its log. It may have more elements, each with its attributes."""
+    allowed = {**ALLOWED, **(more or {})}
     with open(path, encoding="utf-8", newline="") as file:
         source = file.read()
-    assert source.startswith("<!DOCTYPE html>\n<!-- made by ssign-keys verify --html -->\n<html lang=\"en\">\n"), source[:100]
+    assert source.startswith(f"<!DOCTYPE html>\n<!-- made by {made_by} -->\n<html lang=\"en\">\n"), source[:100]
     assert source.endswith("</html>\n")
     odd = {it for it in source if it != "\n" and (unicodedata.category(it)[0] == "C" or it in "\u2028\u2029\u3164\ufe0f\u034f")}
     assert not odd, odd
     page = read_page(path)
     for it in page.all():
-        assert it.name in ALLOWED, it.name
-        assert set(it.attributes) <= ALLOWED[it.name], (it.name, it.attributes)
+        assert it.name in allowed, it.name
+        assert set(it.attributes) <= allowed[it.name], (it.name, it.attributes)
     check_policy(page, source)
+    assert more or re.search(r"<a\b", source, re.IGNORECASE) is None
     check_reading(page)
     check_pictures(page, source)
 
@@ -134,7 +138,7 @@ def check_policy(page: Node, source: str) -> None:
     # what the style asks for
     for it in ("prefers-color-scheme:dark", "@media print", "size:A4", "max-width:44rem", "print-color-adjust:exact"):
         assert it in styles, it
-    assert re.search(r"<(script|img|iframe|object|embed|link|a|form|base)\b", source, re.IGNORECASE) is None
+    assert re.search(r"<(script|img|iframe|object|embed|link|form|base)\b", source, re.IGNORECASE) is None
 
 
 def check_reading(page: Node) -> None:
@@ -425,6 +429,23 @@ def check_limits(path: str) -> None:
     assert size < 2000000 and rows < 3500 and max(paths, default=0) <= 1200
 
 
+def print_head(path: str) -> None:
+    """Prints what stands at the head of a page, but for when it was made and by what."""
+    page = read_page(path)
+    box = page.one("div", "id", "verdict")
+    stored = next(it.text() for it in page.all("p") if it.text().startswith("The log has "))
+    print(page.one("h1").text(), box.one("strong").text(), page.one("span", "id", "sentence").text(), stored, sep="\n")
+    counts = [f"{row[1]} {row[0]}" for row in cells(page.one("table", "id", "counts")) if row[1] != "0"]
+    print(", ".join(counts) or "all counts are 0")
+    print(next(it.text() for it in page.all("h2")))
+    for table in page.all("table"):
+        if table.attributes["id"] == "findings":
+            kinds: Dict[str, int] = {}
+            for row in cells(table):
+                kinds[row[0]] = kinds.get(row[0], 0) + 1
+            print(", ".join(f"{count} {kind}" for kind, count in kinds.items()))
+
+
 def main(command: str, *words: str) -> None:
     """Does one of the commands."""
     if command == "form":
@@ -438,6 +459,8 @@ def main(command: str, *words: str) -> None:
         check_browser(*words)
     elif command == "commands":
         print(read_page(words[0]).one("pre", "id", "repeat").text(), end="")
+    elif command == "head":
+        print_head(*words)
     elif command == "limits":
         check_limits(*words)
     else:

@@ -91,15 +91,15 @@ fresh
 { sleep 1 && echo '<13>1 - h late - - - the last line'; } >>logs/one &
 wait=30 rotated logs/one
 expect 'held open for a second: it is signed' 0 '' ''
-holds 'held open for a second: with its last line' test "$(grep -c '^ok ' state/kept/report-1)" = 11
+holds 'held open for a second: with its last line' test "$(grep -c '^ok ' state/kept/report-1-1)" = 11
 
 # ---- the last RSID that there is, 9999999999 (RFC 5848, section 4.2.2)
 fresh 9999999998
-rotated logs/one
+rotated --own-sessions logs/one
 expect 'the last RSID' 0 '' ''
 holds 'the last RSID: it has it' grep -qaF 'RSID="9999999999"' logs/one.frames
 cp "$root/examples/signed/ten-messages.log" logs/two
-rotated logs/two
+rotated --own-sessions logs/two
 holds 'no RSID is left: status 2' test "$status.$(wc -c <out)" = 2.0
 holds 'no RSID is left: nothing is signed' test ! -e logs/two.frames
 fresh 10000000000
@@ -116,13 +116,13 @@ holds 'an RSID that was used: status 2' test "$status" = 2 -a ! -e logs/two.fram
 fresh
 cp "$root/examples/signed/ten-messages.log" logs/two
 mkdir state/kept
-: >state/kept/counters-1
+: >state/kept/counters-1-1
 rotated logs/one logs/two
 holds 'a name that is taken: both logs wait' test "$status.$(grep -c 'isn'"'"'t signed' err).$(ls logs/*.frames 2>&1 | wc -l)" = 1.2.1
-rm state/kept/counters-1
+rm state/kept/counters-1-1
 rotated
 expect 'the name is free again: both are signed' 0 '' ''
-holds 'each with its RSID' test "$(sed 's/.*"name":"\([a-z]*\).*"rsid":\([0-9]*\),.*/\1 \2/' state/kept/manifest.jsonl | tr '\n' ' ')" = 'one 1 two 2 '
+holds 'each is a night of one session' test "$(sed 's/.*"name":"\([a-z]*\).*"rsid":\([0-9]*\),.*/\1 \2/' state/kept/manifest.jsonl | tr '\n' ' ')" = 'one 1 two 1 '
 
 # ---- what was copied is removed, as long as it is what was copied
 fresh

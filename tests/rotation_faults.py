@@ -3,7 +3,7 @@
     rotation_faults.py SSIGN-KEYS SSIGN KEYS [all] [one-session]
 
 With `all` each step is stopped by both, else by one after the other in turn; with `one-session` the log is a night of a session
-that goes on.
+that goes on, else it is a session of its own.
 
 A step is a call that writes, names or removes a file, or has it stand on the disk. After each stop the next run has to
 leave what a run without a stop leaves: each log signed once, no RSID twice, a manifest that is clean, nothing that waits.
@@ -47,6 +47,7 @@ if kind == "count":
 os._exit(status)
 """
 ONE_SESSION = "one-session"
+OWN_SESSIONS = "--own-sessions"
 LOGS = {"night.log": ["<13>1 - h a p m - one", "no message of RFC 5424"]}
 
 
@@ -98,7 +99,7 @@ class Trial:
         if here != wanted:
             found.append(f"in the folder of the logs are {here}")
         kept = sorted(os.listdir(self.path("state", "kept")))
-        labels = [f"{it['rsid']}-{it['entry']}" if self._options else it["rsid"] for it in entries]
+        labels = [f"{it['rsid']}-{it['entry']}" if OWN_SESSIONS not in self._options else it["rsid"] for it in entries]
         if kept != sorted(["manifest.jsonl", *(f"{what}-{it}" for what in ("report", "counters") for it in labels)]):
             found.append(f"in the folder of what is kept are {kept}")
         check = subprocess.run([self._program, "manifest", "check", self.path("state", "kept", "manifest.jsonl"),
@@ -128,7 +129,7 @@ def stopped(keys_program: str, ssign: str, keys: str, options: Sequence[str], st
 
 def main(keys_program: str, ssign: str, keys: str, *which: str) -> int:
     """Tries each step."""
-    options = [f"--{ONE_SESSION}"] if ONE_SESSION in which else []
+    options = [f"--{ONE_SESSION}"] if ONE_SESSION in which else [OWN_SESSIONS]
     with tempfile.TemporaryDirectory() as folder:
         trial = Trial(keys_program, ssign, keys, folder, options)
         status, out, said = trial.run(0, "count")

@@ -83,6 +83,12 @@ keys verify --key long/public-key.pem --raw --manifest "$manifest" logs/night2.f
 holds 'one night alone lacks the numbers before' test "$status" = 1 -a "$(grep -v '^ok ' out)" = \
     $'session h signer - 1 joined\nhole h signer - 1 0 0 1 2\nblocks h signer - 1 0 0\nend 6'
 holds 'one night alone is the one of its entry' test ! -s err
+for it in 1 2 3; do
+    keys verify --key long/public-key.pem --raw --manifest "$manifest" --from-manifest "logs/night$it.frames"
+    holds "night $it alone is clean between its counters" test "$status.$(grep -cv '^ok ' out)" = 0.2
+done
+keys verify --key long/public-key.pem --nights "$manifest" --jobs 2 logs
+expect 'each night by itself' 0 'Verdict: Nights 1 to 3: all 3 clean; numbers 1 to 6 are there, each once, and nothing else is.' ''
 keys verify --key long/public-key.pem --raw --manifest "$manifest" logs/night{1,3}.frames
 holds 'a night between is missing' grep -qx 'hole h signer - 1 0 0 3 4' out
 
@@ -188,7 +194,7 @@ holds 'an old number of the last session' test "$status" = 2
 fresh 6
 night 1
 keys sign --key long/private-key.pem --state state/session --new-session --rsid 7 --host h --app signer logs/night1
-rotated logs/night1
+rotated --own-sessions logs/night1
 holds 'a session began meanwhile: its RSID is no other log'"'"'s' test "$status.$(<state/rsid)" = 0.8
 fresh 6
 night 1

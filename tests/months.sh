@@ -1,0 +1,194 @@
+#!/usr/bin/env bash
+# `ssign-keys verify --nights`: a month of one session, signed night by night with real keys, judged night by night between
+# the counters of its manifest. Each night gets a damage of its own (months.py), and only the damaged ones have findings.
+# shellcheck source=tests/lib.sh
+. "$(dirname -- "$0")/lib.sh"
+need_program
+if ! python3 -c 'import cryptography' 2>"$scratch/err"; then
+    echo "$name: skipped, since the Python module cryptography is missing"
+    holds 'ssign-keys is there' test -x "$root/tools/ssign-keys"
+    finish
+fi
+cd -- "$scratch" || exit 1
+export SSIGN=$program TMPDIR=$scratch/passing
+mkdir passing keys logs other
+# thirty nights take as long as thirty runs
+patience=$((30 * patience))
+
+# keys ARG..: runs `ssign-keys` as `run` does the program.
+keys() {
+    timeout "$patience" "$root/tools/ssign-keys" "$@" >out 2>err
+    status=$?
+}
+# nights WHAT STATUS VERDICT ARG..: judges nights; the last line is the verdict, and nothing is said besides
+nights() {
+    keys verify --key keys/public-key.pem --jobs 4 "${@:4}"
+    local fault=''
+    [[ $status == "$2" ]] || fault+="    status $status, and not $2"$'\n'
+    [[ $(tail -n 1 out) == "Verdict: $3" ]] || fault+="    $(tail -n 1 out | head -c 600)"$'\n'
+    [[ ! -s err ]] || fault+="    stderr: $(head -c 300 err)"$'\n'
+    tell "$1" "$fault"
+}
+# refused WHAT SENTENCE ARG..: it is refused with this sentence, and nothing is printed
+refused() {
+    keys verify --key keys/public-key.pem "${@:3}"
+    expect "$1" 2 '' "ssign-keys: $2"
+}
+
+keys make keys
+python3 -B "$root/tests/months.py" sign "$root/tools/ssign-keys" keys logs manifest >made
+status=$?
+holds 'a month was signed' test "$status" = 0
+total=$(<made)
+holds 'with many messages' test "$total" -gt 100
+all="numbers 1 to $total are there, each once, and nothing else is"
+nights 'all nights, by their folder' 0 "Nights 1 to 30: all 30 clean; $all." --nights manifest logs
+mapfile -t turned < <(printf '%s\n' logs/night-* | sort -r)
+nights 'all nights, by their names, in another order' 0 "Nights 1 to 30: all 30 clean; $all." --nights manifest "${turned[@]}"
+gzip -k logs/night-07.frames && mv logs/night-07.frames away
+nights 'one of them compressed' 0 "Nights 1 to 30: all 30 clean; $all." --nights manifest logs
+rm logs/night-07.frames.gz && mv away logs/night-07.frames
+keys verify --key keys/public-key.pem --json --nights manifest logs
+holds 'the JSON has each night and the verdict' test "$status.$(grep -c '^{"line":"night",.*"status":0,' out).$(grep -c '^{"line":"verdict","status":0,' out)" = 0.30.1
+# the same nights as one log
+keys verify --key keys/public-key.pem --manifest manifest logs/night-*.frames
+holds 'one review of all says the same' test "$status" = 0
+holds 'with as many messages' grep -q "^Verdict: All $total announced messages are present and unchanged" out
+
+# a damage in each night, and in every other one
+python3 -B "$root/tests/months.py" damage logs every 1 >done-all
+keys verify --key keys/public-key.pem --jobs 4 --nights manifest every
+holds 'each night is damaged: status 1' test "$status" = 1
+holds 'each night is damaged: none is clean' grep -q '^Verdict: FINDINGS: nights 1 to 30: 0 of 30 nights are clean; with findings: nights 1 to 30' out
+holds 'each night has its line' test "$(grep -c '^Night ' out)" = 30
+python3 -B "$root/tests/months.py" damage logs others 2 >done-half
+keys verify --key keys/public-key.pem --jobs 3 --nights manifest others
+holds 'every other night: status 1' test "$status" = 1
+holds 'only the damaged ones have findings' cmp <(sed -n 's/^Night \([0-9]*\) .*/\1/p' out) <(seq 1 2 29)
+# without the manifest's SHA-256: what the review itself finds between the counters, by a manifest that has each damaged octet
+python3 -B "$root/tests/months.py" relist manifest every relisted
+keys verify --key keys/public-key.pem --jobs 4 --json --nights relisted every
+python3 -B "$root/tests/months.py" compare done-all out >said 2>&1 && : >said
+tell 'what a damage does shows in the review too' "$(<said)"
+
+# what is missing, unknown, or given twice
+mkdir fewer && cp logs/* fewer && rm fewer/night-1[12].frames
+nights 'two nights are gone' 1 'FINDINGS: nights 1 to 30: 28 of 30 nights are clean; with findings: nights 11 to 12.' --nights manifest fewer
+cp logs/night-05.frames stray
+nights 'a log that no entry names' 1 'FINDINGS: nights 1 to 30: 30 of 30 nights are clean; 1 difference from the manifest.' --nights manifest logs stray
+refused 'two logs of one name' 'fewer/night-05.frames and logs/night-05.frames have one name: each night has one log' --nights manifest logs fewer/night-05.frames
+refused 'standard input' 'standard input has no name that a manifest could hold: name the logs or their folder' --nights manifest -
+refused 'no such manifest' "the manifest gone isn't there; to begin one, make an empty file of this name" --nights gone logs
+for it in --whole --raw --details --hostname --findings --from-manifest '--counters=x' '--from=x' '--manifest=x' '--html=x' '--answers-out=x' '--counters-out=x'; do
+    refused "$it" "${it%%=*} doesn't go with --nights, which judges many logs: it is of one log" --nights manifest "$it" logs
+done
+: >empty
+nights 'a manifest without entries' 1 'FINDINGS: the manifest names no night.' --nights empty logs
+sed 10d manifest >shorter
+keys verify --key keys/public-key.pem --jobs 4 --nights shorter logs
+holds 'an entry was taken out' grep -q '^  line 10: broken' out
+holds 'an entry was taken out: its numbers are skipped' grep -q '^  line 10: skipped' out
+holds 'an entry was taken out: status 1' test "$status" = 1
+keys make other
+keys verify --key other/public-key.pem --jobs 4 --nights manifest logs
+holds 'by another key no night is clean' grep -q '^Verdict: FINDINGS: nights 1 to 30: 0 of 30' out
+# a night that can't be judged
+mkdir bad && cp logs/* bad && printf 'x' >bad/night-09.frames
+keys verify --key keys/public-key.pem --jobs 4 --frames --nights manifest bad
+holds 'a night that is refused: status 2' test "$status" = 2
+holds 'a night that is refused: why' grep -q "^Night 9 (entry 9, night-09.frames): not judged: ssign-keys: " out
+holds 'a night that is refused: the verdict' grep -q '^Verdict: NOT ALL JUDGED: nights 1 to 30: 29 of 30 nights are clean; not judged: night 9' out
+# ---- one night by itself, in each form
+for it in 3 4 5 6; do
+    python3 -B "$root/tests/months.py" ends manifest "$it" >"c$it"
+done
+night=logs/night-05.frames
+first=$(sed -n 's/^count gate signer - 7 0 0 //p' c4)
+last=$(($(sed -n 's/^count gate signer - 7 0 0 //p' c5) - 1))
+# shows WHAT STATUS PATTERN ARG..: the output has a line of this pattern
+shows() {
+    keys verify --key keys/public-key.pem "${@:4}"
+    tell "$1" "$([[ $status == "$2" ]] && grep -qE -e "$3" out || { echo "status $status"; head -c 2000 out err; })"
+}
+count=$((last - first + 1))
+shows 'its own night' 0 "^Verdict: All $count announced messages .* Nothing is missing between the counters\.$" --from c4 --counters c5 "$night"
+shows 'its own night: its numbers' 0 "^    numbers $first to $last: $count listed$" --from c4 --counters c5 "$night"
+shows 'its own night, without an end' 0 "^Verdict: All $count announced messages" --from c4 "$night"
+shows 'its own night, as a report' 0 '^end ' --raw --from c4 --counters c5 "$night"
+holds 'its own night, as a report: nothing is missing' test "$(grep -cv '^ok ' out)" = 2
+shows 'its own night, as JSON' 0 '"early":0,"beyond":0,"unlisted":0' --json --from c4 --counters c5 "$night"
+holds 'its own night, as JSON: the first counters' grep -q "^{\"line\":\"checked\".*\"from\":{\"name\":\"c4\",\"size\":$(wc -c <c4),\"sha256\":\"$(sha256sum <c4 | cut -c1-64)\"}" out
+shows 'a later night' 1 "^  early, announced here .*: SG 0, SPRI 0 .*, numbers $first to $last" --from c5 --counters c6 "$night"
+shows 'a later night: the verdict' 1 "^Verdict: FINDINGS: .*; $count numbers lie below the counters that the night begins with" --from c5 --counters c6 "$night"
+shows 'a later night, as JSON' 1 "^{\"line\":\"early\",.*\"first\":$first,\"last\":$last,\"count\":$count,\"finding\":\"early\"}$" --json --from c5 --counters c6 "$night"
+shows 'an earlier night' 1 "^  beyond, announced here .*, numbers $first to $last" --from c3 --counters c4 "$night"
+shows 'an earlier night, as JSON' 1 "\"beyond\":$count,\"unlisted\":0" --json --from c3 --counters c4 "$night"
+shows 'an earlier night, as a page' 1 '^Verdict: ' --html page --from c3 --counters c4 "$night"
+holds 'an earlier night, as a page: its row' grep -q '<strong>beyond</strong>' page
+refused 'two first counters' '--from can be given only once: put the files one after another (`cat`)' --from c3 --from c4 "$night"
+refused 'first counters of two kinds' "--from doesn't go with --from-manifest: a night begins at one of them" --from c3 --from-manifest --manifest manifest "$night"
+refused 'a night of no manifest' '--from-manifest begins at the counters of a manifest: name it with --manifest' --from-manifest "$night"
+echo 'count 1' >broken
+refused 'bad first counters' "the counters file broken: line 1 isn't as \`ssign counters\` writes it; an empty line, a CR, and a needless space or zero are wrong too (C1)" --from broken --counters c5 "$night"
+refused 'first counters that are gone' "the counters file gone can't be read: No such file or directory" --from gone "$night"
+printf '#!/bin/sh\nfor it; do case $it in --from=*) echo "error: unexpected argument '"'--from'"' found" >&2; echo "For more information, try '"'--help'"'." >&2; exit 2 ;; esac; done\nexec %q "$@"\n' "$program" >old
+chmod +x old
+refused 'an older program' "the program ./old has no \`review --from\`, so it can't say what is missing of one night: name a newer one with --ssign, or leave --from out" --ssign ./old --from c4 "$night"
+# programs that lie about a night: what they print for a review is changed on its way
+printf '#!/bin/bash\n[[ $1 == review ]] || exec %q "$@"\n%q "$@" >lied; status=$?\nsed -E "$LIE" lied\nexit "${LIE_STATUS:-$status}"\n' "$program" "$program" >liar
+chmod +x liar
+export LIE LIE_STATUS
+# lies WHAT LIE STATUS ARG..: such a report is refused
+lies() {
+    LIE=$2 LIE_STATUS=$3
+    keys verify --key keys/public-key.pem --ssign ./liar "${@:4}" "$night"
+    tell "a lie: $1" "$([[ $status == 2 && ! -s out ]] && grep -q 'the report of ssign review is wrong, so there is no verdict: ' err || head -c 600 out err)"
+}
+lies 'no early line' '/^early /d' 1 --from c5 --counters c6
+lies 'one early number fewer' "s/^(early .*) $last$/\\1 $((last - 1))/" 1 --from c5 --counters c6
+lies 'early in place of beyond' 's/^beyond /early /' 1 --from c3 --counters c4
+lies 'beyond numbers, and no counters' "s/^(end .*)/beyond gate signer - 7 0 0 1 1\\n\\1/" 1 --from c4
+lies 'a hole before the night' "0,/^ok /s/^(ok gate signer - 7 0 0) .*/hole gate signer - 7 0 0 1 1\\n&/" 1 --from c4 --counters c5
+lies 'a tail before the night' 's/^(end .*)/tail gate signer - 7 0 0 1 1\n\1/' 1 --from c4 --counters c5
+lies 'missing blocks before the night' 's/^unlisted/blocks gate signer - 7 0 0\n&/;s/^(end .*)/blocks gate signer - 7 0 0\n\1/' 1 --from c4 --counters c5
+lies 'status 0 with an early line' '' 0 --from c5 --counters c6
+unset LIE LIE_STATUS
+
+# ---- an archive of which each part has some of the nights
+if command -v parallel >/dev/null; then
+    mkdir -p archive/1 archive/2 archive/3
+    cp logs/night-0* archive/1 && cp logs/night-1* archive/2 && cp logs/night-[23]* archive/3
+    # archived WHAT STATUS LINE ARG..: the review of the archive prints this line
+    archived() {
+        timeout "$patience" "$root/tools/archive" review archive --results results --key keys/public-key.pem --manifest manifest \
+            --jobs 4 "${@:4}" >out 2>err
+        status=$?
+        tell "$1" "$([[ $status == "$2" ]] && grep -qFx -e "$3" out || { echo "status $status"; head -c 2000 out err; })"
+    }
+    divided='session gate signer - 7 has blocks in 3 parts; only one review of all of them together shows what is true of it'
+    archived 'parts of one session' 1 "in 1, 2, 3: $divided"
+    archived 'parts with nights between counters' 0 'Clean. 3 parts: 3 clean, 0 with findings, 0 not reviewed in full.' --from-manifest
+    archived 'the same once more, from its results' 0 'Clean. 3 parts: 3 clean, 0 with findings, 0 not reviewed in full.' --from-manifest
+    cp logs/night-05.frames archive/2
+    archived 'a night in two parts' 1 "in 1, 2, 3: $divided" --from-manifest
+    rm archive/2/night-05.frames
+    cp every/night-12.frames archive/2
+    archived 'a damaged night' 1 'Findings. 3 parts: 2 clean, 1 with findings, 0 not reviewed in full.' --from-manifest
+    cp logs/night-15.frames archive/2/night-12.frames
+    archived 'another night in its place' 1 'Findings. 3 parts: 2 clean, 1 with findings, 0 not reviewed in full.' --from-manifest
+    holds 'another night in its place: it is missing' grep -q ': hole gate signer - 7 0 0 ' out
+    rm archive/2/night-12.frames
+    archived 'a night that is gone' 1 "in .: manifest, night-12.frames: missing, entry 12 names it, and it isn't here" --from-manifest
+    timeout "$patience" "$root/tools/archive" review archive --results other-results --key keys/public-key.pem --from-manifest >out 2>err
+    status=$?
+    expect 'nights of no manifest' 2 '' 'ssign-archive: --from-manifest begins at the counters of a manifest: name it with --manifest'
+else
+    echo "$name: skipped the parts of an archive, because GNU parallel is missing"
+fi
+
+# a signal ends all of it
+timeout -s TERM 0.7 "$root/tools/ssign-keys" verify --key keys/public-key.pem --jobs 4 --nights manifest logs >out 2>err
+holds 'a signal: nothing is printed' test ! -s out
+sleep 0.5
+holds 'nothing is left' test "$(ls -A passing)" = ''
+finish
