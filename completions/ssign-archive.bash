@@ -27,7 +27,7 @@ _ssign_archive() {
         return
     fi
     if ((COMP_CWORD == 1)); then
-        _ssign_archive_offer words 'split join review prepare part batch table fixity help --help --version'
+        _ssign_archive_offer words 'split join review prepare part batch table report fixity help --help --version'
         return
     fi
     ((COMP_CWORD > 3)) && second=${COMP_WORDS[COMP_CWORD - 2]}
@@ -82,6 +82,9 @@ _ssign_archive() {
     'prepare --manifest') _ssign_archive_offer files ;;
     'prepare --ssign') _ssign_archive_offer files ;;
     'table --findings') _ssign_archive_offer text ;;
+    'report --pages') _ssign_archive_offer folders ;;
+    'report --findings') _ssign_archive_offer text ;;
+    'report --html') _ssign_archive_offer files ;;
     'fixity --jobs') _ssign_archive_offer text ;;
     *) _ssign_archive_words "$command" "$current" ;;
     esac
@@ -106,14 +109,14 @@ _ssign_archive_words() {
         ;;
     review)
         if [[ $2 == -* ]]; then
-            _ssign_archive_offer words '--help --results --answers --sshlogin --sessions --key --session-key --ca --cert --at-signing-time --allow-sha1 --lines --max-len --max-messages --max-expanded --max-payload --whole --counters --manifest --findings --json --jobs --ssign'
+            _ssign_archive_offer words '--help --results --answers --sshlogin --sessions --key --session-key --ca --cert --at-signing-time --allow-sha1 --lines --max-len --max-messages --max-expanded --max-payload --whole --counters --manifest --from-manifest --findings --json --jobs --ssign'
         else
             _ssign_archive_offer folders
         fi
         ;;
     prepare)
         if [[ $2 == -* ]]; then
-            _ssign_archive_offer words '--help --results --answers --key --session-key --ca --cert --at-signing-time --allow-sha1 --lines --max-len --max-messages --max-expanded --max-payload --whole --counters --manifest --ssign'
+            _ssign_archive_offer words '--help --results --answers --key --session-key --ca --cert --at-signing-time --allow-sha1 --lines --max-len --max-messages --max-expanded --max-payload --whole --counters --manifest --from-manifest --ssign'
         else
             _ssign_archive_offer folders
         fi
@@ -139,6 +142,13 @@ _ssign_archive_words() {
             _ssign_archive_offer folders
         fi
         ;;
+    report)
+        if [[ $2 == -* ]]; then
+            _ssign_archive_offer words '--help --pages --sessions --findings --json --html'
+        else
+            _ssign_archive_offer folders
+        fi
+        ;;
     fixity)
         if [[ $2 == -* ]]; then
             _ssign_archive_offer words '--help --json --jobs'
@@ -146,7 +156,7 @@ _ssign_archive_words() {
             _ssign_archive_offer folders
         fi
         ;;
-    help) _ssign_archive_offer words 'split join review prepare part batch table fixity' ;;
+    help) _ssign_archive_offer words 'split join review prepare part batch table report fixity' ;;
     esac
 }
 

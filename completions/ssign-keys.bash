@@ -27,13 +27,17 @@ _ssign_keys() {
         return
     fi
     if ((COMP_CWORD == 1)); then
-        _ssign_keys_offer words 'make sign verify manifest rotated seal answer help --help --version'
+        _ssign_keys_offer words 'make sign live verify manifest stamp rotated seal answer help --help --version'
         return
     fi
     ((COMP_CWORD > 3)) && second=${COMP_WORDS[COMP_CWORD - 2]}
     # --option=value is three words here
     [[ $before == = ]] && before=$second second=
     case "$command $second" in
+    'live --marks')
+        _ssign_keys_offer text
+        return
+        ;;
     'verify --session-key')
         _ssign_keys_offer files
         return
@@ -65,17 +69,45 @@ _ssign_keys() {
     'sign --frag') _ssign_keys_offer text ;;
     'sign --copies') _ssign_keys_offer text ;;
     'sign --ssign') _ssign_keys_offer files ;;
+    'live --state') _ssign_keys_offer folders ;;
+    'live --out') _ssign_keys_offer folders ;;
+    'live --marks') ;;
+    'live --messages') _ssign_keys_offer text ;;
+    'live --seconds') _ssign_keys_offer text ;;
+    'live --rotate-size') _ssign_keys_offer text ;;
+    'live --heartbeat') _ssign_keys_offer text ;;
+    'live --status') _ssign_keys_offer files ;;
+    'live --key') _ssign_keys_offer files ;;
+    'live --seal-command') _ssign_keys_offer text ;;
+    'live --public') _ssign_keys_offer files ;;
+    'live --host') _ssign_keys_offer text ;;
+    'live --app') _ssign_keys_offer text ;;
+    'live --procid') _ssign_keys_offer text ;;
+    'live --msgid') _ssign_keys_offer text ;;
+    'live --pri') _ssign_keys_offer text ;;
+    'live --payload') _ssign_keys_offer text ;;
+    'live --ver') _ssign_keys_offer words '0111 0121' ;;
+    'live --groups') _ssign_keys_offer words 'one pri' ;;
+    'live --count') _ssign_keys_offer text ;;
+    'live --frag') _ssign_keys_offer text ;;
+    'live --copies') _ssign_keys_offer text ;;
+    'live --manifest') _ssign_keys_offer files ;;
+    'live --ssign') _ssign_keys_offer files ;;
     'verify --key') _ssign_keys_offer files ;;
     'verify --session-key') ;;
     'verify --ca') _ssign_keys_offer files ;;
     'verify --cert') _ssign_keys_offer files ;;
+    'verify --tsa-ca') _ssign_keys_offer files ;;
     'verify --max-len') _ssign_keys_offer text ;;
     'verify --max-messages') _ssign_keys_offer text ;;
     'verify --max-expanded') _ssign_keys_offer text ;;
     'verify --max-payload') _ssign_keys_offer text ;;
+    'verify --from') _ssign_keys_offer files ;;
     'verify --counters') _ssign_keys_offer files ;;
+    'verify --nights') _ssign_keys_offer text ;;
     'verify --manifest') _ssign_keys_offer files ;;
     'verify --manifest-last') _ssign_keys_offer text ;;
+    'verify --stamped') _ssign_keys_offer text ;;
     'verify --html') _ssign_keys_offer files ;;
     'verify --answers-out') _ssign_keys_offer files ;;
     'verify --counters-out') _ssign_keys_offer files ;;
@@ -90,6 +122,11 @@ _ssign_keys() {
     'manifest --max-messages') _ssign_keys_offer text ;;
     'manifest --counters') _ssign_keys_offer files ;;
     'manifest --ssign') _ssign_keys_offer files ;;
+    'stamp --tsa') _ssign_keys_offer text ;;
+    'stamp --tsa-command') _ssign_keys_offer text ;;
+    'stamp --tsa-seconds') _ssign_keys_offer text ;;
+    'stamp --out') _ssign_keys_offer text ;;
+    'stamp --tsa-ca') _ssign_keys_offer files ;;
     'rotated --keys') _ssign_keys_offer folders ;;
     'rotated --state') _ssign_keys_offer folders ;;
     'rotated --kept') _ssign_keys_offer folders ;;
@@ -129,9 +166,10 @@ _ssign_keys_words() {
             _ssign_keys_offer files
         fi
         ;;
+    live) _ssign_keys_offer words '--help --state --out --new-session --keep-session --omprog --transactions --marks --messages --seconds --rotate-size --rotate-daily --heartbeat --wrap --no-wrap --status --key --seal-command --public --lines --host --app --procid --msgid --pri --payload --ver --groups --count --frag --copies --manifest --ssign' ;;
     verify)
         if [[ $2 == -* ]]; then
-            _ssign_keys_offer words '--help --key --session-key --ca --cert --at-signing-time --allow-sha1 --lines --frames --max-len --max-messages --max-expanded --max-payload --whole --counters --manifest --manifest-last --findings --details --hostname --raw --json --html --answers-out --counters-out --jobs --ssign'
+            _ssign_keys_offer words '--help --key --session-key --ca --cert --at-signing-time --allow-sha1 --tsa-ca --lines --frames --max-len --max-messages --max-expanded --max-payload --whole --from --counters --nights --manifest --from-manifest --manifest-last --stamped --findings --details --hostname --raw --json --html --answers-out --counters-out --jobs --ssign'
         else
             _ssign_keys_offer files
         fi
@@ -143,6 +181,13 @@ _ssign_keys_words() {
             _ssign_keys_offer text
         fi
         ;;
+    stamp)
+        if [[ $2 == -* ]]; then
+            _ssign_keys_offer words '--help --tsa --tsa-command --tsa-seconds --out --tsa-ca'
+        else
+            _ssign_keys_offer files
+        fi
+        ;;
     rotated)
         if [[ $2 == -* ]]; then
             _ssign_keys_offer words '--help --keys --state --kept --one-session --own-sessions --new-session --wait --pending --remove --forget --last --host --app --ssign'
@@ -152,7 +197,7 @@ _ssign_keys_words() {
         ;;
     seal)
         if [[ $2 == -* ]]; then
-            _ssign_keys_offer words '--help --state --new-state --rsid --host --app --procid'
+            _ssign_keys_offer words '--help --state --new-state --each --rsid --host --app --procid'
         else
             _ssign_keys_offer files
         fi
@@ -164,7 +209,7 @@ _ssign_keys_words() {
             _ssign_keys_offer files
         fi
         ;;
-    help) _ssign_keys_offer words 'make sign verify manifest rotated seal answer' ;;
+    help) _ssign_keys_offer words 'make sign live verify manifest stamp rotated seal answer' ;;
     esac
 }
 
