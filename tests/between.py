@@ -1,5 +1,5 @@
 #!/usr/bin/env python3
-"""What `ssign review --from FILE` says of one night of a session that goes on, by the definition in docs/FORMATS.md.
+"""What `ssign review --from FILE` reports about one night of a session that goes on, by the definition in docs/FORMATS.md.
 
     between.py model             the model alone, over the logs that were worked out by hand and over 12,000 nights by a seed
     between.py compare PROGRAM   and the program, over these
@@ -172,7 +172,7 @@ def tally_text(text):
 # ---- the same, number by number
 
 def fault_by_number(log, trusted, valid, first, second, text):
-    """What is wrong with a report, by what it says of each number that is small or lies near what it has."""
+    """What is wrong with a report, by what it reports about each number that is small or lies near what it has."""
     begin, end = Bounds(first), Bounds(second or [])
     rows = [it.split(" ") for it in text]
     for session in {*log.sessions, *begin.sessions, *end.sessions}:

@@ -1,7 +1,7 @@
 """A made-up disk for `ssign-keys live`, which loses what wasn't synced, and lives of a signer on it (tests/live_power.py).
 
 A file has octets that a process sees, and octets that are sure. A name is sure once its folder was synced. The blocks come
-from ssign itself. Only the signatures are made up: each is three octets, which the review is told to take for valid.
+from ssign itself. Only the signatures are made up: each is three octets, which the review is to accept as valid.
 """
 import argparse
 import base64

@@ -633,7 +633,7 @@ def each():
 # ---- reports
 
 def reports():
-    """Heartbeats, and what systemd is told."""
+    """Heartbeats, and what systemd receives."""
     with signer("--seconds=0.1", "--heartbeat=0.3") as it:
         address = it.path("notify")
         with socket.socket(socket.AF_UNIX, socket.SOCK_DGRAM) as manager:
