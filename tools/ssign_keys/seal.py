@@ -13,15 +13,14 @@ from typing import Callable, Dict, Iterable, Iterator, List, Optional
 from .blocks import Session
 from .encoding import decode
 from .faults import Fault
-from .keys import PrivateKey, PublicKey, read_private_key
+from .keys import PrivateKey, read_private_key
 from .output import write_out
-from .payloads import read_payload
-from .seal_each import LastSessions, LastState
+from .seal_each import LONGEST, LastSessions, LastState
 from .sealed import Sessions, record_of
-from .stated import refuse_other_key
+from .sealed_payloads import LastPayloads, Payloads
 from .state import State
-from .streams import Output, input_lines
-from .written import Certificate, Written, read_written
+from .streams import Output, input_lines, short_lines
+from .written import Written, read_written
 
 WANT = b"want "
 # the options that name a session, with the field of the RFC that each is
@@ -51,40 +50,6 @@ def seals(lines: Iterable[bytes], key: PrivateKey, check: Optional[Check] = None
         except Fault as fault:
             raise Fault(f"line {number}: {fault}") from fault
         yield b"seal %s %s\n" % (wanted, base64.b64encode(signature))
-
-
-class Payloads:
-    """The payloads of the certificate blocks that a run signs."""
-
-    def __init__(self) -> None:
-        """None yet."""
-        self._fragments: Dict[Session, List[Certificate]] = {}
-
-    def take(self, block: Written) -> None:
-        """Takes a block."""
-        if isinstance(block, Certificate):
-            self._fragments.setdefault(block.session, []).append(block)
-
-    def refuse_other_key(self, key: PublicKey) -> None:
-        """Refuses a payload that is whole, and states another key or is none. Of a part of one nothing can be said."""
-        for session, fragments in self._fragments.items():
-            octets = joined(fragments)
-            if octets is None:
-                continue
-            where = f"the payload of the session '{session}'"
-            refuse_other_key(octets, key, where)
-            if read_payload(octets) is None:
-                raise Fault(f"{where} is none of RFC 5848, section 5.2.1")
-
-
-def joined(fragments: List[Certificate]) -> Optional[bytes]:
-    """The payload of which these are all fragments, or None where some aren't here."""
-    octets = bytearray()
-    for it in sorted(fragments, key=lambda it: it.start):
-        if it.start > len(octets) + 1:
-            return None
-        octets[it.start - 1:] = it.fragment
-    return bytes(octets) if len(octets) == fragments[0].total else None
 
 
 def add_arguments(parser: argparse.ArgumentParser) -> None:
@@ -135,26 +100,27 @@ def run(arguments: argparse.Namespace) -> int:
 def seal_each(arguments: argparse.Namespace, key: PrivateKey, wanted: Dict[str, bytes]) -> int:
     """Answers each line of standard input at once. Ends at the first one that is refused.
 
-    A block stands in the state, on the disk, before its seal is given out.
+    A block stands in the state, on the disk, before its seal is given out. The state is locked for one answer at a time, so a
+    connection that hangs keeps nobody from asking.
     """
-    with ExitStack() as stack:
-        state: Optional[State] = None
-        sessions: Sessions = LastSessions()
-        if arguments.state is not None:
-            state = stack.enter_context(LastState(arguments.state, key.public.fingerprint, arguments.new_state))
-            sessions = state.sessions
-        payloads = Payloads()
+    payloads = LastPayloads(key.public)
+    state: Optional[LastState] = None
+    sessions = LastSessions()
+    if arguments.state is not None:
+        state = LastState(arguments.state, key.public.fingerprint, arguments.new_state)
+        state.begin()
 
-        def check(block: Written, octets: bytes, line: int) -> None:
-            refuse_other_session(block.session, wanted)
-            sessions.take(block.session, record_of(block, octets, 0))
-            payloads.take(block)
-            payloads.refuse_other_key(key.public)
+    def check(block: Written, octets: bytes, line: int) -> None:
+        refuse_other_session(block.session, wanted)
+        payloads.take(block)
+        record = record_of(block, octets, 0)
+        if state is None:
+            sessions.take(block.session, record)
+        else:
+            state.take(block.session, record)
 
-        for line in seals(input_lines(), key, check):
-            if state is not None:
-                state.write()
-            write_out([line])
+    for line in seals(short_lines(LONGEST), key, check):
+        write_out([line])
     return 0
 
 

@@ -5,15 +5,26 @@ signed if its numbers and its GBC are greater than all before, or if it is one o
 """
 from __future__ import annotations
 
-from typing import Dict, Iterable, Tuple
+import contextlib
+import os
+import time
+from typing import Dict, Iterable, Iterator, Tuple
 
 from .blocks import Session
 from .faults import Fault
+from .files import reason
 from .sealed import Record, Sealed, Sessions
-from .state import State
+from .state import Busy, State
 
 # so many signature blocks of a session are remembered, and the last one of each group
 REMEMBERED = 256
+# no line `want` of a block that can be signed is longer, in octets: a certificate block has at most 9999 octets of a payload
+LONGEST = 1 << 15
+# so many octets of a payload, blocks of it, and signers with names of their own go into one state: who asks could else fill it
+MOST_PAYLOAD, MOST_FRAGMENTS, MOST_NAMES = 1 << 16, 1 << 12, 1 << 8
+# how long another answer is waited for, in seconds
+PATIENCE = 5.0
+END = len("end \n") + 64
 
 
 class LastSessions(Sessions):
@@ -25,13 +36,25 @@ class LastSessions(Sessions):
 
     def take(self, session: Session, record: Record) -> None:
         """Takes a block. Raises Fault where one with a later number was signed, and it is none of those that are remembered."""
+        if session[:3] not in self._last and len(self._last) >= MOST_NAMES:
+            raise Fault(f"blocks of {MOST_NAMES} signers were signed already, and '{session}' is another one: give each a state of "
+                        "its own")
         sealed = self._of(session)
-        if record.is_signature and record.name not in sealed.records:
-            refuse_earlier(session, record, sealed.records.values())
+        if record.name not in sealed.records:
+            if record.is_signature:
+                refuse_earlier(session, record, sealed.records.values())
+            else:
+                refuse_large(session, record, sealed)
         super().take(session, record)
         if not record.is_signature:
             self.check_spans()
         forget(sealed)
+
+
+def refuse_large(session: Session, record: Record, sealed: Sealed) -> None:
+    """Refuses a certificate block of a payload that is larger than any that a signer has."""
+    if record.number > MOST_PAYLOAD or sum(not it.is_signature for it in sealed.records.values()) >= MOST_FRAGMENTS:
+        raise Fault(f"the payload of the session '{session}' has more than {MOST_PAYLOAD} octets, or {MOST_FRAGMENTS} blocks")
 
 
 def refuse_earlier(session: Session, record: Record, records: Iterable[Record]) -> None:
@@ -57,7 +80,7 @@ def forget(sealed: Sealed) -> None:
 
 
 class LastState(State):
-    """A state file of `seal --each`."""
+    """A state file of `seal --each`, which is locked for one answer at a time. It isn't used with `with`."""
 
     heading = b"ssign-keys sealed last 1 %s\n"
     mode = " --each"
@@ -66,3 +89,49 @@ class LastState(State):
         """As that of `seal`."""
         super().__init__(path, key, is_new)
         self.sessions = LastSessions()
+
+    def begin(self) -> None:
+        """Begins the file, or reads it."""
+        with self._held():
+            pass
+
+    def take(self, session: Session, record: Record) -> None:
+        """Has a block that is to be signed stand in the file, on the disk. Raises Fault where it contradicts another one."""
+        with self._held():
+            self.sessions.take(session, record)
+            self.write()
+
+    @contextlib.contextmanager
+    def _held(self) -> Iterator[None]:
+        """Locks the file, and reads what another run put there meanwhile."""
+        self._open()
+        try:
+            if self._is_new:
+                self.write()
+                self._is_new = False
+            elif self._end() != b"end %s\n" % self._sum.encode():
+                self.sessions = LastSessions()
+                self._read()
+            yield
+        finally:
+            os.close(self._lock)
+
+    def _end(self) -> bytes:
+        """The last line, whose hash says what the file holds."""
+        try:
+            with open(self._path, "rb") as file:
+                file.seek(max(0, file.seek(0, os.SEEK_END) - END))
+                return file.read()
+        except OSError as fault:
+            raise Fault(f"the state file {self._name} can't be read: {reason(fault)}") from fault
+
+    def _open_lock(self) -> int:
+        """A lock. Whoever has it gives it free after one answer."""
+        until = time.monotonic() + PATIENCE
+        while True:
+            try:
+                return super()._open_lock()
+            except Busy:
+                if time.monotonic() > until:
+                    raise
+            time.sleep(0.01)

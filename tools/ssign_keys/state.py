@@ -30,6 +30,10 @@ CERTIFICATE = re.compile(rb"certificate %s %s %s %s\n" % (NUMBER, NUMBER, NUMBER
 LONGEST = 600
 
 
+class Busy(Fault):
+    """Another run uses the file."""
+
+
 class State:
     """A state file, which no other run uses while this one does. Used with `with`."""
 
@@ -45,9 +49,22 @@ class State:
         self._key = key.encode()
         self._is_new = is_new
         self.sessions: Sessions = Sessions(is_ordered=True)
+        # the SHA-256 in its last line, as it was read or written last
+        self._sum = ""
 
     def __enter__(self) -> State:
         """Locks and reads the file."""
+        self._open()
+        try:
+            if not self._is_new:
+                self._read()
+        except BaseException:
+            os.close(self._lock)
+            raise
+        return self
+
+    def _open(self) -> None:
+        """Locks the file, and sees that it can be used."""
         if not self._name:
             raise Fault("--state has an empty name")
         # what can't be used gets no file beside it
@@ -55,12 +72,9 @@ class State:
         self._lock = self._open_lock()
         try:
             self._mode = self._look()
-            if not self._is_new:
-                self._read()
         except BaseException:
             os.close(self._lock)
             raise
-        return self
 
     def __exit__(self, kind: Optional[Type[BaseException]], fault: Optional[BaseException],
                  trace: Optional[TracebackType]) -> None:
@@ -77,8 +91,9 @@ class State:
             fcntl.flock(lock, fcntl.LOCK_EX | fcntl.LOCK_NB)
         except OSError as fault:
             os.close(lock)
-            why = "another run uses it" if fault.errno in (errno.EACCES, errno.EAGAIN) else reason(fault)
-            raise Fault(f"the state file {self._name} can't be locked: {why}") from fault
+            if fault.errno in (errno.EACCES, errno.EAGAIN):
+                raise Busy(f"the state file {self._name} can't be locked: another run uses it") from fault
+            raise Fault(f"the state file {self._name} can't be locked: {reason(fault)}") from fault
         return lock
 
     def _look(self) -> int:
@@ -123,7 +138,7 @@ class State:
             if number == 1:
                 self._check_heading(line)
             elif line == b"end %s\n" % hashed.hexdigest().encode():
-                ended = True
+                ended, self._sum = True, hashed.hexdigest()
             elif line.startswith(b"session "):
                 session = self._session(line, number)
             else:
@@ -189,7 +204,8 @@ class State:
         for line in self._lines():
             file.write(line)
             hashed.update(line)
-        file.write(b"end %s\n" % hashed.hexdigest().encode())
+        self._sum = hashed.hexdigest()
+        file.write(b"end %s\n" % self._sum.encode())
 
     def _lines(self) -> Iterator[bytes]:
         """The lines but for the last."""

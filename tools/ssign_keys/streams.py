@@ -25,6 +25,17 @@ def input_lines() -> Iterator[bytes]:
         raise Fault(f"standard input can't be read: {reason(fault)}") from fault
 
 
+def short_lines(most: int) -> Iterator[bytes]:
+    """The lines of standard input, of which a longer one comes in pieces of so many octets. Each comes once it is there."""
+    if sys.stdin is None:
+        raise Fault("standard input is closed")
+    try:
+        with open(0, "rb", closefd=False) as stream:
+            yield from iter(lambda: stream.readline(most), b"")
+    except OSError as fault:
+        raise Fault(f"standard input can't be read: {reason(fault)}") from fault
+
+
 class Output:
     """What goes to standard output at the end of a run that has succeeded."""
 

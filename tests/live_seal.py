@@ -1,0 +1,356 @@
+#!/usr/bin/env python3
+"""Attacks on `ssign-keys seal --each`, which signs what `ssign-keys live` wants: clients at once, connections that break, long
+lines, hostile names, kills and full disks; and a seal command whose connection breaks at each octet of an answer.
+
+    live_seal.py SSIGN KEYS
+
+KEYS is a folder of `ssign-keys make`. What is wanted is the rule of docs/FORMATS.md, "What was sealed": no two answers for other
+octets with one GBC or one number of a session. The last line is `live_seal: N passed, M failed`.
+"""
+import base64
+import collections
+import contextlib
+import functools
+import os
+import random
+import re
+import resource
+import shlex
+import signal
+import subprocess
+import sys
+import tempfile
+import time
+
+import live_runs
+from live_disks import message
+from live_runs import KEYS, ROOT, Process, differ, framed, signer, tell
+
+from ssign_keys import keys, seal, seal_each
+
+GBC = re.compile(rb'RSID="([0-9]+)".* GBC="([0-9]+)" FMN="([0-9]+)" CNT="([0-9]+)"')
+CLIENTS, ROUNDS = 4, 15
+MOST_MEMORY = 120000
+
+
+def block(rsid, gbc, first, text, host="h", count=2):
+    """The line `want` of a signature block, put together by hand (RFC 5848, section 4.2)."""
+    hashes = b" ".join(base64.b64encode(bytes([text, n]) * 16) for n in range(count))
+    octets = b'<110>1 2026-11-27T03:01:30Z %s s - - [ssign VER="0121" RSID="%d" SG="0" SPRI="0" GBC="%d" FMN="%d" CNT="%d" HB="%s"]' % (
+        host.encode("utf-8"), rsid, gbc, first, count, hashes)
+    return b"want %s\n" % base64.b64encode(octets)
+
+
+def fragment(rsid, total, index, text, host="h"):
+    """The line `want` of a certificate block."""
+    octets = b'<110>1 - %s s - - [ssign-cert VER="0121" RSID="%d" SG="0" SPRI="0" TPBL="%d" INDEX="%d" FLEN="%d" FRAG="%s"]' % (
+        host.encode("utf-8"), rsid, total, index, len(text), text)
+    return b"want %s\n" % base64.b64encode(octets)
+
+
+class Sealing:
+    """A state, and connections to it."""
+
+    def __init__(self, folder):
+        self.state = os.path.join(folder, "sealed")
+
+    def connect(self, *options, before=None):
+        """A run of `seal --each`."""
+        return Process(["seal", f"{KEYS}/private-key.pem", "--each", f"--state={self.state}", *options], before)
+
+    def ask(self, lines, *options, before=None):
+        """How many of these lines are answered by one connection, its status, and what it says."""
+        process = self.connect(*options, before=before)
+        count = 0
+        for line in lines:
+            if not is_answer(line, asked(process, line)):
+                break
+            count += 1
+        return count, process.end(), process.said
+
+    def octets(self):
+        """The octets of the file."""
+        with open(self.state, "rb") as file:
+            return file.read()
+
+
+def asked(process, line):
+    """What a connection answers."""
+    with contextlib.suppress(BrokenPipeError):
+        process.say(line)
+    return process.answer()
+
+
+def is_answer(line, answer):
+    """Whether this is the seal of what a line wants."""
+    return bool(answer) and answer.startswith(b"seal " + line.rstrip(b"\n").partition(b" ")[2] + b" ") and answer.endswith(b"\n")
+
+
+@contextlib.contextmanager
+def sealing():
+    """A state of its own, which was begun."""
+    with tempfile.TemporaryDirectory() as folder:
+        it = Sealing(folder)
+        it.ask([], "--new-state")
+        yield it
+
+
+def refused(what, run, wanted=0):
+    """One check: so many lines were answered, and the next one was refused with a sentence."""
+    count, status, said = run
+    tell(what, differ("answered and status", (count, status), (wanted, 2)),
+         "" if re.fullmatch(r"ssign-keys: [ -~]+\n", said) else f"it says {said!r}")
+
+
+def beginnings():
+    """A state is begun once, also without a line, and its loss is noticed."""
+    with tempfile.TemporaryDirectory() as folder:
+        it = Sealing(folder)
+        refused("no state", it.ask([block(1, 0, 1, 1)]))
+        tell("a state is begun without a line", differ("run", it.ask([], "--new-state")[:2], (0, 0)),
+             "" if os.path.exists(it.state) else "there is none")
+        refused("a state is begun once", it.ask([block(1, 0, 1, 1)], "--new-state"))
+        tell("what is begun is used", differ("run", it.ask([block(1, 0, 1, 1)])[:2], (1, 0)))
+        os.unlink(it.state)
+        refused("a state that was lost", it.ask([block(1, 1, 3, 1)]))
+
+
+def together():
+    """Connections at once: one that is idle keeps nobody waiting, and each knows what the others had signed."""
+    with sealing() as it:
+        first, second = it.connect(), it.connect()
+        own = [block(1, gbc, 2 * gbc + 1, 1) for gbc in range(6)]
+        faults = []
+        for gbc, to in ((0, first), (1, second), (2, first), (2, second), (1, first), (5, second)):
+            faults.append("" if is_answer(own[gbc], asked(to, own[gbc])) else f"GBC {gbc} isn't signed")
+        tell("two connections by turns", *faults)
+        third = it.connect()
+        began = time.monotonic()
+        tell("a number that another connection had", differ("answer", asked(first, block(1, 5, 11, 2)), b""),
+             differ("status", first.end(), 2), "" if "GBC 5 was signed already" in first.said else first.said)
+        tell("a number before that of another connection", differ("answer", asked(second, own[4]), b""), differ("status", second.end(), 2))
+        os.kill(third.child, signal.SIGSTOP)
+        last = it.ask([own[5]])
+        tell("a connection that hangs", differ("answered", last[:2], (1, 0)), "it took long" if time.monotonic() - began > 4 else "")
+        os.kill(third.child, signal.SIGCONT)
+        third.end()
+
+
+def races():
+    """Clients that all want other octets under the same numbers, some of which are killed."""
+    rng = random.Random(11)
+    given = collections.defaultdict(set)
+    answers = kills = 0
+    with sealing() as it:
+        for at in range(ROUNDS):
+            clients = [it.connect() for _ in range(CLIENTS)]
+            lines = [[block(1, gbc, 2 * gbc + 1, number) for gbc in range(3 * at, 3 * at + 3)] for number in range(CLIENTS)]
+            for number, client in enumerate(clients):
+                with contextlib.suppress(BrokenPipeError):
+                    client.say(b"".join(lines[number]))
+                if rng.random() < .3:
+                    kills += 1
+                    time.sleep(rng.random() * .05)
+                    os.kill(client.child, signal.SIGKILL)
+            for client in clients:
+                with contextlib.suppress(OSError):
+                    client.to.close()
+                while True:
+                    line = client.answer()
+                    if not line or not line.endswith(b"\n"):
+                        break
+                    answers += 1
+                    found = GBC.search(base64.b64decode(line.split(b" ")[1]))
+                    given[found[1], found[2]].add(line.split(b" ")[1])
+                client.end()
+        twice = [key for key, octets in given.items() if len(octets) > 1]
+        tell("no number goes to other octets, whoever asks", f"{twice[:3]}" if twice else "",
+             f"only {answers} answers" if answers < ROUNDS * 3 / 2 else "")
+        print(f"live_seal: {ROUNDS * CLIENTS} clients, {CLIENTS} at once, {kills} killed; {answers} answers for {len(given)} GBC")
+
+
+def breaks():
+    """A connection that breaks in the middle of a line."""
+    line = block(1, 0, 1, 1)
+    with sealing() as it:
+        before = it.octets()
+        faults = []
+        for end in sorted({*range(0, 12), *range(12, len(line) - 1, 31), len(line) - 2}):
+            process = it.connect()
+            process.say(line[:end])
+            status = process.end()
+            faults.append(differ(f"broken at {end}", (status, it.octets() == before), (2 if end else 0, True)))
+        tell("a line that breaks off", *faults)
+        tell("a line without its LF is whole", differ("run", it.ask([line[:-1]])[:2], (0, 0)),
+             "" if it.octets() != before else "it isn't remembered")
+        tell("it is answered again", differ("run", it.ask([line])[:2], (1, 0)))
+
+
+def sizes():
+    """Long lines, and as much as a client can have remembered."""
+    for what, octets, count in (("10 MB", b"x" * 10, 1000000), ("10 MB in base64", b"want " + b"AAAA" * 256, 10000), ("1 GB of NULs", bytes(1000), 1000000)):
+        with sealing() as it:
+            before = it.octets()
+            process = it.connect()
+            with contextlib.suppress(BrokenPipeError):
+                for _ in range(count):
+                    process.say(octets)
+                process.say(b"\n")
+            process.to.close()
+            _, ended, used = os.wait4(process.child, 0)
+            tell(f"a line of {what}", differ("status", os.waitstatus_to_exitcode(ended), 2), differ("state", it.octets(), before),
+                 f"{used.ru_maxrss} KiB of memory" if used.ru_maxrss > MOST_MEMORY else "",
+                 "" if re.fullmatch(r"ssign-keys: line [0-9]+ is no line `want OCTETS` of ssign plan\n", process.said) else process.said[:300])
+            process.answers.close()
+    with sealing() as it:
+        refused("more signers than one state has", it.ask([block(1, 0, 1, 1, f"h{n}") for n in range(300)]), 256)
+        tell("the signers that it has", differ("run", it.ask([block(1, 1, 3, 1, "h0"), block(2, 0, 1, 1, "h255")])[:2], (2, 0)))
+    with sealing() as it:
+        refused("a payload that is too long", it.ask([fragment(1, 65537, 1, b"A" * 9999)]))
+        tell("the longest payload", differ("run", it.ask([fragment(1, 65536, 1, b"A" * 9999)])[:2], (1, 0)))
+        long_one = block(1, 0, 1, 1, "h" * 255, 99)
+        tell("the longest names and blocks", differ("run", it.ask([long_one, fragment(1, 10000, 1, b"B" * 9999, "h" * 255)])[:2], (2, 0)))
+    with sealing() as it, changed(seal_each, "MOST_FRAGMENTS", 40):
+        refused("more fragments than a payload has", it.ask([fragment(1, 60000, n, b"A") for n in range(1, 50)]), 40)
+
+
+@contextlib.contextmanager
+def changed(module, name, value):
+    """Has a name of a module have another value."""
+    before = getattr(module, name)
+    setattr(module, name, value)
+    try:
+        yield
+    finally:
+        setattr(module, name, before)
+
+
+def names():
+    """Names that a shell, a format, a terminal or the state file could take for something else."""
+    with sealing() as it:
+        hostile = ["$(id>&2)", "%s%n", "`id`", "../../etc", "a;b|c", "-", "--state=x", "{0}", "\\", '"]', "session", "end", "#"]
+        tell("odd names", differ("run", it.ask([block(1, 0, 1, 1, name) for name in hostile])[:2], (len(hostile), 0)))
+        tell("odd names are remembered", differ("run", it.ask([block(1, 0, 1, 1, name) for name in hostile])[:2], (len(hostile), 0)))
+        for name in hostile:
+            refused(f"another block of {name}", it.ask([block(1, 0, 1, 2, name)]))
+        for what, name in (("an LF", "a\nsession"), ("an escape", "\x1b[2J"), ("a space", "a b"), ("no ASCII", "\u202e"), ("nothing", ""), ("256 letters", "h" * 256)):
+            refused(f"a name with {what}", it.ask([block(1, 0, 1, 1, name)]))
+        tell("--host and --app", differ("run", it.ask([block(1, 1, 3, 1, "-")], "--host=-", "--app=s")[:2], (1, 0)))
+        refused("another --host", it.ask([block(1, 2, 5, 1, "x")], "--host=h"))
+        refused("another --app", it.ask([block(1, 2, 5, 1, "h")], "--host=h", "--app=signer"))
+
+
+def payloads():
+    """Fragments of a payload with another key are refused, also if a fragment comes twice, and memory doesn't grow."""
+    with sealing() as it, open(f"{KEYS}/payload", "rb") as file:
+        own = file.read().strip()
+        other = own[:-9] + (b"A" if own[-9:-8] != b"A" else b"B") + own[-8:]
+        pieces = lambda rsid, text: [fragment(rsid, len(text), at + 1, text[at:at + 500]) for at in range(0, len(text), 500)]
+        tell("a payload of the key", differ("run", it.ask(pieces(1, own))[:2], (len(pieces(1, own)), 0)))
+        refused("a payload of another key", it.ask(pieces(2, other)), len(pieces(2, other)) - 1)
+        mixed = [*pieces(3, other)[:1], *pieces(3, other)[:1], *pieces(3, other)[1:]]
+        refused("a payload of another key, with a fragment twice", it.ask(mixed), len(mixed) - 1)
+    with sealing() as it:
+        process = it.connect()
+        faults = []
+        for rsid in range(1, 41):
+            for _ in range(2):
+                line = fragment(rsid, 65000, 1, b"A" * 9999)
+                faults.append("" if is_answer(line, asked(process, line)) else f"RSID {rsid} isn't signed")
+        tell("many sessions in one connection", *faults, differ("status", process.end(), 0),
+             f"the state has {len(it.octets())} octets" if len(it.octets()) > 400 else "")
+
+
+def kills():
+    """A kill after a block was saved and before it is answered; and at each call that has to do with files."""
+    def before_answer():
+        seal.write_out = lambda pieces: os.kill(os.getpid(), signal.SIGKILL)
+
+    with sealing() as it:
+        run = it.ask([block(1, 0, 1, 1)], before=before_answer)
+        tell("a kill before the answer", differ("run", run[:2], (0, -signal.SIGKILL)))
+        refused("other octets after the kill", it.ask([block(1, 0, 1, 2)]))
+        refused("other octets with its numbers", it.ask([block(1, 1, 1, 2)]))
+        tell("the same octets after the kill", differ("run", it.ask([block(1, 0, 1, 1), block(1, 1, 3, 1)])[:2], (2, 0)))
+    steps = 0
+    for name in ("fsync", "rename", "fchmod", "unlink", "open", "write", "close"):
+        for at in range(12):
+            with sealing() as it:
+                def before(name=name, at=at):
+                    whole, left = getattr(os, name), [at]
+
+                    def counted(*words, **more):
+                        if not left[0]:
+                            os.kill(os.getpid(), signal.SIGKILL)
+                        left[0] -= 1
+                        return whole(*words, **more)
+                    setattr(os, name, counted)
+
+                lines = [block(1, 0, 1, 1), block(1, 1, 3, 1)]
+                count, status, _ = it.ask(lines, before=before)
+                if status == 0:
+                    break
+                steps += 1
+                # what was answered has its numbers; the others may have them
+                others = it.ask([block(1, count - 1, 2 * count - 1, 2)]) if count else (0, 2, "")
+                again = it.ask(lines[max(count - 1, 0):])
+                tell(f"a kill at {name} {at}", differ("status", status, -signal.SIGKILL), differ("other octets", others[:2], (0, 2)),
+                     differ("again", again[:2], (len(lines) - max(count - 1, 0), 0)))
+    print(f"live_seal: {steps} kills of one that signs")
+
+
+def full():
+    """A state whose disk is full: nothing is answered, and what was there stays."""
+    with sealing() as it:
+        it.ask([block(1, gbc, 2 * gbc + 1, 1) for gbc in range(20)])
+        before = it.octets()
+        limit = lambda: resource.setrlimit(resource.RLIMIT_FSIZE, (len(before) + 9, resource.RLIM_INFINITY))
+        count, status, said = it.ask([block(1, 20, 41, 1)], before=limit)
+        tell("a full disk", differ("run", (count, status), (0, 2)), differ("state", it.octets(), before),
+             "" if "can't be written" in said else said, differ("files", sorted(os.listdir(os.path.dirname(it.state))), ["sealed", "sealed.lock"]))
+        tell("once there is room", differ("run", it.ask([block(1, 20, 41, 2)])[:2], (1, 0)))
+
+
+def cut_answers():
+    """A seal command whose connection breaks after some octets of its answers: `live` asks for the same again."""
+    rng = random.Random(7)
+    wanted = [message(n) for n in range(40)]
+    with signer("--messages=10", "--seconds=0.1") as it:
+        sealed, cuts = it.path("sealed"), it.path("cuts")
+        each = [os.path.join(ROOT, "tools", "ssign-keys"), "seal", f"{KEYS}/private-key.pem", "--each", f"--state={sealed}"]
+        subprocess.run([*each, "--new-state"], stdin=subprocess.DEVNULL, check=True)
+        command = it.path("sealer")
+        with open(command, "w", encoding="utf-8") as file:
+            # the first line of the file says after how many octets this connection breaks
+            file.write(f"#!/bin/sh\ncut=$(head -n 1 {shlex.quote(cuts)})\nsed -i 1d {shlex.quote(cuts)}\n"
+                       f"[ \"$cut\" ] || exec {shlex.join(each)}\n{shlex.join(each)} | head -c \"$cut\"\n")
+        os.chmod(command, 0o755)
+        with open(cuts, "w", encoding="ascii"):
+            pass
+        it.key = [f"--seal-command={shlex.quote(command)}", f"--public={KEYS}/public-key.pem"]
+        it.run(b"")
+        with open(cuts, "w", encoding="ascii") as file:
+            file.write("".join(f"{rng.randrange(1, 2200)}\n" for _ in range(4)))
+        run = it.run(framed(wanted))
+        for _ in range(3):
+            if run.status == 0:
+                break
+            run = it.run(b"")
+        with open(cuts, encoding="ascii") as file:
+            left = file.read()
+        tell("connections that break in an answer", differ("status", run.status, 0) and f"{run.status} {run.said}",
+             differ("cuts that weren't tried", left, ""), *it.clean(wanted), "refused" if "was signed already" in run.said else "")
+
+
+def main():
+    """Makes all checks."""
+    keys.key_fault = functools.lru_cache(keys.key_fault)
+    keys.read_private_key(f"{KEYS}/private-key.pem")
+    for it in (beginnings, together, races, breaks, sizes, names, payloads, kills, full, cut_answers):
+        it()
+    print(f"live_seal: {live_runs.passed} passed, {live_runs.failed} failed")
+    return 1 if live_runs.failed else 0
+
+
+if __name__ == "__main__":
+    sys.exit(main())
