@@ -72,6 +72,7 @@ complete -c ssign-keys -n '__ssign_keys_command live' -l key -r -F -d 'the priva
 complete -c ssign-keys -n '__ssign_keys_command live' -l seal-command -x -d 'have CMD sign, which answers each line as `ssign-keys seal --each` does'
 complete -c ssign-keys -n '__ssign_keys_command live' -l public -r -F -d 'the public key of --seal-command'
 complete -c ssign-keys -n '__ssign_keys_command live' -l lines -d 'read one message a line (default'
+complete -c ssign-keys -n '__ssign_keys_command live' -l journal -x -d 'read the journal of systemd, which CMD writes'
 complete -c ssign-keys -n '__ssign_keys_command live' -l host -x -d 'HOSTNAME of all blocks (default'
 complete -c ssign-keys -n '__ssign_keys_command live' -l app -x -d 'APP-NAME of all blocks (default'
 complete -c ssign-keys -n '__ssign_keys_command live' -l procid -x -d 'PROCID of all blocks (default'

@@ -13,7 +13,8 @@ from .files import read_file, reason
 from .keys import PublicKey, read_pem_keys, read_private_key
 from .live_disk import Disk
 from .live_engine import Engine
-from .live_input import Input
+from .live_input import Input, Source
+from .live_journal import Journal, JournalLoop
 from .live_log import Live, Terms
 from .live_loop import Loop, Marks, Pace
 from .live_manifest import Book
@@ -53,6 +54,8 @@ def add_arguments(parser: argparse.ArgumentParser) -> None:
         meaning = meaning.replace(", or as many as --max-len has room for", "")
         parser.add_argument(f"--{name}", action="append", metavar=value, help=meaning)
     parser.add_argument("--lines", action="store_true", help="read one message a line (default: octet-counted frames)")
+    parser.add_argument("--journal", metavar="CMD", help="read the journal of systemd, which CMD writes: journalctl, with or without "
+                        "options that choose entries, as 'journalctl --unit=ssh.service'")
     parser.add_argument("--omprog", action="store_true", help="read lines, and answer OK to each once it is on the disk, as omprog "
                         "of rsyslog wants it with confirmMessages=\"on\"")
     parser.add_argument("--transactions", action="store_true", help="with --omprog: confirm a transaction as a whole "
@@ -106,6 +109,8 @@ def run(arguments: argparse.Namespace) -> int:
     """Signs until the input ends, or a signal asks it to end. Status 0."""
     if arguments.transactions and not arguments.omprog:
         raise Fault("--transactions goes with --omprog")
+    if arguments.journal is not None and (arguments.omprog or arguments.lines):
+        raise Fault("--journal goes without --lines and --omprog: no messages are read from standard input then")
     for name in NAMED:
         if len(getattr(arguments, name) or []) > 1:
             raise Fault(f"--{name} can be given only once")
@@ -134,12 +139,22 @@ def run_locked(arguments: argparse.Namespace, sealer: Sealer, program: str, worl
     starter.start()
     book.note(live.state)
     marks = Marks(*(os.fsencode(it) for it in arguments.marks)) if arguments.transactions else None
-    source = Input(arguments.lines or arguments.omprog, arguments.omprog)
+    journal = None if arguments.journal is None else Journal(arguments.journal, arguments.state)
+    source: Source = journal or Input(arguments.lines or arguments.omprog, arguments.omprog)
     pace = Pace(arguments.messages, arguments.seconds, arguments.heartbeat)
-    loop = Loop(live, source, world, pace, arguments.omprog, marks, lambda: book.note(live.state), starter.next_session)
+    kind = Loop if journal is None else JournalLoop
+    loop = kind(live, source, world, pace, arguments.omprog, marks, lambda: book.note(live.state), starter.next_session)
     try:
-        return loop.run()
+        if journal is None:
+            return loop.run()
+        journal.start()
+        status = loop.run()
+        if not world.is_ending:
+            journal.refuse_end()
+        return status
     finally:
+        if journal is not None:
+            journal.close()
         disk.close_all()
 
 

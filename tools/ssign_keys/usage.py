@@ -28,7 +28,7 @@ HELP = "print this help, or that of a command"
 GROUPS: Dict[str, Tuple[str, ...]] = {
     "keys": ("--key", "--seal-command", "--public", "--session-key", "--ca", "--cert", "--at-signing-time", "--allow-sha1",
              "--tsa-ca"),
-    "the log": ("--lines", "--frames", "--max-len", "--max-messages", "--max-expanded", "--max-payload"),
+    "the log": ("--lines", "--frames", "--journal", "--max-len", "--max-messages", "--max-expanded", "--max-payload"),
     "the session": ("--rsid", "--host", "--app", "--procid", "--msgid", "--pri", "--stamp"),
     "the blocks": ("--payload", "--ver", "--groups", "--count", "--frag", "--copies"),
     "what is reported": ("--whole", "--from", "--counters", "--nights", "--manifest", "--from-manifest", "--manifest-last",
