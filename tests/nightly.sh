@@ -426,8 +426,8 @@ done
 # ---- what systemd thinks of the units. The scripts aren't where they say.
 if command -v systemd-analyze >out; then
     mkdir system
-    for unit in "$units"/*.service "$units"/*.timer; do
-        sed "s:^ExecStart=/usr/local/sbin/.*:ExecStart=$(command -v true):" "$unit" >"system/${unit##*/}"
+    for unit in "$units"/*.service "$units"/*.timer "$units"/*.socket; do
+        sed -E "s:^ExecStart=/usr/(local/sbin|bin)/.*:ExecStart=$(command -v true):" "$unit" >"system/${unit##*/}"
     done
     for unit in system/*; do
         systemd-analyze verify --man=no "$unit" >out 2>&1
@@ -438,8 +438,10 @@ if command -v systemd-analyze >out; then
     when=$(sed -n 's/^OnCalendar=//p' "$units/ssign-review.timer")
     holds 'the timer names a time of each day' grep -q 'Normalized form: \*-\*-\* [0-9:]*$' <(systemd-analyze calendar "$when")
     if systemd-analyze --help | grep -q -e --offline; then
-        systemd-analyze security --offline=true --threshold=10 system/ssign-review.service >out 2>&1
-        holds 'systemd calls the service safe, at most 1.0 of 10' test "$?" = 0
+        for unit in ssign-review ssign-seal@ ssign-live; do
+            systemd-analyze security --offline=true --threshold=10 "system/$unit.service" >out 2>&1
+            holds "systemd calls $unit safe, at most 1.0 of 10: $(tail -n 1 out)" test "$?" = 0
+        done
     fi
 else
     echo "$name: skipped what needs systemd-analyze, which is missing"
