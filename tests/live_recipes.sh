@@ -1,6 +1,6 @@
 #!/usr/bin/env bash
 # Where `ssign-keys live` gets its messages from: the journal of systemd, in live_journal.py; syslog-ng, in live_syslog_ng.py; and
-# a plain pipe. The example for rsyslog, and the units with the key under another user, which systemd checks, and which are tried
+# a plain pipe. The examples for rsyslog and a container, and the units with the key under another user, which systemd checks, and which are tried
 # with two users where this is root.
 # shellcheck source=tests/lib.sh
 . "$(dirname -- "$0")/lib.sh"
@@ -69,6 +69,16 @@ options() {
 options "$root/examples/rsyslog/ssign-live.conf"
 options "$root/examples/syslog-ng/ssign-live.conf"
 options "$root/examples/systemd/ssign-live.service"
+# the words of a container stand in a list of JSON
+container=$root/examples/container/Containerfile
+sed -n 's/^ENTRYPOINT //p' "$container" | python3 -c 'import json, sys; print(" ".join(json.load(sys.stdin)))' >Containerfile
+options Containerfile
+version=$(sed -n "s/^VERSION = [\"']\(.*\)[\"']\$/\1/p" "$root/tools/ssign_keys/__init__.py")
+holds 'the container gets the package of this version' grep -qx "COPY suhvatek_$version-$(sed -n 's/^revision=//p' "$root/tools/deb.sh")_amd64.deb /root/" "$container"
+holds 'its file is installed' grep -q "^RUN .*$(sed -n 's|^COPY \(.*\) /root/$|/root/\1|p' "$container")" "$container"
+# the users of the units are those of the file for systemd-sysusers
+holds 'the units have the users that are made' cmp <(sed -n 's/^u \([a-z-]*\) .*/\1/p' "$root/examples/systemd/ssign-live.sysusers" | sort) \
+    <(sed -n 's/^User=\(ssign-[a-z]*\)$/\1/p' "$root"/examples/systemd/*.service | sort)
 if command -v rsyslogd >found && ls /usr/lib/*/rsyslog/omprog.so >found 2>&1; then
     printf 'module(load="imptcp")\ninput(type="imptcp" path="%s/imptcp")\n' "$scratch" | cat - "$root/examples/rsyslog/ssign-live.conf" >rsyslog.conf
     sed -i "s|/usr/bin/ssign-keys|/bin/true|" rsyslog.conf

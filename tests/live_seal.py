@@ -2,14 +2,15 @@
 """Attacks on `ssign-keys seal --each`, which signs what `ssign-keys live` wants: clients at once, connections that break, long
 lines, hostile names, kills and full disks; and a seal command whose connection breaks at each octet of an answer.
 
-    live_seal.py SSIGN KEYS
+    live_seal.py SSIGN KEYS [CHECKS..]
 
-KEYS is a folder of `ssign-keys make`. What is wanted is the rule of docs/FORMATS.md, "What was sealed": no two answers for other
+KEYS is a folder of `ssign-keys make`, and CHECKS are names of functions; without them all are made. What is wanted is the rule of docs/FORMATS.md, "What was sealed": no two answers for other
 octets with one GBC or one number of a session. The last line is `live_seal: N passed, M failed`.
 """
 import base64
 import collections
 import contextlib
+import fcntl
 import functools
 import os
 import random
@@ -21,12 +22,14 @@ import subprocess
 import sys
 import tempfile
 import time
+import tracemalloc
 
 import live_runs
 from live_disks import message
 from live_runs import KEYS, ROOT, Process, differ, framed, signer, tell
 
-from ssign_keys import keys, seal, seal_each
+from ssign_keys import keys, seal, seal_each, sealed_payloads
+from ssign_keys.written import read_written
 
 GBC = re.compile(rb'RSID="([0-9]+)".* GBC="([0-9]+)" FMN="([0-9]+)" CNT="([0-9]+)"')
 CLIENTS, ROUNDS = 4, 15
@@ -134,6 +137,20 @@ def together():
         tell("a connection that hangs", differ("answered", last[:2], (1, 0)), "it took long" if time.monotonic() - began > 4 else "")
         os.kill(third.child, signal.SIGCONT)
         third.end()
+
+
+def locked():
+    """Another run that holds the lock: it is waited for, and not for ever."""
+    with sealing() as it, open(f"{it.state}.lock", "rb") as lock:
+        process = it.connect()
+        fcntl.flock(lock, fcntl.LOCK_EX)
+        process.say(block(1, 0, 1, 1))
+        tell("no answer while another run has the lock", differ("answer", process.answer(0.5), None))
+        fcntl.flock(lock, fcntl.LOCK_UN)
+        tell("an answer after it", "" if is_answer(block(1, 0, 1, 1), process.answer()) else "there is none", differ("status", process.end(), 0))
+        fcntl.flock(lock, fcntl.LOCK_EX)
+        with changed(seal_each, "PATIENCE", 0.2):
+            refused("a lock that nobody gives free", it.ask([block(1, 1, 3, 1)]))
 
 
 def races():
@@ -259,6 +276,13 @@ def payloads():
                 faults.append("" if is_answer(line, asked(process, line)) else f"RSID {rsid} isn't signed")
         tell("many sessions in one connection", *faults, differ("status", process.end(), 0),
              f"the state has {len(it.octets())} octets" if len(it.octets()) > 400 else "")
+    memory = sealed_payloads.LastPayloads(keys.read_private_key(f"{KEYS}/private-key.pem").public)
+    tracemalloc.start()
+    for rsid in range(1, 401):
+        memory.take(read_written(base64.b64decode(fragment(rsid, 65000, 1, b"A" * 9999)[5:])))
+    held, _ = tracemalloc.get_traced_memory()
+    tracemalloc.stop()
+    tell("the payloads of older sessions are forgotten", f"{held} octets are held" if held > 1000000 else "")
 
 
 def kills():
@@ -346,8 +370,9 @@ def main():
     """Makes all checks."""
     keys.key_fault = functools.lru_cache(keys.key_fault)
     keys.read_private_key(f"{KEYS}/private-key.pem")
-    for it in (beginnings, together, races, breaks, sizes, names, payloads, kills, full, cut_answers):
-        it()
+    for it in (beginnings, together, locked, races, breaks, sizes, names, payloads, kills, full, cut_answers):
+        if not sys.argv[3:] or it.__name__ in sys.argv[3:]:
+            it()
     print(f"live_seal: {live_runs.passed} passed, {live_runs.failed} failed")
     return 1 if live_runs.failed else 0
 
