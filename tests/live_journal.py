@@ -21,7 +21,7 @@ import time
 import live_runs
 from live_runs import KEYS, Process, differ, signer, tell
 
-from ssign_keys import keys, live_log
+from ssign_keys import keys, live_journal, live_log
 
 REMOTE = next((it for it in ("/lib/systemd/systemd-journal-remote", "/usr/lib/systemd/systemd-journal-remote") if os.path.exists(it)), None)
 BEGAN = 1795804252000000
@@ -169,8 +169,12 @@ def made_up():
     small = b"".join(entry(n + 1, fields) for n, (fields, _) in enumerate(CASES))
     for size in (1, 7, 64):
         with signer("--seconds=0.1") as it:
-            put_command(it, small, size)
-            process = it.start(f"--journal={it.path('reader')}")
+            put_command(it, small)
+
+            def before(size=size):
+                live_journal.PIECE = size
+
+            process = it.start(f"--journal={it.path('reader')}", before=before)
             fault = it.wait_for(lambda status: status["signed"] >= len(CASES), 60)
             process.end(signal.SIGTERM)
             tell(f"entries in pieces of {size}", fault, *it.clean([message for _, message in CASES]))
@@ -193,13 +197,12 @@ def made_up():
         tell("a damaged cursor", differ("status", process.end_by_itself(), 2), "" if "holds no cursor" in process.said else process.said)
 
 
-def put_command(it, octets, size=0, end="sleep 100"):
-    """A command that writes these octets in pieces of a size, whatever its options are, and then ends so."""
+def put_command(it, octets, end="sleep 100"):
+    """A command that writes these octets, whatever its options are, and then ends so."""
     with open(it.path("octets"), "wb") as file:
         file.write(octets)
-    whole = f"cat {shlex.quote(it.path('octets'))}"
     with open(it.path("reader"), "w", encoding="utf-8") as file:
-        file.write(f"#!/bin/sh\n{whole if not size else f'dd bs={size} status=none if=' + shlex.quote(it.path('octets'))}\n{end}\n")
+        file.write(f"#!/bin/sh\ncat {shlex.quote(it.path('octets'))}\n{end}\n")
     os.chmod(it.path("reader"), 0o755)
 
 
