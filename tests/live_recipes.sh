@@ -19,7 +19,7 @@ users=()
 end() {
     local it
     [[ ${#started[@]} == 0 ]] || kill "${started[@]}" 2>"$scratch/fault"
-    for it in "${users[@]}"; do userdel "$it" 2>"$scratch/fault"; done
+    for it in "${users[@]}"; do userdel --force "$it" 2>"$scratch/fault"; done
     rm -rf -- "$scratch"
 }
 trap end EXIT
