@@ -287,6 +287,18 @@ for signal in TERM KILL; do
 done
 holds 'the ended jobs left nothing in the results' test -z "$(find ended-TERM -name '*.new')"
 
+# ---- what stands in the place of the lock isn't written through, and isn't waited for
+mkdir locked
+echo mine >mine
+ln -s ../mine locked/lock
+patience=20 archive review small/archive --results locked --answers small/answers
+refuses 'a link in the place of the lock' "$scratch/locked can't be written: it is a link"
+holds 'a link in the place of the lock: the other file stays' test "$(<mine)" = mine
+rm locked/lock
+mkfifo locked/lock
+patience=20 archive review small/archive --results locked --answers small/answers
+refuses 'a pipe in the place of the lock' "$scratch/locked can't be written: it is no regular file"
+
 # ---- what fails
 echo gate-2 >ill
 : >once

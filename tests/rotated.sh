@@ -112,6 +112,22 @@ echo 0 >state/rsid
 rotated logs/two
 holds 'an RSID that was used: status 2' test "$status" = 2 -a ! -e logs/two.frames
 
+# ---- what stands in the place of the lock isn't waited for, and nothing is made through it
+fresh
+mkfifo state/lock
+patience=10 rotated logs/one
+expect 'a pipe in the place of the lock' 2 '' "ssign-keys: $scratch/state/lock can't be locked: it is no regular file"
+rm state/lock
+ln -s made state/lock
+rotated logs/one
+expect 'a link in the place of the lock' 2 '' "ssign-keys: $scratch/state/lock can't be locked: it is a link"
+holds 'a link in the place of the lock: no other file is made' test ! -e state/made
+holds 'with another lock nothing is signed' test "$(ls logs)" = one -a ! -e state/state
+rm state/lock
+: >state/lock
+rotated logs/one
+expect 'an older lock is used' 0 '' ''
+
 # ---- two logs of one run, of which the first can't get its name
 fresh
 cp "$root/examples/signed/ten-messages.log" logs/two

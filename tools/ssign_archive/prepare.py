@@ -4,10 +4,10 @@ from __future__ import annotations
 import argparse
 import fcntl
 import os
-from typing import BinaryIO, Dict, List
+from typing import Dict, List
 
 from ssign_keys.faults import Fault
-from ssign_keys.files import reason
+from ssign_keys.files import open_lock, reason
 from ssign_keys.words import counted, shown_name
 from ssign_keys.workplace import notify
 
@@ -53,7 +53,7 @@ class Preparation:
     def __enter__(self) -> Preparation:
         try:
             os.makedirs(os.path.join(self.results.path, "reports"), exist_ok=True)
-            self.lock: BinaryIO = open(os.path.join(self.results.path, "lock"), "wb")
+            self.lock = open_lock(os.path.join(self.results.path, "lock"))
         except OSError as fault:
             raise Fault(f"{shown_name(self.results.path)} can't be written: {reason(fault)}") from fault
         try:
@@ -71,7 +71,7 @@ class Preparation:
         return self
 
     def __exit__(self, *what: object) -> None:
-        self.lock.close()
+        os.close(self.lock)
 
     def _look(self) -> None:
         """Looks at what was done before, and says what is done again."""

@@ -9,7 +9,7 @@ import signal
 import subprocess
 import sys
 import sysconfig
-from typing import BinaryIO, List
+from typing import List
 
 from ssign_keys.faults import Fault
 from ssign_keys.numbers import MOST_JOBS, number
@@ -93,7 +93,7 @@ def find_launcher() -> str:
     raise Fault(f"there is no launcher in {shown_name(folder)} or {shown_name(commands)}")
 
 
-def run_parallel(words: List[str], batches: int, lock: BinaryIO) -> int:
+def run_parallel(words: List[str], batches: int, lock: int) -> int:
     """Runs the engine to its end. A signal that ends this process ends the engine and its jobs too.
 
     Where this process is killed outright, the engine goes on, and holds the lock until it ends.
@@ -103,7 +103,7 @@ def run_parallel(words: List[str], batches: int, lock: BinaryIO) -> int:
             numbers.write(b"".join(b"%d\n" % it for it in range(1, batches + 1)))
             numbers.seek(0)
             child = subprocess.Popen(words, stdin=numbers, stdout=sys.stderr, start_new_session=True,
-                                     pass_fds=[lock.fileno()], env={**os.environ, "PARALLEL_SHELL": SHELL})
+                                     pass_fds=[lock], env={**os.environ, "PARALLEL_SHELL": SHELL})
         try:
             return child.wait()
         except BaseException:

@@ -1,6 +1,7 @@
-"""Files that the command line names: short ones, read whole, with a sentence for each that can't be."""
+"""Files that are opened with care: short ones that the command line names, read whole, and those of locks."""
 from __future__ import annotations
 
+import errno
 import os
 import stat
 from typing import List
@@ -30,6 +31,23 @@ def read_file(path: str, wanted: str) -> bytes:
     if len(octets) > LONGEST:
         raise Fault(f"{path} is no file of keys: it has more than {LONGEST} octets")
     return octets
+
+
+def open_lock(path: str) -> int:
+    """Opens the file of a lock, which is made where it isn't there. Nothing is written to it.
+
+    It is a regular file and no link: what else stands there isn't waited for, and no other file is made. Raises OSError.
+    """
+    try:
+        number = os.open(path, os.O_RDWR | os.O_CREAT | os.O_NOFOLLOW | os.O_NONBLOCK | os.O_CLOEXEC, 0o600)
+    except OSError as fault:
+        if fault.errno == errno.ELOOP:
+            raise OSError(fault.errno, "it is a link", path) from fault
+        raise
+    if not stat.S_ISREG(os.fstat(number).st_mode):
+        os.close(number)
+        raise OSError(errno.EINVAL, "it is no regular file", path)
+    return number
 
 
 def reason(fault: Exception) -> str:

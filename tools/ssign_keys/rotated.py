@@ -21,7 +21,7 @@ from datetime import datetime, timezone
 from typing import BinaryIO, Callable, List, NamedTuple, Optional, Union
 
 from .faults import Fault
-from .files import reason
+from .files import open_lock, reason
 from .manifest import name_for
 from .manifest_file import Appending
 from .manifest_form import Entry, Manifest, Mark, SetAside, read_manifest, read_mark
@@ -106,15 +106,15 @@ class Lock:
     def __enter__(self) -> Lock:
         """Waits for its turn."""
         try:
-            self._file = open(self._path, "ab")
-            fcntl.flock(self._file.fileno(), fcntl.LOCK_EX)
+            self._number = open_lock(self._path)
+            fcntl.flock(self._number, fcntl.LOCK_EX)
         except OSError as fault:
             raise Fault(f"{shown_name(self._path)} can't be locked: {reason(fault)}") from fault
         return self
 
     def __exit__(self, *why: object) -> None:
         """Gives the turn on."""
-        self._file.close()
+        os.close(self._number)
 
 
 class Night(NamedTuple):
