@@ -48,7 +48,11 @@ nights 'all nights, by their names, in another order' 0 "Nights 1 to 30: all 30 
 gzip -k logs/night-07.frames && mv logs/night-07.frames away
 nights 'one of them compressed' 0 "Nights 1 to 30: all 30 clean; $all." --nights manifest logs
 rm logs/night-07.frames.gz && mv away logs/night-07.frames
-keys verify --key keys/public-key.pem --json --nights manifest logs
+# each night has a process of its own, and no night starts an interpreter
+mkdir starts
+printf '%s\n' 'import os' 'with open(os.environ["STARTS"], "a", encoding="ascii") as file:' '    file.write("x\n")' >starts/sitecustomize.py
+PYTHONPATH=$scratch/starts STARTS=$scratch/started keys verify --key keys/public-key.pem --jobs 4 --json --nights manifest logs
+holds 'one interpreter judges all nights' test "$(wc -l <started)" = 1
 holds 'the JSON has each night and the verdict' test "$status.$(grep -c '^{"line":"night",.*"status":0,' out).$(grep -c '^{"line":"verdict","status":0,' out)" = 0.30.1
 # the same nights as one log
 keys verify --key keys/public-key.pem --manifest manifest logs/night-*.frames
@@ -98,6 +102,15 @@ keys verify --key keys/public-key.pem --jobs 4 --frames --nights manifest bad
 holds 'a night that is refused: status 2' test "$status" = 2
 holds 'a night that is refused: why' grep -q "^Night 9 (entry 9, night-09.frames): not judged: ssign-keys: " out
 holds 'a night that is refused: the verdict' grep -q '^Verdict: NOT ALL JUDGED: nights 1 to 30: 29 of 30 nights are clean; not judged: night 9' out
+# a night whose process is killed
+# shellcheck disable=SC2016
+printf '#!/bin/sh\nif [ "$1" = review ]; then echo x >>reviews; [ "$(wc -l <reviews)" != 9 ] || kill -KILL "$PPID"; fi\nexec %q "$@"\n' "$program" >killer
+chmod +x killer
+mkdir killed
+TMPDIR=$scratch/killed keys verify --key keys/public-key.pem --ssign ./killer --nights manifest logs
+holds 'a night whose process is killed: status 2' test "$status" = 2
+holds 'a night whose process is killed: its line' grep -qE '^Night ([0-9]+) \(entry \1, .*: not judged: it ended by a signal$' out
+holds 'a night whose process is killed: the others are judged' grep -qE '^Verdict: NOT ALL JUDGED: nights 1 to 30: 29 of 30 nights are clean; not judged: night [0-9]+\.' out
 # ---- one night by itself, in each form
 for it in 3 4 5 6; do
     python3 -B "$root/tests/months.py" ends manifest "$it" >"c$it"
@@ -125,6 +138,11 @@ shows 'an earlier night' 1 "^  beyond, announced here .*, numbers $first to $las
 shows 'an earlier night, as JSON' 1 "\"beyond\":$count,\"unlisted\":0" --json --from c3 --counters c4 "$night"
 shows 'an earlier night, as a page' 1 '^Verdict: ' --html page --from c3 --counters c4 "$night"
 holds 'an earlier night, as a page: its row' grep -q '<strong>beyond</strong>' page
+shows 'a night without a message' 1 'Nothing is missing between the counters\.$' --manifest manifest --from-manifest logs/night-06.frames
+holds 'a night without a message: what to do' grep -qF "A night without a message looks the same: \`ssign-keys verify --nights MANIFEST FOLDER\` judges it by its entry, beside the other nights." out
+shows 'a night whose messages are gone' 1 '^Verdict: NOTHING IS SHOWN: ' --from c4 --counters c5 every/night-06.frames
+shows 'a changed night' 1 '^Verdict: FINDINGS: ' --manifest manifest --from-manifest every/night-02.frames
+holds 'a changed night is not called silent' test "$(grep -c 'A night without a message' out)" = 0
 refused 'two first counters' '--from can be given only once: put the files one after another (`cat`)' --from c3 --from c4 "$night"
 refused 'first counters of two kinds' "--from doesn't go with --from-manifest: a night begins at one of them" --from c3 --from-manifest --manifest manifest "$night"
 refused 'a night of no manifest' '--from-manifest begins at the counters of a manifest: name it with --manifest' --from-manifest "$night"

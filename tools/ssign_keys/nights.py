@@ -5,16 +5,18 @@ A night is the log of one entry. It begins at the counters with which the entrie
 from __future__ import annotations
 
 import argparse
+import contextlib
 import json
 import os
-import subprocess
-import sys
 from dataclasses import dataclass, field
 from typing import BinaryIO, Dict, Iterator, List, NamedTuple, Optional, Sequence, Tuple
 
 from .blocks import Session
+from .cli import main
+from .commands import BUDGET
 from .digests import Digest
 from .faults import Fault
+from .forked import Forked
 from .json_text import compact
 from .manifest import logs_in
 from .manifest_findings import Found, Stored, bare, differs, of_manifest
@@ -25,6 +27,7 @@ from .programs import find_program
 from .progress import Progress
 from .stamped import check_stamps, refuse_lone
 from .summaries import FEW, Runs
+from .trust import read_public_keys
 from .words import grouped, shown, shown_name
 from .workplace import Workplace, finish, put
 
@@ -183,6 +186,7 @@ def run(arguments: argparse.Namespace) -> int:
             digest = Digest(manifest.path, manifest.size, manifest.sha256)
             verdict.stamps = check_stamps(arguments, None, digest, workplace).sentences
             words = [it for it in given_options(of_each_night(arguments)) if it not in REPEATED_NOT]
+            look_at_keys([*arguments.keys, *(it for _, it in arguments.session_key)])
             run_nights = Nights(["--ssign", program, *words], workplace, progress)
             verdict.judged += run_nights.judge(nights, arguments.jobs)
             verdict.judged.sort(key=lambda it: it.number)
@@ -195,6 +199,17 @@ def run(arguments: argparse.Namespace) -> int:
             return verdict.status
     finally:
         progress.clear()
+
+
+def look_at_keys(files: Sequence[str]) -> None:
+    """Has the numbers of these keys looked at, which takes as long as a night. What is found stays known where it forks.
+
+    Each night reads them again, and says what is wrong with them. A pipe is left to it.
+    """
+    for it in files:
+        with contextlib.suppress(Fault):
+            if os.path.isfile(it):
+                read_public_keys(it)
 
 
 def of_each_night(arguments: argparse.Namespace) -> argparse.Namespace:
@@ -271,13 +286,16 @@ def find_nights(manifest: Manifest, given: Given, verdict: Verdict) -> List[Nigh
 
 
 class Nights:
-    """Runs `verify` on each night, several at once."""
+    """Runs `verify` on each night, several at once, each in a process of its own.
+
+    These are forked: to start an interpreter and read the code would take longer than a small night.
+    """
 
     def __init__(self, words: Sequence[str], workplace: Workplace, progress: Progress) -> None:
         self._words = list(words)
         self._workplace = workplace
         self._progress = progress
-        self._running: List[Tuple[Night, subprocess.Popen[bytes]]] = []
+        self._running: List[Tuple[Night, Forked]] = []
 
     def judge(self, nights: Sequence[Night], jobs: int) -> Iterator[Judged]:
         """What each night is, as they end."""
@@ -289,12 +307,12 @@ class Nights:
                     self._running.append((night, self._start(night)))
                 # a child has ended, which is left for `poll`
                 os.waitid(os.P_ALL, 0, os.WEXITED | os.WNOWAIT)
-                ended = [(night, child) for night, child in self._running if child.poll() is not None]
+                ended = [(night, child.wait()) for night, child in self._running if child.poll() is not None]
                 self._running = [(night, child) for night, child in self._running if child.returncode is None]
-                for night, child in ended:
+                for night, status in ended:
                     done += 1
                     self._progress.show("verifying nights", done, len(nights), "nights")
-                    yield self._read(night, child.returncode)
+                    yield self._read(night, status)
         finally:
             # each removes its own passing files
             for _, child in self._running:
@@ -305,19 +323,22 @@ class Nights:
     def _file(self, what: str, night: Night) -> str:
         return f"{what}-{night.number}"
 
-    def _start(self, night: Night) -> subprocess.Popen[bytes]:
-        words = [sys.executable, *(["-B"] if sys.dont_write_bytecode else []), "-m", "ssign_keys", "verify", "--json", "--findings"]
+    def _start(self, night: Night) -> Forked:
+        words = ["verify", "--json", "--findings"]
         for option, lines in (("from", night.begin), ("counters", night.end)):
             with self._workplace.new_file(self._file(option, night)) as file:
                 put(file, lines)
                 finish(file)
             words.append(f"--{option}={self._workplace.path(self._file(option, night))}")
-        path = night.path if not night.path.startswith("-") else f"./{night.path}"
-        root = os.path.dirname(os.path.dirname(os.path.abspath(__file__)))
-        paths = os.pathsep.join(it for it in (root, os.environ.get("PYTHONPATH", "")) if it)
+        words += [*self._words, "--", night.path if not night.path.startswith("-") else f"./{night.path}"]
+
+        def verify() -> int:
+            # what commands may take is for each log
+            BUDGET.renew()
+            return main(words)
+
         with self._workplace.new_file(self._file("out", night)) as out, self._workplace.new_file(self._file("said", night)) as said:
-            return self._workplace.start([*words, *self._words, "--", path], subprocess.DEVNULL, out, said,
-                                         {**os.environ, "PYTHONPATH": paths})
+            return self._workplace.fork(verify, out, said)
 
     def _read(self, night: Night, status: int) -> Judged:
         """What a run said. Its passing files go."""

@@ -14,6 +14,9 @@ from .report import Totals
 from .words import grouped
 
 NOTHING = "Nothing in this log is shown to be authentic. Whatever was signed may have been taken out."
+# what to do where ssign found nothing wrong, and nothing is listed
+SILENT = "A night without a message looks the same: `ssign-keys verify --nights MANIFEST FOLDER` judges it by its entry, beside the " \
+    "other nights."
 
 
 @dataclass
@@ -57,6 +60,8 @@ def sentence(facts: Facts) -> str:
     said += order(facts.totals) + facts.broken.sentences()
     if not facts.totals.listed:
         said += f" {NOTHING}"
+        if facts.review_status == 0 and "joined" in facts.states and not facts.manifest_findings:
+            said += f" {SILENT}"
     return " ".join([said + covered(facts), *facts.stamps])
 
 

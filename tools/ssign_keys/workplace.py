@@ -1,6 +1,7 @@
 """Where a run keeps its passing files, and how it ends: whatever happens, no file and no child of it is left."""
 from __future__ import annotations
 
+import contextlib
 import errno
 import os
 import signal
@@ -8,9 +9,10 @@ import subprocess
 import sys
 import tempfile
 from types import FrameType, TracebackType
-from typing import IO, BinaryIO, List, Mapping, Optional, Sequence, Type, Union
+from typing import IO, BinaryIO, Callable, Iterator, List, Mapping, Optional, Sequence, Type, Union
 
 from .faults import Fault
+from .forked import Forked, work_apart
 
 
 # what a child reads from or writes to: a file, its number, or subprocess.PIPE
@@ -37,7 +39,7 @@ class Workplace:
     SIGNALS = (signal.SIGINT, signal.SIGTERM, signal.SIGHUP)
 
     def __init__(self) -> None:
-        self._children: List[subprocess.Popen[bytes]] = []
+        self._children: List[Union[subprocess.Popen[bytes], Forked]] = []
         self._is_starting = False
         self._put_off: Optional[int] = None
 
@@ -102,16 +104,32 @@ class Workplace:
 
         A signal that comes while it starts is raised once the child is known here: else the child would be left.
         """
-        self._is_starting = True
-        try:
+        with self._starting():
             child = subprocess.Popen(words, stdin=stdin, stdout=stdout, stderr=stderr, env=env,
                                      start_new_session=has_group)
             self._children.append(child)
+        return child
+
+    def fork(self, work: Callable[[], int], stdout: IO[bytes], stderr: IO[bytes]) -> Forked:
+        """Has work done in a process of its own, which ends with the status of it. It is ended with the block as others are."""
+        with self._starting():
+            pid = os.fork()
+            if pid == 0:
+                work_apart(work, stdout.fileno(), stderr.fileno(), self._before)
+            child = Forked(pid)
+            self._children.append(child)
+        return child
+
+    @contextlib.contextmanager
+    def _starting(self) -> Iterator[None]:
+        """Puts a signal off that comes while a child starts."""
+        self._is_starting = True
+        try:
+            yield
         finally:
             self._is_starting = False
             if self._put_off is not None:
                 raise Ended(self._put_off)
-        return child
 
 
 def no_room(error: OSError) -> Fault:
