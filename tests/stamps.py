@@ -279,6 +279,22 @@ class Service(http.server.BaseHTTPRequestHandler):
         elif kind == "short":
             self.wfile.write(b"HTTP/1.1 200 OK\r\nContent-Length: 2000\r\n\r\n0")
             self.close_connection = True
+        elif kind == "longer":
+            octets = reply(self.folder, query)
+            self.wfile.write(b"HTTP/1.1 200 OK\r\nContent-Length: %d\r\n\r\n" % (len(octets) - 100) + octets)
+            self.close_connection = True
+        elif kind == "negative":
+            self.wfile.write(b"HTTP/1.1 200 OK\r\nContent-Length: -1\r\nConnection: close\r\n\r\n" + b"0" * (3 << 20))
+            self.close_connection = True
+        elif kind == "gigabyte":
+            # whoever asks closes the connection before the end
+            self.wfile.write(b"HTTP/1.1 200 OK\r\nContent-Length: 1073741824\r\n\r\n")
+            self.pour(b"0" * (1 << 20), 1024)
+        elif kind == "chunks":
+            self.wfile.write(b"HTTP/1.1 200 OK\r\nTransfer-Encoding: chunked\r\n\r\n")
+            self.pour(b"100000\r\n" + b"0" * (1 << 20) + b"\r\n", 1024)
+        elif kind == "continue":
+            self.pour(b"HTTP/1.1 100 Continue\r\n\r\n" * 1000, 1 << 20)
         elif kind == "odd":
             self.wfile.write(b"\x1b[31mnothing of HTTP\r\n\r\n")
             self.close_connection = True
@@ -292,6 +308,17 @@ class Service(http.server.BaseHTTPRequestHandler):
             self.send_header("Content-Length", str(len(octets)))
             self.end_headers()
             self.wfile.write(octets)
+
+    def pour(self, octets: bytes, times: int) -> None:
+        """Writes the same so often, as long as somebody takes it. How often it was is kept."""
+        count = 0
+        try:
+            for count in range(1, times + 1):
+                self.wfile.write(octets)
+        finally:
+            self.close_connection = True
+            with open(os.path.join(self.folder, "poured"), "w", encoding="ascii") as file:
+                file.write(str(count))
 
     def drip(self, octets: bytes) -> None:
         """Writes an octet, and another one after a while."""

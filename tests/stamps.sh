@@ -405,9 +405,25 @@ asks 'a rejection by HTTP' '(T3)' "$url/rejected"
 asks 'a page in place of a stamp' '(T3)' "$url/page"
 asks 'a long answer by HTTP' 'answers with more than 1,048,576 octets' "$url/huge"
 asks 'an answer that is shorter than it says' 'it breaks off (T3)' "$url/short"
+asks 'an answer that is longer than it says' 'it breaks off (T3)' "$url/longer"
+asks 'an answer of less than no length' 'answers with more than 1,048,576 octets' "$url/negative"
+asks 'another hash by HTTP' '(T3)' "$url/sha512"
+for each in gigabyte chunks; do
+    # 300 MB are more than an interpreter needs, and less than the answer
+    (ulimit -v 400000 && exec timeout "$patience" "$keys_program" stamp counters --tsa "$url/$each" --tsa-ca trial/ca.pem --out new.tsr) >out 2>err
+    status=$?
+    says "an answer of a gigabyte: $each" 'answers with more than 1,048,576 octets'
+    kept_nothing "an answer of a gigabyte: $each" new.tsr
+    for _ in {1..100}; do
+        [[ -s trial/poured ]] && break
+        sleep 0.05
+    done
+    holds "an answer of a gigabyte: $each: it isn't read to its end" test "$(<trial/poured)" -lt 100
+    rm -f trial/poured
+done
 asks 'no HTTP' "the time stamp service can't be asked: " "$url/odd"
 asks 'another status' 'the time stamp service answers 503 \x1b[31mlater' "$url/status"
-for each in never drip-head drip; do
+for each in never drip-head drip continue; do
     began=$SECONDS
     asks "a service that is slow: $each" 'has given no whole answer after 1 seconds' "$url/$each" 1
     holds "a service that is slow: $each: in time" test $((SECONDS - began)) -lt 15
