@@ -80,6 +80,7 @@ page() {
     holds "$what: status $wanted" test "$status" = "$wanted"
     holds "$what: nothing on standard error" test ! -s err
     holds "$what: the form of the page" pages form "$what.html"
+    validate "$what: HTML" "$what.html"
     holds "$what: the page is what the JSON says" pages same "$what.json" "$what.html"
 }
 page all 2 --pages pages

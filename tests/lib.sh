@@ -126,6 +126,18 @@ drop_unseen() {
     sed -i "/ can't be looked at, so it may still be open for writing\\. /d" "$scratch/err"
 }
 
+# validate WHAT PAGE: tidy has nothing against a page of HTML, where it is installed.
+validate() {
+    local said=''
+    if command -v tidy >"$scratch/tidy"; then
+        said=$(tidy -quiet -errors -utf8 -- "$2" 2>&1)
+        tell "$1" "$said"
+    elif [[ -z ${no_tidy-} ]]; then
+        no_tidy=told
+        echo "$name: no tidy here (apt-get install tidy), so the parser of this test alone looks at the HTML"
+    fi
+}
+
 # frame TEXT: TEXT as an octet-counted frame.
 frame() {
     local LC_ALL=C

@@ -94,6 +94,7 @@ page() {
     holds "$what: status $wanted" test "$status" = "$wanted"
     holds "$what: nothing on standard error" test ! -s err
     holds "$what: the form of the page" text form "$what.html"
+    validate "$what: HTML" "$what.html"
     holds "$what: the page is what the JSON says" text same "$what.json" "$what.html"
     holds "$what: the page has a limit" text limits "$what.html"
 }

@@ -31,7 +31,7 @@ ALLOWED = {
     "div": {"class", "id", "aria-hidden"}, "span": {"class", "id", "aria-hidden"}, "strong": set(), "bdi": set(), "code": set(),
     "ul": {"class"}, "li": set(), "pre": {"id", "tabindex"}, "table": {"id", "role"}, "caption": set(), "thead": {"role"},
     "tbody": {"role"}, "tr": {"role"}, "th": {"scope", "role"}, "td": {"role", "data-head"}, "figure": set(), "figcaption": set(),
-    "svg": {"class", "viewbox", "role", "aria-label", "aria-hidden", "focusable"}, "defs": set(),
+    "svg": {"class", "viewbox", "role", "aria-label", "aria-hidden"}, "defs": set(),
     "pattern": {"id", "width", "height", "patternunits"}, "path": {"class", "d"}, "rect": {"class", "width", "height"},
 }
 ROWS = 200

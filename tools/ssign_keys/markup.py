@@ -68,7 +68,7 @@ def link(path: str, *children: Child) -> Markup:
 
 def swatch(kind: str) -> Markup:
     """A small field in the colour and the pattern of a kind."""
-    field = element("svg", {"class": "swatch", "viewBox": "0 0 24 12", "aria-hidden": "true", "focusable": "false"},
+    field = element("svg", {"class": "swatch", "viewBox": "0 0 24 12", "aria-hidden": "true"},
                     drawn("rect", {"width": "24", "height": "12", "class": kind}))
     return Markup(field.text.rstrip("\n"))
 

@@ -98,4 +98,4 @@ def patterns() -> Markup:
         made.append(element("pattern", {"id": f"p-{name}", "width": "6", "height": "6", "patternUnits": "userSpaceOnUse"},
                             drawn("rect", {"width": "6", "height": "6", "class": f"c-{name}"}),
                             drawn("path", {"d": path, "class": "over"})))
-    return element("svg", {"class": "hidden", "aria-hidden": "true", "focusable": "false"}, element("defs", {}, *made))
+    return element("svg", {"class": "hidden", "aria-hidden": "true"}, element("defs", {}, *made))
