@@ -42,6 +42,10 @@ _ssign_keys() {
         _ssign_keys_offer files
         return
         ;;
+    'manifest --left-out')
+        _ssign_keys_offer text
+        return
+        ;;
     'answer --session-key')
         _ssign_keys_offer files
         return
@@ -94,6 +98,7 @@ _ssign_keys() {
     'live --copies') _ssign_keys_offer text ;;
     'live --manifest') _ssign_keys_offer files ;;
     'live --ssign') _ssign_keys_offer files ;;
+    'verify --manifest-seen') _ssign_keys_offer text ;;
     'verify --key') _ssign_keys_offer files ;;
     'verify --session-key') ;;
     'verify --ca') _ssign_keys_offer files ;;
@@ -115,8 +120,10 @@ _ssign_keys() {
     'verify --jobs') _ssign_keys_offer text ;;
     'verify --ssign') _ssign_keys_offer files ;;
     'manifest --set-aside') _ssign_keys_offer files ;;
+    'manifest --left-out') ;;
     'manifest --signed') _ssign_keys_offer text ;;
     'manifest --last') _ssign_keys_offer text ;;
+    'manifest --seen') _ssign_keys_offer text ;;
     'manifest --logs') _ssign_keys_offer text ;;
     'manifest --to') _ssign_keys_offer text ;;
     'manifest --max-len') _ssign_keys_offer text ;;
@@ -170,14 +177,14 @@ _ssign_keys_words() {
     live) _ssign_keys_offer words '--help --state --out --new-session --keep-session --omprog --transactions --marks --messages --seconds --rotate-size --rotate-daily --heartbeat --wrap --no-wrap --status --key --seal-command --public --lines --journal --host --app --procid --msgid --pri --payload --ver --groups --count --frag --copies --manifest --ssign' ;;
     verify)
         if [[ $2 == -* ]]; then
-            _ssign_keys_offer words '--help --key --session-key --ca --cert --at-signing-time --allow-sha1 --tsa-ca --lines --frames --max-len --max-messages --max-expanded --max-payload --whole --from --counters --nights --manifest --from-manifest --manifest-last --stamped --findings --details --hostname --raw --json --html --answers-out --counters-out --jobs --ssign'
+            _ssign_keys_offer words '--help --manifest-seen --key --session-key --ca --cert --at-signing-time --allow-sha1 --tsa-ca --lines --frames --max-len --max-messages --max-expanded --max-payload --whole --from --counters --nights --manifest --from-manifest --manifest-last --stamped --findings --details --hostname --raw --json --html --answers-out --counters-out --jobs --ssign'
         else
             _ssign_keys_offer files
         fi
         ;;
     manifest)
         if [[ $2 == -* ]]; then
-            _ssign_keys_offer words '--help --set-aside --signed --last --logs --to --sizes --lines --frames --max-len --max-messages --counters --json --ssign'
+            _ssign_keys_offer words '--help --set-aside --left-out --signed --last --seen --logs --to --sizes --lines --frames --max-len --max-messages --counters --json --ssign'
         else
             _ssign_keys_offer text
         fi

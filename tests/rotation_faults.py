@@ -6,7 +6,8 @@ With `all` each step is stopped by both, else by one after the other in turn; wi
 that goes on, else it is a session of its own.
 
 A step is a call that writes, names or removes a file, or has it stand on the disk. After each stop the next run has to
-leave what a run without a stop leaves: each log signed once, no RSID twice, a manifest that is clean, nothing that waits.
+leave what a run without a stop leaves: each log signed once, no RSID twice, a manifest that is clean, nothing that waits. If a
+run had given numbers when it was stopped, the manifest says that they were left out, and its check reports that until it was seen.
 """
 from __future__ import annotations
 
@@ -16,7 +17,7 @@ import os
 import subprocess
 import sys
 import tempfile
-from typing import List, Sequence, Tuple
+from typing import Any, Dict, List, Sequence, Tuple
 
 # Runs ssign-keys with the calls counted. At the step STOP it is killed, or the call fails for want of room.
 STOPPED = r"""
@@ -102,11 +103,23 @@ class Trial:
         labels = [f"{it['rsid']}-{it['entry']}" if OWN_SESSIONS not in self._options else it["rsid"] for it in entries]
         if kept != sorted(["manifest.jsonl", *(f"{what}-{it}" for what in ("report", "counters") for it in labels)]):
             found.append(f"in the folder of what is kept are {kept}")
-        check = subprocess.run([self._program, "manifest", "check", self.path("state", "kept", "manifest.jsonl"),
-                                self.path("logs"), "--logs", "*.frames"], capture_output=True, text=True, timeout=300)
-        if check.returncode:
-            found.append(check.stdout)
-        return found
+        return found + self._check(entries[0])
+
+    def _check(self, first: Dict[str, Any]) -> List[str]:
+        """What the manifest shows: nothing but what a stop left out before the first message, once, as long as it wasn't seen."""
+        wanted = ""
+        if first["groups"][0]["first"] > 1:
+            session = " ".join(str(first[it]) for it in ("host", "app", "procid", "rsid"))
+            wanted = f"line 1: left-out, no line before it has the numbers 1 to {first['groups'][0]['first'] - 1} of SG 0, SPRI 0 of the " \
+                f"session {session}: by the signer's state, a run had given them when it was stopped"
+        words = [self._program, "manifest", "check", self.path("state", "kept", "manifest.jsonl"), self.path("logs"), "--logs",
+                 "*.frames"]
+        check = subprocess.run(words, capture_output=True, text=True, timeout=300)
+        lines = check.stdout.splitlines()
+        if lines[:-1] != ([wanted] if wanted else []) or check.returncode != (1 if wanted else 0):
+            return [f"{check.returncode}: {check.stdout}"]
+        check = subprocess.run([*words, "--seen", lines[-1].rpartition(" ")[2]], capture_output=True, text=True, timeout=300)
+        return [check.stdout] if check.returncode else []
 
 
 def stopped(keys_program: str, ssign: str, keys: str, options: Sequence[str], stop: int, kind: str) -> List[str]:

@@ -203,6 +203,140 @@ rotated --one-session --new-session logs/night1
 holds 'it is the one that goes on' test "$status.$(<state/rsid)" = 0.7
 holds 'with its next number' grep -qF '"first":3,"last":4' "$manifest"
 
+# ---- a run that is stopped after it gave numbers: they are left out, which is reported once, for its night alone
+# shellcheck disable=SC2016
+printf '#!/bin/sh\n[ "$1" != sign ] || kill -KILL "$PPID"\nexec %q "$@"\n' "$program" >stopping
+chmod +x stopping
+# stopped N: the run over this night is ended once its counters were saved
+stopped() {
+    night "$1"
+    SSIGN=$scratch/stopping keys rotated --keys long --state state --host h --wait 0 --ssign "$scratch/stopping" "logs/night$1"
+    holds "night $1: the run is stopped" test "$status" = 1 -a ! -e "logs/night$1.frames"
+}
+# checked WHAT STATUS FINDINGS ARG..: the check of the manifest has these findings, one a line
+checked() {
+    keys manifest check "$manifest" logs --logs '*.frames' "${@:4}"
+    tell "$1" "$([[ $status == "$2" && $(sed '$d' out) == "$3" ]] || cat out err)"
+}
+mark() {
+    keys manifest check "$manifest" logs --logs '*.frames'
+    tail -n 1 out | sed 's/.* //'
+}
+why=": by the signer's state, a run had given them when it was stopped"
+left='left-out, no line before it has the numbers'
+none='skipped, no line before it has the numbers'
+of='of SG 0, SPRI 0 of the session h signer - 1'
+fresh 0
+night 1
+rotated logs/night1
+mark1=$(mark)
+stopped 2
+rotated
+expect 'the next run signs the night' 0 '' ''
+checked 'numbers are left out: a finding' 1 "line 2: $left 3 to 4 $of$why"
+mark2=$(mark)
+night 3
+rotated logs/night3
+checked 'later nights: it is still one for who sees it for the first time' 1 "line 2: $left 3 to 4 $of$why"
+checked 'what was seen is no finding again' 0 '' --seen "$mark2"
+checked 'what was seen, and kept' 0 '' --seen "$mark2" --last "$mark2"
+checked 'only the entry before was seen' 1 "line 2: $left 3 to 4 $of$why" --seen "$mark1"
+checked 'another entry was seen' 1 "entry 2: replaced, it isn't the one whose SHA-256 was kept"$'\n'"line 2: $left 3 to 4 $of$why" --seen "${mark1/#1/2}"
+checked 'an entry was seen that is not there' 1 "entry 9: cut, the manifest has 3 entries, and this one was kept"$'\n'"line 2: $left 3 to 4 $of$why" --seen "${mark2/#2/9}"
+keys manifest check "$manifest" logs --seen x
+holds 'no entry is named: status' test "$status" = 2
+# nights WHAT STATUS NIGHTS VERDICT ARG..: each night with findings, and the verdict
+nights() {
+    keys verify --key long/public-key.pem --nights "$manifest" logs/*.frames "${@:5}"
+    tell "$1" "$([[ $status == "$2" && $(sed -n 's/^Night \([0-9]*\) .*/\1/p' out) == "$3" && $(tail -n 1 out) == "Verdict: $4" ]] || cat out err)"
+}
+nights 'its night alone has findings' 1 2 'FINDINGS: nights 1 to 3: 2 of 3 nights are clean; with findings: night 2; 1 difference from the manifest.'
+holds 'its night: why' grep -q '^Night 2 (entry 2, night2.frames): FINDINGS: .*; 2 numbers are unannounced; ' out
+nights 'what was seen: all nights are clean' 0 '' 'Nights 1 to 3: all 3 clean; numbers 1 to 8 are there, each once, and nothing else is, but for 2 numbers that stopped runs left out.' --manifest-seen "$mark2"
+keys verify --key long/public-key.pem --json --nights "$manifest" logs/*.frames --manifest-seen "$mark2"
+holds 'what was seen: as JSON' grep -q '^{"line":"verdict","status":0,.*"left_out":2}$' out
+nights 'only the entry before was seen: its night has findings' 1 2 'FINDINGS: nights 1 to 3: 2 of 3 nights are clean; with findings: night 2; 1 difference from the manifest.' --manifest-seen "$mark1"
+# one WHAT STATUS ARG..: one night by itself
+one() {
+    keys verify --key long/public-key.pem --manifest "$manifest" --from-manifest "${@:3}"
+    tell "$1" "$([[ $status == "$2" ]] || cat out err)"
+}
+one 'the night itself, before it was seen' 1 logs/night2.frames
+one 'the night itself, once it was seen' 0 --manifest-seen "$mark2" logs/night2.frames
+holds 'the night itself, once it was seen: nothing is missing' grep -q '^Verdict: All 2 announced messages .* Nothing is missing between the counters\.$' out
+one 'the night after it' 0 --manifest-seen "$mark2" logs/night3.frames
+one 'the night before it' 0 --manifest-seen "$mark2" logs/night1.frames
+keys verify --key long/public-key.pem --manifest-seen "$mark2" logs/night1.frames
+holds 'an entry of no manifest was seen' grep -qxF 'ssign-keys: --manifest-seen says something of a manifest: name it with --manifest' err
+
+# the nightly review reports it once, and is clean then
+mkdir -p remembered bin
+ln -sf -- "$root/tools/ssign-keys" bin/ssign-keys
+cp "$manifest" whole
+review() {
+    head -n "$1" whole >"$manifest"
+    PATH=$scratch/bin:$PATH KEY=long/public-key.pem LOG=logs/night$1.frames MANIFEST=$manifest STATE_DIRECTORY=remembered \
+        timeout "$patience" "$root/examples/systemd/ssign-review" >out 2>err
+    status=$?
+}
+mv logs/night2.frames logs/night3.frames .
+review 1
+holds 'the review of the night before: clean' test "$status" = 0
+mv night2.frames logs
+review 2
+holds 'the review of its night: findings' test "$status" = 1
+holds 'the review of its night: what is left out' grep -qF "line 2: $left 3 to 4 $of$why" out
+mv night3.frames logs
+review 3
+holds 'the review of the night after it: clean' test "$status" = 0
+
+# what a log lost that was signed besides is none of it, and stays a finding
+night 4
+keys sign --key long/private-key.pem --state state/session --host h --app signer logs/night4
+stopped 5
+stopped 6
+rotated
+checked 'numbers that are lost, and others that two runs left out' 1 "line 2: $left 3 to 4 $of$why
+line 4: $none 9 to 10 $of
+line 4: $left 11 to 16 $of$why"
+checked 'what is lost stays a finding' 1 "line 4: $none 9 to 10 $of" --seen "$(mark)"
+nights 'what is lost stays a finding of its night' 1 4 'FINDINGS: nights 1 to 5: 4 of 5 nights are clean; with findings: night 4; 1 difference from the manifest.' --manifest-seen "$(mark)"
+# a run that fails before it gives a number leaves none out
+night 7
+# shellcheck disable=SC2016
+printf '#!/bin/sh\n[ "$1" != plan ] || exit 3\nexec %q "$@"\n' "$program" >failing
+chmod +x failing
+keys rotated --keys long --state state --host h --wait 0 --ssign "$scratch/failing" logs/night7
+holds 'a run fails before it gives a number' test "$status" = 1 -a ! -e logs/night7.frames
+keys sign --key long/private-key.pem --state state/session --host h --app signer logs/night7
+rotated
+checked 'then nothing is left out, and a loss is a loss' 1 "line 4: $none 9 to 10 $of
+line 6: $none 21 to 22 $of" --seen "$(mark)"
+
+# entries whose left_out isn't what is spelled so
+# spoilt WHAT PYTHON: the last entry with this change is refused, though its line follows the one before
+spoilt() {
+    python3 -B - "$manifest" spoilt "$2" <<'END'
+import hashlib, json, sys
+lines = open(sys.argv[1], encoding="ascii").read().splitlines()
+it = json.loads(lines[1])
+exec(sys.argv[3])
+lines[1] = json.dumps(it, separators=(",", ":"))
+open(sys.argv[2], "w", encoding="ascii").write("".join(f"{line}\n" for line in lines[:2]))
+END
+    keys manifest check spoilt logs
+    tell "an entry: $1" "$([[ $status == 2 && ! -s out ]] && grep -q '^ssign-keys: the line 2 of the manifest spoilt is no entry: ' err || cat out err)"
+}
+spoilt 'nothing is left out' 'it["left_out"]["to"] = it["left_out"]["from"]'
+spoilt 'it goes back' 'it["left_out"] = {"from": it["left_out"]["to"], "to": it["left_out"]["from"]}'
+spoilt 'it goes on where its numbers have begun' 'it["left_out"]["to"][1] = it["left_out"]["to"][1][:-1] + "9"'
+spoilt 'another session' 'it["left_out"]["to"] = [line.replace(" 1 ", " 2 ", 1) for line in it["left_out"]["to"]]'
+spoilt 'no counters' 'it["left_out"]["from"] = []'
+spoilt 'no lines' 'it["left_out"]["from"] = 3'
+spoilt 'one key more' 'it["left_out"]["by"] = "me"'
+spoilt 'a needless zero' 'it["left_out"]["from"][0] = it["left_out"]["from"][0][:-1] + "0" + it["left_out"]["from"][0][-1:]'
+spoilt 'null' 'it["left_out"] = None'
+
 # ---- stops of the recipe
 holds 'a run that is stopped at any step is made good by the next' python3 -B "$root/tests/rotation_faults.py" \
     "$root/tools/ssign-keys" "$program" "$scratch/long" one-session

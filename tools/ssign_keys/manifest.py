@@ -5,7 +5,7 @@ import argparse
 import fnmatch
 import os
 import subprocess
-from typing import Dict, Iterator, List, Optional, Tuple
+from typing import Dict, Iterator, List, Optional, Sequence, Tuple
 
 from . import form as forms
 from .blocks import Session
@@ -16,12 +16,13 @@ from .kept import copy_counters
 from .logs import Log, open_file, open_log
 from .manifest_file import Appending
 from .manifest_findings import Stored, bare, of_logs, of_manifest
-from .manifest_form import (FIRST_SUM, LONGEST_PLACE, Copied, Entry, Extent, Manifest, Mark, SetAside, file_of,
-                            read_manifest, read_mark, stamp_of)
+from .manifest_form import (FIRST_SUM, LONGEST_PLACE, Copied, Entry, Extent, LeftOut, Manifest, Mark, SetAside, file_of,
+                            left_out_of, read_manifest, read_mark, stamp_of)
 from .payloads import present_stamp
 from .programs import Refused, Run, add_limit_arguments, add_program_argument, find_program, log_words
 from .progress import Progress
 from .refusals import fault_of
+from .session_file import Ends
 from .streams import Output
 from .walk import Walk
 from .words import counted, shown_name
@@ -43,10 +44,14 @@ def add_arguments(parser: argparse.ArgumentParser) -> None:
                         "to be given")
     parser.add_argument("--set-aside", metavar="FILE", help="add: the file of the messages that couldn't be "
                         "signed, as frames")
+    parser.add_argument("--left-out", nargs=2, metavar=("FROM", "TO"), help="add: the counters before and after runs that were "
+                        "stopped, before the run that signed the log: no message has a number between them")
     parser.add_argument("--signed", metavar="TIME", help="add: when the log was signed, in UTC as 2026-11-27T04:00:00Z "
                         "(default: now)")
     parser.add_argument("--last", metavar="N:SHA256", help="the last entry as `add` printed it, which was kept apart: add "
                         "refuses a manifest that ends with another one; check looks whether it is there")
+    parser.add_argument("--seen", metavar="N:SHA256", help="check: the last entry when it was checked before, as check prints it: "
+                        "what entries up to it say a stopped run left out is no finding again")
     parser.add_argument("--logs", metavar="PATTERN", help="check: the names of signed logs in the folder, as a pattern of "
                         "the shell; names with a dot in front are skipped (default: all names)")
     parser.add_argument("--to", metavar="PLACE", help="copied: where the copy is kept, as the name of a machine; has to be given")
@@ -61,8 +66,8 @@ def add_arguments(parser: argparse.ArgumentParser) -> None:
 def run(arguments: argparse.Namespace) -> int:
     """Does the action."""
     kept = None if arguments.last is None else read_mark(arguments.last)
-    of_add = ("counters", "set_aside", "signed", "lines", "frames", "max_len", "max_messages")
-    of_check = ("logs", "sizes", "json")
+    of_add = ("counters", "set_aside", "left_out", "signed", "lines", "frames", "max_len", "max_messages")
+    of_check = ("seen", "logs", "sizes", "json")
     with_other = {"add": (*of_check, "to"), "copied": (*of_add, *of_check), "check": (*of_add, "to")}
     for name in with_other[arguments.action]:
         if getattr(arguments, name):
@@ -137,7 +142,25 @@ def make_entry(arguments: argparse.Namespace, program: str, log: Log, workplace:
     groups = extents_of(program, log_words(arguments, log.are_lines), log, session, gbc, ends, workplace, progress)
     name = name_for(bare(arguments.place))
     size, sha256 = sum_of(log.file, 0, log.size)
-    return Entry(1, FIRST_SUM, signed, name, size, sha256, session, gbc, groups, set_aside_of(arguments.set_aside))
+    left_out = None if arguments.left_out is None else read_left_out(arguments.left_out, session, groups, workplace)
+    return Entry(1, FIRST_SUM, signed, name, size, sha256, session, gbc, groups, set_aside_of(arguments.set_aside), left_out)
+
+
+def read_left_out(paths: Sequence[str], session: Session, groups: Sequence[Extent], workplace: Workplace) -> LeftOut:
+    """What was left out between the counters of two files, before a log of this session that begins at the second ones."""
+    ends = []
+    for path in paths:
+        named, gbc, lasts = read_lines(path, workplace)
+        if named != session:
+            raise Fault(f"the counters file {shown_name(path)} of --left-out is of another session than the log")
+        ends.append(Ends(gbc, tuple((*group, last + 1) for group, last in sorted(lasts.items()))))
+    try:
+        left_out = left_out_of(LeftOut(*ends), groups)
+    except ValueError as fault:
+        raise Fault(f"the counters of --left-out don't stand before those of the log: {fault}") from fault
+    if any(it.first != left_out.after.number((it.sg, it.spri)) for it in groups):
+        raise Fault(f"the log doesn't begin at the counters {shown_name(paths[1])} of --left-out")
+    return left_out
 
 
 def read_lines(path: str, workplace: Workplace) -> Tuple[Session, int, Dict[Tuple[int, int], int]]:
@@ -255,12 +278,13 @@ def file_named(manifest: Manifest, name: str) -> Optional[Tuple[int, str]]:
 
 def check(arguments: argparse.Namespace, kept: Optional[Mark]) -> int:
     """Prints what is wrong with the manifest, and with the logs in a folder."""
+    seen = None if arguments.seen is None else read_mark(arguments.seen, "--seen")
     with Workplace() as workplace, Output() as output:
         manifest = read_manifest(arguments.manifest)
         look = sized_at if arguments.sizes else stored_at
         logs = [look(path, name, workplace) for path, name in
                 logs_in(arguments.place, arguments.logs or "*", arguments.manifest)]
-        found = [*of_manifest(manifest, kept), *of_logs(manifest, logs)]
+        found = [*of_manifest(manifest, kept, seen), *of_logs(manifest, logs)]
         status = 1 if found else 0
         lines = [it.line() if arguments.json else it.text() for it in found]
         mark = "{}:{}".format(*manifest.last)

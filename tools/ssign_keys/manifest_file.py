@@ -127,6 +127,9 @@ class Appending:
             if it.session[:3] == entry.session[:3] and int(it.session.rsid) > int(entry.session.rsid):
                 raise Fault(f"the entry {it.number} of the manifest {shown_name(self._path)} has the RSID "
                             f"{it.session.rsid.decode('ascii')}, and a later log has a greater one")
+            if it.session == entry.session and entry.left_out is not None and not it.ends.is_before(entry.left_out.before):
+                raise Fault(f"the entry {it.number} of the manifest {shown_name(self._path)} goes further than the first counters of "
+                            "--left-out")
 
     def _write(self, line: bytes) -> None:
         """Has the line stand at the end, on the disk; or has the file as it was."""

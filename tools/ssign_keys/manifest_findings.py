@@ -11,6 +11,8 @@ from .words import counted, shown_name
 
 # how a compressed log is named after the one that was compressed
 ENDINGS = (".gz", ".xz", ".zst")
+# how numbers came to be left out
+STOPPED = ": by the signer's state, a run had given them when it was stopped"
 
 
 class Stored(NamedTuple):
@@ -57,15 +59,27 @@ def bare(name: str) -> str:
     return name
 
 
-def of_manifest(manifest: Manifest, kept: Optional[Mark]) -> List[Found]:
-    """What is wrong with the manifest itself: lines that were changed or cut, entries twice, and RSIDs that were skipped."""
+def of_manifest(manifest: Manifest, kept: Optional[Mark], seen: Optional[Mark] = None) -> List[Found]:
+    """What is wrong with the manifest itself: lines that were changed or cut, entries twice, and RSIDs that were skipped.
+
+    What an entry says was left out is no finding again, up to the entry that was `seen`: an earlier check reported it.
+    """
     found = [Found(f"line {it}", "broken, it doesn't follow the line before; a line was changed, put in or taken out", it)
              for it in manifest.broken]
     if manifest.torn is not None:
         found.append(Found(f"line {manifest.torn}", "torn, the manifest breaks off in this line"))
     if kept is not None:
         found += not_kept(manifest, kept)
-    return found + twice(manifest) + skipped(manifest)
+    if seen is not None and seen != kept:
+        found += not_kept(manifest, seen)
+    return found + twice(manifest) + skipped(manifest, seen_up_to(manifest, seen))
+
+
+def seen_up_to(manifest: Manifest, seen: Optional[Mark]) -> int:
+    """Up to which line an earlier check has reported; none, where this isn't the manifest that it saw."""
+    if seen is None or not_kept(manifest, seen):
+        return 0
+    return seen.number
 
 
 def not_kept(manifest: Manifest, kept: Mark) -> List[Found]:
@@ -104,8 +118,11 @@ def twice(manifest: Manifest) -> List[Found]:
     return found
 
 
-def skipped(manifest: Manifest) -> List[Found]:
-    """RSIDs that no entry has, between those of two entries of one signer, and numbers between two nights of one session."""
+def skipped(manifest: Manifest, seen: int) -> List[Found]:
+    """RSIDs that no entry has, between those of two entries of one signer, and numbers between two nights of one session.
+
+    Numbers that runs left out are a finding too, but for those of the lines up to one that was seen.
+    """
     found: List[Found] = []
     last: Dict[Tuple[bytes, ...], int] = {}
     ends: Dict[Tuple[Session, int, int], int] = {}
@@ -119,15 +136,32 @@ def skipped(manifest: Manifest) -> List[Found]:
         elif before is not None and rsid < before:
             found.append(Found(f"line {line}", f"order, its RSID of {names} is less than the one before", it.number))
         last[signer] = max(rsid, before or 0)
-        for group in it.groups:
-            end = ends.get((it.session, group.sg, group.spri))
-            if end is None and before == rsid:
+        for sg, spri, number in it.ends.groups:
+            end = ends.get((it.session, sg, spri))
+            if end is None and (before == rsid or it.left_out is not None):
                 end = 0
-            if end is not None and group.first > end + 1:
-                found.append(Found(f"line {line}", f"skipped, no line before it has the numbers {end + 1} to {group.first - 1} of "
-                                   f"SG {group.sg}, SPRI {group.spri} of the session {it.session}", it.number))
-            ends[it.session, group.sg, group.spri] = max(group.last, end or 0)
+            for kind, least, most in () if end is None else lacking(it, (sg, spri), end):
+                if kind == "left-out" and line <= seen:
+                    continue
+                found.append(Found(f"line {line}", f"{kind}, no line before it has the numbers {least} to {most} of SG {sg}, SPRI "
+                                   f"{spri} of the session {it.session}{STOPPED if kind == 'left-out' else ''}", it.number))
+            ends[it.session, sg, spri] = max(number - 1, end or 0)
     return found
+
+
+def lacking(entry: Entry, group: Tuple[int, int], end: int) -> Iterator[Tuple[str, int, int]]:
+    """The numbers after an end that an entry doesn't have, up to its own: those that runs left out, and all others."""
+    left = entry.left_out
+    if left is not None:
+        first, after = max(left.before.number(group), end + 1), left.after.number(group)
+        if first < after:
+            if end + 1 < first:
+                yield "skipped", end + 1, first - 1
+            yield "left-out", first, after - 1
+            end = after - 1
+    for it in entry.groups:
+        if (it.sg, it.spri) == group and end + 1 < it.first:
+            yield "skipped", end + 1, it.first - 1
 
 
 class Names:

@@ -11,13 +11,13 @@ import re
 import stat
 from dataclasses import dataclass, field
 from datetime import datetime
-from typing import BinaryIO, Dict, List, NamedTuple, Optional, Tuple, Union
+from typing import BinaryIO, Dict, List, NamedTuple, Optional, Sequence, Tuple, Union
 
 from .blocks import Session
 from .faults import Fault
 from .files import reason
 from .json_text import compact
-from .session_file import Ends
+from .session_file import Ends, read_ends
 from .words import shown_name
 
 # a longer line is none of a manifest
@@ -27,6 +27,8 @@ SUM = re.compile(r"[0-9a-f]{64}")
 STAMP = "%Y-%m-%dT%H:%M:%SZ"
 KEYS = ("entry", "previous", "signed", "name", "size", "sha256", "host", "app", "procid", "rsid", "groups", "counters",
         "set_aside")
+# of a night before which a run was stopped
+LEFT_OUT_KEYS = (*KEYS, "left_out")
 COPIED_KEYS = ("entry", "previous", "copied", "name", "sha256", "to")
 # the most octets of HOSTNAME, APP-NAME and PROCID (RFC 5424, section 6)
 NAMES = {"host": 255, "app": 48, "procid": 128}
@@ -53,6 +55,17 @@ class SetAside(NamedTuple):
     messages: int
 
 
+class LeftOut(NamedTuple):
+    """Numbers that runs had given when they were stopped, by the signer's state: they lie between these counters."""
+
+    before: Ends
+    after: Ends
+
+    def fields(self, session: Session) -> Dict[str, List[str]]:
+        """As an entry has them."""
+        return {key: it.lines(session).decode("ascii").splitlines() for key, it in (("from", self.before), ("to", self.after))}
+
+
 @dataclass(frozen=True)
 class Entry:
     """A signed log, as it was when it was signed and verified."""
@@ -68,6 +81,7 @@ class Entry:
     """The GBC of the session's next signature block."""
     groups: Tuple[Extent, ...]
     set_aside: Optional[SetAside]
+    left_out: Optional[LeftOut] = None
 
     @property
     def counters(self) -> List[str]:
@@ -77,8 +91,12 @@ class Entry:
 
     @property
     def ends(self) -> Ends:
-        """How far the log goes."""
-        return Ends(self.gbc, tuple((it.sg, it.spri, it.last + 1) for it in self.groups))
+        """How far the session goes with the log, and with what was left out before it."""
+        reached = Reached()
+        if self.left_out is not None:
+            reached.take(self.left_out.after)
+        reached.take(Ends(self.gbc, tuple((it.sg, it.spri, it.last + 1) for it in self.groups)))
+        return reached.ends
 
     def goes_on(self, before: Entry) -> bool:
         """Whether it is a later night of the session that another entry has: it has none of its numbers, and later ones."""
@@ -102,6 +120,8 @@ class Entry:
             "groups": [it._asdict() for it in self.groups], "counters": self.counters,
             "set_aside": None if self.set_aside is None else self.set_aside._asdict(),
         }
+        if self.left_out is not None:
+            fields["left_out"] = self.left_out.fields(self.session)
         return compact(fields).encode("ascii") + b"\n"
 
     @property
@@ -131,12 +151,28 @@ class Reached:
         said += [f"count {session} {sg} {spri} {number}" for (sg, spri), number in sorted(self.groups.items())]
         return "".join(f"{it}\n" for it in said).encode("ascii")
 
+    @property
+    def ends(self) -> Ends:
+        """As counters."""
+        return Ends(self.gbc, tuple((sg, spri, number) for (sg, spri), number in sorted(self.groups.items())))
+
+    def take(self, ends: Ends) -> None:
+        """Goes as far as these counters, where they go further."""
+        self.gbc = max(self.gbc, ends.gbc)
+        for sg, spri, number in ends.groups:
+            self.groups[sg, spri] = max(self.groups.get((sg, spri), 1), number)
+
     def go_on(self, entry: Entry) -> None:
         """Takes a night into account."""
-        self.gbc = max(self.gbc, entry.gbc)
-        for it in entry.groups:
-            group = it.sg, it.spri
-            self.groups[group] = max(self.groups.get(group, 1), it.last + 1)
+        self.take(entry.ends)
+
+    def pass_over(self, left_out: LeftOut) -> int:
+        """Goes on after what runs left out, and says how many numbers that is. Where others are missing before, it stays."""
+        before, after = self.ends, left_out.after
+        if not left_out.before.is_before(before):
+            return 0
+        self.take(after)
+        return sum(max(number - before.number((sg, spri)), 0) for sg, spri, number in after.groups)
 
 
 @dataclass(frozen=True)
@@ -282,9 +318,9 @@ def read_line(line: bytes) -> Line:
         fields = json.loads(line.decode("ascii"))
     except (ValueError, RecursionError) as fault:
         raise ValueError("it is no JSON in ASCII") from fault
-    if not isinstance(fields, dict) or tuple(fields) not in (KEYS, COPIED_KEYS):
+    if not isinstance(fields, dict) or tuple(fields) not in (KEYS, LEFT_OUT_KEYS, COPIED_KEYS):
         raise ValueError("it is no object with the keys of an entry in their order")
-    made: Line = make_entry(fields) if tuple(fields) == KEYS else make_copied(fields)
+    made: Line = make_copied(fields) if tuple(fields) == COPIED_KEYS else make_entry(fields)
     if made.line() != line:
         raise ValueError("it isn't spelled as an entry is, or its counters aren't those of its groups")
     return made
@@ -300,10 +336,32 @@ def make_entry(fields: Dict[str, object]) -> Entry:
     gbc = counters[0].rpartition(" ")[2]
     if not re.fullmatch(r"[0-9]{1,11}", gbc):
         raise ValueError("its first counter has no GBC")
-    aside = fields["set_aside"]
+    aside, groups = fields["set_aside"], extents_of(fields["groups"])
+    left_out = read_left_out(fields["left_out"], session, groups) if "left_out" in fields else None
     return Entry(number_of(fields, "entry", 1, MOST), sum_of(fields, "previous"), stamp_of(fields["signed"]),
                  file_of(fields["name"]), number_of(fields, "size", 1, 1 << 62), sum_of(fields, "sha256"), session, int(gbc),
-                 extents_of(fields["groups"]), None if aside is None else set_aside_of(aside))
+                 groups, None if aside is None else set_aside_of(aside), left_out)
+
+
+def read_left_out(value: object, session: Session, groups: Sequence[Extent]) -> LeftOut:
+    """What runs left out that were stopped before a night with these groups."""
+    if not isinstance(value, dict) or tuple(value) != ("from", "to"):
+        raise ValueError("left_out is no object with from and to")
+    ends = []
+    for lines in value.values():
+        if not isinstance(lines, list) or not all(isinstance(it, str) and it.isascii() for it in lines):
+            raise ValueError("its left_out isn't of lines of a counters file")
+        ends.append(read_ends([it.encode("ascii") for it in lines], session))
+    return left_out_of(LeftOut(*ends), groups)
+
+
+def left_out_of(left_out: LeftOut, groups: Sequence[Extent]) -> LeftOut:
+    """The same, where it ends before the numbers of the night. Raises ValueError where it doesn't, or where it is nothing."""
+    if left_out.before == left_out.after or not left_out.before.is_before(left_out.after):
+        raise ValueError("its left_out doesn't go from counters to greater ones")
+    if any(it.first < left_out.after.number((it.sg, it.spri)) for it in groups):
+        raise ValueError("its left_out goes on where its numbers have begun")
+    return left_out
 
 
 def make_copied(fields: Dict[str, object]) -> Copied:

@@ -2,14 +2,14 @@
 from __future__ import annotations
 
 import argparse
-from typing import BinaryIO, Dict, List, Optional, Sequence
+from typing import BinaryIO, Dict, List, Optional, Sequence, Tuple
 
 from .blocks import Session
 from .digests import Digest, sum_of
 from .faults import Fault
 from .kept import Counters
 from .logs import Log
-from .manifest_findings import Found, Names, Reviewed, Stored, bare, of_manifest, of_review, of_sessions
+from .manifest_findings import Found, Names, Reviewed, Stored, bare, of_manifest, of_review, of_sessions, seen_up_to
 from .manifest_form import Entry, Extent, Manifest, Mark, Reached, read_manifest, read_mark
 from .progress import Progress
 from .report import Group, Reading, ReportVisitor
@@ -25,6 +25,15 @@ def add_arguments(parser: argparse.ArgumentParser) -> None:
                         "counters of the entries of the session that stand before those of the logs, as --from does")
     parser.add_argument("--manifest-last", metavar="N:SHA256", help="the last entry of the manifest, which was kept apart; "
                         "that it isn't there is a finding")
+    parser.add_argument("--manifest-seen", metavar="N:SHA256", help="the last entry of the manifest when it was checked before, as "
+                        "`manifest check` prints it: what entries up to it say a stopped run left out is no finding again")
+
+
+def read_marks(arguments: argparse.Namespace) -> Tuple[Optional[Mark], Optional[Mark]]:
+    """The entry that was kept apart, and the one that was seen, where the options name them."""
+    kept, seen = arguments.manifest_last, arguments.manifest_seen
+    return (None if kept is None else read_mark(kept, "--manifest-last"),
+            None if seen is None else read_mark(seen, "--manifest-seen"))
 
 
 class Extents(ReportVisitor):
@@ -74,8 +83,9 @@ class Extents(ReportVisitor):
 class Listed:
     """The given logs, beside a manifest."""
 
-    def __init__(self, manifest: Manifest, kept: Optional[Mark]) -> None:
+    def __init__(self, manifest: Manifest, kept: Optional[Mark], seen: Optional[Mark]) -> None:
         self.path = manifest.path
+        self._seen = seen
         self._manifest = manifest
         self._kept = kept
         self._entries: List[Entry] = []
@@ -88,11 +98,12 @@ class Listed:
         if arguments.manifest is None:
             if arguments.manifest_last is not None:
                 raise Fault("--manifest-last says something of a manifest: name it with --manifest")
+            if arguments.manifest_seen is not None:
+                raise Fault("--manifest-seen says something of a manifest: name it with --manifest")
             if arguments.from_manifest:
                 raise Fault("--from-manifest begins at the counters of a manifest: name it with --manifest")
             return None
-        kept = None if arguments.manifest_last is None else read_mark(arguments.manifest_last, "--manifest-last")
-        return cls(read_manifest(arguments.manifest), kept)
+        return cls(read_manifest(arguments.manifest), *read_marks(arguments))
 
     @property
     def digest(self) -> Digest:
@@ -102,7 +113,7 @@ class Listed:
     def look(self, log: Log) -> List[bytes]:
         """Compares the logs with their entries. Gives the counters of these, as lines of a counters file."""
         names = Names(self._manifest)
-        self.found = of_manifest(self._manifest, self._kept)
+        self.found = of_manifest(self._manifest, self._kept, self._seen)
         ends = [*(it.offset for it in log.parts[1:]), log.size]
         for part, end in zip(log.parts, ends):
             size, sha256 = sum_of(log.file, part.offset, end)
@@ -116,9 +127,13 @@ class Listed:
         for entry in self._entries:
             firsts[entry.session] = min(entry.number, firsts.get(entry.session, entry.number))
         known: Dict[Session, Reached] = {}
+        seen = seen_up_to(self._manifest, self._seen)
         for entry in self._manifest.entries:
-            if entry.number < firsts.get(entry.session, 0):
+            first = firsts.get(entry.session, 0)
+            if entry.number < first:
                 known.setdefault(entry.session, Reached()).go_on(entry)
+            elif entry.number == first <= seen and entry.left_out is not None:
+                known.setdefault(entry.session, Reached()).pass_over(entry.left_out)
         return b"".join(it.lines(session) for session, it in known.items())
 
     def _take(self, names: Names, stored: Stored) -> None:

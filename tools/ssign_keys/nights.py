@@ -19,8 +19,9 @@ from .faults import Fault
 from .forked import Forked
 from .json_text import compact
 from .manifest import logs_in
-from .manifest_findings import Found, Stored, bare, differs, of_manifest
-from .manifest_form import Entry, Manifest, Reached, read_manifest, read_mark
+from .manifest_findings import Found, Stored, bare, differs, of_manifest, seen_up_to
+from .manifest_form import Entry, Manifest, Reached, read_manifest
+from .manifested import read_marks
 from .options_given import REPEATED_NOT, given_options
 from .output import file_pieces, write_out
 from .programs import find_program
@@ -94,6 +95,8 @@ class Verdict:
     ends: Dict[Session, Reached] = field(default_factory=dict)
     stamps: List[str] = field(default_factory=list)
     """What time stamps of the manifest show, each in a sentence."""
+    left_out: int = 0
+    """How many numbers runs left out that were stopped, as far as that was seen before."""
 
     @property
     def status(self) -> int:
@@ -114,7 +117,7 @@ class Verdict:
         span = "Night 1" if count == 1 else f"Nights 1 to {count}"
         if self.status == 0:
             all_clean = "clean" if count == 1 else f"all {count} clean"
-            return f"{span}: {all_clean}; {self._numbers()}."
+            return f"{span}: {all_clean}; {self._numbers()}{self._left_out()}."
         front = "FINDINGS" if self.status == 1 else "NOT ALL JUDGED"
         said = f"{front}: {span[0].lower()}{span[1:]}: {clean} of {grouped(count, 'night')} {'is' if clean == 1 else 'are'} clean"
         for status, what in ((1, "with findings"), (2, "not judged")):
@@ -129,6 +132,11 @@ class Verdict:
     def _differences(self) -> str:
         count = len(self.found)
         return f"; {grouped(count, 'difference from the manifest', 'differences from the manifest')}" if count else ""
+
+    def _left_out(self) -> str:
+        """Which numbers aren't there, as was seen before."""
+        count = self.left_out
+        return f", but for {grouped(count, 'number')} that stopped runs left out" if count else ""
 
     def _groups(self) -> Iterator[Tuple[Session, Group, int]]:
         """Each group with its last number, if it has one."""
@@ -156,8 +164,9 @@ class Verdict:
             host, app, procid, rsid = session
             groups.append({"host": shown(host), "app": shown(app), "procid": shown(procid), "rsid": int(rsid), "sg": sg,
                            "spri": spri, "last": last})
+        left_out = {"left_out": self.left_out} if self.left_out else {}
         return {"line": "verdict", "status": self.status, "verdict": self.sentence(), "nights": len(self.judged),
-                "clean": sum(it.status == 0 for it in self.judged), "findings": len(self.found), "groups": groups}
+                "clean": sum(it.status == 0 for it in self.judged), "findings": len(self.found), "groups": groups, **left_out}
 
 
 def span(last: int) -> str:
@@ -176,13 +185,13 @@ def run(arguments: argparse.Namespace) -> int:
         if getattr(arguments, name):
             raise Fault(f"--{option} doesn't go with --nights, which judges many logs: it is of one log")
     refuse_lone(arguments)
-    kept = None if arguments.manifest_last is None else read_mark(arguments.manifest_last, "--manifest-last")
+    kept, seen = read_marks(arguments)
     program, progress = find_program(arguments), Progress()
     try:
         with Workplace() as workplace:
             manifest = read_manifest(arguments.nights)
-            verdict = Verdict(found=of_manifest(manifest, kept))
-            nights = find_nights(manifest, Given(arguments.logs, arguments.nights), verdict)
+            verdict = Verdict(found=of_manifest(manifest, kept, seen))
+            nights = find_nights(manifest, Given(arguments.logs, arguments.nights), verdict, seen_up_to(manifest, seen))
             digest = Digest(manifest.path, manifest.size, manifest.sha256)
             verdict.stamps = check_stamps(arguments, None, digest, workplace).sentences
             words = [it for it in given_options(of_each_night(arguments)) if it not in REPEATED_NOT]
@@ -214,7 +223,7 @@ def look_at_keys(files: Sequence[str]) -> None:
 
 def of_each_night(arguments: argparse.Namespace) -> argparse.Namespace:
     """The arguments without those about the manifest."""
-    return argparse.Namespace(**{**vars(arguments), "manifest_last": None, "stamped": [], "tsa_ca": []})
+    return argparse.Namespace(**{**vars(arguments), "manifest_last": None, "manifest_seen": None, "stamped": [], "tsa_ca": []})
 
 
 def lines_of(verdict: Verdict, is_json: bool) -> Iterator[str]:
@@ -266,11 +275,16 @@ def one_name(first: str, second: str) -> Fault:
     return Fault(f"{shown_name(first)} and {shown_name(second)} have one name: each night has one log")
 
 
-def find_nights(manifest: Manifest, given: Given, verdict: Verdict) -> List[Night]:
-    """The nights whose logs are here. What isn't here, or isn't in the manifest, is a finding."""
+def find_nights(manifest: Manifest, given: Given, verdict: Verdict, seen: int) -> List[Night]:
+    """The nights whose logs are here. What isn't here, or isn't in the manifest, is a finding.
+
+    A night begins after what was left out before it, if that was seen before. Else its review shows that it is missing.
+    """
     nights: List[Night] = []
     for number, entry in enumerate(manifest.entries, 1):
         ends = verdict.ends.setdefault(entry.session, Reached())
+        if entry.left_out is not None and entry.number <= seen:
+            verdict.left_out += ends.pass_over(entry.left_out)
         begin = ends.lines(entry.session)
         ends.go_on(entry)
         path = given.path(entry.name)

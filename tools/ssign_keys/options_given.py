@@ -9,7 +9,7 @@ from .words import shown_name
 
 # options that the verdict, or its form, depends on. The others say where something is kept, or how fast the run is
 VALUED = ("key", "ca", "cert", "max-payload", "max-len", "max-messages", "max-expanded", "counters", "from", "manifest",
-          "manifest-last", "stamped", "tsa-ca")
+          "manifest-last", "manifest-seen", "stamped", "tsa-ca")
 FLAGS = ("from-manifest", "at-signing-time", "allow-sha1", "lines", "frames", "whole", "findings", "raw", "json", "details",
          "hostname")
 PAIRS = ("session-key",)

@@ -27,8 +27,8 @@ from .manifest_file import Appending
 from .manifest_form import Entry, Manifest, Mark, SetAside, read_manifest, read_mark
 from .open_files import wait_until_closed
 from .programs import add_program_argument, find_program
-from .rotation_state import NO_ENTRY, Current, Signed, read_state, replace, sync_folder, write_state
-from .session_file import Ongoing
+from .rotation_state import NO_ENTRY, Current, Signed, Trying, read_state, replace, sync_folder, write_state
+from .session_file import START, Ongoing
 from .session_state import has_counters, last_rsid, read_session
 from .streams import Output
 from .words import counted, shown_name
@@ -303,6 +303,7 @@ class Rotation:
         night = self._next_night()
         passing = Passing(name, self._kept, night.label)
         passing.clear()
+        self._begin_trying(night)
         try:
             self._run_sign(log, source, start, size, passing, night)
             self._verify(passing, night)
@@ -311,8 +312,10 @@ class Rotation:
             current = self._current(log, size, before, passing, night.rsid)
         except BaseException:
             passing.clear()
+            self._end_vain(night)
             raise
-        self._state.current = current
+        current.left_out = self._left_out(night)
+        self._state.current, self._state.trying = current, None
         self._save()
         self._publish(current)
         self._is_new = False
@@ -487,6 +490,32 @@ class Rotation:
         refuse_old(ongoing, manifest)
         return Night(ongoing.rsid, words, f"{ongoing.rsid}-{label}", ongoing.ends.lines(ongoing.session))
 
+    def _begin_trying(self, night: Night) -> None:
+        """Remembers at which counters a run begins, before it gives a number: what it gives in vain, its entry can say then."""
+        trying = self._state.trying
+        if self._is_one and (trying is None or trying.rsid != night.rsid):
+            self._state.trying = Trying(night.rsid, night.begin.decode("ascii").splitlines())
+            self._save()
+
+    def _end_vain(self, night: Night) -> None:
+        """Forgets a run that has ended and given no number."""
+        trying = self._state.trying
+        if trying is None or trying.counters != night.begin.decode("ascii").splitlines():
+            return
+        with contextlib.suppress(Fault, OSError):
+            ongoing = self._ongoing()
+            if (b"" if ongoing is None else ongoing.ends.lines(ongoing.session)) == night.begin:
+                self._state.trying = None
+                self._save()
+
+    def _left_out(self, night: Night) -> Optional[List[List[str]]]:
+        """The counters before and after the runs that were stopped before this night, if they gave numbers."""
+        trying, after = self._state.trying, night.begin.decode("ascii").splitlines()
+        if trying is None or trying.rsid != night.rsid or not after:
+            return None
+        before = trying.counters or [f"{after[0].rpartition(' ')[0]} {START.gbc}"]
+        return None if before == after else [before, after]
+
     # ---- the manifest
 
     def _begin_manifest(self) -> None:
@@ -527,11 +556,21 @@ class Rotation:
                  f"--max-len={MAX_LEN}"]
         if current.set_aside is not None:
             words.append(f"--set-aside={current.set_aside}")
+        if current.left_out is not None:
+            words += ["--left-out", *map(self._counters_file, ("left-out-from", "left-out-to"), current.left_out)]
         words += ["--", self._manifest, current.frames]
         with self._workplace.new_file("mark") as out:
             self._keys_command(words, out)
             out.seek(0)
             self._state.manifest = str_mark(read_mark(out.read().decode("ascii").rstrip("\n")))
+
+
+    def _counters_file(self, name: str, lines: List[str]) -> str:
+        """A passing file of these lines."""
+        with self._workplace.new_file(name) as file:
+            put(file, "".join(f"{it}\n" for it in lines).encode("ascii"))
+            finish(file)
+        return self._workplace.path(name)
 
 
 # ---- files

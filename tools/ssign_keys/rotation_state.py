@@ -58,6 +58,17 @@ class Current:
     """The file of the messages that couldn't be signed, under the name that it gets."""
     files: Dict[str, str]
     """Which passing file becomes which, in this order; the last is the signed log."""
+    left_out: Optional[List[List[str]]] = None
+    """The counters before and after runs that were stopped, and left numbers out, as lines."""
+
+
+@dataclass
+class Trying:
+    """A log of a session that goes on, whose run has begun, and hasn't come to its end: it may have given numbers."""
+
+    rsid: int
+    counters: List[str]
+    """With which the first such run began, as lines; none where the session began."""
 
 
 @dataclass
@@ -69,6 +80,7 @@ class State:
     current: Optional[Current] = None
     manifest: str = NO_ENTRY
     """The last entry of the manifest, as `manifest add` prints it."""
+    trying: Optional[Trying] = None
 
     def signed_of(self, log: str) -> Optional[Signed]:
         """What was signed of a log."""
@@ -111,10 +123,11 @@ def read_state(path: str) -> State:
 
 def state_of(spelled: object) -> State:
     """The state that an object of JSON spells."""
-    if not isinstance(spelled, dict) or set(spelled) != KEYS or spelled["form"] != FORM:
+    if not isinstance(spelled, dict) or set(spelled) - {"trying"} != KEYS or spelled["form"] != FORM:
         raise ValueError("it has other keys")
+    trying = Trying(**spelled["trying"]) if "trying" in spelled else None
     state = State([Signed(**one) for one in spelled["signed"]], [Pending(**one) for one in spelled["pending"]],
-                  None if spelled["current"] is None else Current(**spelled["current"]), spelled["manifest"])
+                  None if spelled["current"] is None else Current(**spelled["current"]), spelled["manifest"], trying)
     check(state.manifest)
     read_mark(state.manifest)
     for signed in state.signed:
@@ -126,6 +139,11 @@ def state_of(spelled: object) -> State:
         it = state.current
         check(it.log, it.sha256, it.frames, it.counters, it.set_aside or "", *it.files.keys(), *it.files.values())
         check_numbers(it.size, it.rsid)
+        for lines in it.left_out or []:
+            check(*lines)
+    if trying is not None:
+        check_numbers(trying.rsid)
+        check(*trying.counters)
     return state
 
 
@@ -143,7 +161,13 @@ def check_numbers(*numbers: object) -> None:
 
 def write_state(path: str, state: State) -> None:
     """Puts a state in the place of the one in a file."""
-    replace(path, json.dumps({"form": FORM, **asdict(state)}, indent=1).encode("ascii") + b"\n")
+    fields = asdict(state)
+    # an older version reads a state in which no run was stopped
+    if fields["trying"] is None:
+        del fields["trying"]
+    if fields["current"] is not None and fields["current"]["left_out"] is None:
+        del fields["current"]["left_out"]
+    replace(path, json.dumps({"form": FORM, **fields}, indent=1).encode("ascii") + b"\n")
 
 
 def replace(path: str, octets: bytes) -> None:
