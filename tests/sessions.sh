@@ -337,6 +337,37 @@ spoilt 'one key more' 'it["left_out"]["by"] = "me"'
 spoilt 'a needless zero' 'it["left_out"]["from"][0] = it["left_out"]["from"][0][:-1] + "0" + it["left_out"]["from"][0][-1:]'
 spoilt 'null' 'it["left_out"] = None'
 
+# the same entry by hand, and counters that aren't those before the log
+# added FROM TO: the second night is added to a manifest of the first one
+added() {
+    head -n 1 whole >first
+    keys manifest add first logs/night2.frames --counters state/kept/counters-1-2 --signed "$(sed -n '2s/.*"signed":"\([^"]*\)".*/\1/p' whole)" --left-out "$@"
+}
+# ends RSID GBC NUMBER: counters
+ends() {
+    printf 'count h signer - %s\n' "$1 $2" "$1 0 0 $3"
+}
+added state/kept/counters-1-1 <(ends 1 2 5)
+holds 'by hand: the entry is the same' test "$status" = 0
+holds 'by hand: octet for octet' cmp first <(head -n 2 whole)
+# not_added WHAT TEXT FROM TO: it is refused, and the manifest stays
+not_added() {
+    added "$3" "$4"
+    holds "by hand: $1" grep -qF -- "$2" err
+    holds "by hand: $1: nothing is added" test "$status" = 2 -a "$(wc -l <first)" = 1
+}
+not_added 'the log begins later' "the log doesn't begin at the counters " state/kept/counters-1-1 <(ends 1 2 4)
+not_added 'the log begins before' "its left_out goes on where its numbers have begun" state/kept/counters-1-1 <(ends 1 2 6)
+not_added 'counters that go back' "its left_out doesn't go from counters to greater ones" <(ends 1 2 5) state/kept/counters-1-1
+not_added 'nothing is left out' "its left_out doesn't go from counters to greater ones" <(ends 1 2 5) <(ends 1 2 5)
+not_added 'an entry goes further' "the entry 1 of the manifest first goes further than the first counters of --left-out" <(ends 1 0 1) <(ends 1 2 5)
+not_added 'another session' 'of --left-out is of another session than the log' state/kept/counters-1-1 <(ends 2 2 5)
+not_added 'no counters' "isn't one that \`ssign counters\` writes" state/kept/counters-1-1 <(echo x)
+keys manifest check "$manifest" logs --left-out "$manifest" "$manifest"
+expect 'nothing is left out by a check' 2 '' "ssign-keys: --left-out doesn't go with \`manifest check\`"
+added state/kept/counters-1-1 <(ends 1 2 5) --seen "$mark2"
+expect 'nothing is seen by add' 2 '' "ssign-keys: --seen doesn't go with \`manifest add\`"
+
 # ---- stops of the recipe
 holds 'a run that is stopped at any step is made good by the next' python3 -B "$root/tests/rotation_faults.py" \
     "$root/tools/ssign-keys" "$program" "$scratch/long" one-session
