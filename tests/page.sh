@@ -84,6 +84,7 @@ holds 'TIMESTAMPs are ordered by the time that they state' pages moments "$root/
 text() {
     python3 -B "$root/tests/page_text.py" "$@"
 }
+holds 'texts stay texts, in attributes too' text texts "$root/tools"
 # page WHAT STATUS WORD..: the page of a check by these words has its form, and its text is what the JSON says. It is
 # WHAT.html, and the JSON WHAT.json.
 page() {

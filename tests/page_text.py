@@ -10,6 +10,7 @@
     page_text.py head PAGE                      prints the head of the page: the verdict, the counts that aren't 0, the kinds
                                                 of findings
     page_text.py limits PAGE                    how large the page is, in octets, rows and rectangles, within limits
+    page_text.py texts TOOLS                    no text becomes an element, an attribute or the end of one
 """
 from __future__ import annotations
 
@@ -23,6 +24,7 @@ import unicodedata
 import zlib
 from html.parser import HTMLParser
 from typing import Any, Dict, Iterator, List, Optional, Set, Tuple
+from urllib.parse import unquote
 
 ALONE = {"meta", "br", "link", "img", "input", "hr"}
 ALLOWED = {
@@ -446,6 +448,22 @@ def print_head(path: str) -> None:
             print(", ".join(f"{count} {kind}" for kind, count in kinds.items()))
 
 
+def check_texts(tools: str) -> None:
+    """Texts stay texts, within elements and as the values of their attributes, also where no page has a stranger's text yet."""
+    sys.path.insert(0, tools)
+    from ssign_keys.markup import drawn, element, link, plain
+    for text in ("\"", "'", "<b>", "</p>", "&quot;", "&#34;", "\" onload=\"alert(1)", "' x='", "-->", "]]>", "a\nb"):
+        reader = Reader()
+        reader.feed(element("p", {"title": text}, plain("bdi", text)).text + drawn("rect", {"class": text}).text
+                    + link(text, text).text)
+        reader.close()
+        paragraph, field, anchor = reader.top.one("p"), reader.top.one("rect"), reader.top.one("a")
+        assert paragraph.attributes == {"title": text} and paragraph.text() == text, (text, paragraph.attributes)
+        assert field.attributes == {"class": text}, (text, field.attributes)
+        assert list(anchor.attributes) == ["href"] and unquote(anchor.attributes["href"]) == text == anchor.text(), text
+        assert re.fullmatch("[-A-Za-z0-9_.~/%]*", anchor.attributes["href"]), text
+
+
 def main(command: str, *words: str) -> None:
     """Does one of the commands."""
     if command == "form":
@@ -463,6 +481,8 @@ def main(command: str, *words: str) -> None:
         print_head(*words)
     elif command == "limits":
         check_limits(*words)
+    elif command == "texts":
+        check_texts(*words)
     else:
         raise AssertionError(command)
 
