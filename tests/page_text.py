@@ -462,6 +462,10 @@ def check_texts(tools: str) -> None:
         assert field.attributes == {"class": text}, (text, field.attributes)
         assert list(anchor.attributes) == ["href"] and unquote(anchor.attributes["href"]) == text == anchor.text(), text
         assert re.fullmatch("[-A-Za-z0-9_.~/%]*", anchor.attributes["href"]), text
+    # what can't be seen is spelled, also if nobody did that before
+    for letter, spelled in (("\x1b", "\\u{1b}"), ("\x7f", "\\u{7f}"), ("\u202e", "\\u{202e}"), ("\u3164", "\\u{3164}"),
+                            ("\udcff", "\\u{dcff}"), ("\ufeff", "\\u{feff}")):
+        assert plain("bdi", f"a{letter}b").text == f"<bdi>a{spelled}b</bdi>", letter
 
 
 def main(command: str, *words: str) -> None:
