@@ -75,7 +75,8 @@ expect 'a report alone has no details' 2 '' "ssign-keys: --details doesn't go wi
 keys verify --key key.pem --details lost.frames
 holds 'missing messages: times of the neighbours' grep -qFx "    missing: numbers 4 to 6 (3 messages); after number 3, of 2026-01-15T09:12:51Z and before number 7, of 2026-01-15T09:16:30Z" out
 keys verify --key key.pem --json lost.frames
-holds 'missing messages: one object' pages runs out 4-6
+holds 'missing messages: one object' pages runs out 4-6=3
+holds 'missing messages: the times of the session, of those that are listed' pages times out '2026-01-15T09:12:44.003Z 2026-01-15T09:30:00Z'
 keys verify --key key.pem --json --counters counters cut.frames
 holds 'a log that was cut: one object up to the counters' pages tail out 9 10 2026-01-15T09:20:02Z
 holds 'TIMESTAMPs are ordered by the time that they state' pages moments "$root/tools"

@@ -258,8 +258,22 @@ def check_same(objects: List[Dict[str, Any]], page: Node) -> None:
     check_findings(objects, page)
     check_files(checked, page)
     check_sessions(objects, page)
+    check_uncovered(verdict, page)
     repeat = page.one("pre", "id", "repeat").text()
     assert repeat.endswith(f"echo $?    # {verdict['status']}\n") and all(it["sha256"] in repeat for it in checked["files"])
+
+
+def check_uncovered(verdict: Dict[str, Any], page: Node) -> None:
+    """What the page says that the verdict doesn't cover."""
+    text = next(it for it in page.all("section") if any(head.text() == "What the verdict doesn't cover" for head in it.all("h2"))).text()
+    assert ("No counters were given." in text) == ("missing_up_to_counters" not in verdict), text
+    assert ("Missing signature blocks weren't looked for" in text) == ("missing_blocks" not in verdict), text
+    assert ("anything sent after the last signature block in this log and after the counters:" in text) == (
+        bool(verdict["groups"]) and "missing_up_to_counters" in verdict), text
+    # a few groups are shown
+    for it in verdict["groups"][:8]:
+        assert whose(it) + ": " in text, (it, text)
+    assert "Whoever holds the private key can change the log and sign it again." in text
 
 
 def check_findings(objects: List[Dict[str, Any]], page: Node) -> None:
@@ -267,6 +281,7 @@ def check_findings(objects: List[Dict[str, Any]], page: Node) -> None:
     rows, counts = [], {}
     for it in objects:
         found = []
+        assert "count" not in it or "first" not in it or it["count"] == it["last"] - it["first"] + 1, it
         if it["line"] == "session":
             if it["weakness"]:
                 found.append(("SHA-1", whose(it, False), "", it["weakness"]))
@@ -341,8 +356,10 @@ def check_sessions(objects: List[Dict[str, Any]], page: Node) -> None:
                      for it in joined][:40], heads
     text = page.one("main").text()
     for it in joined[:40]:
-        span = "listed messages: none states a time" if it["first_timestamp"] is None else it["first_timestamp"]
-        assert span in text and (it["last_timestamp"] or "") in text and it["fingerprint"] in text, it
+        first, last = it["first_timestamp"], it["last_timestamp"]
+        span = "none states a time" if first is None else \
+            f"{f'of {first}' if first == last else f'from {first} to {last}'}, by their sender's own clock"
+        assert f"listed messages: {span}" in text and it["fingerprint"] in text, (it, text)
     groups: Dict[str, List[str]] = {}
     for it in objects:
         if it["line"] in ("ok", "gap", "hole", "tail"):

@@ -7,7 +7,8 @@
     verdict_pages.py checked JSON WORD.. -- NAME[=FILE].. what was checked is these files, by these words
     verdict_pages.py member JSON PATH                   prints a member of what was checked
     verdict_pages.py options HELP TOOLS                 each option of the help is known to whoever repeats a check
-    verdict_pages.py runs JSON FIRST-LAST..             the runs of missing numbers
+    verdict_pages.py runs JSON FIRST-LAST=COUNT..       the runs of missing numbers
+    verdict_pages.py times JSON 'FIRST LAST'..          the times of each session
     verdict_pages.py tail JSON FIRST LAST TIME          what is missing up to counters, and when the one before was sent
     verdict_pages.py moments TOOLS                      TIMESTAMPs are ordered by their times
 """
@@ -184,8 +185,11 @@ def main(command: str, *words: str) -> None:
     elif command == "options":
         check_options(*words)
     elif command == "runs":
-        found = [f"{it['first']}-{it['last']}" for it in objects(words[0]) if it["line"] == "gap"]
+        found = [f"{it['first']}-{it['last']}={it['count']}" for it in objects(words[0]) if it["line"] == "gap"]
         assert found == list(words[1:]), found
+    elif command == "times":
+        spans = [f"{it['first_timestamp']} {it['last_timestamp']}" for it in objects(words[0]) if it["line"] == "session"]
+        assert spans == list(words[1:]), spans
     elif command == "tail":
         found_tails = [it for it in objects(words[0]) if it["line"] == "tail"]
         assert [(it["first"], it["last"], it["before"]["timestamp"]) for it in found_tails] == \
