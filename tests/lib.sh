@@ -130,7 +130,7 @@ drop_unseen() {
 validate() {
     local said=''
     if command -v tidy >"$scratch/tidy"; then
-        said=$(tidy -quiet -errors -utf8 -- "$2" 2>&1)
+        said=$(tidy -quiet -errors -utf8 --drop-empty-elements no -- "$2" 2>&1)
         tell "$1" "$said"
     elif [[ -z ${no_tidy-} ]]; then
         no_tidy=told
