@@ -287,6 +287,18 @@ def counters_of(image):
     return b"".join(kept) + (saved.session.ends.lines(saved.session.session) if saved and saved.session.certificates else b"")
 
 
+def used_twice(program, log):
+    """The GBCs of a log that two signature blocks have. A review doesn't look for those."""
+    ran = subprocess.run([program, "inspect", "--findings", "--max-len=1048576"], input=log, capture_output=True, check=False)
+    stored, blocks = split_frames(log)[0], collections.defaultdict(set)
+    for line in ran.stdout.decode().splitlines():
+        words = line.split(" ")
+        if words[0] == "signature":
+            # HOSTNAME to RSID, and the GBC after SG and SPRI
+            blocks[tuple(words[2:6]), words[8]].add(stored[int(words[1])])
+    return [f"the GBC {gbc} of {session} stands in {len(texts)} blocks" for (session, gbc), texts in blocks.items() if len(texts) > 1]
+
+
 class Review:
     """The report on a log, where each signature counts as valid."""
 
@@ -297,7 +309,7 @@ class Review:
         key = log, counters
         if key not in self.known:
             self.known[key] = self.review(program, log, counters)
-        self.status, self.lines = self.known[key]
+        self.status, self.lines, self.twice = self.known[key]
         stored = split_frames(log)[0]
         self.listed = collections.Counter(original(stored[int(it.split(" ")[-1])]) for it in self.lines if it.startswith("ok "))
         self.sessions = [it.split(" ") for it in self.lines if it.startswith("session ")]
@@ -305,7 +317,7 @@ class Review:
 
     @staticmethod
     def review(program, log, counters):
-        """The status and the lines of a review."""
+        """The status and the lines of a review, and the GBCs that are there twice."""
         with tempfile.TemporaryDirectory() as folder:
             paths = [os.path.join(folder, it) for it in ("answers", "counters")]
             questions = subprocess.run([program, "questions"], input=log, capture_output=True, check=False).stdout
@@ -314,7 +326,7 @@ class Review:
                     file.write(octets)
             ran = subprocess.run([program, "review", f"--answers={paths[0]}", f"--counters={paths[1]}"], input=log,
                                  capture_output=True, check=False)
-        return ran.returncode, ran.stdout.decode().splitlines()
+        return ran.returncode, ran.stdout.decode().splitlines(), used_twice(program, log)
 
 
 def original(text):

@@ -16,7 +16,7 @@ import signal
 import sys
 import tempfile
 
-from live_disks import message, original
+from live_disks import message, original, used_twice
 
 from ssign_keys import cli, keys, live
 from ssign_keys.live_disk import Disk
@@ -180,6 +180,7 @@ class Trial:
         for path in files:
             with open(path, "rb") as file:
                 stored += split_frames(file.read())[0]
+        faults += used_twice(PROGRAM, b"".join(b"%d %s" % (len(it), it) for it in stored))
         listed = collections.Counter(original(stored[it["place"]]) for it in rows if it.get("line") == "ok")
         faults += [f"{it!r} is listed {listed[it]} times" for it in wanted if not listed[it]]
         checked, said = self.keys("manifest", "check", os.path.join(state, "manifest.jsonl"), out, "--json")

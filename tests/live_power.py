@@ -12,9 +12,11 @@ import random
 import sys
 
 import live_disks
-from live_disks import STATE, OUT, MadeUpDisk, Review, Signer, WAYS, message
+from live_disks import STATE, OUT, MadeUpDisk, Review, Signer, WAYS, log_of, message
 
-from ssign_keys import live_state
+from ssign_keys import live_log, live_state
+from ssign_keys.live_engine import split_frames
+from ssign_keys.live_sure import is_sure
 
 PROGRAM = sys.argv[1]
 IS_ALL = sys.argv[2:] == ["all"]
@@ -38,7 +40,7 @@ def tell(what, faults):
 
 def faults_of(review, wanted, sessions, is_once=False):
     """What is wrong with a report on a log of these messages."""
-    faults = []
+    faults = list(review.twice)
     if review.status != 0 or review.findings:
         faults.append(f"status {review.status}, {review.findings[:4]}")
     if any(it[5] != "joined" for it in review.sessions):
@@ -78,7 +80,13 @@ def whole(wanted, is_far, keeps):
     signer = Signer(PROGRAM, is_far, keeps_session=keeps)
     disk = MadeUpDisk({})
     signer.run(disk, wanted)
-    tell("a life that nothing ends", faults_of(Review(PROGRAM, disk.image()), wanted, 1, True))
+    faults = faults_of(Review(PROGRAM, disk.image()), wanted, 1, True)
+    # whatever the disk loses then: all is there, and the counters are those of the state
+    left = disk.after_the_cut("none", False, 0)
+    saved = live_state.newest(lambda name: left.get((STATE, name)))
+    if left.get((STATE, f"counters-{saved.session.rsid}")) != saved.session.ends.lines(saved.session.session):
+        faults.append("the counters aren't on the disk")
+    tell("a life that nothing ends", faults)
     return disk.steps
 
 
@@ -101,7 +109,65 @@ def cut(wanted, is_far, keeps, cut_at, way, names, second):
     except Exception as fault:
         tell(what, [f"{type(fault).__name__}: {fault}"])
         return
-    tell(what, faults_of(Review(PROGRAM, disk.image()), wanted, 1 if keeps else 3))
+    faults = faults_of(Review(PROGRAM, disk.image()), wanted, 1 if keeps else 3)
+    # this boot begins a session, unless one that has begun is kept
+    begun = len(sessions_of(disk.image()) - sessions_of(image))
+    if begun != (0 if keeps and sessions_of(image) else 1):
+        faults.append(f"{begun} sessions were begun")
+    tell(what, faults)
+
+
+def sessions_of(image):
+    """The RSIDs of the sessions of which something is signed."""
+    found = {int(name.split("-")[-2]) for where, name in image if where == OUT}
+    try:
+        saved = live_state.newest(lambda name: image.get((STATE, name)))
+    except live_state.Damaged:
+        return found
+    return found if saved is None or not saved.session.certificates else found | {int(saved.session.rsid)}
+
+
+def aside():
+    """The power goes at each step, without wraps: what can't be signed is stored, and a block is put aside."""
+    block = b'<13>1 - h a p - [ssign VER="0121"] block %d'
+    wanted = [block % n if n % 5 == 2 else message(n) for n in range(16)]
+    whole_life = MadeUpDisk({})
+    Signer(PROGRAM, wraps=False).run(whole_life, wanted)
+    for cut_at in range(1, whole_life.steps + 1):
+        signer = Signer(PROGRAM, wraps=False, keeps_session=True)
+        disk = MadeUpDisk({}, cut_at)
+        signer.run(disk, wanted)
+        image = disk.after_the_cut("none", False, cut_at)
+        confirmed = list(signer.confirmed)
+        found = split_frames(log_of(image))[0]
+        for (where, name), octets in image.items():
+            found += split_frames(octets)[0] if where == STATE and name.startswith("aside-") else []
+        faults = [f"confirmed, and not on the disk: {it}" for it in confirmed if it not in found]
+        signer.boot += 1
+        disk = MadeUpDisk(image)
+        signer.run(disk, wanted)
+        review = Review(PROGRAM, disk.image())
+        faults += [it for it in review.findings if not it.startswith("unlisted ")]
+        faults += [f"not listed: {it}" for it in wanted if is_sure(it) and not review.listed[it]]
+        tell(f"without wraps, cut at {cut_at}", faults)
+    print(f"live_power: without wraps: {whole_life.steps} runs")
+
+
+def limits():
+    """A file ends before it has more messages than a review reads."""
+    most, live_log.MOST_IN_FILE = live_log.MOST_IN_FILE, 20
+    size, live_disks.ROTATE_SIZE = live_disks.ROTATE_SIZE, 0
+    try:
+        wanted = [message(n) for n in range(80)]
+        disk = MadeUpDisk({})
+        Signer(PROGRAM).run(disk, wanted)
+    finally:
+        live_log.MOST_IN_FILE, live_disks.ROTATE_SIZE = most, size
+    faults = faults_of(Review(PROGRAM, disk.image()), wanted, 1, True)
+    counts = [len(split_frames(octets)[0]) for (where, _), octets in disk.image().items() if where == OUT]
+    if len(counts) < 3 or max(counts) > 30:
+        faults.append(f"files of {counts} messages")
+    tell("a file ends by its messages", faults)
 
 
 def full():
@@ -147,7 +213,7 @@ def tampered():
         signer.run(disk, later)
         review = Review(PROGRAM, disk.image())
         rows = [it.split(" ") for it in review.findings]
-        faults = [f"disputed: {it}" for it in rows if it[-1] == "disputed"]
+        faults = review.twice + [f"disputed: {it}" for it in rows if it[-1] == "disputed"]
         faults += [f"not listed once: {it}" for it in later if review.listed[it] != 1]
         faults += [f"not joined: {it}" for it in review.sessions if it[5] != "joined"]
         reported = sum(1 for it in rows if it[0] == "gap")
@@ -284,7 +350,20 @@ def clocks():
     signer.confirmed, later = [], [message(n) for n in range(900, 904)]
     signer.run(disk, later)
     review = Review(PROGRAM, disk.image())
-    tell("the state is lost", faults_of(review, wanted + later, 5, True))
+    faults = faults_of(review, wanted + later, 5, True)
+    if [it[4] for it in review.sessions] != ["2000", "2001", "2002", "2003", "2004"]:
+        faults.append(f"sessions {review.sessions}")
+    tell("the state is lost", faults)
+    lost = {it: octets for it, octets in image.items() if it[0] == STATE and it[1].startswith("counters-")}
+    disk = MadeUpDisk(lost)
+    signer.confirmed = []
+    signer.run(disk, later)
+    review = Review(PROGRAM, disk.image())
+    tell("the state and the output are lost, and the counters aren't",
+         [] if [it[4] for it in review.sessions if it[5] == "joined"] == ["2004"] else [f"sessions {review.sessions}"])
+    disk = MadeUpDisk({**lost, **{it: octets for it, octets in image.items() if it[0] == OUT}})
+    signer.confirmed = []
+    signer.run(disk, later)
     signer.seconds = 10000000000
     signer.boot += 1
     refused("no RSID is left", disk.image(), "L6", signer, is_new_refused=True)
@@ -292,7 +371,7 @@ def clocks():
 
 def main():
     """Makes all checks."""
-    for it in (power, full, tampered, states, clocks):
+    for it in (power, aside, full, limits, tampered, states, clocks):
         it()
     print(f"live_power: ssign was asked {live_disks.KnownEngine.asked} times, and ran {len(live_disks.KnownEngine.answers)} times")
     print(f"live_power: {passed} passed, {failed} failed")

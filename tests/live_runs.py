@@ -22,9 +22,9 @@ import tempfile
 import threading
 import time
 
-from live_disks import message, original
+from live_disks import message, original, used_twice
 
-from ssign_keys import cli, keys, live, live_outside
+from ssign_keys import cli, keys, live, live_disk, live_log, live_loop, live_outside
 from ssign_keys.live_engine import split_frames
 from ssign_keys.live_sure import is_sure
 
@@ -214,7 +214,8 @@ class Signer:
         """Faults of the whole output: a clean verdict, so many joined sessions, and these messages in their order."""
         status, rows, said = self.verdict()
         states = [it["state"] for it in rows if it.get("line") == "session"]
-        return [differ("the status of verify", status, 0) and f"status {status} {rows[-1:]} {said}",
+        return [*used_twice(PROGRAM, framed(self.stored())),
+                differ("the status of verify", status, 0) and f"status {status} {rows[-1:]} {said}",
                 differ("sessions", states, ["joined"] * sessions), "" if wanted is None else differ("messages", self.originals(), wanted)]
 
 
@@ -248,6 +249,7 @@ def inputs():
         status = it.status()
         tell("frames", differ("status", run.status, 0), *it.clean(wanted + odd + [b"a\nb"]),
              differ("signed", status["signed"], 258), differ("blocks", status["blocks"], 3), differ("pending", status["pending"], 0),
+             differ("wrapped", status["wrapped"], 36 + 7),
              differ("names", len(it.files()), 1))
         run = it.run(framed(wanted[:3]))
         tell("a second run goes on in the same file", differ("status", run.status, 0),
@@ -461,9 +463,13 @@ def answers():
         faults = [differ("the first answer", process.answer(), b"OK\n")]
         script = [(b">", b"OK\n"), (b"<", b"OK\n"), (b"one", b"DEFER_COMMIT\n"), (b"<", b"DEFER_COMMIT\n"), (b"", b"DEFER_COMMIT\n"),
                   (b"two", b"DEFER_COMMIT\n"), (b">", b"OK\n"), (b"three", b"OK\n"), (b"<", b"OK\n"), (b"four", b"DEFER_COMMIT\n")]
+        wanted_now = (b"one", b"two", b"three", b"four")
         for line, wished in script:
             process.say(line + b"\n")
             faults.append(differ(f"the answer to {line}", process.answer(), wished))
+            # rsyslog doesn't send it again once it is answered
+            if line in wanted_now and original(it.stored()[-1]) != line:
+                faults.append(f"{line} is answered, and isn't stored")
         status = process.end(signal.SIGTERM)
         wished = [b">", b"one", b"<", b"two", b"three", b"four"]
         tell("omprog, transactions with other marks", *faults, differ("status", status, 0),
@@ -477,6 +483,280 @@ def answers():
         time.sleep(0.2)
         status = process.end()
         tell("omprog, nobody reads the answers", differ("status", status, 0), *it.clean([*wished, b"five", b"six"]))
+
+
+class WatchedDisk(live_disk.Disk):
+    """Knows which files have octets that aren't on the disk."""
+
+    dirty = set()
+
+    def append(self, where, name, octets):
+        self.dirty.add((where, name))
+        super().append(where, name, octets)
+
+    def sync(self, where, name):
+        super().sync(where, name)
+        self.dirty.discard((where, name))
+
+
+class WatchedLoop(live_loop.Loop):
+    """Reports an OK to messages that aren't on the disk, and a DEFER_COMMIT where nothing was given to the system."""
+
+    def _confirm(self, answer):
+        if answer == b"OK\n" and WatchedDisk.dirty and not self._in_transaction:
+            sys.stderr.write(f"EARLY {sorted(WatchedDisk.dirty)}\n")
+        super()._confirm(answer)
+
+
+def order():
+    """Nothing is confirmed before it is on the disk."""
+    def before():
+        live.Disk, live.Loop = WatchedDisk, WatchedLoop
+
+    wanted = [message(n) for n in range(24)]
+    for options, marks in (((), False), (("--transactions",), True), (("--no-wrap",), False)):
+        with signer("--omprog", "--messages=5", "--seconds=1000", *options) as it:
+            process = it.start(before=before)
+            faults = [differ("the first answer", process.answer(), b"OK\n")]
+            for at in range(0, len(wanted), 4):
+                lines = [b"BEGIN TRANSACTION", *wanted[at:at + 4], b"COMMIT TRANSACTION"] if marks else wanted[at:at + 4]
+                # all at once, so that more than one is read at a time
+                process.say(lined(lines))
+                wished = [b"OK\n", *[b"DEFER_COMMIT\n"] * 4, b"OK\n"] if marks else [b"OK\n"] * 4
+                faults.append(differ("answers", [process.answer() for _ in lines], wished))
+            # a block that is put aside is confirmed too
+            process.say(b'<13>1 - h a p - [ssign VER="0121"] no block\n' if "--no-wrap" in options else wanted[0] + b"\n")
+            faults.append(differ("the last answer", process.answer(), b"OK\n"))
+            status = process.end()
+            tell(f"what is confirmed is on the disk {' '.join(options)}", *faults, differ("status", status, 0),
+                 process.said if "EARLY" in process.said else "")
+
+
+def failed_sync():
+    """A sync that fails ends the run, and nothing is confirmed after it."""
+    import errno
+    wanted = [message(n) for n in range(6)]
+    for number in (errno.EIO, errno.ENOSPC):
+        with signer("--omprog", "--seconds=1000") as it:
+            def before(number=number):
+                real, count = os.fdatasync, [0]
+
+                def fails(file):
+                    count[0] += 1
+                    if count[0] >= 8:
+                        raise OSError(number, os.strerror(number))
+                    real(file)
+
+                os.fdatasync = fails
+
+            process = it.start(before=before)
+            process.answer()
+            answers = []
+            for each in wanted:
+                with contextlib.suppress(OSError):
+                    process.say(each + b"\n")
+                answers.append(process.answer(5.0))
+                if answers[-1] != b"OK\n":
+                    break
+            status = process.end()
+            faults = [differ("the last answer", answers[-1], b""), "nothing was confirmed" if len(answers) < 2 else ""]
+            run = it.run(b"")
+            tell(f"a sync fails with {errno.errorcode[number]}", *faults, differ("status", status, 2),
+                 "" if process.said.endswith("(L7)\n") else process.said, differ("the next start", run.status, 0),
+                 *it.clean(wanted[:len(answers)]))
+
+
+def modes():
+    """Only the signer reads its state, and nothing is written through a link."""
+    with signer() as it:
+        before = os.umask(0)
+        it.run(framed([message(0)]))
+        os.umask(before)
+        found = {name: os.stat(os.path.join(it.path("state"), name)).st_mode & 0o777 for name in os.listdir(it.path("state"))}
+        manifest = found.pop("manifest.jsonl")
+        tell("modes", differ("the state", os.stat(it.path("state")).st_mode & 0o777, 0o700), differ("its files", set(found.values()), {0o600}),
+             differ("the manifest", manifest & ~0o666, 0),
+             differ("the output", os.stat(it.path("out")).st_mode & 0o777, 0o750),
+             differ("its file", os.stat(os.path.join(it.path("out"), it.files()[0])).st_mode & 0o777, 0o640))
+        name = it.files()[0].replace("000001", "000002")
+        process = it.start()
+        process.say(framed([message(1)]))
+        fault = it.wait_for(lambda status: status["taken"] == 1)
+        os.symlink(it.path("elsewhere"), os.path.join(it.path("out"), name))
+        os.kill(process.child, signal.SIGHUP)
+        status = process.end()
+        tell("a link where the next file belongs", fault, differ("status", status, 2),
+             "" if "no regular file" in process.said else process.said,
+             "it was written through" if os.path.exists(it.path("elsewhere")) else "")
+
+
+def limits():
+    """A session that ends before its numbers do, and messages that wait while nobody signs."""
+    wanted = [message(n) for n in range(50)]
+    with signer("--messages=5", "--seconds=1000") as it:
+        def before():
+            live_log.LAST_NUMBER = live_log.KEPT_FREE + 20
+
+        process = it.start(before=before)
+        faults = []
+        for at in (20, 40, 50):
+            process.say(framed(wanted[at - (20 if at < 50 else 10):at]))
+            faults.append(it.wait_for(lambda status, at=at: status["signed"] == at and status["pending"] == 0))
+            if at < 50:
+                faults.append(it.wait_for(lambda status, at=at: status["gbc"] == 0))
+        status = process.end()
+        tell("a session ends before its numbers do", *faults, differ("status", status, 0), *it.clean(wanted, 3))
+    with signer("--omprog", "--messages=5", "--seconds=0.2") as it:
+        def before():
+            live_loop.MOST_PENDING = 20
+
+        def put(text):
+            with open(it.path("sealer.new"), "w", encoding="ascii") as file:
+                file.write(f"#!/bin/sh\n{text}\n")
+            os.chmod(it.path("sealer.new"), 0o755)
+            os.replace(it.path("sealer.new"), it.path("sealer"))
+
+        tool, sealed = os.path.join(ROOT, "tools", "ssign-keys"), shlex.quote(it.path("sealed"))
+        good = (f"exec {shlex.join([tool, 'seal', KEYS + '/private-key.pem', '--each'])} --state={sealed} "
+                f"$([ -e {sealed} ] || echo --new-state)")
+        put(good)
+        it.key = [f"--seal-command={shlex.quote(it.path('sealer'))}", f"--public={KEYS}/public-key.pem"]
+        it.run(wanted[0] + b"\n")
+        put("exit 3")
+        process = it.start(before=before)
+        process.answer()
+        answered = 0
+        for each in wanted[1:40]:
+            process.say(each + b"\n")
+            if process.answer(2.0) is None:
+                break
+            answered += 1
+        put(good)
+        faults = [differ("the answer once somebody signs", process.answer(), b"OK\n")]
+        status = process.end()
+        tell("so many messages wait for a block at most", *faults, differ("answered before", answered, 20), differ("status", status, 0),
+             *it.clean(wanted[:22]))
+
+
+def counters():
+    """The counters are written at each new file and at each heartbeat, and a file ends with a block of all its messages."""
+    wanted = [message(n) for n in range(12)]
+    with signer("--seconds=1000") as it:
+        process = it.start()
+        process.say(framed(wanted[:5]))
+        faults = [it.wait_for(lambda status: status["taken"] == 5)]
+        os.kill(process.child, signal.SIGHUP)
+        faults.append(it.wait_for(lambda status: status["file"].endswith("-000002.frames")))
+        rsid = it.files()[0].split("-")[-2]
+        wished = [f"count gate.example.org signer - {rsid} 1\ncount gate.example.org signer - {rsid} 0 0 6\n".encode()]
+        faults.append(differ("counters of the first file", it.kept("counters-"), wished))
+        with open(os.path.join(it.path("out"), it.files()[0]), "rb") as file:
+            found = split_frames(file.read())[0]
+        faults.append("" if b"[ssign " in found[-1] else f"the file doesn't end with a block: {found[-1]!r}")
+        with open(it.path("first"), "wb") as file:
+            file.write(it.kept("counters-")[0])
+        process.say(framed(wanted[5:]))
+        status = process.end()
+        tell("a file ends with a block and has its counters", *faults, differ("status", status, 0), *it.clean(wanted))
+        # the first file by itself, up to the counters that were there when it was ended
+        run = Process(["verify", f"--key={KEYS}/public-key.pem", f"--counters={it.path('first')}", "--raw", f"--ssign={PROGRAM}",
+                       os.path.join(it.path("out"), it.files()[0])])
+        tell("an ended file is clean by itself", differ("status", run.end(), 0))
+    with signer("--seconds=1000", "--heartbeat=0.4", "--messages=1") as it:
+        process = it.start()
+        fault = it.wait_for(lambda status: status["signed"] >= 2)
+        found = it.kept("counters-")
+        process.end()
+        tell("the counters are written at each heartbeat", fault, "" if found else "there are none")
+
+
+def drained():
+    """What stands in the pipe when a signal comes is signed too."""
+    wanted = [message(n) for n in range(300)]
+    with signer("--seconds=1000") as it:
+        process = it.start()
+        fault = it.wait_for(lambda status: status["running"])
+        os.kill(process.child, signal.SIGSTOP)
+        process.say(framed(wanted))
+        os.kill(process.child, signal.SIGTERM)
+        os.kill(process.child, signal.SIGCONT)
+        child, ended = os.waitpid(process.child, 0)
+        process.to.close()
+        process.answers.close()
+        tell("a signal with messages in the pipe", fault, differ("status", os.waitstatus_to_exitcode(ended), 0), *it.clean(wanted))
+
+
+def put_back():
+    """State, output and counters of an earlier time, with the present manifest."""
+    with signer("--messages=5", "--rotate-size=1") as it:
+        it.run(framed([message(n) for n in range(7)]))
+        for name in ("state", "out"):
+            shutil.copytree(it.path(name), it.path(f"old-{name}"))
+        it.run(framed([message(n) for n in range(7, 20)]))
+        shutil.copy(os.path.join(it.path("state"), "manifest.jsonl"), it.path("manifest.jsonl"))
+        for name in ("state", "out"):
+            shutil.rmtree(it.path(name))
+            os.rename(it.path(f"old-{name}"), it.path(name))
+        os.replace(it.path("manifest.jsonl"), os.path.join(it.path("state"), "manifest.jsonl"))
+        run = it.run(framed([message(20)]))
+        tell("all but the manifest is put back", differ("status", run.status, 2),
+             "" if "the manifest goes further" in run.said and run.said.endswith("(L4)\n") else run.said)
+
+
+LIAR = r"""#!{python}
+import base64, os, subprocess, sys
+words, lie = sys.argv[1:], {lie!r}
+ran = subprocess.run([{program!r}, *words], stdin=0, stdout=subprocess.PIPE, close_fds=False)
+said = ran.stdout if lie != "silent" or words[0] != "plan" else b""
+is_ahead, is_resumed = "--ahead" in words, any(it.startswith("--resume") for it in words)
+if ran.returncode == 0 and is_resumed:
+    if words[0] == "sign" and lie == "drop":
+        length, _, rest = said.partition(b" ")
+        said = rest[int(length):]
+    if words[0] == "sign" and lie == "other":
+        said = said.replace(b"message 4", b"message 5")
+    if words[0] == "sign" and lie == "twice":
+        length, _, rest = said.partition(b" ")
+        said = said[:len(length) + 1 + int(length)] + said
+    if is_ahead and lie == "back":
+        said = said.replace(b" 6\n", b" 1\n").replace(b" 1\n", b" 0\n", 1)
+    if words[0] == "plan" and not is_ahead and lie == "want":
+        octets = base64.b64decode(said.split()[1]).replace(b'GBC="0"', b'GBC="7"')
+        said = b"want " + base64.b64encode(octets) + b"\n"
+os.write(1, said)
+sys.exit(ran.returncode)
+"""
+
+
+def lying():
+    """A program that isn't ssign: nothing that it says is written where it isn't what was to be signed."""
+    wanted = [message(n) for n in range(0, 10, 2)]
+    for is_far in (False, True):
+        for lie in ("drop", "other", "twice", "back", "want", "silent"):
+            with signer("--seconds=1000") as it:
+                liar = it.path("liar")
+                with open(liar, "w", encoding="utf-8") as file:
+                    file.write(LIAR.format(python=sys.executable, lie=lie, program=PROGRAM))
+                os.chmod(liar, 0o755)
+                if is_far:
+                    tool, sealed = os.path.join(ROOT, "tools", "ssign-keys"), it.path("sealed")
+                    command = shlex.join([tool, "seal", KEYS + "/private-key.pem", "--each", f"--state={sealed}"])
+                    it.key = [f"--seal-command={command} --new-state", f"--public={KEYS}/public-key.pem"]
+                run = it.run(framed(wanted), f"--ssign={liar}")
+                blocks = [each for each in it.stored() if b"[ssign " in each] if it.files() else []
+                tell(f"a lie about {lie}, {'far' if is_far else 'near'}", differ("status", run.status, 2),
+                     "" if "Traceback" not in run.said and run.said.count("\n") == 1 else run.said, differ("blocks", blocks, []),
+                     differ("stored", it.originals(), wanted if lie != "silent" else []))
+                if is_far and os.path.exists(sealed):
+                    it.key[0] = f"--seal-command={command}"
+                run = it.run(b"" if it.files() else framed(wanted))
+                if is_far and lie == "want":
+                    # the other machine might have seen the numbers, so they are left out
+                    status, rows, _ = it.verdict()
+                    tell("after a lie about what another machine signs", differ("statuses", (run.status, status), (0, 1)),
+                         differ("listed", rows[-1]["listed"], 5), differ("unannounced", rows[-1]["unannounced"], 5))
+                    continue
+                tell(f"after a lie about {lie}, {'far' if is_far else 'near'}", differ("status", run.status, 0), *it.clean(wanted))
 
 
 def full():
@@ -516,12 +796,14 @@ def at_once():
         process.say(framed([message(0)]))
         fault = it.wait_for(lambda status: status["taken"] == 1)
         second = it.run(framed([message(1)]))
-        tell("two with one state", fault, differ("status", second.status, 2), "(L1)" not in second.said and second.said)
+        tell("two with one state", fault, differ("status", second.status, 2),
+             "" if second.said.startswith("ssign-keys: the state ") and second.said.endswith("(L1)\n") else second.said)
         shutil.copytree(it.path("state"), it.path("copy"))
         third = Process(["live", *it.key, f"--state={it.path('copy')}", f"--out={it.path('out')}", *it.options])
         third.say(framed([message(2)]))
         third.end()
-        tell("two with one output", differ("status", third.status, 2), "(L1)" not in third.said and third.said)
+        tell("two with one output", differ("status", third.status, 2),
+             "" if third.said.startswith("ssign-keys: the output ") and third.said.endswith("(L1)\n") else third.said)
         tell("the first one goes on", differ("status", process.end(), 0), *it.clean([message(0)]))
 
 
@@ -652,7 +934,13 @@ def reports():
             listener = threading.Thread(target=listen, daemon=True)
             listener.start()
             process.say(framed([message(0)]))
-            fault = it.wait_for(lambda status: status["signed"] >= 3)
+            fault = it.wait_for(lambda status: status["signed"] >= 1)
+            # who has opened it reads one text, though another one has come
+            with open(it.path("status"), encoding="ascii") as opened:
+                text = opened.read()
+                fault = fault or it.wait_for(lambda status: status != json.loads(text) and status["signed"] >= 3)
+                opened.seek(0)
+                faults.append(differ("an opened file of --status", opened.read(), text))
             status = process.end()
             listener.join(PATIENCE)
         for word in ("READY=1", "WATCHDOG=1", "STATUS=", "STOPPING=1"):
@@ -704,7 +992,8 @@ def main():
     """Makes all checks."""
     keys.key_fault = functools.lru_cache(keys.key_fault)
     keys.read_private_key(f"{KEYS}/private-key.pem")
-    for it in (inputs, sure, unwrapped, groups, signals, days, boots, answers, full, at_once, sealers, each, reports, mistakes):
+    for it in (inputs, sure, unwrapped, groups, signals, days, boots, answers, order, full, failed_sync, modes, limits, counters, drained,
+               put_back, lying, at_once, sealers, each, reports, mistakes):
         it()
     print(f"live_runs: {passed} passed, {failed} failed")
     return 1 if failed else 0

@@ -103,7 +103,10 @@ class Engine:
 
     def certificate_wants(self, session: Ongoing, stamp: str) -> List[bytes]:
         """What has to be signed for the certificate blocks."""
-        return wants_of(self._ask(["plan", *words_of(session, stamp)], b"", []))
+        wants = wants_of(self._ask(["plan", *words_of(session, stamp)], b"", []))
+        if not wants:
+            raise own_mistake("a session without a certificate block")
+        return wants
 
     def certificates(self, session: Ongoing, stamp: str, wants: Sequence[bytes], signatures: Sequence[bytes]) -> List[bytes]:
         """The certificate blocks."""
@@ -129,7 +132,8 @@ class Engine:
         finally:
             for number in numbers:
                 os.close(number)
-        if ran.returncode in (0, 1):
+        # an inspection that finds something has status 1
+        if ran.returncode == 0 or ran.returncode == 1 and words[0] == "inspect":
             return ran.stdout
         said = ran.stderr.decode("utf-8", "backslashreplace")
         if ran.returncode != 2:
