@@ -222,8 +222,8 @@ class Outside:
 class Signer:
     """Whoever runs `ssign-keys live` on made-up disks, boot after boot."""
 
-    def __init__(self, program, is_far=False, wraps=True, keeps_session=False, **options):
-        self.program, self.wraps = program, wraps
+    def __init__(self, program, is_far=False, wraps=True, keeps_session=False, confirms=True, **options):
+        self.program, self.wraps, self.confirms = program, wraps, confirms
         self.known, self.is_far = {}, is_far
         given = {it: None for it in KEPT}
         given.update(host=[HOST], app=[APP], payload=[PAYLOAD], ver=["0121"], count=[str(MESSAGES_IN_BLOCK)], stamp=None)
@@ -243,19 +243,31 @@ class Signer:
         return live
 
     def run(self, disk, wanted):
-        """Sends what isn't confirmed, in transactions. Gives whether the power went before all was signed."""
+        """Sends what isn't confirmed, in transactions. Gives whether the power went before all was signed.
+
+        Without confirmations a message is known to be on the disk once its block was written, and nothing is synced before."""
         try:
             live = self.live(disk)
-            while len(self.confirmed) < len(wanted):
-                part = wanted[len(self.confirmed):][:IN_TRANSACTION]
+            taken = len(self.confirmed)
+            while taken < len(wanted):
+                part = wanted[taken:][:IN_TRANSACTION]
                 live.take(part)
-                live.sync()
-                # the answer is a step of its own
-                disk.step()
-                self.confirmed += part
-                if len(live.pending) >= MESSAGES_IN_BLOCK:
-                    self.seal(live)
+                taken += len(part)
+                if self.confirms:
+                    live.sync()
+                    # the answer is a step of its own
+                    disk.step()
+                    self.confirmed = wanted[:taken]
+                if len(live.pending) < MESSAGES_IN_BLOCK:
+                    continue
+                if self.is_far and live.batch is None and taken < len(wanted):
+                    # more messages come while the other machine signs
+                    live.patiently(live.begin_batch)
+                    continue
+                self.seal(live)
+                self.confirmed = wanted[:taken]
             self.seal(live)
+            self.confirmed = wanted[:taken]
             live.sync()
             live.save_counters()
             return False

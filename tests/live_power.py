@@ -8,6 +8,7 @@ up to the counters that were kept. With `all` each step is tried in each way; el
 is `live_power: N passed, M failed`.
 """
 import collections
+import os
 import random
 import sys
 
@@ -59,25 +60,25 @@ def faults_of(review, wanted, sessions, is_once=False):
 def power():
     """The power goes before each step, and again while the next start recovers."""
     wanted = [message(n) for n in range(30)]
-    for is_far in (False, True):
-        for keeps in (False, True):
-            steps = whole(wanted, is_far, keeps)
-            runs = 0
-            for cut_at in range(1, steps + 1):
-                ways = [(way, names) for way in WAYS for names in (False, True)]
-                if not IS_ALL:
-                    ways = [ways[(cut_at + it + is_far + 2 * keeps) % len(ways)] for it in (0, 3)]
-                for way, names in ways:
-                    for second in (0, 1 + (cut_at * 7) % 11):
-                        runs += 1
-                        cut(wanted, is_far, keeps, cut_at, way, names, second)
-            print(f"live_power: the power goes, {'far' if is_far else 'near'} key, "
-                  f"{'kept' if keeps else 'new'} session: {steps} steps, {runs} runs")
+    for is_far, keeps, confirms in ((False, False, True), (False, True, True), (True, False, True), (True, True, True),
+                                    (False, True, False), (True, True, False)):
+        kind = {"is_far": is_far, "keeps_session": keeps, "confirms": confirms}
+        steps = whole(wanted, kind)
+        runs = 0
+        for cut_at in range(1, steps + 1):
+            ways = [(way, names) for way in WAYS for names in (False, True)]
+            if not IS_ALL:
+                ways = [ways[(cut_at + it + is_far + 2 * keeps + 5 * confirms) % len(ways)] for it in (0, 3)]
+            for way, names in ways:
+                for second in (0, 1 + (cut_at * 7) % 11):
+                    runs += 1
+                    cut(wanted, kind, cut_at, way, names, second)
+        print(f"live_power: the power goes, {kind}: {steps} steps, {runs} runs")
 
 
-def whole(wanted, is_far, keeps):
+def whole(wanted, kind):
     """A life that nothing ends. Gives how many steps it has."""
-    signer = Signer(PROGRAM, is_far, keeps_session=keeps)
+    signer = Signer(PROGRAM, **kind)
     disk = MadeUpDisk({})
     signer.run(disk, wanted)
     faults = faults_of(Review(PROGRAM, disk.image()), wanted, 1, True)
@@ -90,18 +91,21 @@ def whole(wanted, is_far, keeps):
     return disk.steps
 
 
-def cut(wanted, is_far, keeps, cut_at, way, names, second):
+def cut(wanted, kind, cut_at, way, names, second):
     """One life that is cut off, perhaps one more, and one that goes to its end."""
-    what = f"cut at {cut_at}, {way}{' with names' if names else ''}, {'far' if is_far else 'near'}, {keeps=}, second at {second}"
-    signer = Signer(PROGRAM, is_far, keeps_session=keeps)
+    keeps = kind["keeps_session"]
+    what = f"cut at {cut_at}, {way}{' with names' if names else ''}, {kind}, second at {second}"
+    signer = Signer(PROGRAM, **kind)
     disk = MadeUpDisk({}, cut_at)
     signer.run(disk, wanted)
     image = disk.after_the_cut(way, names, cut_at)
+    thrown_away = []
     if second:
         signer.boot += 1
         disk = MadeUpDisk(image, second)
         signer.run(disk, wanted)
-        image = disk.after_the_cut(WAYS[(cut_at + second) % len(WAYS)], names, cut_at + second)
+        before, image = image, disk.after_the_cut(WAYS[(cut_at + second) % len(WAYS)], names, cut_at + second)
+        thrown_away += gone(before, image)
     signer.boot += 1
     disk = MadeUpDisk(image)
     try:
@@ -109,12 +113,25 @@ def cut(wanted, is_far, keeps, cut_at, way, names, second):
     except Exception as fault:
         tell(what, [f"{type(fault).__name__}: {fault}"])
         return
-    faults = faults_of(Review(PROGRAM, disk.image()), wanted, 1 if keeps else 3)
+    faults = thrown_away + gone(image, disk.image()) + faults_of(Review(PROGRAM, disk.image()), wanted, 1 if keeps else 3)
     # this boot begins a session, unless one that has begun is kept
     begun = len(sessions_of(disk.image()) - sessions_of(image))
     if begun != (0 if keeps and sessions_of(image) else 1):
         faults.append(f"{begun} sessions were begun")
     tell(what, faults)
+
+
+def gone(before, after):
+    """What a start took away from the output that was on the disk, and didn't put aside."""
+    faults = []
+    for (where, name), octets in before.items():
+        left = after.get((where, name), b"")
+        same = len(os.path.commonprefix([octets, left]))
+        kept = [(int(it.rpartition("-")[2]), text) for (folder, it), text in after.items()
+                if folder == STATE and it.startswith(f"cut-{name}-")]
+        if where == OUT and same < len(octets) and not any(at <= same and octets[at:] in text for at, text in kept):
+            faults.append(f"{len(octets) - same} octets of {name} from {same} on were thrown away")
+    return faults
 
 
 def sessions_of(image):
@@ -194,7 +211,7 @@ def tampered():
     cases = 1000 if IS_ALL else 120
     for seed in range(cases):
         rng = random.Random(seed)
-        signer = Signer(PROGRAM, keeps_session=True)
+        signer = Signer(PROGRAM, is_far=seed % 2 == 1, keeps_session=True)
         wanted = [message(n) for n in range(rng.randrange(3, 40))]
         disk = MadeUpDisk({}, rng.randrange(12, 90))
         signer.run(disk, wanted)
@@ -311,6 +328,15 @@ def states():
         if "block" in what:
             bare = {it: octets for it, octets in bare.items() if it[1] == "signer-1000-000001.frames"}
         refused(what, {**bare, **{it: state[it] for it in files}}, "L4", Signer(PROGRAM))
+    # two that went on from one state: the output of the one with the state of the other
+    forks = []
+    for letter in (b"a", b"b"):
+        disk, signer = MadeUpDisk(images[0]), Signer(PROGRAM)
+        signer.confirmed = wanted[:8]
+        signer.run(disk, wanted[:8] + [b"<13>1 - gate app 1 - - fork %s %d" % (letter, n) for n in range(5)])
+        forks.append(disk.image())
+    fork = {**{it: octets for it, octets in forks[0].items() if it[0] == OUT}, **{it: forks[1][it] for it in files}}
+    refused("the state of another signer that went on from the same one", fork, "L4", Signer(PROGRAM))
     signer = Signer(PROGRAM)
     signer.arguments.host = ["other"]
     refused("another HOSTNAME", image, "L3", signer)
