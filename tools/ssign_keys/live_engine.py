@@ -20,6 +20,7 @@ from .words import shown_name
 
 # the longest message that ssign reads
 LONGEST = 1048576
+PIECE = 1 << 24
 WANT = b"want "
 # a signature for a wrap, whose block nobody sees
 MADE_UP = b"AAAA"
@@ -77,10 +78,9 @@ class Engine:
             raise own_mistake("wraps that don't hold the messages")
         return wraps
 
-    def ahead(self, session: Ongoing, start: Ends, messages: Sequence[bytes], stamp: str) -> Ends:
-        """The counters with which these messages are all signed."""
-        said = self._ask(["plan", "--ahead", *words_of(session, stamp), "--resume=@0"], framed(messages),
-                         [start.lines(session.session)])
+    def ahead(self, session: Ongoing, start: Ends, log: bytes, stamp: str) -> Ends:
+        """The counters with which the messages of these frames are all signed."""
+        said = self._ask(["plan", "--ahead", *words_of(session, stamp), "--resume=@0"], log, [start.lines(session.session)])
         try:
             ends = read_ends(said.splitlines(), session.session)
         except ValueError as fault:
@@ -89,17 +89,16 @@ class Engine:
             raise own_mistake("counters that go back")
         return ends
 
-    def wants(self, session: Ongoing, start: Ends, messages: Sequence[bytes], stamp: str) -> List[bytes]:
-        """What has to be signed for these messages."""
-        return wants_of(self._ask(["plan", *words_of(session, stamp), "--resume=@0"], framed(messages),
-                                  [start.lines(session.session)]))
+    def wants(self, session: Ongoing, start: Ends, log: bytes, stamp: str) -> List[bytes]:
+        """What has to be signed for the messages of these frames."""
+        return wants_of(self._ask(["plan", *words_of(session, stamp), "--resume=@0"], log, [start.lines(session.session)]))
 
-    def blocks(self, session: Ongoing, start: Ends, messages: Sequence[bytes], stamp: str, wants: Sequence[bytes],
+    def blocks(self, session: Ongoing, start: Ends, log: bytes, stamp: str, wants: Sequence[bytes],
                signatures: Sequence[bytes]) -> List[bytes]:
-        """The signature blocks of these messages, with the signatures, in base64, of what was wanted."""
-        signed = self._ask(["sign", *words_of(session, stamp), "--resume=@0", "--answers=@1"], framed(messages),
+        """The signature blocks of the messages of these frames, with the signatures, in base64, of what was wanted."""
+        signed = self._ask(["sign", *words_of(session, stamp), "--resume=@0", "--answers=@1"], log,
                            [start.lines(session.session), answers_of(wants, signatures)])
-        return blocks_among(messages_of(signed), messages, wants, signatures)
+        return blocks_among(signed, log, wants, signatures)
 
     def certificate_wants(self, session: Ongoing, stamp: str) -> List[bytes]:
         """What has to be signed for the certificate blocks."""
@@ -111,22 +110,24 @@ class Engine:
     def certificates(self, session: Ongoing, stamp: str, wants: Sequence[bytes], signatures: Sequence[bytes]) -> List[bytes]:
         """The certificate blocks."""
         signed = self._ask(["sign", *words_of(session, stamp), "--answers=@0"], b"", [answers_of(wants, signatures)])
-        return blocks_among(messages_of(signed), [], wants, signatures)
+        return blocks_among(signed, b"", wants, signatures)
 
     # ---- its runs
 
     def _ask(self, words: List[str], log: bytes, files: List[bytes]) -> bytes:
         """What ssign writes for a log, with files that stand for `@0` and `@1` in its words. Raises Refused or Trouble.
 
-        The files are in memory, so a full disk doesn't matter to them. The run has no terminal, so ^C doesn't end it.
+        The log, the files and what it writes are in memory: so a full disk doesn't matter to them, and nobody waits at a pipe.
+        The run has no terminal, so ^C doesn't end it.
         """
-        numbers = []
+        numbers: List[int] = []
         try:
-            for octets in files:
+            for octets in (*files, log, b""):
                 numbers.append(memory_file(octets))
             words = [named(it, numbers) for it in words]
-            ran = subprocess.run([self._program, *words, f"--max-len={LONGEST}"], input=log, stdout=subprocess.PIPE,
-                                 stderr=subprocess.PIPE, pass_fds=numbers, start_new_session=True, check=False)
+            ran = subprocess.run([self._program, *words, f"--max-len={LONGEST}"], stdin=numbers[-2], stdout=numbers[-1],
+                                 stderr=subprocess.PIPE, pass_fds=numbers[:-2], start_new_session=True, check=False)
+            written = octets_of(numbers[-1])
         except OSError as fault:
             raise Trouble(f"the program {shown_name(self._program)} can't be run: {fault.strerror}") from fault
         finally:
@@ -134,7 +135,7 @@ class Engine:
                 os.close(number)
         # an inspection that finds something has status 1
         if ran.returncode == 0 or ran.returncode == 1 and words[0] == "inspect":
-            return ran.stdout
+            return written
         said = ran.stderr.decode("utf-8", "backslashreplace")
         if ran.returncode != 2:
             raise Trouble(f"ssign {words[0]} ended with the status {ran.returncode}{': ' if said else ''}{said.strip()[:200]}")
@@ -158,6 +159,18 @@ def memory_file(octets: bytes) -> int:
         left = left[os.write(number, left):]
     os.lseek(number, 0, os.SEEK_SET)
     return number
+
+
+def octets_of(number: int) -> bytes:
+    """All octets of a file in memory."""
+    pieces: List[bytes] = []
+    at = 0
+    while True:
+        piece = os.pread(number, PIECE, at)
+        if not piece:
+            return b"".join(pieces)
+        pieces.append(piece)
+        at += len(piece)
 
 
 def named(word: str, numbers: List[int]) -> str:
@@ -216,13 +229,24 @@ def block_of(want: bytes, signature: bytes) -> bytes:
     return b'%s SIGN="%s"]' % (octets[:-1], signature)
 
 
-def blocks_among(found: Sequence[bytes], messages: Sequence[bytes], wants: Sequence[bytes],
-                 signatures: Sequence[bytes]) -> List[bytes]:
-    """The blocks of a signed log. They have to be those that were sealed, and the rest the messages, in their order."""
-    made = [block_of(*it) for it in zip(wants, signatures)]
-    known = set(made)
-    blocks = [it for it in found if it in known]
-    if [it for it in found if it not in known] != list(messages) or list(dict.fromkeys(blocks)) != made:
+def blocks_among(signed: bytes, log: bytes, wants: Sequence[bytes], signatures: Sequence[bytes]) -> List[bytes]:
+    """The blocks of a signed log. They have to be those that were sealed, in their order, each perhaps several times, and the
+    rest the log octet for octet. What isn't a block isn't looked at one by one: that would cost more than all the rest."""
+    blocks: List[bytes] = []
+    rest: List[bytes] = []
+    at = 0
+    for want, signature in zip(wants, signatures):
+        block = block_of(want, signature)
+        frame = framed([block])
+        found = signed.find(frame, at)
+        if found < 0:
+            raise own_mistake("another signed log than the one that was planned")
+        rest.append(signed[at:found])
+        at = found
+        while signed.startswith(frame, at):
+            blocks.append(block)
+            at += len(frame)
+    if b"".join([*rest, signed[at:]]) != log:
         raise own_mistake("another signed log than the one that was planned")
     return blocks
 

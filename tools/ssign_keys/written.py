@@ -7,7 +7,6 @@ import re
 from typing import NamedTuple, Optional, Tuple, Union
 
 from .blocks import Session
-from .encoding import decode
 from .schemes import PATTERN, SCHEMES
 
 NUMBER = rb"(0|[1-9][0-9]{0,9})"
@@ -21,6 +20,9 @@ CERTIFICATE = re.compile(HEADER + rb"\[ssign-cert " + FRONT + rb' TPBL="([1-9][0
                          rb'FLEN="([1-9][0-9]{0,3})" FRAG="([A-Za-z0-9+/= :.-]+)"\]')
 STAMP = re.compile(rb"[0-9]{4}-([0-9]{2})-([0-9]{2})T([0-9]{2}):([0-9]{2}):([0-9]{2})(?:\.[0-9]{1,6})?"
                    rb"(?:Z|[+-]([0-9]{2}):([0-9]{2}))")
+# strict base64 of 20 and of 32 octets: both have one `=`, and two bits before it that are zeros
+HASH = rb"[A-Za-z0-9+/]{%d}[AEIMQUYcgkosw048]="
+HASHES = {octets: re.compile(b"%s(?: %s)*" % (2 * (HASH % letters,))) for octets, letters in ((20, 26), (32, 42))}
 MOST_PRI = 191
 LAST_NUMBER = 9999999999
 
@@ -71,10 +73,9 @@ def read_written(octets: bytes) -> Optional[Written]:
 def read_signature(version: bytes, session: Session, group: Tuple[int, int], hashes: bytes, gbc: int, first: int,
                    count: int) -> Optional[Signature]:
     """A signature block, where its numbers and hashes are right."""
-    pieces = hashes.split(b" ")
-    if not 1 <= first <= LAST_NUMBER + 1 - count or len(pieces) != count:
+    if not 1 <= first <= LAST_NUMBER + 1 - count or hashes.count(b" ") + 1 != count:
         return None
-    if any(len(decode(piece) or b"") != SCHEMES[version].hash_octets for piece in pieces):
+    if HASHES[SCHEMES[version].hash_octets].fullmatch(hashes) is None:
         return None
     return Signature(version, session, group, gbc, first, count)
 
