@@ -263,7 +263,7 @@ def inputs():
     with signer() as it:
         run = it.run(framed([b"one", long_one, *longer, b"two"]) + b"100 torn")
         aside = split_frames(b"".join(it.kept("aside-")))[0]
-        tell("frames that are too long, and one that breaks off", differ("status", run.status, 0), 
+        tell("frames that are too long, and one that breaks off", differ("status", run.status, 0),
              differ("aside", b"".join(aside), long_one + b"y" * 1048577 + b"100 torn"),
              differ("stored", [len(each) for each in it.originals()], [3, 1048576, 3]))
     with signer("--lines") as it:
@@ -438,6 +438,14 @@ def boots():
             process = it.start(before=before)
             status = process.end()
             tell(f"sessions of boots and machines {' '.join(options)}", differ("status", status, 0), *it.clean(wanted, sessions))
+    with signer("--seconds=1000") as it:
+        for boot, options in (("one", ()), ("two", ("--keep-session",)), ("two", ())):
+            def before(boot=boot):
+                live.identity = lambda path: boot if path == live.BOOT else "same"
+            process = it.start(*options, before=before)
+            process.say(framed(wanted[:2]))
+            tell(f"a boot {boot} {' '.join(options)}", differ("status", process.end(), 0))
+        tell("a boot in which the session was kept is the one of the session", *it.clean(wanted[:2] * 3))
 
 
 # ---- answers
@@ -588,6 +596,18 @@ def modes():
         tell("a link where the next file belongs", fault, differ("status", status, 2),
              "" if "no regular file" in process.said else process.said,
              "it was written through" if os.path.exists(it.path("elsewhere")) else "")
+    with signer("--seconds=0.1") as it:
+        process = it.start()
+        process.say(framed([message(1)]))
+        fault = it.wait_for(lambda status: status["signed"] == 1)
+        other = os.path.join(it.path("out"), it.files()[0].replace("000001", "000002"))
+        with open(other, "wb") as file:
+            file.write(b"4 what")
+        os.kill(process.child, signal.SIGHUP)
+        status = process.end()
+        with open(other, "rb") as file:
+            tell("a file where the next one belongs", fault, differ("status", status, 2), differ("it", file.read(), b"4 what"),
+                 "" if process.said.endswith("(L4)\n") else process.said)
 
 
 def limits():
