@@ -21,7 +21,7 @@ import time
 import live_runs
 from live_runs import KEYS, Process, differ, signer, tell
 
-from ssign_keys import keys, live_journal, live_log
+from ssign_keys import keys, live_journal
 
 REMOTE = next((it for it in ("/lib/systemd/systemd-journal-remote", "/usr/lib/systemd/systemd-journal-remote") if os.path.exists(it)), None)
 BEGAN = 1795804252000000
@@ -138,7 +138,7 @@ def real_kills():
         journal_of(it, b"".join(entry(n + 1, fields, n) for n, (fields, _) in enumerate(made[:5])))
 
         def before():
-            live_log.Live.save_file = lambda self, name, octets: os.kill(os.getpid(), signal.SIGKILL)
+            live_journal.JournalLoop.keep_cursor = lambda self, cursor: os.kill(os.getpid(), signal.SIGKILL)
 
         ended = it.start(reader(it), before=before).end(signal.SIGUSR1)
         process = it.start(reader(it))

@@ -21,6 +21,8 @@ from .live_manifest import Book
 from .live_outside import World
 from .live_sealer import CommandSealer, KeySealer, Sealer
 from .live_session import BOOT, MACHINE, Starter, identity
+from .live_stamps import Stamps, words_of
+from .live_stamps import add_arguments as add_stamps
 from .programs import add_program_argument, find_program
 from .rotation_state import sync_folder
 from .sign import OPTIONS
@@ -69,6 +71,7 @@ def add_arguments(parser: argparse.ArgumentParser) -> None:
     wraps.add_argument("--no-wrap", action="store_true", help="store a message that can't be signed as it is, unsigned")
     parser.add_argument("--manifest", metavar="FILE", help="the manifest, which gets an entry with the counters of each ended file "
                         "(default: manifest.jsonl in the folder of --state)")
+    add_stamps(parser)
     parser.add_argument("--status", metavar="FILE", help="keep in FILE, as a JSON object, how it goes")
     add_program_argument(parser)
 
@@ -114,6 +117,7 @@ def run(arguments: argparse.Namespace) -> int:
     for name in NAMED:
         if len(getattr(arguments, name) or []) > 1:
             raise Fault(f"--{name} can be given only once")
+    words_of(arguments)
     sealer = sealer_of(arguments)
     program = behind(find_program(arguments))
     for option, folder, mode in (("--state", arguments.state, 0o700), ("--out", arguments.out, 0o750)):
@@ -137,13 +141,19 @@ def run_locked(arguments: argparse.Namespace, sealer: Sealer, program: str, worl
     starter = Starter(live, arguments, program, path, int(world.time()))
     book.begin(starter.is_first())
     starter.start()
-    book.note(live.state)
+    stamps = Stamps(live, words_of(arguments), arguments.tsa_seconds)
+
+    def turned() -> None:
+        book.note(live.state)
+        stamps.begin()
+
+    turned()
     marks = Marks(*(os.fsencode(it) for it in arguments.marks)) if arguments.transactions else None
     journal = None if arguments.journal is None else Journal(arguments.journal, arguments.state)
     source: Source = journal or Input(arguments.lines or arguments.omprog, arguments.omprog)
     pace = Pace(arguments.messages, arguments.seconds, arguments.heartbeat)
     kind = Loop if journal is None else JournalLoop
-    loop = kind(live, source, world, pace, arguments.omprog, marks, lambda: book.note(live.state), starter.next_session)
+    loop = kind(live, source, world, pace, arguments.omprog, marks, turned, starter.next_session, stamps)
     try:
         if journal is None:
             return loop.run()
@@ -155,6 +165,7 @@ def run_locked(arguments: argparse.Namespace, sealer: Sealer, program: str, worl
     finally:
         if journal is not None:
             journal.close()
+        stamps.close()
         disk.close_all()
 
 

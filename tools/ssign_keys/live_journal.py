@@ -276,4 +276,8 @@ class JournalLoop(Loop):
         cursor = self._source.take_cursor()
         if cursor is not None:
             self._live.sync()
-            self._live.save_file(CURSOR, cursor)
+            self.keep_cursor(cursor)
+
+    def keep_cursor(self, cursor: bytes) -> None:
+        """Keeps how far the journal was read."""
+        self._live.replace(CURSOR, cursor)

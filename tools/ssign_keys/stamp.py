@@ -17,13 +17,12 @@ from .numbers import number
 from .page_file import name_new
 from .rfc3161 import LONGEST, Stamped, check_stamp, read_authorities
 from .rotation_state import sync_folder
+from .stamped import ENDING, MOST_SECONDS, SECONDS
 from .streams import Output
 from .tsa import ask_command, ask_url, read_url
 from .words import shown_name
 from .workplace import Workplace, finish, put
 
-ENDING = ".tsr"
-SECONDS, MOST_SECONDS = 60, 3600
 # how far the time of a new stamp may be from the clock of this machine, in seconds
 FARTHEST = 3600
 

@@ -15,6 +15,11 @@ if TYPE_CHECKING:
     from .rfc3161 import Stamped
 
 
+# how the name of a kept time stamp ends, and how long a service is waited for, in seconds
+ENDING = ".tsr"
+SECONDS, MOST_SECONDS = 60, 3600
+
+
 class Stamps(NamedTuple):
     """Time stamps that hold, and the certificates of the authorities that vouch for them."""
 
