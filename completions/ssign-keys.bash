@@ -80,10 +80,14 @@ _ssign_keys() {
     'live --seconds') _ssign_keys_offer text ;;
     'live --rotate-size') _ssign_keys_offer text ;;
     'live --heartbeat') _ssign_keys_offer text ;;
+    'live --stamp-command') _ssign_keys_offer text ;;
+    'live --tsa') _ssign_keys_offer text ;;
+    'live --tsa-seconds') _ssign_keys_offer text ;;
     'live --status') _ssign_keys_offer files ;;
     'live --key') _ssign_keys_offer files ;;
     'live --seal-command') _ssign_keys_offer text ;;
     'live --public') _ssign_keys_offer files ;;
+    'live --tsa-ca') _ssign_keys_offer files ;;
     'live --journal') _ssign_keys_offer text ;;
     'live --host') _ssign_keys_offer text ;;
     'live --app') _ssign_keys_offer text ;;
@@ -174,7 +178,7 @@ _ssign_keys_words() {
             _ssign_keys_offer files
         fi
         ;;
-    live) _ssign_keys_offer words '--help --state --out --new-session --keep-session --omprog --transactions --marks --messages --seconds --rotate-size --rotate-daily --heartbeat --wrap --no-wrap --status --key --seal-command --public --lines --journal --host --app --procid --msgid --pri --payload --ver --groups --count --frag --copies --manifest --ssign' ;;
+    live) _ssign_keys_offer words '--help --state --out --new-session --keep-session --omprog --transactions --marks --messages --seconds --rotate-size --rotate-daily --heartbeat --wrap --no-wrap --stamp-command --tsa --tsa-seconds --status --key --seal-command --public --tsa-ca --lines --journal --host --app --procid --msgid --pri --payload --ver --groups --count --frag --copies --manifest --ssign' ;;
     verify)
         if [[ $2 == -* ]]; then
             _ssign_keys_offer words '--help --manifest-seen --key --session-key --ca --cert --at-signing-time --allow-sha1 --tsa-ca --lines --frames --max-len --max-messages --max-expanded --max-payload --whole --from --counters --nights --manifest --from-manifest --manifest-last --stamped --findings --details --hostname --raw --json --html --answers-out --counters-out --jobs --ssign'

@@ -1,7 +1,7 @@
 #!/usr/bin/env bash
 # `ssign-keys live`: stopped at each step by a kill, a loss of power and a full disk, in live_kills.py and live_power.py; what it
-# does as a process, in live_runs.py; and with rsyslog, in live_rsyslog.py. LIVE_ALL=1 tries each way at each step, which takes
-# some minutes more.
+# does as a process, in live_runs.py; its time stamps, in live_stamps.py; many messages with kills, in live_soak.py; and with
+# rsyslog, in live_rsyslog.py. LIVE_ALL=1 tries each way at each step, and 1,000,000 messages, which takes half an hour more.
 # shellcheck source=tests/lib.sh
 . "$(dirname -- "$0")/lib.sh"
 need_program
@@ -36,6 +36,16 @@ mkdir keys
 adds 'losses of power' python3 -B "$root/tests/live_power.py" "$program" "${all[@]}"
 adds 'kills' python3 -B "$root/tests/live_kills.py" "$program" keys "${all[@]}"
 adds 'runs' python3 -B "$root/tests/live_runs.py" "$program" keys
+if command -v openssl >found; then
+    adds 'time stamps' python3 -B "$root/tests/live_stamps.py" "$program" keys
+else
+    echo "$name: no openssl here, so no time stamp is made"
+fi
+if [[ ${LIVE_ALL-} ]]; then
+    adds 'a soak' python3 -B "$root/tests/live_soak.py" "$program" keys 1000000 10000 60
+else
+    adds 'a soak' python3 -B "$root/tests/live_soak.py" "$program" keys 20000 1000 5
+fi
 if command -v rsyslogd >found && ls /usr/lib/*/rsyslog/omprog.so >found 2>&1; then
     adds 'rsyslog' python3 -B "$root/tests/live_rsyslog.py" "$program" keys
 else
