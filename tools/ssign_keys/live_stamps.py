@@ -29,7 +29,7 @@ from .stamped import ENDING, MOST_SECONDS, SECONDS
 COUNTERS = ".counters"
 PASSING = ".new"
 WAITING = re.compile(r".+\.counters\.tsr\.new")
-# the child ends by itself after --tsa-seconds; it is ended so many seconds later, and that fast at the end of the run
+# the child ends by itself after --tsa-seconds; so many seconds later it is asked to end, and killed after so many more
 PATIENCE, LAST_PATIENCE = 60.0, 2.0
 # how much of what it says is read at once, kept and shown
 PIECE, LONGEST_SAID, LONGEST_WHY = 1 << 16, 1 << 12, 300
@@ -176,11 +176,16 @@ class Stamps:
                 live.take([self._message(name, octets, of)])
             except Bad as fault:
                 self._tell(f"{passing} is no time stamp of {counters}: {fault}")
-                disk.rename(STATE, passing, f"bad-{passing}")
+                name = f"bad-{passing}"
             else:
                 live.sync()
-                disk.rename(STATE, passing, name)
-            disk.sync_folder(STATE)
+            self._rename(passing, name)
+
+    def _rename(self, name: str, other: str) -> None:
+        """Gives a file of the state another name."""
+        disk = self._live.disk
+        self._live.patiently(lambda: disk.rename(STATE, name, other))
+        disk.sync_folder(STATE)
 
     def _message(self, name: str, octets: bytes, counters: bytes) -> bytes:
         """What is signed about a time stamp. Raises Bad where it isn't one of these counters."""
@@ -193,7 +198,7 @@ class Stamps:
                 f"{sha256}").encode("ascii")
 
     def close(self) -> None:
-        """Ends the child, if it doesn't end soon. A time stamp that it got by then is signed by the next start."""
+        """Ends the child. A time stamp that it got by then is signed about by the next start."""
         child = self._child
         if child is not None:
             self._end(child, LAST_PATIENCE)
