@@ -678,10 +678,36 @@ def counters():
         process.say(framed(wanted[5:]))
         status = process.end()
         tell("a file ends with a block and has its counters", *faults, differ("status", status, 0), *it.clean(wanted))
+        with open(os.path.join(it.path("state"), "manifest.jsonl"), encoding="ascii") as file:
+            entries = [json.loads(line) for line in file]
+        tell("the entry has the counters of the file", differ("counters", [each["counters"] for each in entries],
+                                                              [wished[0].decode().splitlines()]),
+             differ("numbers", entries[0]["groups"], [{"sg": 0, "spri": 0, "first": 1, "last": 5}]))
         # the first file by itself, up to the counters that were there when it was ended
         run = Process(["verify", f"--key={KEYS}/public-key.pem", f"--counters={it.path('first')}", "--raw", f"--ssign={PROGRAM}",
                        os.path.join(it.path("out"), it.files()[0])])
         tell("an ended file is clean by itself", differ("status", run.end(), 0))
+    with signer("--seconds=0.1") as it:
+        def put(text):
+            with open(it.path("program.new"), "w", encoding="utf-8") as file:
+                file.write(f"#!/bin/sh\n{text}\n")
+            os.chmod(it.path("program.new"), 0o755)
+            os.replace(it.path("program.new"), it.path("program"))
+
+        put(f'exec {shlex.quote(PROGRAM)} "$@"')
+        process = it.start(f"--ssign={it.path('program')}")
+        faults = [it.wait_for(lambda status: status["running"])]
+        put("exit 7")
+        # these are sure, so nobody is asked before they are stored
+        process.say(framed(wanted[:3]))
+        faults.append(it.wait_for(lambda status: status["failing"]))
+        os.kill(process.child, signal.SIGHUP)
+        time.sleep(1.0)
+        faults.append(differ("files while nobody plans", len(it.files()), 1))
+        put(f'exec {shlex.quote(PROGRAM)} "$@"')
+        faults.append(it.wait_for(lambda status: status["file"].endswith("-000002.frames")))
+        status = process.end()
+        tell("no file ends before its messages have a block", *faults, differ("status", status, 0), *it.clean(wanted[:3]))
     with signer("--seconds=1000", "--heartbeat=0.4", "--messages=1") as it:
         process = it.start()
         fault = it.wait_for(lambda status: status["signed"] >= 2)
