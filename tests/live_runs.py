@@ -7,6 +7,7 @@ KEYS is a folder of `ssign-keys make`. Each run is a child that was forked after
 `live_runs: N passed, M failed`.
 """
 import contextlib
+import fcntl
 import functools
 import json
 import os
@@ -31,6 +32,8 @@ from ssign_keys.live_sure import is_sure
 PROGRAM, KEYS = (os.path.abspath(it) for it in sys.argv[1:3])
 ROOT = os.path.dirname(os.path.dirname(os.path.realpath(__file__)))
 PATIENCE = 30.0
+# F_SETPIPE_SZ of Linux, which Python 3.9 has no name for
+PIPE_SIZE = 1031
 passed = failed = 0
 
 
@@ -717,10 +720,11 @@ def counters():
 
 
 def drained():
-    """What stands in the pipe when a signal comes is signed too."""
-    wanted = [message(n) for n in range(300)]
-    with signer("--seconds=1000") as it:
+    """What stands in the pipe when a signal comes is signed too, also where it is more than is read at once."""
+    wanted = [b"<13>1 - h a p - - drained %d" % n for n in range(8000)]
+    with signer("--seconds=1000", "--messages=1000") as it:
         process = it.start()
+        fcntl.fcntl(process.to, PIPE_SIZE, 1 << 20)
         fault = it.wait_for(lambda status: status["running"])
         os.kill(process.child, signal.SIGSTOP)
         process.say(framed(wanted))
