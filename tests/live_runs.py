@@ -332,7 +332,8 @@ def groups():
                                                                                            "--procid=1", "--msgid=x")):
         with signer(*options, "--messages=50", "--rotate-size=9K") as it:
             ended = [it.run(framed(wanted[at:at + 150])).status for at in (0, 150, 300)]
-            tell(f"a session with {' '.join(options)}", differ("status", ended, [0, 0, 0]), *it.clean(wanted))
+            tell(f"a session with {' '.join(options)}", differ("status", ended, [0, 0, 0]), *it.clean(wanted),
+                 f"only {len(it.files())} files" if len(it.files()) < 3 else "")
             checked = manifest_of(it)
             tell(f"the manifest with {' '.join(options)}", differ("entries", len(checked), len(it.files()) - 1))
 
