@@ -31,7 +31,7 @@ ruleset(name="sign" queue.type="LinkedList" queue.dequeueBatchSize="100" queue.t
         queue.filename="sign" queue.saveOnShutdown="on") {{
     action(type="omprog" name="sign" binary="{folder}/live" template="raw" confirmMessages="on" useTransactions="on"
            beginTransactionMark="BEGIN-OURS" commitTransactionMark="COMMIT-OURS"
-           confirmTimeout="60000" action.resumeRetryCount="-1" action.resumeInterval="1"
+           confirmTimeout="60000" closeTimeout="60000" action.resumeRetryCount="-1" action.resumeInterval="1"
            killUnresponsive="on")
 }}
 """

@@ -78,6 +78,13 @@ class Engine:
             raise own_mistake("wraps that don't hold the messages")
         return wraps
 
+    def check_wraps(self, wraps: Sequence[bytes]) -> None:
+        """Raises Fault where one of these is no wrap of a text that is no message."""
+        if wraps:
+            said = self._ask(["inspect", "--findings", "--unwrap"], framed(wraps), []).decode("ascii").splitlines()
+            if sum(it.startswith(f"{WRAPPED}unparsed ") for it in said) != len(wraps):
+                raise Fault("this is a mistake of ssign-keys: it made a wrap that ssign doesn't take for one, so nothing is signed")
+
     def ahead(self, session: Ongoing, start: Ends, log: bytes, stamp: str) -> Ends:
         """The counters with which the messages of these frames are all signed."""
         said = self._ask(["plan", "--ahead", *words_of(session, stamp), "--resume=@0"], log, [start.lines(session.session)])
