@@ -1,0 +1,4 @@
+pub mod Agreeing
+pub mod Claims
+pub mod JoinedByGiven
+pub mod ReportsAgree

@@ -1,0 +1,3 @@
+//! Laws of reviews by given payloads.
+
+pub mod states;
