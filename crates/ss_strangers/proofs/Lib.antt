@@ -2,3 +2,8 @@ pub mod Agreeing
 pub mod Claims
 pub mod JoinedByGiven
 pub mod ReportsAgree
+pub mod Reported
+pub mod HiddenBlocks
+pub mod AsSent
+pub mod UnforgedChains
+pub mod UnforgedAhead

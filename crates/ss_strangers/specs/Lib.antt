@@ -1,2 +1,4 @@
 pub mod States
 pub mod StateLaws
+pub mod Unforged
+pub mod UnforgedLaws

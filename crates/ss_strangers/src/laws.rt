@@ -1,3 +1,4 @@
 //! Laws of reviews by given payloads.
 
 pub mod states;
+pub mod unforged;

@@ -1,0 +1,90 @@
+//! What a review by given payloads reports of the session of originators, whatever strangers put into the log. The
+//! premise is that nobody forged a block: each signature block that is valid under their payload says what one says
+//! that they sent.
+ghost use Rattle.ss_strangers.specs.UnforgedLaws.{
+  AnnouncedAheadAreGiven,
+  AnnouncedAreGiven,
+  ListedAheadHaveTheirHash,
+  ListedHaveTheirHash,
+  LostAheadAreReported,
+  LostAreReported,
+  NothingAheadIsDisputed,
+  NothingIsDisputed,
+  OnlyClaimantsJoin,
+};
+
+use crate::laws::states::{logs_are_within, sessions_are_joined_by_given};
+use ss_block::laws::readings::readings_are_of_values;
+use ss_origin::laws::ahead::numbers_are_given_once;
+use ss_origin::laws::chains::sent_blocks_are_numbered;
+use ss_review::laws::kept::every_number_is_told;
+
+/// If the originators' payload claims the session, and no other given one does, it is joined under no other.
+pub fn only_claimants_join()
+    ensures { OnlyClaimantsJoin }
+{
+    logs_are_within();
+    sessions_are_joined_by_given();
+}
+
+/// A number that is listed or a gap is one that the originators gave a message. It is announced with the hash of this
+/// message, and with no other.
+pub fn announced_are_given()
+    ensures { AnnouncedAreGiven }
+{
+    sent_blocks_are_numbered();
+}
+
+/// No number of the session is a gap for a dispute.
+pub fn nothing_is_disputed()
+    ensures { NothingIsDisputed }
+{
+    sent_blocks_are_numbered();
+}
+
+/// What is listed under a number of the session has the hash of the message that the originators gave this number.
+pub fn listed_have_their_hash()
+    ensures { ListedHaveTheirHash }
+{
+    sent_blocks_are_numbered();
+}
+
+/// If the counters reach the end of each group, the number of each lost message is a gap that is lost, in a hole or in a
+/// tail. A message is lost where the log has no message without a block that has its hash.
+pub fn lost_are_reported()
+    ensures { LostAreReported }
+{
+    sent_blocks_are_numbered();
+    every_number_is_told();
+    readings_are_of_values();
+}
+
+/// The same as `announced_are_given` of originators that go on ahead.
+pub fn announced_ahead_are_given()
+    ensures { AnnouncedAheadAreGiven }
+{
+    numbers_are_given_once();
+}
+
+/// The same as `nothing_is_disputed` of originators that go on ahead.
+pub fn nothing_ahead_is_disputed()
+    ensures { NothingAheadIsDisputed }
+{
+    numbers_are_given_once();
+}
+
+/// The same as `listed_have_their_hash` of originators that go on ahead.
+pub fn listed_ahead_have_their_hash()
+    ensures { ListedAheadHaveTheirHash }
+{
+    numbers_are_given_once();
+}
+
+/// If counters go past the number that a lost message got, it is a gap that is lost, in a hole or in a tail.
+pub fn lost_ahead_are_reported()
+    ensures { LostAheadAreReported }
+{
+    numbers_are_given_once();
+    every_number_is_told();
+    readings_are_of_values();
+}
