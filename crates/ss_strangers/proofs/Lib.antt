@@ -7,3 +7,4 @@ pub mod HiddenBlocks
 pub mod AsSent
 pub mod UnforgedChains
 pub mod UnforgedAhead
+pub mod DeliveredUntrusted

@@ -2,3 +2,4 @@ pub mod States
 pub mod StateLaws
 pub mod Unforged
 pub mod UnforgedLaws
+pub mod Untrusted

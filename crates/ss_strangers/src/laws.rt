@@ -2,3 +2,4 @@
 
 pub mod states;
 pub mod unforged;
+pub mod untrusted;
