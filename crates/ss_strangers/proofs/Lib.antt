@@ -8,3 +8,7 @@ pub mod AsSent
 pub mod UnforgedChains
 pub mod UnforgedAhead
 pub mod DeliveredUntrusted
+pub mod MoreBlocks
+pub mod AlikeNumbers
+pub mod StrangersListings
+pub mod StrangersAlike

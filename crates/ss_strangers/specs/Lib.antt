@@ -3,3 +3,4 @@ pub mod StateLaws
 pub mod Unforged
 pub mod UnforgedLaws
 pub mod Untrusted
+pub mod Strangers

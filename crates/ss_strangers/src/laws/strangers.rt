@@ -1,0 +1,17 @@
+//! What a review by given payloads reports of a log to which strangers added messages. A stranger holds no key of a
+//! trusted payload.
+ghost use Rattle.ss_strangers.specs.Strangers.{StrangersAddNothing, StrangersTakeNothing};
+
+/// Of each session that a given payload claims, the same is reported as without the added messages: its state and
+/// payload, its announced and disputed numbers, its holes, and what is missing up to any counters. What was listed is
+/// listed still, with an equal message. The premise is that of two messages with one announced hash both hashes are
+/// equal.
+pub fn strangers_take_nothing()
+    ensures { StrangersTakeNothing }
+{}
+
+/// A number whose message was missing is listed only where a message was added with the hashes of the one that is
+/// listed. The premise is that some given payload claims each session that is joined.
+pub fn strangers_add_nothing()
+    ensures { StrangersAddNothing }
+{}
