@@ -12,3 +12,4 @@ pub mod MoreBlocks
 pub mod AlikeNumbers
 pub mod StrangersListings
 pub mod StrangersAlike
+pub mod StrangerRows

@@ -4,3 +4,4 @@ pub mod Unforged
 pub mod UnforgedLaws
 pub mod Untrusted
 pub mod Strangers
+pub mod StrangerRows

@@ -1,5 +1,6 @@
 //! What a review by given payloads reports of a log to which strangers added messages. A stranger holds no key of a
 //! trusted payload.
+ghost use Rattle.ss_strangers.specs.StrangerRows.{StrangersAreThese};
 ghost use Rattle.ss_strangers.specs.Strangers.{StrangersAddNothing, StrangersTakeNothing};
 
 /// Of each session that a given payload claims, the same is reported as without the added messages: its state and
@@ -14,4 +15,10 @@ pub fn strangers_take_nothing()
 /// listed. The premise is that some given payload claims each session that is joined.
 pub fn strangers_add_nothing()
     ensures { StrangersAddNothing }
+{}
+
+/// Small logs into which strangers wrote, computed. One meets the premises of the laws of `states` and of this module.
+/// The others show what goes wrong without each premise.
+pub fn strangers_are_these()
+    ensures { StrangersAreThese }
 {}
