@@ -13,3 +13,6 @@ pub mod AlikeNumbers
 pub mod StrangersListings
 pub mod StrangersAlike
 pub mod StrangerRows
+pub mod Arrived
+pub mod StoredTexts
+pub mod AddedMessages

@@ -32,7 +32,7 @@ use Rattle.ss_strangers.specs.States.{AreWithin, IsClaimant, IsUnclaimed, IsOnly
 use Rattle.ss_strangers.specs.Strangers.{AreCopies, IsForeign, IsAddedTo}
 use Rattle.ss_strangers.proofs.Claims.{Claims, SpeaksAt, of_claims, to_claims, joined_claimed, valid_speaker}
 use Rattle.ss_strangers.proofs.JoinedByGiven.{session_is, is_session, own_within, joined_by_given}
-use Rattle.ss_strangers.proofs.ReportsAgree.{from_has-kept, has-kept, hashes_kept, agreeing}
+use Rattle.ss_strangers.proofs.ReportsAgree.{from_has-kept, has-kept, hashes_kept, joined_claims}
 
 -- ---- copies
 
@@ -149,33 +149,10 @@ module _ (says : Answers) (bs ds : List BlockMessage) (more : HaveMore says bs d
 
   -- ---- joining
 
-  -- a payload under which a session is joined claims it
-  joined_claims : AreWithin ds → (p : List ℕ) → joined says ds ≡ Ok p → Claims says ds p
-  joined_claims are p e =
-      let under = payload_told says ds p e in
-      record {
-        block_is = under.1;
-        trusts = under.2;
-        spoken = λ index low high.
-            (let o : HasValidOctet says ds p index = under.3 index low high in
-            let h = has_from_contains ds o.message o.stored in
-            record {
-              message = o.message;
-              stored = h;
-              said = o.said;
-              says_so = o.says_so;
-              speaks = and_from (agrees_in p o.message.said) (is_valid says p o.message)
-                  (agreeing says ds are p e o.message o.said h o.says_so)
-                  (ap (λ (x : BlockContent). says.valid p o.message.signed (signature_of x)) o.says_so ∙ o.valid);
-              from = o.from;
-              to = o.to;
-            });
-      }
-
   -- what joins it with the others joins it without them
   pub joined_down : AreWithin bs → AreWithin ds → (p : List ℕ) → joined says ds ≡ Ok p → joined says bs ≡ Ok p
   joined_down low high p e =
-      joined_claimed says bs low p (claims_down p (joined_claims high p e))
+      joined_claimed says bs low p (claims_down p (joined_claims says ds high p e))
       (λ d. (payload_told says ds p e).0.undisputed (dispute_up d))
 
 -- ---- two logs

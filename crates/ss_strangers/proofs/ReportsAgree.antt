@@ -20,8 +20,8 @@ use Rattle.ss_review.specs.keep.Contents.{Contents}
 use Rattle.ss_review.specs.report.Report.{groups, group_report, session_report, unlisted, refused, report_of}
 use Rattle.ss_review.specs.sessions.Payloads.{certificates, is_disputed}
 use Rattle.ss_review.specs.sessions.Sessions.{same_session, sessions, of_session}
-use Rattle.ss_review.specs.sessions.States.{stated_by}
-use Rattle.ss_review.specs.sessions.Verified.{Answers, is_valid, joined, state_in, is_valid_in, is_verified}
+use Rattle.ss_review.specs.sessions.States.{stated_by, HasValidOctet}
+use Rattle.ss_review.specs.sessions.Verified.{Answers, signature_of, is_valid, joined, state_in, is_valid_in, is_verified}
 use Rattle.ss_octets.proofs.Members.{Has, has_from_contains, contains_from_has, has-map, from_has-map, has-filter, from_has-filter}
 use Rattle.ss_review.proofs.of_lists.Mapped.{filter_agree}
 use Rattle.ss_review.proofs.of_lists.Rising.{same_members, in_order_same}
@@ -159,6 +159,29 @@ agreeing says own are p e b c h said =
           (omega (arith, at, some), slice_get-get_or p (i - 1) 0 below ∙ ap (λ (n : ℕ). Some n) is));
     } in
     ap (agrees_in p) said ∙ says_agreeing p c some its
+
+-- a payload under which a session is joined claims it
+pub joined_claims : (says : Answers) (ds : List BlockMessage) → AreWithin ds → (p : List ℕ) → joined says ds ≡ Ok p → Claims says ds p
+joined_claims says ds are p e =
+    let under = payload_told says ds p e in
+    record {
+      block_is = under.1;
+      trusts = under.2;
+      spoken = λ index low high.
+          (let o : HasValidOctet says ds p index = under.3 index low high in
+          let h = has_from_contains ds o.message o.stored in
+          record {
+            message = o.message;
+            stored = h;
+            said = o.said;
+            says_so = o.says_so;
+            speaks = and_from (agrees_in p o.message.said) (is_valid says p o.message)
+                (agreeing says ds are p e o.message o.said h o.says_so)
+                (ap (λ (x : BlockContent). says.valid p o.message.signed (signature_of x)) o.says_so ∙ o.valid);
+            from = o.from;
+            to = o.to;
+          });
+    }
 
 said_cases : (said : BlockContent) → ((d : block.Signature) × (said ≡ Hashes d)) ⊎ ((c : block.Certificate) × (said ≡ Fragment c))
 said_cases (Hashes d) = inl (d, refl)

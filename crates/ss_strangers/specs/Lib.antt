@@ -5,3 +5,4 @@ pub mod UnforgedLaws
 pub mod Untrusted
 pub mod Strangers
 pub mod StrangerRows
+pub mod AddedMessages

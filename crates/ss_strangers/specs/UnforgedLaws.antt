@@ -119,3 +119,18 @@ abbrev pub LostAheadAreReported : Type 0
 LostAheadAreReported = (x : Case) (ps : List (List ℕ)) (lives : List Life) → AreAhead x lives → IsUnforged x ps
     → (k : Key) (m : List ℕ) → k.session ≡ own_session x.s → HasNumber x.s.config lives k m → IsLost x m
     → (cs : List Counter) → 1 ≤ k.number → k.number < kept_number cs k.session k.group → IsReported x ps cs k
+
+-- ---- when the session of originators that go on ahead is joined, and a number of theirs announced
+
+-- the same as `ArrivedPayloadsClaim` of originators that go on ahead
+abbrev pub ArrivedPayloadsClaimAhead : Type 0
+ArrivedPayloadsClaimAhead = (x : Case) (ps : List (List ℕ)) (lives : List Life)
+    → AreAhead x lives → HasPayload x.chain x.log → AcceptsSent x
+    → (says x).trusted (payload_text x.s.payload) ≡ true → Contains ps (payload_text x.s.payload)
+    → IsClaimant (says x) ps (of_session (blocks (notes x.log)) (own_session x.s)) (payload_text x.s.payload)
+
+-- the same as `ArrivedAreAnnounced` of originators that go on ahead
+abbrev pub ArrivedAheadAreAnnounced : Type 0
+ArrivedAheadAreAnnounced = (x : Case) (ps : List (List ℕ)) (lives : List Life) → AreAhead x lives → AcceptsSent x
+    → IsOnlyClaimant (says x) ps (of_session (blocks (notes x.log)) (own_session x.s)) (payload_text x.s.payload)
+    → (k : Key) → k.session ≡ own_session x.s → HasBlock x k → IsTold (pinned_in x ps) k

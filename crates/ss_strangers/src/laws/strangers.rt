@@ -1,7 +1,14 @@
 //! What a review by given payloads reports of a log to which strangers added messages. A stranger holds no key of a
 //! trusted payload.
+ghost use Rattle.ss_strangers.specs.AddedMessages.{AddedAnywhere};
 ghost use Rattle.ss_strangers.specs.StrangerRows.{StrangersAreThese};
 ghost use Rattle.ss_strangers.specs.Strangers.{StrangersAddNothing, StrangersTakeNothing};
+
+/// A log to which strangers added messages, each of them anywhere, has what it had, and more. They may add copies of its
+/// messages, messages without a block, spoilt ones, and blocks that are valid under no trusted payload.
+pub fn added_anywhere()
+    ensures { AddedAnywhere }
+{}
 
 /// Of each session that a given payload claims, the same is reported as without the added messages: its state and
 /// payload, its announced and disputed numbers, its holes, and what is missing up to any counters. What was listed is

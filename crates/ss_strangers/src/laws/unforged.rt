@@ -4,6 +4,10 @@
 ghost use Rattle.ss_strangers.specs.UnforgedLaws.{
   AnnouncedAheadAreGiven,
   AnnouncedAreGiven,
+  ArrivedAheadAreAnnounced,
+  ArrivedAreAnnounced,
+  ArrivedPayloadsClaim,
+  ArrivedPayloadsClaimAhead,
   ListedAheadHaveTheirHash,
   ListedHaveTheirHash,
   LostAheadAreReported,
@@ -17,11 +21,33 @@ use crate::laws::states::{logs_are_within, sessions_are_joined_by_given};
 use ss_block::laws::readings::readings_are_of_values;
 use ss_origin::laws::ahead::numbers_are_given_once;
 use ss_origin::laws::chains::sent_blocks_are_numbered;
+use ss_review::laws::ahead::joined_by_fragments as joined_ahead_by_fragments;
+use ss_review::laws::deliveries::joined_by_fragments;
 use ss_review::laws::kept::every_number_is_told;
+use ss_review::laws::reports::one_report;
 
 /// If the originators' payload claims the session, and no other given one does, it is joined under no other.
 pub fn only_claimants_join()
     ensures { OnlyClaimantsJoin }
+{
+    logs_are_within();
+    sessions_are_joined_by_given();
+}
+
+/// The originators' payload claims the session if it is given and trusted, each fragment of it arrived, and their valid
+/// blocks are accepted.
+pub fn arrived_payloads_claim()
+    ensures { ArrivedPayloadsClaim }
+{
+    joined_by_fragments();
+    one_report();
+    logs_are_within();
+}
+
+/// A number is listed or a gap if the originators' payload is the only one that claims the session, their valid blocks
+/// are accepted, and one that covers the number arrived.
+pub fn arrived_are_announced()
+    ensures { ArrivedAreAnnounced }
 {
     logs_are_within();
     sessions_are_joined_by_given();
@@ -57,6 +83,23 @@ pub fn lost_are_reported()
     sent_blocks_are_numbered();
     every_number_is_told();
     readings_are_of_values();
+}
+
+/// The same as `arrived_payloads_claim` of originators that go on ahead.
+pub fn arrived_payloads_claim_ahead()
+    ensures { ArrivedPayloadsClaimAhead }
+{
+    joined_ahead_by_fragments();
+    one_report();
+    logs_are_within();
+}
+
+/// The same as `arrived_are_announced` of originators that go on ahead.
+pub fn arrived_ahead_are_announced()
+    ensures { ArrivedAheadAreAnnounced }
+{
+    logs_are_within();
+    sessions_are_joined_by_given();
 }
 
 /// The same as `announced_are_given` of originators that go on ahead.
