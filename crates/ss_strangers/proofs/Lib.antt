@@ -16,3 +16,4 @@ pub mod StrangerRows
 pub mod Arrived
 pub mod StoredTexts
 pub mod AddedMessages
+pub mod SmallAttack

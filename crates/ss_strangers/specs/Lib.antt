@@ -6,3 +6,4 @@ pub mod Untrusted
 pub mod Strangers
 pub mod StrangerRows
 pub mod AddedMessages
+pub mod SmallAttack

@@ -1,5 +1,6 @@
 //! Laws of reviews by given payloads.
 
+pub mod cases;
 pub mod states;
 pub mod strangers;
 pub mod unforged;
