@@ -1,14 +1,11 @@
 -- What is reported of a session but for the places of its messages, and what is missing of it, by its rows.
-use Rattle.std.proofs.Common.{◌≡◌, ◌⊎◌, inl, inr, ℕ, ◌+◌, ◌-◌, Bool, true, false, cond, List, [], ◌∷◌, ◌++◌, length, map, filter, fold, max, refl, sym, ap, ◌∙◌, subst}
-use Rattle.std.specs.Prelude.{Option, Some, None, Result, nat_lt, if◌then◌else◌}
+use Rattle.std.proofs.Common.{◌≡◌, ℕ, ◌+◌, ◌-◌, Bool, true, false, List, [], ◌∷◌, ◌++◌, length, map, filter, fold, max, refl, sym, ap, ◌∙◌}
+use Rattle.std.specs.Prelude.{Option, Some, None, nat_lt, if◌then◌else◌}
 use Rattle.std.specs.List.{flat_map}
-use Rattle.std.specs.Ordering.{is_eq}
 use Rattle.ss_block.specs.declared.block.Group.{Group}
 use Rattle.ss_block.specs.declared.hash.Hash.{Hash}
-use Rattle.ss_block.specs.declared.hash.HashPair.{HashPair}
 use Rattle.ss_block.specs.declared.session.Session.{Session}
 use Rattle.ss_review.specs.declared.counted.counter.Counter.{Counter}
-use Rattle.ss_review.specs.declared.counted.shortfall.GroupTail.{GroupTail}
 use Rattle.ss_review.specs.declared.keep.message.NormalMessage.{NormalMessage}
 use Rattle.ss_review.specs.declared.report.entry.Entry.{Entry}
 use Rattle.ss_review.specs.declared.report.entry.Entry.TheVariants as entry
@@ -23,7 +20,7 @@ use Rattle.ss_review.specs.report.Entries.{same_group, keys_in, group_keys, entr
 use Rattle.ss_review.specs.report.Report.{groups, group_report}
 use Rattle.ss_review.specs.Ordered.{in_order}
 use Rattle.ss_block.specs.Order.{group_cmp}
-use Rattle.ss_octets.proofs.Members.{Has, from_has-filter}
+use Rattle.ss_octets.proofs.Members.{Has}
 use Rattle.ss_review.proofs.of_assignment.OnePlaceOneKey.{only_one, assigned_cases}
 use Rattle.ss_review.proofs.of_lists.FilteredAlike.{flat_map_agree, flat_map-map}
 use Rattle.ss_review.proofs.of_lists.Mapped.{map-map, map-flat_map, filter-map}

@@ -1,54 +1,48 @@
 -- What arrived of originators: their payload claims their session, and their blocks announce their numbers.
-use Rattle.std.proofs.Common.{◌≡◌, ◌⊎◌, inl, inr, ℕ, zero, suc, ◌+◌, ◌-◌, ◌<◌, ◌≤◌, Bool, true, false, ◌&&◌, List, [], ◌∷◌, length, map, refl, sym, ap, ◌∙◌, subst, arith}
-use Rattle.std.specs.Prelude.{Option, Some, Ok, Err, Result, option_map, slice_get}
+use Rattle.std.proofs.Common.{◌≡◌, inl, inr, ℕ, zero, suc, ◌+◌, ◌-◌, ◌<◌, true, List, [], ◌∷◌, length, refl, sym, ap, ◌∙◌, arith}
+use Rattle.std.specs.Prelude.{Some, Ok, slice_get}
 use Rattle.std.specs.List.{Contains, flat_map}
 use Rattle.std.specs.Str.{bytes_eq}
 use Rattle.std.proofs.lemmas.Bool.{and_parts, and_from}
 use Rattle.std.proofs.lemmas.List.Elements.{All-contains}
-use Rattle.std.proofs.lemmas.Option.{same_Some, slice_get-map, slice_get_within}
+use Rattle.std.proofs.lemmas.Option.{same_Some}
 use Rattle.std.proofs.lemmas.Slice.Eq.{bytes_eq-Decides}
 use Rattle.ss_block.specs.Block as block
-use Rattle.ss_block.specs.declared.hash.Hash.{Hash}
 use Rattle.ss_block.specs.declared.reading.Reading.TheVariants as readings
-use Rattle.ss_block.specs.declared.session.Session.{Session}
 use Rattle.ss_block.specs.Reading.{reading}
 use Rattle.ss_block.specs.Signed.{signed}
 use Rattle.ss_payload.specs.Payload.{payload_text}
-use Rattle.ss_origin.specs.Ahead.{Life}
-use Rattle.ss_origin.specs.Chain.{Turn, IsChain, emitted_by}
-use Rattle.ss_review.specs.declared.keep.message.BlockContent.{BlockContent}
-use Rattle.ss_review.specs.declared.keep.message.BlockContent.TheVariants.{Hashes, Fragment}
+use Rattle.ss_origin.specs.Chain.{Turn, emitted_by}
+use Rattle.ss_review.specs.declared.keep.message.BlockContent.TheVariants.{Hashes}
 use Rattle.ss_review.specs.declared.keep.message.BlockMessage.{BlockMessage}
 use Rattle.ss_review.specs.declared.report.session_report.SessionReport.{SessionReport}
-use Rattle.ss_review.specs.declared.report.session_report.SessionState.{SessionState}
 use Rattle.ss_review.specs.declared.report.session_report.SessionState.TheVariants as states
 use Rattle.ss_review.specs.announced.Announced.{Key}
-use Rattle.ss_review.specs.announced.Announcing.{Announces, IsAnnounced}
-use Rattle.ss_review.specs.deliveries.Delivery.{own_session, is_normal, IsDelivered, sent, HasBegun, HasPayload, Delivers}
+use Rattle.ss_review.specs.announced.Announcing.{IsAnnounced}
+use Rattle.ss_review.specs.deliveries.Delivery.{own_session, sent, HasBegun, HasPayload, Delivers}
 use Rattle.ss_review.specs.deliveries.DeliveryLaws.{Case, says, AcceptsSent, IsCase, report_in, IsListedAsJoined, JoinedByFragments, HasBlock}
 use Rattle.ss_review.specs.deliveries.AheadDelivery.{IsCaseAhead, JoinedAheadByFragments}
-use Rattle.ss_review.specs.keep.Contents.{said_in, block_with, block_in, blocks}
-use Rattle.ss_review.specs.keep.Notes.{Note, Block, note, notes}
+use Rattle.ss_review.specs.keep.Contents.{said_in, blocks}
+use Rattle.ss_review.specs.keep.Notes.{notes}
 use Rattle.ss_review.specs.Laws.{OneReport}
 use Rattle.ss_review.specs.report.Meaning.{IsTold}
-use Rattle.ss_review.specs.report.Report.{report_of}
 use Rattle.ss_review.specs.sessions.Sessions.{same_session, of_session}
 use Rattle.ss_review.specs.sessions.States.{IsInState}
 use Rattle.ss_review.specs.sessions.Verified.{Answers, signature_of, is_valid, joined, state_in, is_valid_in, is_verified}
-use Rattle.ss_octets.proofs.Members.{Has, has_from_contains, contains_from_has, has-flat_map, has-filter, from_has-filter}
-use Rattle.ss_review.proofs.of_deliveries.SentMessages.{AreAllTurns, turns_of_chain, IsOwnBlock, sent_as}
-use Rattle.ss_review.proofs.of_deliveries.StoredBlocks.{noted_block, block_not_normal, sent_block_stored}
-use Rattle.ss_review.proofs.of_kept_messages.NotesTold.{IsBlockOf, block_read, has-block}
-use Rattle.ss_review.proofs.of_lists.Keyed.{has-slice_get, slice_get-has}
+use Rattle.ss_octets.proofs.Members.{has_from_contains, contains_from_has, has-flat_map, has-filter, from_has-filter}
+use Rattle.ss_review.proofs.of_deliveries.SentMessages.{AreAllTurns, turns_of_chain, sent_as}
+use Rattle.ss_review.proofs.of_deliveries.StoredBlocks.{block_not_normal, sent_block_stored}
+use Rattle.ss_review.proofs.of_kept_messages.NotesTold.{IsBlockOf, block_read}
+use Rattle.ss_review.proofs.of_lists.Keyed.{has-slice_get}
 use Rattle.ss_review.proofs.of_reports.Witnesses.{stored_block}
 use Rattle.ss_review.proofs.of_sessions.StatesTold.{joined_under, state_told, payload_told}
-use Rattle.ss_pinned.specs.Pinned.{agrees_in, speaks_for, kept}
+use Rattle.ss_pinned.specs.Pinned.{agrees_in}
 use Rattle.ss_strangers.specs.StateLaws.{LogsAreWithin, SessionsAreJoinedByGiven}
-use Rattle.ss_strangers.specs.States.{AreWithin, IsClaimant, IsOnlyClaimant}
+use Rattle.ss_strangers.specs.States.{IsOnlyClaimant}
 use Rattle.ss_strangers.specs.Unforged.{blocks_in, pinned_in}
-use Rattle.ss_strangers.specs.UnforgedLaws.{AreAhead, ArrivedPayloadsClaim, ArrivedAreAnnounced, ArrivedPayloadsClaimAhead, ArrivedAheadAreAnnounced}
-use Rattle.ss_strangers.proofs.Claims.{Claims, SpeaksAt, to_claims}
-use Rattle.ss_strangers.proofs.JoinedByGiven.{is_session, own_within}
+use Rattle.ss_strangers.specs.UnforgedLaws.{ArrivedPayloadsClaim, ArrivedAreAnnounced, ArrivedPayloadsClaimAhead, ArrivedAheadAreAnnounced}
+use Rattle.ss_strangers.proofs.Claims.{Claims, to_claims}
+use Rattle.ss_strangers.proofs.JoinedByGiven.{own_within}
 use Rattle.ss_strangers.proofs.Reported.{announced_told}
 use Rattle.ss_strangers.proofs.ReportsAgree.{has-kept, hashes_kept, joined_claims}
 use Rattle.ss_strangers.proofs.StoredTexts.{stored_too}

@@ -1,9 +1,9 @@
 -- What is reported of a session of whose verified blocks each says what one says that originators sent: of originators of
 -- which each goes on from the last counters.
-use Rattle.std.proofs.Common.{◌≡◌, ◌⊎◌, inl, inr, ℕ, ◌+◌, ◌-◌, ◌<◌, ◌≤◌, true, List, length, refl, sym, ap, ◌∙◌, subst, arith}
+use Rattle.std.proofs.Common.{◌≡◌, ◌⊎◌, inl, inr, ℕ, ◌+◌, ◌-◌, ◌≤◌, true, List, sym, ap, ◌∙◌, subst, arith}
 use Rattle.std.specs.Prelude.{Some, slice_get}
 use Rattle.std.specs.List.{Contains}
-use Rattle.std.proofs.lemmas.Option.{same_Some, slice_get_within}
+use Rattle.std.proofs.lemmas.Option.{same_Some}
 use Rattle.ss_block.specs.declared.block.Group.{Group}
 use Rattle.ss_block.specs.declared.hash.Hash.{Hash}
 use Rattle.ss_block.specs.Block as block
@@ -11,25 +11,22 @@ use Rattle.ss_block.specs.Hashes.{pair, hash_of}
 use Rattle.ss_origin.specs.Chain.{IsChain, given_to}
 use Rattle.ss_origin.specs.SentLaws.{SentBlocksAreNumbered}
 use Rattle.ss_origin.specs.Groups.{sg_of, group_of}
-use Rattle.ss_review.specs.declared.counted.counter.Counter.{Counter}
 use Rattle.ss_review.specs.declared.counted.shortfall.LogShortfalls.{LogShortfalls}
 use Rattle.ss_review.specs.declared.keep.message.BlockContent.TheVariants.{Hashes}
 use Rattle.ss_review.specs.declared.keep.message.BlockMessage.{BlockMessage}
-use Rattle.ss_review.specs.declared.keep.message.NormalMessage.{NormalMessage}
 use Rattle.ss_review.specs.declared.report.entry.Why.{Why}
 use Rattle.ss_review.specs.declared.report.entry.Why.TheVariants as whys
 use Rattle.ss_review.specs.declared.report.report.Report.{Report}
 use Rattle.ss_review.specs.announced.Announced.{Key}
-use Rattle.ss_review.specs.announced.Announcing.{Announces, IsAnnounced}
+use Rattle.ss_review.specs.announced.Announcing.{Announces}
 use Rattle.ss_review.specs.assign.Assigned.{has_hash}
 use Rattle.ss_review.specs.counted.KeptLaws as fates
 use Rattle.ss_review.specs.counted.KeptLaws.{Fate, HasFate, IsInHole, IsInTail, ReachTheEnd, IsLost}
 use Rattle.ss_review.specs.deliveries.Delivery.{own_session, is_normal}
-use Rattle.ss_review.specs.deliveries.Delivered.{own_number}
-use Rattle.ss_review.specs.deliveries.DeliveryLaws.{Case, says, message_of, HasHashOfGiven}
+use Rattle.ss_review.specs.deliveries.DeliveryLaws.{Case, says, message_of}
 use Rattle.ss_review.specs.keep.Contents.{Contents, normals}
 use Rattle.ss_review.specs.keep.Notes.{note, notes}
-use Rattle.ss_review.specs.report.Meaning.{IsListed, IsGap, IsTold}
+use Rattle.ss_review.specs.report.Meaning.{IsListed, IsGap}
 use Rattle.ss_review.specs.report.Report.{report_of}
 use Rattle.ss_review.specs.sessions.Verified.{is_verified}
 use Rattle.ss_octets.proofs.Members.{Has, contains_from_has}
@@ -38,7 +35,7 @@ use Rattle.ss_review.proofs.of_deliveries.OwnKeys.{own_alg}
 use Rattle.ss_review.proofs.of_lists.Keyed.{has-slice_get}
 use Rattle.ss_review.proofs.of_reports.Witnesses.{stored_normal, hash_is}
 use Rattle.ss_strangers.specs.Unforged.{IsAsSent}
-use Rattle.ss_strangers.proofs.Reported.{borne, told_announced, disputed_announced}
+use Rattle.ss_strangers.proofs.Reported.{borne}
 
 -- each verified signature block of the session says what one says that was sent
 abbrev pub AreAsSent : Case → List BlockMessage → Type 0

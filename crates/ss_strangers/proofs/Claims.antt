@@ -1,5 +1,5 @@
 -- A payload that claims a session: what its certificate blocks state together, alone and beside another claimant.
-use Rattle.std.proofs.Common.{◌≡◌, ◌⊎◌, inl, inr, ℕ, zero, suc, ◌+◌, ◌-◌, ◌<◌, ◌≤◌, Bool, true, false, cond, ◌&&◌, List, [], ◌∷◌, length, map, filter, refl, sym, ap, ◌∙◌, subst, arith}
+use Rattle.std.proofs.Common.{◌≡◌, inl, inr, ℕ, ◌+◌, ◌-◌, ◌<◌, ◌≤◌, Bool, true, ◌&&◌, List, [], ◌∷◌, length, filter, refl, sym, ap, ◌∙◌, subst, arith}
 use Rattle.std.specs.Prelude.{nat_le, nat_lt, slice_get, slice_index, Option, Some, None, is_some, Result, Ok, Err}
 use Rattle.std.specs.List.{list_all, range_with_len}
 use Rattle.std.proofs.lemmas.Bool.{cases_eq, le-leb, lt-ltb, leb-true, ltb-true, and_parts, and_from}
@@ -7,22 +7,22 @@ use Rattle.std.proofs.lemmas.Option.{get_or_from_slice_get, same_Some}
 use Rattle.ss_block.specs.Block as block
 use Rattle.ss_block.specs.Joining.{Stated, placed, HasTotal, HasOctet, IsDisputed, HasGap}
 use Rattle.ss_block.specs.Payload.{PayloadValue}
-use Rattle.ss_block.specs.PayloadReading.{stamp_in, stamp_and_rest_in, payload_in}
+use Rattle.ss_block.specs.PayloadReading.{stamp_and_rest_in, payload_in}
 use Rattle.ss_octets.specs.Cut.{parts_at}
 use Rattle.ss_review.specs.declared.keep.message.BlockContent.{BlockContent}
-use Rattle.ss_review.specs.declared.keep.message.BlockContent.TheVariants.{Hashes, Fragment}
+use Rattle.ss_review.specs.declared.keep.message.BlockContent.TheVariants.{Fragment}
 use Rattle.ss_review.specs.declared.keep.message.BlockMessage.{BlockMessage}
 use Rattle.ss_review.specs.declared.report.session_report.SessionState.{SessionState}
 use Rattle.ss_review.specs.declared.report.session_report.SessionState.TheVariants as states
 use Rattle.ss_review.specs.sessions.Payloads.{certificate_of, certificates, has_index, cover, is_payload}
 use Rattle.ss_review.specs.sessions.States.{stated_by, StatesText, IsCovered, IsPayloadBlock}
 use Rattle.ss_review.specs.sessions.Verified.{Answers, signature_of, is_valid, joined, state_in}
-use Rattle.ss_octets.proofs.Members.{Has, contains_from_has, has_from_contains, has-filter, from_has-filter, has-filter_map, from_has-filter_map}
+use Rattle.ss_octets.proofs.Members.{Has, contains_from_has, has-filter, from_has-filter, has-filter_map, from_has-filter_map}
 use Rattle.ss_review.proofs.of_lists.Tests.{any_member, member_any, all_member, member_all, in_range, from_in_range}
-use Rattle.ss_review.proofs.of_sessions.Stating.{IsStatedBy, stated_by-IsStatedBy, has-placed, from_has-placed}
+use Rattle.ss_review.proofs.of_sessions.Stating.{IsStatedBy, stated_by-IsStatedBy, has-placed}
 use Rattle.ss_review.proofs.of_sessions.StatesTold.{fragment_of, joined_under, in_state}
-use Rattle.ss_nights.proofs.Fragments.{HasFragment, total_of, has-total, octet_of, has-octet, fragment_in, one_total}
-use Rattle.ss_pinned.specs.Pinned.{agrees, agrees_in, speaks_for, claims}
+use Rattle.ss_nights.proofs.Fragments.{HasFragment, total_of, has-total, octet_of, has-octet, one_total}
+use Rattle.ss_pinned.specs.Pinned.{agrees_in, speaks_for, claims}
 use Rattle.ss_strangers.specs.States.{AreWithin}
 use Rattle.ss_strangers.proofs.Agreeing.{Says, agreeing_says, differ_at}
 

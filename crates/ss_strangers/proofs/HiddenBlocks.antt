@@ -1,28 +1,25 @@
 -- A report by given payloads is the report of a log: of one in which a spoilt block stands for each that isn't kept.
-use Rattle.std.proofs.Common.{◌≡◌, ◌⊎◌, inl, inr, ℕ, ◌+◌, Bool, true, false, cond, List, [], ◌∷◌, map, filter, refl, sym, ap, ◌∙◌, arith}
+use Rattle.std.proofs.Common.{◌≡◌, ℕ, ◌+◌, Bool, true, false, cond, List, [], ◌∷◌, filter, refl, sym, ap, ◌∙◌, arith}
 use Rattle.std.specs.Prelude.{Option, Some, None}
 use Rattle.std.specs.List.{cons_option, enumerate_from, filter_map}
 use Rattle.ss_message.specs.Message.{MessageValue, text}
 use Rattle.ss_message.specs.Octets.{is_name}
-use Rattle.ss_block.specs.declared.reading.Reading.{Reading}
-use Rattle.ss_block.specs.declared.reading.Reading.TheVariants as readings
 use Rattle.ss_block.specs.declared.spoil.Spoil.{Spoil}
-use Rattle.ss_block.specs.Reading.{reading, signature_reading}
+use Rattle.ss_block.specs.Reading.{signature_reading}
 use Rattle.ss_block.specs.ReadingLaws.{ReadingsAreOfValues}
 use Rattle.ss_review.specs.declared.counted.counter.Counter.{Counter}
 use Rattle.ss_review.specs.declared.keep.message.BlockMessage.{BlockMessage}
 use Rattle.ss_review.specs.declared.keep.message.NormalMessage.{NormalMessage}
-use Rattle.ss_review.specs.declared.report.report.Report.{Report}
 use Rattle.ss_review.specs.declared.report.session_report.SessionReport.{SessionReport}
 use Rattle.ss_review.specs.counted.Counted.{counted_sessions}
 use Rattle.ss_review.specs.counted.Kept.{log_shortfalls}
 use Rattle.ss_review.specs.counted.KeptLaws.{shortfalls_of}
-use Rattle.ss_review.specs.keep.Contents.{Contents, normal_at, block_at, normals, blocks, contents}
+use Rattle.ss_review.specs.keep.Contents.{normal_at, block_at, normals, blocks, contents}
 use Rattle.ss_review.specs.keep.Notes.{Note, Normal, Block, Spoilt, noted, note, notes}
 use Rattle.ss_review.specs.report.Report.{report_of, report}
 use Rattle.ss_review.specs.sessions.Sessions.{of_session}
 use Rattle.ss_review.specs.sessions.Verified.{Answers}
-use Rattle.ss_pinned.specs.Pinned.{keeps, kept, pinned_contents, pinned_report}
+use Rattle.ss_pinned.specs.Pinned.{keeps, kept, pinned_report}
 use Rattle.ss_strangers.specs.Unforged.{pinned_shortfalls}
 
 -- ---- a spoilt block

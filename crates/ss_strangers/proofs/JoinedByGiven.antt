@@ -1,11 +1,11 @@
 -- The state of a session of which only the blocks are kept that given payloads leave.
-use Rattle.std.proofs.Common.{◌≡◌, ◌⊎◌, inl, inr, ℕ, ◌≤◌, Bool, true, false, cond, ◌||◌, ◌&&◌, not, List, [], ◌∷◌, map, filter, refl, sym, ap, ◌∙◌, subst}
+use Rattle.std.proofs.Common.{◌≡◌, ◌⊎◌, inl, inr, ℕ, Bool, true, false, cond, ◌||◌, List, [], ◌∷◌, filter, refl, sym, ap, ◌∙◌, subst}
 use Rattle.std.specs.Prelude.{Some, Ok, Err}
 use Rattle.std.specs.List.{list_any}
 use Rattle.std.specs.Str.{bytes_eq}
 use Rattle.std.specs.Ordering.{is_eq}
 use Rattle.std.specs.Cmp.{Equal-is}
-use Rattle.std.proofs.lemmas.Bool.{cases_Bool, both_ways, or_cases, or_left, or_right, false_from_ne_true, true≢false}
+use Rattle.std.proofs.lemmas.Bool.{cases_Bool, both_ways, or_cases, or_left, or_right, true≢false}
 use Rattle.std.proofs.lemmas.Cmp.{tied_itself}
 use Rattle.std.proofs.lemmas.Slice.Eq.{bytes_eq-Decides}
 use Rattle.ss_block.specs.Block as block
@@ -18,7 +18,7 @@ use Rattle.ss_block.specs.declared.reading.Reading.{Reading}
 use Rattle.ss_block.specs.declared.reading.Reading.TheVariants as readings
 use Rattle.ss_block.specs.Reading.{reading}
 use Rattle.ss_review.specs.declared.keep.message.BlockContent.{BlockContent}
-use Rattle.ss_review.specs.declared.keep.message.BlockContent.TheVariants.{Hashes, Fragment}
+use Rattle.ss_review.specs.declared.keep.message.BlockContent.TheVariants.{Fragment}
 use Rattle.ss_review.specs.declared.keep.message.BlockMessage.{BlockMessage}
 use Rattle.ss_review.specs.declared.report.session_report.SessionState.TheVariants as states
 use Rattle.ss_review.specs.keep.Contents.{said_in, blocks}
@@ -32,12 +32,10 @@ use Rattle.ss_octets.proofs.Members.{Has, has_from_contains, contains_from_has, 
 use Rattle.ss_review.proofs.of_lists.Tests.{any_member, member_any}
 use Rattle.ss_review.proofs.of_reports.Witnesses.{stored_block}
 use Rattle.ss_review.proofs.of_sessions.Stating.{stated_by-IsStatedBy, disputed_from, disputed_to}
-use Rattle.ss_nights.proofs.Fragments.{HasFragment}
 use Rattle.ss_pinned.specs.Pinned.{speaks_for, claims, claimants, is_signature, keeps, kept}
 use Rattle.ss_strangers.specs.States.{AreWithin, IsClaimant, IsUnclaimed, IsOnlyClaimant, AreClaimants}
 use Rattle.ss_strangers.specs.StateLaws.{pinned_joined, LogsAreWithin, IsJoinedByGiven, SessionsAreJoinedByGiven, IsUndisputedOrUnclaimed, StatesAgree, OnlyDisputesEnd}
-use Rattle.ss_strangers.proofs.Agreeing.{Says}
-use Rattle.ss_strangers.proofs.Claims.{Claims, SpeaksAt, of_claims, to_claims, speaker_says, from_one, joined_claimed, undisputed_where_all_agree, two_dispute, joined_disputed}
+use Rattle.ss_strangers.proofs.Claims.{Claims, of_claims, speaker_says, from_one, joined_claimed, undisputed_where_all_agree, two_dispute, joined_disputed}
 
 -- ---- logs
 

@@ -1,15 +1,13 @@
 -- The blocks of a session, and those to which strangers added some: what claims it, and under what it is joined.
-use Rattle.std.proofs.Common.{◌≡◌, ◌⊎◌, inl, inr, ℕ, Bool, true, false, List, refl, sym, ap, ◌∙◌, subst}
+use Rattle.std.proofs.Common.{◌≡◌, ◌⊎◌, inl, inr, ℕ, true, List, sym, ap, ◌∙◌, subst}
 use Rattle.std.specs.Prelude.{Ok, Err}
 use Rattle.std.proofs.lemmas.Bool.{and_parts, and_from, both_ways}
 use Rattle.ss_block.specs.Block as block
 use Rattle.ss_block.specs.declared.hash.Hash.{Hash}
 use Rattle.ss_block.specs.declared.session.Session.{Session}
-use Rattle.ss_block.specs.Joining.{Stated, HasTotal, HasOctet, IsDisputed}
-use Rattle.ss_block.specs.Order.{hash_cmp}
+use Rattle.ss_block.specs.Joining.{HasTotal, HasOctet, IsDisputed}
 use Rattle.ss_block.specs.OrderLaws.{hash_cmp_total}
-use Rattle.ss_review.specs.declared.keep.message.BlockContent.{BlockContent}
-use Rattle.ss_review.specs.declared.keep.message.BlockContent.TheVariants.{Hashes, Fragment}
+use Rattle.ss_review.specs.declared.keep.message.BlockContent.TheVariants.{Hashes}
 use Rattle.ss_review.specs.declared.keep.message.BlockMessage.{BlockMessage}
 use Rattle.ss_review.specs.declared.report.session_report.SessionState.TheVariants as states
 use Rattle.ss_review.specs.announced.Announced.{Key, Row, rows, keys, hashes_for}
@@ -17,7 +15,7 @@ use Rattle.ss_review.specs.announced.Announcing.{Announces}
 use Rattle.ss_review.specs.keep.Contents.{Contents}
 use Rattle.ss_review.specs.sessions.Payloads.{certificates}
 use Rattle.ss_review.specs.sessions.Sessions.{same_session, of_session}
-use Rattle.ss_review.specs.sessions.States.{stated_by, HasValidOctet}
+use Rattle.ss_review.specs.sessions.States.{stated_by}
 use Rattle.ss_review.specs.sessions.Verified.{Answers, signature_of, is_valid, joined, is_valid_in, is_verified}
 use Rattle.ss_octets.proofs.Members.{Has, has_from_contains, contains_from_has, has-filter, from_has-filter}
 use Rattle.ss_review.proofs.of_lists.Rising.{same_members}
@@ -28,10 +26,10 @@ use Rattle.ss_review.proofs.of_sessions.StatesTold.{payload_told}
 use Rattle.ss_nights.proofs.Fragments.{HasFragment, total_of, has-total, octet_of, has-octet, StatesTotal}
 use Rattle.ss_pinned.specs.Pinned.{agrees_in, speaks_for, kept}
 use Rattle.ss_strangers.specs.StateLaws.{pinned_joined, IsJoinedByGiven}
-use Rattle.ss_strangers.specs.States.{AreWithin, IsClaimant, IsUnclaimed, IsOnlyClaimant, AreClaimants}
+use Rattle.ss_strangers.specs.States.{AreWithin, IsClaimant, IsOnlyClaimant, AreClaimants}
 use Rattle.ss_strangers.specs.Strangers.{AreCopies, IsForeign, IsAddedTo}
-use Rattle.ss_strangers.proofs.Claims.{Claims, SpeaksAt, of_claims, to_claims, joined_claimed, valid_speaker}
-use Rattle.ss_strangers.proofs.JoinedByGiven.{session_is, is_session, own_within, joined_by_given}
+use Rattle.ss_strangers.proofs.Claims.{Claims, of_claims, to_claims, joined_claimed, valid_speaker}
+use Rattle.ss_strangers.proofs.JoinedByGiven.{own_within, joined_by_given}
 use Rattle.ss_strangers.proofs.ReportsAgree.{from_has-kept, has-kept, hashes_kept, joined_claims}
 
 -- ---- copies

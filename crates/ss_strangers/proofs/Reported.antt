@@ -1,28 +1,26 @@
 -- What a report of any contents says about a number, and the same of two reports with equal sessions.
-use Rattle.std.proofs.Common.{◌≡◌, ◌⊎◌, inl, inr, ℕ, Bool, true, false, List, refl, sym, ap, ◌∙◌, subst}
-use Rattle.std.specs.Prelude.{Option, Some, None, slice_get, if◌then◌else◌}
+use Rattle.std.proofs.Common.{◌≡◌, inl, inr, ℕ, Bool, true, false, List, refl, ap, ◌∙◌, subst}
+use Rattle.std.specs.Prelude.{Option, Some, None, if◌then◌else◌}
 use Rattle.std.specs.List.{Contains}
-use Rattle.std.proofs.lemmas.Bool.{cases_Bool}
 use Rattle.ss_block.specs.declared.block.Group.{Group}
 use Rattle.ss_block.specs.declared.hash.Hash.{Hash}
 use Rattle.ss_block.specs.declared.hash.HashPair.{HashPair}
 use Rattle.ss_block.specs.declared.session.Session.{Session}
 use Rattle.ss_review.specs.declared.keep.message.NormalMessage.{NormalMessage}
 use Rattle.ss_review.specs.declared.report.entry.Entry.{Entry}
-use Rattle.ss_review.specs.declared.report.entry.Why.{Why}
 use Rattle.ss_review.specs.declared.report.entry.Why.TheVariants as whys
 use Rattle.ss_review.specs.declared.report.report.Report.{Report}
 use Rattle.ss_review.specs.declared.report.session_report.SessionReport.{SessionReport}
 use Rattle.ss_review.specs.announced.Announced.{Key, Row, keys, rows, hashes_for, is_disputed_key}
 use Rattle.ss_review.specs.announced.Announcing.{Announces, IsAnnounced, IsDisputedKey}
-use Rattle.ss_review.specs.assign.Assigned.{has_hash, pair_of_bearer, places_with, wanted, rank, assigned}
+use Rattle.ss_review.specs.assign.Assigned.{has_hash, places_with, wanted, rank, assigned}
 use Rattle.ss_review.specs.counted.KeptLaws.{IsInHole}
 use Rattle.ss_review.specs.keep.Contents.{Contents}
 use Rattle.ss_review.specs.report.Meaning.{Tells, IsListed, IsGap, IsTold}
 use Rattle.ss_review.specs.report.Report.{report_of}
 use Rattle.ss_review.specs.sessions.Verified.{Answers}
 use Rattle.ss_octets.proofs.Members.{Has}
-use Rattle.ss_review.proofs.of_assignment.OnePlaceOneKey.{only_one, wanted_key, assigned_cases, from_has-places_with}
+use Rattle.ss_review.proofs.of_assignment.OnePlaceOneKey.{only_one, assigned_cases, from_has-places_with}
 use Rattle.ss_review.proofs.of_lists.Keyed.{has-slice_get}
 use Rattle.ss_review.proofs.of_numbers.Announcements.{announced_row, announced_key, has-announced_key, from_has-hashes_for, disputed_key}
 use Rattle.ss_review.proofs.of_reports.Listings.{listed_assigned, assigned_listed, gap_told, tells_gap}

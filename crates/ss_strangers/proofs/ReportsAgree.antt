@@ -1,26 +1,21 @@
 -- Where no session is both disputed and claimed, a log has one report, whether payloads are given or not.
-use Rattle.std.proofs.Common.{◌≡◌, ◌⊎◌, inl, inr, ℕ, ◌+◌, ◌-◌, ◌<◌, ◌≤◌, Bool, true, false, cond, ◌&&◌, not, List, [], ◌∷◌, length, map, filter, refl, sym, ap, ◌∙◌, subst, arith}
-use Rattle.std.specs.Prelude.{Ok, Err, Result, Some, slice_get, slice_index}
-use Rattle.std.proofs.lemmas.Bool.{cases_Bool, both_ways, and_from, and_parts, false_from_ne_true, true≢false}
+use Rattle.std.proofs.Common.{◌≡◌, ◌⊎◌, inl, inr, ℕ, ◌+◌, ◌-◌, ◌<◌, Bool, true, false, ◌&&◌, not, List, length, map, refl, sym, ap, ◌∙◌, subst, arith}
+use Rattle.std.specs.Prelude.{Ok, Some, slice_index}
+use Rattle.std.proofs.lemmas.Bool.{cases_Bool, and_from, false_from_ne_true, true≢false}
 use Rattle.std.proofs.lemmas.Option.{slice_get-get_or, slice_get_within}
 use Rattle.ss_block.specs.Block as block
 use Rattle.ss_block.specs.declared.hash.Hash.{Hash}
 use Rattle.ss_block.specs.declared.session.Session.{Session}
-use Rattle.ss_block.specs.Joining.{placed, IsDisputed}
-use Rattle.ss_block.specs.Order.{session_cmp}
+use Rattle.ss_block.specs.Joining.{placed}
 use Rattle.ss_block.specs.OrderLaws.{session_cmp_total, session_cmp_exact}
 use Rattle.ss_review.specs.declared.keep.message.BlockContent.{BlockContent}
 use Rattle.ss_review.specs.declared.keep.message.BlockContent.TheVariants.{Hashes, Fragment}
 use Rattle.ss_review.specs.declared.keep.message.BlockMessage.{BlockMessage}
-use Rattle.ss_review.specs.declared.report.session_report.SessionReport.{SessionReport}
-use Rattle.ss_review.specs.declared.report.session_report.SessionState.{SessionState}
-use Rattle.ss_review.specs.announced.Announced.{Key, Row, row_cmp, rows}
+use Rattle.ss_review.specs.announced.Announced.{Key, rows}
 use Rattle.ss_review.specs.announced.Announcing.{Announces}
-use Rattle.ss_review.specs.keep.Contents.{Contents}
 use Rattle.ss_review.specs.report.Report.{groups, group_report, session_report, unlisted, refused, report_of}
-use Rattle.ss_review.specs.sessions.Payloads.{certificates, is_disputed}
 use Rattle.ss_review.specs.sessions.Sessions.{same_session, sessions, of_session}
-use Rattle.ss_review.specs.sessions.States.{stated_by, HasValidOctet}
+use Rattle.ss_review.specs.sessions.States.{HasValidOctet}
 use Rattle.ss_review.specs.sessions.Verified.{Answers, signature_of, is_valid, joined, state_in, is_valid_in, is_verified}
 use Rattle.ss_octets.proofs.Members.{Has, has_from_contains, contains_from_has, has-map, from_has-map, has-filter, from_has-filter}
 use Rattle.ss_review.proofs.of_lists.Mapped.{filter_agree}
@@ -29,13 +24,13 @@ use Rattle.ss_review.proofs.of_lists.Sections.{map_agree}
 use Rattle.ss_review.proofs.of_lists.TotalOrders.{row_cmp_total}
 use Rattle.ss_review.proofs.of_numbers.Announcements.{announced_row, has-rows, rows-rise}
 use Rattle.ss_review.proofs.of_sessions.StatesTold.{payload_told}
-use Rattle.ss_nights.proofs.Fragments.{HasFragment, Fits, fits_stated, has-total, has-octet}
-use Rattle.ss_pinned.specs.Pinned.{agrees_in, speaks_for, is_signature, keeps, kept, pinned_contents, is_verified_pinned, refused_pinned, pinned_report}
-use Rattle.ss_strangers.specs.States.{AreWithin, IsClaimant, IsUnclaimed}
-use Rattle.ss_strangers.specs.StateLaws.{pinned_joined, IsUndisputedOrUnclaimed, ReportsAgree}
+use Rattle.ss_nights.proofs.Fragments.{HasFragment, fits_stated, has-total, has-octet}
+use Rattle.ss_pinned.specs.Pinned.{agrees_in, speaks_for, is_signature, keeps, kept, pinned_contents, is_verified_pinned, refused_pinned}
+use Rattle.ss_strangers.specs.States.{AreWithin, IsClaimant}
+use Rattle.ss_strangers.specs.StateLaws.{IsUndisputedOrUnclaimed, ReportsAgree}
 use Rattle.ss_strangers.proofs.Agreeing.{Says, from_placed, says_agreeing}
-use Rattle.ss_strangers.proofs.Claims.{Claims, SpeaksAt, some_octet}
-use Rattle.ss_strangers.proofs.JoinedByGiven.{session_is, is_session, kept_of_session, claims_of, speaker_kept, signature_kept, unclaimed_kept, how_many, own_within, claimed_undisputed, states_agree}
+use Rattle.ss_strangers.proofs.Claims.{Claims, some_octet}
+use Rattle.ss_strangers.proofs.JoinedByGiven.{session_is, is_session, claims_of, speaker_kept, signature_kept, unclaimed_kept, how_many, own_within, claimed_undisputed, states_agree}
 
 -- ---- rows
 

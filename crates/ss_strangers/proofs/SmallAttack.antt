@@ -1,28 +1,23 @@
 -- The small log that a stranger attacks meets the premises, and what is reported of it.
-use Rattle.std.proofs.Common.{◌≡◌, ◌⊎◌, inl, inr, ℕ, zero, suc, ◌+◌, ◌-◌, ◌<◌, ◌≤◌, Bool, true, false, List, [], ◌∷◌, length, refl, sym, ap, ◌∙◌, subst, arith}
-use Rattle.std.specs.Prelude.{Option, Some, None, Ok, Err, option_map, slice_get}
-use Rattle.std.specs.List.{All, Contains}
+use Rattle.std.proofs.Common.{◌≡◌, inl, inr, ℕ, zero, suc, ◌<◌, true, false, List, [], ◌∷◌, refl, sym, ap, ◌∙◌, arith}
+use Rattle.std.specs.Prelude.{Option, Some, None, Err, option_map, slice_get}
+use Rattle.std.specs.List.{Contains}
 use Rattle.std.specs.Str.{IsAscii}
 use Rattle.std.proofs.lemmas.List.Elements.{All-nil, All-cons}
 use Rattle.std.proofs.lemmas.Option.{same_Some, slice_get-map}
 use Rattle.std.proofs.lemmas.Str.{IsUtf8-from_ascii, is_utf8-from_IsUtf8}
 use Rattle.ss_payload.specs.Payload.{payload_text}
 use Rattle.ss_block.specs.declared.hash.Alg.TheVariants as algs
-use Rattle.ss_block.specs.declared.hash.Hash.{Hash}
-use Rattle.ss_block.specs.declared.reading.Reading.{Reading}
 use Rattle.ss_block.specs.declared.reading.Reading.TheVariants as readings
-use Rattle.ss_block.specs.declared.session.Session.{Session}
 use Rattle.ss_block.specs.Block as block
 use Rattle.ss_block.specs.Hashes.{hash_of}
-use Rattle.ss_block.specs.Joining.{placed, IsDisputed}
+use Rattle.ss_block.specs.Joining.{IsDisputed}
 use Rattle.ss_block.specs.Reading.{reading}
 use Rattle.ss_block.specs.Session.{session}
 use Rattle.ss_block.specs.Signed.{signed}
-use Rattle.ss_block.specs.Writing.{certificate_text, unsigned_certificate_text, unsigned_signature_text, head_session}
-use Rattle.ss_block.specs.WritingLaws.{IsHash, IsBlockText, SignaturesAreRead, CertificatesAreRead}
-use Rattle.ss_origin.specs.Ahead.{lives_of}
-use Rattle.ss_origin.specs.AheadLaws.{ChainsGoOnAhead}
-use Rattle.ss_origin.specs.Chain.{IsChain, emitted_by}
+use Rattle.ss_block.specs.Writing.{certificate_text}
+use Rattle.ss_block.specs.WritingLaws.{IsHash, SignaturesAreRead, CertificatesAreRead}
+use Rattle.ss_origin.specs.Chain.{emitted_by}
 use Rattle.ss_origin.specs.Emission.{certificate_in, signature_in}
 use Rattle.ss_review.specs.declared.keep.message.BlockContent.{BlockContent}
 use Rattle.ss_review.specs.declared.keep.message.BlockContent.TheVariants.{Hashes, Fragment}
@@ -31,20 +26,19 @@ use Rattle.ss_review.specs.declared.report.entry.Why.{Why}
 use Rattle.ss_review.specs.declared.report.entry.Why.TheVariants as whys
 use Rattle.ss_review.specs.declared.report.session_report.SessionState.TheVariants as states
 use Rattle.ss_review.specs.announced.Announced.{Key}
-use Rattle.ss_review.specs.counted.KeptLaws.{ReachTheEnd, counters_kept, OwnCountersReachTheEnd, IsLost}
+use Rattle.ss_review.specs.counted.KeptLaws.{counters_kept, OwnCountersReachTheEnd, IsLost}
 use Rattle.ss_review.specs.deliveries.Delivery.{own_session, is_normal, HasPayload}
 use Rattle.ss_review.specs.deliveries.Delivered.{own_number}
-use Rattle.ss_review.specs.deliveries.DeliveryLaws.{Case, IsCase, says, AcceptsSent, HasBlock, message_of}
+use Rattle.ss_review.specs.deliveries.DeliveryLaws.{IsCase, says, AcceptsSent, HasBlock, message_of}
 use Rattle.ss_review.specs.deliveries.AheadDelivery.{CasesGoOnAhead}
 use Rattle.ss_review.specs.deliveries.SmallChains.{mark, small, message, certificate, begun, whole_turns, bare, PremisesAreMet}
 use Rattle.ss_review.specs.deliveries.SmallChains as chains
 use Rattle.ss_review.specs.keep.Contents.{said_in, block_with, block_in, blocks}
 use Rattle.ss_review.specs.keep.Notes.{Note, Block, note, notes}
 use Rattle.ss_review.specs.questions.Shortened.{hash_count}
-use Rattle.ss_review.specs.report.Meaning.{IsListed, IsGap, IsTold}
+use Rattle.ss_review.specs.report.Meaning.{IsGap, IsTold}
 use Rattle.ss_review.specs.sessions.Payloads.{certificates}
 use Rattle.ss_review.specs.sessions.Sessions.{same_session, of_session}
-use Rattle.ss_review.specs.sessions.States.{stated_by}
 use Rattle.ss_review.specs.sessions.Verified.{joined}
 use Rattle.ss_octets.proofs.Members.{Has, has_from_contains, contains_from_has, has-filter}
 use Rattle.ss_review.proofs.of_deliveries.DigestOctets.{AreOctets, hash_is_hash}
@@ -56,9 +50,9 @@ use Rattle.ss_review.proofs.of_reports.Witnesses.{stored_block}
 use Rattle.ss_review.proofs.of_sessions.Stating.{stated_by-IsStatedBy}
 use Rattle.ss_nights.proofs.Fragments.{HasFragment, has-octet}
 use Rattle.ss_strangers.specs.SmallAttack.{own_payload, given, forged_certificate, attacked, untrusting, SmallAttackIsThis}
-use Rattle.ss_strangers.specs.States.{IsClaimant, IsOnlyClaimant}
+use Rattle.ss_strangers.specs.States.{IsOnlyClaimant}
 use Rattle.ss_strangers.specs.Unforged.{IsAsSent, NothingIsForged, IsUnforged, pinned_in}
-use Rattle.ss_strangers.specs.UnforgedLaws.{AreAhead, OnlyClaimantsJoin, ArrivedPayloadsClaim, ArrivedAreAnnounced, NothingIsDisputed, ListedHaveTheirHash}
+use Rattle.ss_strangers.specs.UnforgedLaws.{OnlyClaimantsJoin, ArrivedPayloadsClaim, ArrivedAreAnnounced, NothingIsDisputed, ListedHaveTheirHash}
 use Rattle.ss_strangers.specs.Untrusted as untrusted
 use Rattle.ss_strangers.proofs.Claims.{joined_disputed}
 use Rattle.ss_strangers.proofs.JoinedByGiven.{is_session}

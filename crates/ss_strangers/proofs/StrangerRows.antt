@@ -1,5 +1,5 @@
 -- The small logs into which strangers wrote meet the premises of the laws.
-use Rattle.std.proofs.Common.{◌≡◌, ◌⊎◌, inl, inr, ℕ, zero, suc, ◌+◌, ◌≤◌, Bool, true, false, cond, List, [], ◌∷◌, length, filter, refl, sym, ap, ◌∙◌, subst, arith}
+use Rattle.std.proofs.Common.{◌≡◌, ◌⊎◌, inl, inr, ℕ, ◌+◌, ◌≤◌, Bool, true, false, cond, List, [], ◌∷◌, length, refl, sym, ap, ◌∙◌, subst, arith}
 use Rattle.std.specs.Prelude.{Ok, Err, ◌&&◌, nat_le}
 use Rattle.std.specs.List.{Contains, list_all}
 use Rattle.std.specs.Str.{bytes_eq}
@@ -17,13 +17,11 @@ use Rattle.ss_review.specs.declared.keep.message.BlockContent.TheVariants.{Hashe
 use Rattle.ss_review.specs.declared.keep.message.BlockMessage.{BlockMessage}
 use Rattle.ss_review.specs.declared.keep.message.NormalMessage.{NormalMessage}
 use Rattle.ss_review.specs.declared.report.session_report.SessionState.TheVariants as states
-use Rattle.ss_review.specs.announced.Announced.{Key}
-use Rattle.ss_review.specs.announced.Announcing.{Announces}
-use Rattle.ss_review.specs.assign.Assigned.{same_pair, has_hash, places_with}
-use Rattle.ss_review.specs.report.Rows.{first, second, message, whole_log}
+use Rattle.ss_review.specs.assign.Assigned.{has_hash, places_with}
+use Rattle.ss_review.specs.report.Rows.{first, whole_log}
 use Rattle.ss_review.specs.sessions.Payloads.{certificates, is_disputed, cover}
 use Rattle.ss_review.specs.sessions.Sessions.{same_session, of_session}
-use Rattle.ss_review.specs.sessions.Verified.{is_valid, joined}
+use Rattle.ss_review.specs.sessions.Verified.{joined}
 use Rattle.ss_octets.proofs.Members.{Has, has_from_contains, contains_from_has}
 use Rattle.ss_review.proofs.of_kept_messages.NormalCounts.{length-places_with}
 use Rattle.ss_review.proofs.of_lists.Keyed.{has-slice_get}
@@ -32,9 +30,9 @@ use Rattle.ss_review.proofs.of_sessions.Verifying.{unstated}
 use Rattle.ss_pinned.specs.Pinned.{claims, kept}
 use Rattle.ss_strangers.specs.StateLaws.{pinned_joined, IsUndisputedOrUnclaimed}
 use Rattle.ss_strangers.specs.States.{AreWithin, IsClaimant, IsOnlyClaimant, AreClaimants}
-use Rattle.ss_strangers.specs.Strangers.{AreCopies, IsForeign, HasMore, AnnouncedTellPairs, IsAddedTo, JoinedAreClaimed}
-use Rattle.ss_strangers.specs.StrangerRows.{here, payload, other_payload, wary, forged, stated, stated_other, two_announced, strange, strangers_log, two_claimants_blocks, PremisesAreMet}
-use Rattle.ss_strangers.proofs.JoinedByGiven.{session_is, is_session}
+use Rattle.ss_strangers.specs.Strangers.{AreCopies, IsForeign, AnnouncedTellPairs, IsAddedTo, JoinedAreClaimed}
+use Rattle.ss_strangers.specs.StrangerRows.{here, payload, other_payload, wary, stated, two_announced, strangers_log, two_claimants_blocks, PremisesAreMet}
+use Rattle.ss_strangers.proofs.JoinedByGiven.{session_is}
 use Rattle.ss_strangers.proofs.ReportsAgree.{from_has-kept}
 
 -- ---- who claims

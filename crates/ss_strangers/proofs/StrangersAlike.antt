@@ -1,36 +1,31 @@
 -- A session that a given payload claims is reported alike where strangers added messages.
-use Rattle.std.proofs.Common.{◌≡◌, inl, inr, ℕ, ◌≤◌, Bool, true, false, List, [], ◌∷◌, map, filter, refl, sym, ap, ◌∙◌, subst, arith}
-use Rattle.std.specs.List.{Contains, flat_map}
-use Rattle.std.specs.Ordering.{nat_cmp}
+use Rattle.std.proofs.Common.{◌≡◌, ℕ, Bool, true, List, map, filter, refl, sym, ◌∙◌, subst, arith}
+use Rattle.std.specs.List.{Contains}
 use Rattle.std.proofs.lemmas.Cmp.{nat_cmp_total}
 use Rattle.std.proofs.lemmas.Map.Lookups.{exact_unsigned}
 use Rattle.ss_block.specs.Block as block
-use Rattle.ss_block.specs.declared.hash.Hash.{Hash}
 use Rattle.ss_block.specs.declared.session.Session.{Session}
-use Rattle.ss_block.specs.Order.{session_cmp}
 use Rattle.ss_block.specs.OrderLaws.{session_cmp_total, session_cmp_exact}
 use Rattle.ss_review.specs.declared.counted.counter.Counter.{Counter}
 use Rattle.ss_review.specs.declared.keep.message.BlockContent.{BlockContent}
 use Rattle.ss_review.specs.declared.keep.message.BlockContent.TheVariants.{Hashes, Fragment}
 use Rattle.ss_review.specs.declared.keep.message.BlockMessage.{BlockMessage}
-use Rattle.ss_review.specs.declared.report.group_report.GroupReport.{GroupReport}
-use Rattle.ss_review.specs.announced.Announced.{Key, keys, rows, hashes_for}
+use Rattle.ss_review.specs.announced.Announced.{Key, keys, rows}
 use Rattle.ss_review.specs.counted.Counted.{gbc_said, gbcs_said, gbcs, missing}
-use Rattle.ss_review.specs.counted.Kept.{counters_of, tails_in, end_of_blocks, shortfall}
+use Rattle.ss_review.specs.counted.Kept.{counters_of, end_of_blocks, shortfall}
 use Rattle.ss_review.specs.keep.Contents.{Contents}
 use Rattle.ss_review.specs.report.Entries.{keys_in}
-use Rattle.ss_review.specs.report.Report.{groups, group_report, session_report, report_of}
+use Rattle.ss_review.specs.report.Report.{session_report, report_of}
 use Rattle.ss_review.specs.sessions.Sessions.{same_session, sessions, of_session}
 use Rattle.ss_review.specs.sessions.Verified.{Answers, state_in, is_verified}
-use Rattle.ss_octets.proofs.Members.{Has, has_from_contains, contains_from_has, has-map, has-filter, from_has-filter, has-flat_map, from_has-flat_map}
+use Rattle.ss_octets.proofs.Members.{Has, contains_from_has, has-map, has-filter, from_has-filter, has-flat_map, from_has-flat_map}
 use Rattle.ss_review.proofs.of_lists.FilteredAlike.{same_kept}
 use Rattle.ss_review.proofs.of_lists.Rising.{has-in_order, in_order_same}
 use Rattle.ss_review.proofs.of_lists.TotalOrders.{key_cmp_total}
 use Rattle.ss_review.proofs.of_numbers.Announcements.{keys-rise}
 use Rattle.ss_pinned.specs.Pinned.{keeps, kept, pinned_contents, pinned_report}
-use Rattle.ss_strangers.specs.StateLaws.{pinned_joined}
 use Rattle.ss_strangers.specs.States.{IsClaimant}
-use Rattle.ss_strangers.specs.Strangers.{AreCopies, IsAddedTo, session_in, gbcs_in, without_places, group_without_places, IsReportedAlike, StrangersTakeNothing, StrangersAddNothing}
+use Rattle.ss_strangers.specs.Strangers.{IsAddedTo, session_in, gbcs_in, without_places, group_without_places, StrangersTakeNothing, StrangersAddNothing}
 use Rattle.ss_strangers.proofs.AlikeNumbers.{same_groups, same_tails}
 use Rattle.ss_strangers.proofs.Claims.{some_octet}
 use Rattle.ss_strangers.proofs.JoinedByGiven.{session_is, is_session, claims_of, speaker_kept}

@@ -1,10 +1,9 @@
 -- Which numbers are listed in a log to which strangers added messages.
-use Rattle.std.proofs.Common.{◌≡◌, ◌⊎◌, inl, inr, ℕ, zero, suc, ◌<◌, ◌≤◌, Bool, true, false, cond, ◌&&◌, List, [], ◌∷◌, length, map, filter, refl, sym, ap, ◌∙◌, subst, arith}
-use Rattle.std.specs.Prelude.{Option, Some, None, Ok, option_map, find, count_by, slice_get}
+use Rattle.std.proofs.Common.{◌≡◌, ◌⊎◌, inl, inr, ℕ, ◌<◌, ◌≤◌, Bool, true, false, cond, ◌&&◌, List, [], ◌∷◌, length, refl, sym, ap, ◌∙◌, subst, arith}
+use Rattle.std.specs.Prelude.{Some, None, Ok, option_map, find}
 use Rattle.std.specs.Ordering.{is_lt}
 use Rattle.std.proofs.lemmas.Bool.{and_parts, and_from}
 use Rattle.std.proofs.lemmas.Option.{slice_get_cases, slice_get_within}
-use Rattle.std.specs.List.{Contains}
 use Rattle.ss_block.specs.declared.hash.Hash.{Hash}
 use Rattle.ss_block.specs.declared.hash.HashPair.{HashPair}
 use Rattle.ss_review.specs.declared.keep.message.NormalMessage.{NormalMessage}
@@ -16,7 +15,7 @@ use Rattle.ss_review.specs.keep.Contents.{Contents}
 use Rattle.ss_review.specs.report.Meaning.{IsListed, IsGap}
 use Rattle.ss_review.specs.report.Report.{report_of}
 use Rattle.ss_review.specs.sessions.Verified.{Answers}
-use Rattle.ss_octets.proofs.Members.{Has, has_from_contains, contains_from_has}
+use Rattle.ss_octets.proofs.Members.{Has, contains_from_has}
 use Rattle.ss_review.proofs.of_assignment.OnePlaceOneKey.{only_one, wanted_key, assigned_cases, from_has-places_with, count_by-weaker}
 use Rattle.ss_review.proofs.of_kept_messages.Bounds.{with_itself}
 use Rattle.ss_review.proofs.of_lists.CountsWithin.{count_within}
@@ -29,9 +28,8 @@ use Rattle.ss_review.proofs.of_reports.Witnesses.{verified_cases}
 use Rattle.ss_nights.proofs.OnePair.{is_pair-is, is_pair-some}
 use Rattle.ss_pinned.specs.Pinned.{pinned_contents, pinned_report}
 use Rattle.ss_strangers.specs.StateLaws.{pinned_joined}
-use Rattle.ss_strangers.specs.States.{IsClaimant}
 use Rattle.ss_strangers.specs.Strangers.{IsAddedTo, IsStill, JoinedAreClaimed, HasMoreOf}
-use Rattle.ss_strangers.proofs.MoreBlocks.{K, L, rs, rs_more, key_before, key_still, same_hashes, claimed_stays}
+use Rattle.ss_strangers.proofs.MoreBlocks.{K, rs, rs_more, key_before, key_still, same_hashes, claimed_stays}
 use Rattle.ss_strangers.proofs.Reported.{told_in}
 
 -- ---- messages with a hash

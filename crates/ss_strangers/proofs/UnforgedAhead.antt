@@ -1,7 +1,6 @@
 -- What a review by given payloads reports of originators that go on ahead.
-use Rattle.std.proofs.Common.{◌≡◌, ◌⊎◌, inl, inr, ℕ, ◌+◌, ◌<◌, ◌≤◌, true, List, [], ◌∷◌, length, refl, sym, ap, ◌∙◌, subst, arith}
-use Rattle.std.specs.Prelude.{Some, slice_get}
-use Rattle.ss_block.specs.Block as block
+use Rattle.std.proofs.Common.{◌≡◌, inl, inr, ℕ, ◌<◌, ◌≤◌, List, [], ◌∷◌, length, refl, sym, ap, ◌∙◌, subst, arith}
+use Rattle.std.specs.Prelude.{slice_get}
 use Rattle.ss_block.specs.declared.block.Group.{Group}
 use Rattle.ss_block.specs.declared.hash.Hash.{Hash}
 use Rattle.ss_block.specs.Hashes.{hash_of}
@@ -22,14 +21,14 @@ use Rattle.ss_review.specs.counted.Kept.{kept_number}
 use Rattle.ss_review.specs.counted.KeptLaws.{EveryNumberIsTold, IsLost}
 use Rattle.ss_review.specs.deliveries.Delivery.{own_session}
 use Rattle.ss_review.specs.deliveries.DeliveryLaws.{Case, says}
-use Rattle.ss_review.specs.deliveries.AheadDelivery.{turns_in, HasNumber, HasHashOfNumber}
+use Rattle.ss_review.specs.deliveries.AheadDelivery.{HasNumber, HasHashOfNumber}
 use Rattle.ss_review.specs.report.Meaning.{IsListed, IsGap, IsTold}
 use Rattle.ss_review.specs.report.Report.{report_of}
 use Rattle.ss_octets.proofs.Members.{Has, has_split, from_has-map}
 use Rattle.ss_origin.proofs.Frontiers.{IsSentIn}
 use Rattle.ss_review.proofs.of_deliveries.GivenAhead.{given_in, hash_of_given}
 use Rattle.ss_review.proofs.of_deliveries.SentMessages as messages
-use Rattle.ss_strangers.specs.Unforged.{IsAsSent, IsUnforged, blocks_in, pinned_in}
+use Rattle.ss_strangers.specs.Unforged.{IsUnforged, blocks_in, pinned_in}
 use Rattle.ss_strangers.specs.UnforgedLaws.{AreAhead, HasItsHashAhead, AnnouncedAheadAreGiven, NothingAheadIsDisputed, ListedAheadHaveTheirHash, IsReported, LostAheadAreReported}
 use Rattle.ss_strangers.proofs.AsSent.{AreAsSent, hash_at, lost_unlisted}
 use Rattle.ss_strangers.proofs.HiddenBlocks.{IsSpoiltText}

@@ -1,19 +1,11 @@
 -- What a review by given payloads reports of originators of which each goes on from the last counters.
-use Rattle.std.proofs.Common.{◌≡◌, ◌⊎◌, inl, inr, ℕ, ◌+◌, ◌-◌, ◌<◌, ◌≤◌, true, List, length, refl, sym, ap, ◌∙◌, subst, arith}
+use Rattle.std.proofs.Common.{◌≡◌, inl, inr, ℕ, ◌-◌, ◌<◌, ◌≤◌, List, length, refl, sym, ap, ◌∙◌, subst, arith}
 use Rattle.std.specs.Prelude.{Some, Ok, slice_get}
-use Rattle.std.specs.List.{Contains}
 use Rattle.std.proofs.lemmas.Option.{slice_get_within}
-use Rattle.ss_block.specs.Block as block
-use Rattle.ss_block.specs.declared.hash.Hash.{Hash}
-use Rattle.ss_block.specs.Hashes.{hash_of}
-use Rattle.ss_block.specs.ReadingLaws.{ReadingsAreOfValues}
 use Rattle.ss_payload.specs.Payload.{payload_text}
 use Rattle.ss_origin.specs.Chain.{IsChain, given_to}
 use Rattle.ss_origin.specs.SentLaws.{SentBlocksAreNumbered}
 use Rattle.ss_review.specs.declared.counted.counter.Counter.{Counter}
-use Rattle.ss_review.specs.declared.keep.message.BlockContent.TheVariants.{Hashes}
-use Rattle.ss_review.specs.declared.keep.message.BlockMessage.{BlockMessage}
-use Rattle.ss_review.specs.declared.report.entry.Entry.TheVariants as entry
 use Rattle.ss_review.specs.declared.report.entry.Why.TheVariants as whys
 use Rattle.ss_review.specs.announced.Announced.{Key}
 use Rattle.ss_review.specs.announced.Announcing.{Announces, IsAnnounced}
@@ -22,18 +14,18 @@ use Rattle.ss_review.specs.counted.KeptLaws as fates
 use Rattle.ss_review.specs.counted.KeptLaws.{shortfalls_of, Fate, HasFate, EveryNumberIsTold, IsLost, ReachTheEnd}
 use Rattle.ss_review.specs.deliveries.Delivery.{own_session}
 use Rattle.ss_review.specs.deliveries.Delivered.{own_number}
-use Rattle.ss_review.specs.deliveries.DeliveryLaws.{Case, says, message_of, HasHashOfGiven}
+use Rattle.ss_review.specs.deliveries.DeliveryLaws.{Case, says, HasHashOfGiven}
 use Rattle.ss_review.specs.keep.Contents.{Contents, blocks, contents}
 use Rattle.ss_review.specs.keep.Notes.{notes}
-use Rattle.ss_review.specs.report.Meaning.{Tells, IsListed, IsGap, IsTold}
+use Rattle.ss_review.specs.report.Meaning.{IsListed, IsGap, IsTold}
 use Rattle.ss_review.specs.report.Report.{report, report_of}
 use Rattle.ss_review.specs.sessions.Sessions.{of_session}
-use Rattle.ss_review.specs.sessions.Verified.{is_valid, joined, is_verified}
+use Rattle.ss_review.specs.sessions.Verified.{is_valid, joined}
 use Rattle.ss_octets.proofs.Members.{has_from_contains, contains_from_has}
 use Rattle.ss_review.proofs.of_reports.Witnesses.{verified_cases}
-use Rattle.ss_pinned.specs.Pinned.{kept, pinned_contents, pinned_report}
+use Rattle.ss_pinned.specs.Pinned.{pinned_contents}
 use Rattle.ss_strangers.specs.StateLaws.{LogsAreWithin, SessionsAreJoinedByGiven}
-use Rattle.ss_strangers.specs.Unforged.{IsAsSent, IsUnforged, blocks_in, pinned_in, pinned_shortfalls}
+use Rattle.ss_strangers.specs.Unforged.{IsUnforged, blocks_in, pinned_in}
 use Rattle.ss_strangers.specs.UnforgedLaws.{OnlyClaimantsJoin, HasItsHash, AnnouncedAreGiven, NothingIsDisputed, ListedHaveTheirHash, IsReported, LostAreReported}
 use Rattle.ss_strangers.proofs.AsSent.{AreAsSent, hash_at, lost_unlisted, unlisted_fate, numbered, one_hash}
 use Rattle.ss_strangers.proofs.HiddenBlocks.{IsSpoiltText, hidden, same_sessions, same_shortfalls}

@@ -1,6 +1,6 @@
 -- Small logs into which strangers wrote, and what is reported of them, computed. As in the rows of `ss_review` hashes are
 -- shortened to one octet. What strangers sign is shown by the number 9.
-use Rattle.std.specs.Prelude.{◌≡◌, ℕ, not, Bool, true, List, [], ◌∷◌, Ok, Err}
+use Rattle.std.specs.Prelude.{◌≡◌, ℕ, not, true, List, [], ◌∷◌, Ok, Err}
 use Rattle.std.specs.Str.{bytes_eq}
 use Rattle.ss_block.specs.declared.hash.Alg.TheVariants as algs
 use Rattle.ss_block.specs.declared.hash.Hash.TheVariants as hashes
@@ -18,10 +18,10 @@ use Rattle.ss_review.specs.keep.Contents.{Contents}
 use Rattle.ss_review.specs.report.Report.{report_of}
 use Rattle.ss_review.specs.report.Rows.{first, second, third, message, sent_by, certificate, hashes_of, group_told, whole_log, whole_report}
 use Rattle.ss_review.specs.sessions.Sessions.{of_session}
-use Rattle.ss_review.specs.sessions.Verified.{Answers, joined}
+use Rattle.ss_review.specs.sessions.Verified.{Answers}
 use Rattle.ss_pinned.specs.Pinned.{claims, pinned_report}
 use Rattle.ss_strangers.specs.StateLaws.{pinned_joined, IsUndisputedOrUnclaimed}
-use Rattle.ss_strangers.specs.States.{AreWithin, IsClaimant, IsOnlyClaimant, AreClaimants}
+use Rattle.ss_strangers.specs.States.{IsOnlyClaimant, AreClaimants}
 use Rattle.ss_strangers.specs.Strangers.{IsAddedTo, JoinedAreClaimed}
 
 -- ---- what the logs are made of
