@@ -1,7 +1,8 @@
 -- A report by given payloads is the report of a log: of one in which a spoilt block stands for each that isn't kept.
-use Rattle.std.proofs.Common.{◌≡◌, ℕ, ◌+◌, Bool, true, false, cond, List, [], ◌∷◌, filter, refl, sym, ap, ◌∙◌, arith}
+use Rattle.std.proofs.Common.{◌≡◌, ℕ, ◌+◌, Bool, true, false, cond, List, [], ◌∷◌, filter, refl, sym, ap, ◌∙◌, arith, suc, length}
 use Rattle.std.specs.Prelude.{Option, Some, None}
 use Rattle.std.specs.List.{cons_option, enumerate_from, filter_map}
+use Rattle.std.proofs.lemmas.List.{length-map}
 use Rattle.ss_message.specs.Message.{MessageValue, text}
 use Rattle.ss_message.specs.Octets.{is_name}
 use Rattle.ss_block.specs.declared.spoil.Spoil.{Spoil}
@@ -14,12 +15,14 @@ use Rattle.ss_review.specs.declared.report.session_report.SessionReport.{Session
 use Rattle.ss_review.specs.counted.Counted.{counted_sessions}
 use Rattle.ss_review.specs.counted.Kept.{log_shortfalls}
 use Rattle.ss_review.specs.counted.KeptLaws.{shortfalls_of}
+use Rattle.ss_review.specs.announced.Announced.{rows}
 use Rattle.ss_review.specs.keep.Contents.{normal_at, block_at, normals, blocks, contents}
 use Rattle.ss_review.specs.keep.Notes.{Note, Normal, Block, Spoilt, noted, note, notes}
-use Rattle.ss_review.specs.report.Report.{report_of, report}
+use Rattle.ss_review.specs.report.Report.{unlisted, report_of, report}
 use Rattle.ss_review.specs.sessions.Sessions.{of_session}
 use Rattle.ss_review.specs.sessions.Verified.{Answers}
 use Rattle.ss_pinned.specs.Pinned.{keeps, kept, pinned_report}
+use Rattle.ss_strangers.specs.PinnedReports.{IsReportedAs}
 use Rattle.ss_strangers.specs.Unforged.{pinned_shortfalls}
 
 -- ---- a spoilt block
@@ -118,6 +121,10 @@ module _ (keep : BlockMessage → Bool) where
         let rest = normals_hidden (n + 1) log in
         λ i. cons_option (head i) (rest i)
 
+    pub hidden_count : (n : ℕ) (log : List (List ℕ)) → length (hide n log) ≡ length log
+    hidden_count n [] = refl
+    hidden_count n (m ∷ log) = ap suc (hidden_count (n + 1) log)
+
     pub hidden_blocks : (log : List (List ℕ)) → blocks (notes (hide 0 log)) ≡ filter keep (blocks (notes log))
     unfolding blocks
     hidden_blocks log = blocks_hidden 0 log
@@ -152,3 +159,21 @@ module _ (says : Answers) (ps : List (List ℕ)) (log : List (List ℕ)) where
 
     pub same_shortfalls : (cs : List Counter) → shortfalls_of says hidden cs ≡ pinned_shortfalls says ps log cs
     same_shortfalls cs = λ i. log_shortfalls cs (same_sessions i) (counted_sessions says (blocks_are i))
+
+    same_unlisted : (report says hidden).unlisted ≡ (pinned_report says ps (contents (notes log))).unlisted
+    unfolding report_of
+    same_unlisted = λ i. unlisted (normals_are i) (rows says (blocks_are i))
+
+    same_count : (report says hidden).count ≡ (pinned_report says ps (contents (notes log))).count
+    unfolding report_of
+    same_count = length-map hidden note ∙ hidden_count keeps_one spoilt 0 log ∙ sym (length-map log note)
+
+    pub reported_as : IsReportedAs says ps log hidden
+    reported_as = record {
+      normals_are = normals_are;
+      blocks_are = blocks_are;
+      sessions = same_sessions;
+      unlisted = same_unlisted;
+      count = same_count;
+      missing = same_shortfalls;
+    }

@@ -4,6 +4,7 @@ pub mod JoinedByGiven
 pub mod ReportsAgree
 pub mod Reported
 pub mod HiddenBlocks
+pub mod PinnedReports
 pub mod AsSent
 pub mod UnforgedChains
 pub mod UnforgedAhead

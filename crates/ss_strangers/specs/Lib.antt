@@ -1,6 +1,7 @@
 pub mod States
 pub mod StateLaws
 pub mod Unforged
+pub mod PinnedReports
 pub mod UnforgedLaws
 pub mod Untrusted
 pub mod Strangers
