@@ -32,7 +32,17 @@ TEST_CRATES = {
     "ss_signing": "test_signings",
 }
 # libraries of laws alone, which have no example
-LAW_CRATES = {"ss_ahead", "ss_carried", "ss_clean_nights", "ss_keeper", "ss_nights", "ss_parts", "ss_plans", "ss_whole_nights"}
+LAW_CRATES = {
+    "ss_ahead",
+    "ss_carried",
+    "ss_clean_nights",
+    "ss_keeper",
+    "ss_nights",
+    "ss_parts",
+    "ss_plans",
+    "ss_strangers",
+    "ss_whole_nights",
+}
 
 
 def lines_of(*path):
