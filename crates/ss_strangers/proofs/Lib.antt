@@ -18,3 +18,4 @@ pub mod Arrived
 pub mod StoredTexts
 pub mod AddedMessages
 pub mod SmallAttack
+pub mod NewestCounters

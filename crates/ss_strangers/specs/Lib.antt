@@ -8,3 +8,4 @@ pub mod Strangers
 pub mod StrangerRows
 pub mod AddedMessages
 pub mod SmallAttack
+pub mod NewestCounters

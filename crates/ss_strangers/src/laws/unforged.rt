@@ -1,6 +1,7 @@
 //! What a review by given payloads reports of the session of originators, whatever strangers put into the log. The
 //! premise is that nobody forged a block: each signature block that is valid under their payload says what one says
 //! that they sent.
+ghost use Rattle.ss_strangers.specs.NewestCounters.{LostAreReportedByTheNewestCounters};
 ghost use Rattle.ss_strangers.specs.UnforgedLaws.{
   AnnouncedAheadAreGiven,
   AnnouncedAreGiven,
@@ -18,7 +19,9 @@ ghost use Rattle.ss_strangers.specs.UnforgedLaws.{
 };
 
 use crate::laws::states::{logs_are_within, sessions_are_joined_by_given};
+use ss_ahead::laws::lost_are_told_by_the_newest_counters;
 use ss_block::laws::readings::readings_are_of_values;
+use ss_message::laws::faults_are_of_no_message;
 use ss_origin::laws::ahead::numbers_are_given_once;
 use ss_origin::laws::chains::sent_blocks_are_numbered;
 use ss_review::laws::ahead::joined_by_fragments as joined_ahead_by_fragments;
@@ -130,4 +133,15 @@ pub fn lost_ahead_are_reported()
     numbers_are_given_once();
     every_number_is_told();
     readings_are_of_values();
+}
+
+/// The counters with which the newest originator ended go past each number that one of them gave, and so do greater
+/// ones. So a review with them reports each message that they were given and that is lost.
+pub fn lost_are_reported_by_the_newest_counters()
+    ensures { LostAreReportedByTheNewestCounters }
+{
+    faults_are_of_no_message();
+    every_number_is_told();
+    lost_are_told_by_the_newest_counters();
+    lost_ahead_are_reported();
 }
