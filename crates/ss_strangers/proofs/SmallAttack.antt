@@ -2,7 +2,7 @@
 use Rattle.std.proofs.Common.{◌≡◌, inl, inr, ℕ, zero, suc, ◌<◌, true, false, List, [], ◌∷◌, refl, sym, ap, ◌∙◌, arith}
 use Rattle.std.specs.Prelude.{Option, Some, None, Err, option_map, slice_get}
 use Rattle.std.specs.List.{Contains}
-use Rattle.std.specs.Str.{IsAscii}
+use Rattle.std.specs.Str.{IsAscii, bytes_eq}
 use Rattle.std.proofs.lemmas.List.Elements.{All-nil, All-cons}
 use Rattle.std.proofs.lemmas.Option.{same_Some, slice_get-map}
 use Rattle.std.proofs.lemmas.Str.{IsUtf8-from_ascii, is_utf8-from_IsUtf8}
@@ -39,17 +39,19 @@ use Rattle.ss_review.specs.questions.Shortened.{hash_count}
 use Rattle.ss_review.specs.report.Meaning.{IsGap, IsTold}
 use Rattle.ss_review.specs.sessions.Payloads.{certificates}
 use Rattle.ss_review.specs.sessions.Sessions.{same_session, of_session}
-use Rattle.ss_review.specs.sessions.Verified.{joined}
+use Rattle.ss_review.specs.sessions.Verified.{signature_of, joined}
 use Rattle.ss_octets.proofs.Members.{Has, has_from_contains, contains_from_has, has-filter}
 use Rattle.ss_review.proofs.of_deliveries.DigestOctets.{AreOctets, hash_is_hash}
 use Rattle.ss_review.proofs.of_deliveries.SmallChains.{is_setting}
 use Rattle.ss_review.proofs.of_deliveries.StoredBlocks.{noted_block, block_not_normal}
-use Rattle.ss_review.proofs.of_kept_messages.NotesTold.{has-block}
+use Rattle.ss_review.proofs.of_kept_messages.NotesTold.{block_read, has-block}
 use Rattle.ss_review.proofs.of_lists.Keyed.{has-slice_get, slice_get-has}
 use Rattle.ss_review.proofs.of_reports.Witnesses.{stored_block}
 use Rattle.ss_review.proofs.of_sessions.Stating.{stated_by-IsStatedBy}
 use Rattle.ss_nights.proofs.Fragments.{HasFragment, has-octet}
 use Rattle.ss_strangers.specs.SmallAttack.{own_payload, given, forged_certificate, attacked, untrusting, SmallAttackIsThis}
+use Rattle.ss_strangers.specs.AddedMessages.{IsWith, MayBeAdded}
+use Rattle.ss_strangers.specs.Strangers.{IsForeign}
 use Rattle.ss_strangers.specs.States.{IsOnlyClaimant}
 use Rattle.ss_strangers.specs.Unforged.{IsAsSent, NothingIsForged, IsUnforged, pinned_in}
 use Rattle.ss_strangers.specs.UnforgedLaws.{OnlyClaimantsJoin, ArrivedPayloadsClaim, ArrivedAreAnnounced, NothingIsDisputed, ListedHaveTheirHash}
@@ -210,6 +212,16 @@ module _ (signatures : SignaturesAreRead) (certificates_read : CertificatesAreRe
       let t = stored_block attacked.log b (has_from_contains bs b c) in
       as_sent t.0 said (has-slice_get attacked.log b.place t.0 t.1) (t.2.said_is ∙ ap (λ (x : BlockContent). Some x) says_so)
 
+  -- ---- the stranger's block is foreign
+
+  added : IsWith (MayBeAdded (says attacked) bare.log) bare.log attacked.log
+  added = inr (inr foreign, inl (block_text ∷ [], refl, inl ([], refl, refl)))
+    where
+      foreign : (place : ℕ) (b : BlockMessage) → block_in place forged_certificate ≡ Some b → IsForeign (says attacked) b
+      foreign place b e p t =
+          let said : b.said ≡ Fragment (stating 85 84) = sym (same_Some _ _ (sym forged_says.read ∙ (block_read place forged_certificate b e).said_is)) in
+          ap (λ s. bytes_eq (signature_of s) mark) said
+
   -- ---- what arrived
 
   arrived : HasPayload attacked.chain attacked.log
@@ -310,6 +322,7 @@ module _ (laws : Laws) where
 
   pub small_attack : SmallAttackIsThis
   small_attack = record {
+    added = added laws.signatures laws.certificates_read;
     chain = bare_case.chain;
     ahead = record { chain = (laws.ahead bare bare_case).chain; turns = (laws.ahead bare bare_case).turns };
     unforged = unforged;

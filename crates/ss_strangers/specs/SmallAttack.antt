@@ -17,6 +17,7 @@ use Rattle.ss_review.specs.keep.Notes.{notes}
 use Rattle.ss_review.specs.report.Meaning.{IsGap, IsTold}
 use Rattle.ss_review.specs.sessions.Sessions.{of_session}
 use Rattle.ss_review.specs.sessions.Verified.{joined}
+use Rattle.ss_strangers.specs.AddedMessages.{IsWith, MayBeAdded}
 use Rattle.ss_strangers.specs.States.{IsOnlyClaimant}
 use Rattle.ss_strangers.specs.Unforged.{IsUnforged, pinned_in}
 use Rattle.ss_strangers.specs.UnforgedLaws.{AreAhead}
@@ -51,6 +52,7 @@ untrusting = record bare {
 -- The premises are met. Without given payloads the session is disputed. With its payload the lost message is reported. It
 -- is reported too up to counters where nothing is trusted.
 pub record SmallAttackIsThis : Type 0 where
+  pub added : IsWith (MayBeAdded (says attacked) bare.log) bare.log attacked.log
   pub chain : IsChain small attacked.chain
   pub ahead : AreAhead attacked (lives_of small.config attacked.chain)
   pub unforged : IsUnforged attacked given
