@@ -5,7 +5,7 @@
 
 Its first paragraph is one sentence. No sentence there and no cell of a table has more than 25 words. The example of a
 library has at most five lines, and they stand in its test crate, which compiles, proves and runs them. A library of laws
-alone has none. What isn't so is printed, and the status is then 1.
+or definitions alone has none. What isn't so is printed, and the status is then 1.
 
 A word is what stands between white space; what stands between two backquotes is one word.
 """
@@ -31,7 +31,7 @@ TEST_CRATES = {
     "ss_answers": "test_signings",
     "ss_signing": "test_signings",
 }
-# libraries of laws alone, which have no example
+# libraries of laws or definitions alone, which have no example
 LAW_CRATES = {
     "ss_ahead",
     "ss_carried",
@@ -39,6 +39,7 @@ LAW_CRATES = {
     "ss_keeper",
     "ss_nights",
     "ss_parts",
+    "ss_pinned",
     "ss_plans",
     "ss_strangers",
     "ss_whole_nights",
