@@ -122,7 +122,7 @@ def cut(wanted, kind, cut_at, way, names, second):
 
 
 def gone(before, after):
-    """What a start took away from the output that was on the disk, and didn't put aside."""
+    """What a start took away from the output that was on the disk, and didn't set aside."""
     faults = []
     for (where, name), octets in before.items():
         left = after.get((where, name), b"")
@@ -145,7 +145,7 @@ def sessions_of(image):
 
 
 def aside():
-    """The power goes at each step, without wraps: what can't be signed is stored, and a block is put aside."""
+    """The power goes at each step, without wraps: what can't be signed is stored, and a block is set aside."""
     block = b'<13>1 - h a p - [ssign VER="0121"] block %d'
     wanted = [block % n if n % 5 == 2 else message(n) for n in range(16)]
     whole_life = MadeUpDisk({})

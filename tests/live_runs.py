@@ -536,7 +536,7 @@ def order():
                 process.say(lined(lines))
                 wished = [b"OK\n", *[b"DEFER_COMMIT\n"] * 4, b"OK\n"] if marks else [b"OK\n"] * 4
                 faults.append(differ("answers", [process.answer() for _ in lines], wished))
-            # a block that is put aside is confirmed too
+            # a block that is set aside is confirmed too
             process.say(b'<13>1 - h a p - [ssign VER="0121"] no block\n' if "--no-wrap" in options else wanted[0] + b"\n")
             faults.append(differ("the last answer", process.answer(), b"OK\n"))
             status = process.end()
@@ -966,7 +966,8 @@ def each():
 # ---- reports
 
 def reports():
-    """Heartbeats, and what systemd receives."""
+    """Heartbeats, what systemd receives, and the file of --status."""
+    began = time.strftime("%Y-%m-%dT%H:%M:%SZ", time.gmtime())
     with signer("--seconds=0.1", "--heartbeat=0.3") as it:
         address = it.path("notify")
         with socket.socket(socket.AF_UNIX, socket.SOCK_DGRAM) as manager:
@@ -1000,8 +1001,11 @@ def reports():
         tell("heartbeats and systemd", fault, *faults, differ("status", status, 0), "no heartbeat" if len(beats) < 2 else "",
              "a heartbeat without counters" if b"next GBC 1, next numbers 0 0 " not in b"".join(beats) else "", *it.clean())
         wished = {"time", "session", "file", "size", "messages_in_file", "gbc", "groups", "taken", "signed", "wrapped", "unsigned",
-                  "aside", "blocks", "pending", "failing", "running"}
-        tell("the file of --status", differ("keys", set(it.status()), wished), differ("running", it.status()["running"], False))
+                  "aside", "blocks", "pending", "synced", "failing", "running"}
+        last = it.status()
+        moments = [began, last["synced"], last["time"], time.strftime("%Y-%m-%dT%H:%M:%SZ", time.gmtime())]
+        tell("the file of --status", differ("keys", set(last), wished), differ("running", last["running"], False),
+             "" if moments == sorted(moments) else f"when it was synced: {moments}")
 
 
 def mistakes():

@@ -91,7 +91,7 @@ class Starter:
     # ---- what is there
 
     def _read(self) -> Optional[Saved]:
-        """The state; None where there is none. With --new-session one that is damaged is put aside."""
+        """The state; None where there is none. With --new-session one that is damaged is set aside."""
         if self._disk.size(STATE, "session") is not None:
             raise Fault("the folder of --state is one of `ssign-keys sign --state`: name another one (L2)")
         try:
