@@ -19,6 +19,8 @@ import time
 PROGRAM, KEYS = (os.path.abspath(it) for it in sys.argv[1:3])
 COUNT = int(sys.argv[3]) if len(sys.argv) > 3 else 4000
 KILLS = 3
+# the octets of the certificate blocks and of some messages, which are a part of what is sent between two kills
+SOME = 20000
 ROOT = os.path.dirname(os.path.dirname(os.path.realpath(__file__)))
 PATIENCE = 60.0
 CONFIG = """
@@ -74,7 +76,7 @@ def wait_until(what):
     while time.monotonic() < end:
         if what():
             return True
-        time.sleep(0.1)
+        time.sleep(0.02)
     return False
 
 
@@ -104,6 +106,22 @@ def main():
     return 1 if faults else 0
 
 
+def size_of(folder):
+    """How many octets the output has."""
+    return sum(os.path.getsize(it) for it in files_of(folder)) if os.path.isdir(os.path.join(folder, "out")) else 0
+
+
+def kill_one(folder, at, size):
+    """Kills the process that signs, once it has taken some messages since the output had this size. Gives what is wrong."""
+    if not wait_until(lambda: size_of(folder) > size + SOME and live_of(folder) is not None):
+        return [f"before the kill {at} nothing was taken: {size_of(folder)} octets, and {size} before; {status_of(folder)}"]
+    number = live_of(folder)
+    if number is None:
+        return ["no process signs"]
+    os.kill(number, signal.SIGKILL)
+    return []
+
+
 def run(folder):
     """Sends, kills, and reviews. Gives what is wrong."""
     os.mkdir(f"{folder}/work")
@@ -123,16 +141,13 @@ def run(folder):
         wanted = [message(n) for n in range(COUNT)]
         with socket.socket(socket.AF_UNIX, socket.SOCK_STREAM) as sender:
             sender.connect(f"{folder}/socket")
-            sender.sendall(b"".join(b"%d %s" % (len(it), it) for it in wanted))
-        for at in range(KILLS):
-            if not wait_until(lambda: status_of(folder).get("taken", 0) >= 50):
-                faults.append(f"before the kill {at} nothing was taken: {status_of(folder)}")
-            number = live_of(folder)
-            os.unlink(f"{folder}/status")
-            if number is None:
-                faults.append("no process signs")
-            else:
-                os.kill(number, signal.SIGKILL)
+            for at in range(KILLS + 1):
+                # rsyslog starts the process again when it has messages, so some come after each kill
+                part = wanted[at * COUNT // (KILLS + 1):(at + 1) * COUNT // (KILLS + 1)]
+                size = size_of(folder)
+                sender.sendall(b"".join(b"%d %s" % (len(it), it) for it in part))
+                if at < KILLS:
+                    faults += kill_one(folder, at, size)
         lacking = set(wanted)
 
         def are_there():
