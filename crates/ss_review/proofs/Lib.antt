@@ -7,3 +7,4 @@ pub mod of_numbers
 pub mod of_reports
 pub mod of_deliveries
 pub mod of_counters
+pub mod of_pinned

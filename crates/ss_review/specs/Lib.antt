@@ -6,6 +6,7 @@ pub mod assign
 pub mod report
 pub mod questions
 pub mod counted
+pub mod pinned
 pub mod Laws
 pub mod deliveries
 pub mod FaultText

@@ -6,6 +6,7 @@ pub mod counted;
 mod delivered;
 pub mod deliveries;
 pub mod kept;
+pub mod pinned;
 pub mod reports;
 pub mod reviewers;
 mod whole;

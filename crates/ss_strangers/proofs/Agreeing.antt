@@ -8,7 +8,7 @@ use Rattle.std.proofs.lemmas.Slice.Eq.{starts_is}
 use Rattle.ss_block.specs.Block as block
 use Rattle.ss_block.specs.Joining.{placed}
 use Rattle.ss_octets.proofs.Members.{Has}
-use Rattle.ss_pinned.specs.Pinned.{agrees}
+use Rattle.ss_review.specs.pinned.Pinned.{agrees}
 
 -- ---- elements by index
 

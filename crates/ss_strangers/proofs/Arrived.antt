@@ -36,7 +36,7 @@ use Rattle.ss_review.proofs.of_kept_messages.NotesTold.{IsBlockOf, block_read}
 use Rattle.ss_review.proofs.of_lists.Keyed.{has-slice_get}
 use Rattle.ss_review.proofs.of_reports.Witnesses.{stored_block}
 use Rattle.ss_review.proofs.of_sessions.StatesTold.{joined_under, state_told, payload_told}
-use Rattle.ss_pinned.specs.Pinned.{agrees_in}
+use Rattle.ss_review.specs.pinned.Pinned.{agrees_in}
 use Rattle.ss_strangers.specs.StateLaws.{LogsAreWithin, SessionsAreJoinedByGiven}
 use Rattle.ss_strangers.specs.States.{IsOnlyClaimant}
 use Rattle.ss_strangers.specs.Unforged.{blocks_in, pinned_in}

@@ -32,7 +32,7 @@ use Rattle.ss_octets.proofs.Members.{Has, has_from_contains, contains_from_has, 
 use Rattle.ss_review.proofs.of_lists.Tests.{any_member, member_any}
 use Rattle.ss_review.proofs.of_reports.Witnesses.{stored_block}
 use Rattle.ss_review.proofs.of_sessions.Stating.{stated_by-IsStatedBy, disputed_from, disputed_to}
-use Rattle.ss_pinned.specs.Pinned.{speaks_for, claims, claimants, is_signature, keeps, kept}
+use Rattle.ss_review.specs.pinned.Pinned.{speaks_for, claims, claimants, is_signature, keeps, kept}
 use Rattle.ss_strangers.specs.States.{AreWithin, IsClaimant, IsUnclaimed, IsOnlyClaimant, AreClaimants}
 use Rattle.ss_strangers.specs.StateLaws.{pinned_joined, LogsAreWithin, IsJoinedByGiven, SessionsAreJoinedByGiven, IsUndisputedOrUnclaimed, StatesAgree, OnlyDisputesEnd}
 use Rattle.ss_strangers.proofs.Claims.{Claims, of_claims, speaker_says, from_one, joined_claimed, undisputed_where_all_agree, two_dispute, joined_disputed}

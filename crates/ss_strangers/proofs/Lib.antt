@@ -3,7 +3,6 @@ pub mod Claims
 pub mod JoinedByGiven
 pub mod ReportsAgree
 pub mod Reported
-pub mod HiddenBlocks
 pub mod PinnedReports
 pub mod AsSent
 pub mod UnforgedChains

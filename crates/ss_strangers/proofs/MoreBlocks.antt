@@ -24,7 +24,7 @@ use Rattle.ss_review.proofs.of_reports.Witnesses.{verified_cases}
 use Rattle.ss_review.proofs.of_sessions.Stating.{IsStatedBy, stated_by-IsStatedBy}
 use Rattle.ss_review.proofs.of_sessions.StatesTold.{payload_told}
 use Rattle.ss_nights.proofs.Fragments.{HasFragment, total_of, has-total, octet_of, has-octet, StatesTotal}
-use Rattle.ss_pinned.specs.Pinned.{agrees_in, speaks_for, kept}
+use Rattle.ss_review.specs.pinned.Pinned.{agrees_in, speaks_for, kept}
 use Rattle.ss_strangers.specs.StateLaws.{pinned_joined, IsJoinedByGiven}
 use Rattle.ss_strangers.specs.States.{AreWithin, IsClaimant, IsOnlyClaimant, AreClaimants}
 use Rattle.ss_strangers.specs.Strangers.{AreCopies, IsForeign, IsAddedTo}

@@ -11,14 +11,10 @@ use Rattle.ss_review.specs.counted.KeptLaws.{shortfalls_of, IsInTail, IsInRunOf,
 use Rattle.ss_review.specs.keep.Contents.{contents}
 use Rattle.ss_review.specs.keep.Notes.{notes}
 use Rattle.ss_review.specs.report.Report.{report}
-use Rattle.ss_pinned.specs.Pinned.{pinned_report}
-use Rattle.ss_strangers.specs.PinnedReports.{PinnedReportsAreOfLogs, EveryNumberIsTold, EveryBlockIsTold}
-use Rattle.ss_strangers.specs.Unforged.{pinned_shortfalls}
-use Rattle.ss_strangers.proofs.HiddenBlocks.{IsSpoiltText, hidden, reported_as}
+use Rattle.ss_review.specs.pinned.Pinned.{pinned_report}
+use Rattle.ss_review.specs.pinned.Stands.{PinnedReportsAreOfLogs, pinned_shortfalls}
+use Rattle.ss_strangers.specs.PinnedReports.{EveryNumberIsTold, EveryBlockIsTold}
 use Rattle.ss_strangers.proofs.Reported.{told_in, hole_in}
-
-pub of_logs : IsSpoiltText → PinnedReportsAreOfLogs
-of_logs spoilt says ps log = (hidden says ps log, reported_as says ps log spoilt)
 
 -- a fate in one report is one in another with equal sessions, beside equal shortfalls
 fate_in : (r q : Report) (all others : LogShortfalls) (k : Key) → r.sessions ≡ q.sessions → all ≡ others → (fate : Fate) → HasFate r all k fate → HasFate q others k fate

@@ -25,7 +25,7 @@ use Rattle.ss_review.proofs.of_lists.TotalOrders.{row_cmp_total}
 use Rattle.ss_review.proofs.of_numbers.Announcements.{announced_row, has-rows, rows-rise}
 use Rattle.ss_review.proofs.of_sessions.StatesTold.{payload_told}
 use Rattle.ss_nights.proofs.Fragments.{HasFragment, fits_stated, has-total, has-octet}
-use Rattle.ss_pinned.specs.Pinned.{agrees_in, speaks_for, is_signature, keeps, kept, pinned_contents, is_verified_pinned, refused_pinned}
+use Rattle.ss_review.specs.pinned.Pinned.{agrees_in, speaks_for, is_signature, keeps, kept, pinned_contents, is_verified_pinned, refused_pinned}
 use Rattle.ss_strangers.specs.States.{AreWithin, IsClaimant}
 use Rattle.ss_strangers.specs.StateLaws.{IsUndisputedOrUnclaimed, ReportsAgree}
 use Rattle.ss_strangers.proofs.Agreeing.{Says, from_placed, says_agreeing}

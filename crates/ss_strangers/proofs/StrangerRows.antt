@@ -27,7 +27,7 @@ use Rattle.ss_review.proofs.of_kept_messages.NormalCounts.{length-places_with}
 use Rattle.ss_review.proofs.of_lists.Keyed.{has-slice_get}
 use Rattle.ss_review.proofs.of_lists.Tests.{all_member}
 use Rattle.ss_review.proofs.of_sessions.Verifying.{unstated}
-use Rattle.ss_pinned.specs.Pinned.{claims, kept}
+use Rattle.ss_review.specs.pinned.Pinned.{claims, kept}
 use Rattle.ss_strangers.specs.StateLaws.{pinned_joined, IsUndisputedOrUnclaimed}
 use Rattle.ss_strangers.specs.States.{AreWithin, IsClaimant, IsOnlyClaimant, AreClaimants}
 use Rattle.ss_strangers.specs.Strangers.{AreCopies, IsForeign, AnnouncedTellPairs, IsAddedTo, JoinedAreClaimed}

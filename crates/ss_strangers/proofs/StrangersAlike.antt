@@ -23,7 +23,7 @@ use Rattle.ss_review.proofs.of_lists.FilteredAlike.{same_kept}
 use Rattle.ss_review.proofs.of_lists.Rising.{has-in_order, in_order_same}
 use Rattle.ss_review.proofs.of_lists.TotalOrders.{key_cmp_total}
 use Rattle.ss_review.proofs.of_numbers.Announcements.{keys-rise}
-use Rattle.ss_pinned.specs.Pinned.{keeps, kept, pinned_contents, pinned_report}
+use Rattle.ss_review.specs.pinned.Pinned.{keeps, kept, pinned_contents, pinned_report}
 use Rattle.ss_strangers.specs.States.{IsClaimant}
 use Rattle.ss_strangers.specs.Strangers.{IsAddedTo, session_in, gbcs_in, without_places, group_without_places, StrangersTakeNothing, StrangersAddNothing}
 use Rattle.ss_strangers.proofs.AlikeNumbers.{same_groups, same_tails}

@@ -26,7 +26,7 @@ use Rattle.ss_review.proofs.of_numbers.Announcements.{announced_row, announced_k
 use Rattle.ss_review.proofs.of_reports.Listings.{listed_assigned, assigned_listed, gap_told}
 use Rattle.ss_review.proofs.of_reports.Witnesses.{verified_cases}
 use Rattle.ss_nights.proofs.OnePair.{is_pair-is, is_pair-some}
-use Rattle.ss_pinned.specs.Pinned.{pinned_contents, pinned_report}
+use Rattle.ss_review.specs.pinned.Pinned.{pinned_contents, pinned_report}
 use Rattle.ss_strangers.specs.StateLaws.{pinned_joined}
 use Rattle.ss_strangers.specs.Strangers.{IsAddedTo, IsStill, JoinedAreClaimed, HasMoreOf}
 use Rattle.ss_strangers.proofs.MoreBlocks.{K, rs, rs_more, key_before, key_still, same_hashes, claimed_stays}

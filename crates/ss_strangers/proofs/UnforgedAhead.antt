@@ -31,7 +31,7 @@ use Rattle.ss_review.proofs.of_deliveries.SentMessages as messages
 use Rattle.ss_strangers.specs.Unforged.{IsUnforged, blocks_in, pinned_in}
 use Rattle.ss_strangers.specs.UnforgedLaws.{AreAhead, HasItsHashAhead, AnnouncedAheadAreGiven, NothingAheadIsDisputed, ListedAheadHaveTheirHash, IsReported, LostAheadAreReported}
 use Rattle.ss_strangers.proofs.AsSent.{AreAsSent, hash_at, lost_unlisted}
-use Rattle.ss_strangers.proofs.HiddenBlocks.{IsSpoiltText}
+use Rattle.ss_review.proofs.of_pinned.HiddenBlocks.{IsSpoiltText}
 use Rattle.ss_strangers.proofs.Reported.{told_in, told_announced, disputed_announced}
 use Rattle.ss_strangers.proofs.UnforgedChains.{log_of, told_of, listed_of, as_sent, fate_of}
 

@@ -23,12 +23,12 @@ use Rattle.ss_review.specs.sessions.Sessions.{of_session}
 use Rattle.ss_review.specs.sessions.Verified.{is_valid, joined}
 use Rattle.ss_octets.proofs.Members.{has_from_contains, contains_from_has}
 use Rattle.ss_review.proofs.of_reports.Witnesses.{verified_cases}
-use Rattle.ss_pinned.specs.Pinned.{pinned_contents}
+use Rattle.ss_review.specs.pinned.Pinned.{pinned_contents}
 use Rattle.ss_strangers.specs.StateLaws.{LogsAreWithin, SessionsAreJoinedByGiven}
 use Rattle.ss_strangers.specs.Unforged.{IsUnforged, blocks_in, pinned_in}
 use Rattle.ss_strangers.specs.UnforgedLaws.{OnlyClaimantsJoin, HasItsHash, AnnouncedAreGiven, NothingIsDisputed, ListedHaveTheirHash, IsReported, LostAreReported}
 use Rattle.ss_strangers.proofs.AsSent.{AreAsSent, hash_at, lost_unlisted, unlisted_fate, numbered, one_hash}
-use Rattle.ss_strangers.proofs.HiddenBlocks.{IsSpoiltText, hidden, same_sessions, same_shortfalls}
+use Rattle.ss_review.proofs.of_pinned.HiddenBlocks.{IsSpoiltText, hidden, same_sessions, same_shortfalls}
 use Rattle.ss_strangers.proofs.Reported.{told_in, hole_in, told_announced, disputed_announced}
 use Rattle.ss_strangers.proofs.ReportsAgree.{from_has-kept}
 

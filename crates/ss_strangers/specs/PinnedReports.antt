@@ -1,4 +1,4 @@
--- A report by given payloads is one of a log, so what holds of the reports of all logs holds of it.
+-- What became of each number and of each signature block, in a report by given payloads.
 use Rattle.std.specs.Prelude.{◌≡◌, ◌⊎◌, ℕ, ◌<◌, ◌≤◌, List}
 use Rattle.ss_block.specs.declared.session.Session.{Session}
 use Rattle.ss_review.specs.declared.counted.counter.Counter.{Counter}
@@ -6,28 +6,12 @@ use Rattle.ss_review.specs.announced.Announced.{Key}
 use Rattle.ss_review.specs.announced.Announcing.{IsAnnounced}
 use Rattle.ss_review.specs.counted.CountedLaws.{IsCounted}
 use Rattle.ss_review.specs.counted.Kept.{kept_gbc, kept_number}
-use Rattle.ss_review.specs.counted.KeptLaws.{shortfalls_of, IsInTail, Fate, HasFate, IsInRunOf}
-use Rattle.ss_review.specs.keep.Contents.{normals, blocks, contents}
+use Rattle.ss_review.specs.counted.KeptLaws.{IsInTail, Fate, HasFate, IsInRunOf}
+use Rattle.ss_review.specs.keep.Contents.{blocks, contents}
 use Rattle.ss_review.specs.keep.Notes.{notes}
-use Rattle.ss_review.specs.report.Report.{report}
 use Rattle.ss_review.specs.sessions.Verified.{Answers}
-use Rattle.ss_pinned.specs.Pinned.{kept, pinned_report}
-use Rattle.ss_strangers.specs.Unforged.{pinned_shortfalls}
-
--- What is reported of the log by given payloads is reported of the other log without any: of sessions, of messages, and
--- of what is missing up to any counters. The other log has the same messages without a block at the same places, and
--- those of the blocks that are kept. In the places of the others spoilt blocks stand.
-pub record IsReportedAs (says : Answers) (ps : List (List ℕ)) (log other : List (List ℕ)) : Type 0 where
-  pub normals_are : normals (notes other) ≡ normals (notes log)
-  pub blocks_are : blocks (notes other) ≡ kept says ps (blocks (notes log))
-  pub sessions : (report says other).sessions ≡ (pinned_report says ps (contents (notes log))).sessions
-  pub unlisted : (report says other).unlisted ≡ (pinned_report says ps (contents (notes log))).unlisted
-  pub count : (report says other).count ≡ (pinned_report says ps (contents (notes log))).count
-  pub missing : (cs : List Counter) → shortfalls_of says other cs ≡ pinned_shortfalls says ps log cs
-
-abbrev pub PinnedReportsAreOfLogs : Type 0
-PinnedReportsAreOfLogs = (says : Answers) (ps : List (List ℕ)) (log : List (List ℕ))
-    → (other : List (List ℕ)) × IsReportedAs says ps log other
+use Rattle.ss_review.specs.pinned.Pinned.{kept, pinned_report}
+use Rattle.ss_review.specs.pinned.Stands.{pinned_shortfalls}
 
 -- A number below its group's counter is exactly one of listed, a gap, in a hole and in a tail. A number in a tail is
 -- below its group's counter, and no block that is kept and verified announces it.

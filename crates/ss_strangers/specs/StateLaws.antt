@@ -10,7 +10,7 @@ use Rattle.ss_review.specs.report.Report.{report_of}
 use Rattle.ss_review.specs.sessions.Payloads.{certificates, is_disputed}
 use Rattle.ss_review.specs.sessions.Sessions.{of_session}
 use Rattle.ss_review.specs.sessions.Verified.{Answers, joined}
-use Rattle.ss_pinned.specs.Pinned.{kept, pinned_report}
+use Rattle.ss_review.specs.pinned.Pinned.{kept, pinned_report}
 use Rattle.ss_strangers.specs.States.{AreWithin, IsClaimant, IsUnclaimed, IsOnlyClaimant, AreClaimants}
 
 -- the payload under which a session is joined, or else its state, among the blocks that are kept

@@ -4,7 +4,7 @@ use Rattle.ss_block.specs.Block as block
 use Rattle.ss_review.specs.declared.keep.message.BlockContent.TheVariants.{Fragment}
 use Rattle.ss_review.specs.declared.keep.message.BlockMessage.{BlockMessage}
 use Rattle.ss_review.specs.sessions.Verified.{Answers}
-use Rattle.ss_pinned.specs.Pinned.{claims}
+use Rattle.ss_review.specs.pinned.Pinned.{claims}
 
 -- The fragments of these blocks lie within the payload whose length they state, and their indexes count from 1. So it is
 -- of the blocks of each log (RFC 5848, section 5.3.2).

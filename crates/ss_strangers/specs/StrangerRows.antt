@@ -19,7 +19,7 @@ use Rattle.ss_review.specs.report.Report.{report_of}
 use Rattle.ss_review.specs.report.Rows.{first, second, third, message, sent_by, certificate, hashes_of, group_told, whole_log, whole_report}
 use Rattle.ss_review.specs.sessions.Sessions.{of_session}
 use Rattle.ss_review.specs.sessions.Verified.{Answers}
-use Rattle.ss_pinned.specs.Pinned.{claims, pinned_report}
+use Rattle.ss_review.specs.pinned.Pinned.{claims, pinned_report}
 use Rattle.ss_strangers.specs.StateLaws.{pinned_joined, IsUndisputedOrUnclaimed}
 use Rattle.ss_strangers.specs.States.{IsOnlyClaimant, AreClaimants}
 use Rattle.ss_strangers.specs.Strangers.{IsAddedTo, JoinedAreClaimed}

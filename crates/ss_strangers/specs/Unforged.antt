@@ -5,18 +5,15 @@ use Rattle.ss_block.specs.Reading.{reading}
 use Rattle.ss_block.specs.declared.reading.Reading.TheVariants as readings
 use Rattle.ss_payload.specs.Payload.{payload_text}
 use Rattle.ss_origin.specs.Chain.{Turn, emitted_by}
-use Rattle.ss_review.specs.declared.counted.counter.Counter.{Counter}
-use Rattle.ss_review.specs.declared.counted.shortfall.LogShortfalls.{LogShortfalls}
 use Rattle.ss_review.specs.declared.keep.message.BlockContent.TheVariants.{Hashes}
 use Rattle.ss_review.specs.declared.keep.message.BlockMessage.{BlockMessage}
 use Rattle.ss_review.specs.declared.report.report.Report.{Report}
-use Rattle.ss_review.specs.counted.Kept.{log_shortfalls}
 use Rattle.ss_review.specs.deliveries.Delivery.{own_session}
 use Rattle.ss_review.specs.deliveries.DeliveryLaws.{Case, says}
 use Rattle.ss_review.specs.keep.Contents.{blocks, contents}
 use Rattle.ss_review.specs.keep.Notes.{notes}
 use Rattle.ss_review.specs.sessions.Verified.{Answers, is_valid}
-use Rattle.ss_pinned.specs.Pinned.{kept, pinned_counted, pinned_report}
+use Rattle.ss_review.specs.pinned.Pinned.{kept, pinned_report}
 use Rattle.ss_strangers.specs.StateLaws.{pinned_joined}
 
 -- ---- what nobody forged
@@ -62,8 +59,3 @@ blocks_in x ps = kept (says x) ps (blocks (notes x.log))
 
 abbrev pub pinned_in : Case → List (List ℕ) → Report
 pinned_in x ps = pinned_report (says x) ps (contents (notes x.log))
-
--- what is missing of a log up to these counters
-abbrev pub pinned_shortfalls : Answers → List (List ℕ) → List (List ℕ) → List Counter → LogShortfalls
-pinned_shortfalls says ps log cs =
-    log_shortfalls cs (pinned_report says ps (contents (notes log))).sessions (pinned_counted says ps (blocks (notes log)))

@@ -1,16 +1,8 @@
 //! What holds of the reports of all logs by given payloads.
-ghost use Rattle.ss_strangers.specs.PinnedReports.{EveryBlockIsTold, EveryNumberIsTold, PinnedReportsAreOfLogs};
+ghost use Rattle.ss_strangers.specs.PinnedReports.{EveryBlockIsTold, EveryNumberIsTold};
 
-use ss_block::laws::readings::readings_are_of_values;
 use ss_review::laws::kept;
-
-/// A report by given payloads is the report of a log without any, in which a spoilt block stands for each block that
-/// isn't kept. Only what is refused and what is spoilt differ.
-pub fn pinned_reports_are_of_logs()
-    ensures { PinnedReportsAreOfLogs }
-{
-    readings_are_of_values();
-}
+use ss_review::laws::pinned::pinned_reports_are_of_logs;
 
 /// Each number below its group's counter is exactly one of listed, a gap, in a hole and in a tail. No number at its
 /// group's counter or above, and no announced one, is in a tail.

@@ -9,7 +9,7 @@ use Rattle.ss_review.specs.report.Report.{report_of}
 use Rattle.ss_review.specs.sessions.Verified.{joined, is_verified}
 use Rattle.ss_block.specs.PayloadReading.{stamp_in, stamp_and_rest_in, blob_in, payload_in}
 use Rattle.ss_octets.specs.Cut.{parts_at}
-use Rattle.ss_pinned.specs.Pinned.{claims, keeps}
+use Rattle.ss_review.specs.pinned.Pinned.{claims, keeps}
 use Rattle.ss_strangers.proofs.StrangerRows.{premises_met}
 use Rattle.ss_strangers.proofs.laws.strangers.strangers_are_these.Goals as goal
 

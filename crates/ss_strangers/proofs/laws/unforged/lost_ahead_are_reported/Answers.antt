@@ -1,5 +1,5 @@
 use Rattle.ss_strangers.proofs.UnforgedAhead.{lost_reported}
-use Rattle.ss_strangers.proofs.HiddenBlocks.{spoilt_text_is}
+use Rattle.ss_review.proofs.of_pinned.HiddenBlocks.{spoilt_text_is}
 use Rattle.ss_strangers.proofs.laws.unforged.lost_ahead_are_reported.Goals as goal
 
 pub returns : goal.returns

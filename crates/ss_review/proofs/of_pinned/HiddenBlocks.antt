@@ -21,9 +21,8 @@ use Rattle.ss_review.specs.keep.Notes.{Note, Normal, Block, Spoilt, noted, note,
 use Rattle.ss_review.specs.report.Report.{unlisted, report_of, report}
 use Rattle.ss_review.specs.sessions.Sessions.{of_session}
 use Rattle.ss_review.specs.sessions.Verified.{Answers}
-use Rattle.ss_pinned.specs.Pinned.{keeps, kept, pinned_report}
-use Rattle.ss_strangers.specs.PinnedReports.{IsReportedAs}
-use Rattle.ss_strangers.specs.Unforged.{pinned_shortfalls}
+use Rattle.ss_review.specs.pinned.Pinned.{keeps, kept, pinned_report}
+use Rattle.ss_review.specs.pinned.Stands.{IsReportedAs, PinnedReportsAreOfLogs, pinned_shortfalls}
 
 -- ---- a spoilt block
 
@@ -177,3 +176,6 @@ module _ (says : Answers) (ps : List (List ℕ)) (log : List (List ℕ)) where
       count = same_count;
       missing = same_shortfalls;
     }
+
+pub of_logs : IsSpoiltText → PinnedReportsAreOfLogs
+of_logs spoilt says ps log = (hidden says ps log, reported_as says ps log spoilt)

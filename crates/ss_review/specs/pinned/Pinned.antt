@@ -1,7 +1,7 @@
 -- Sessions that are joined by payloads that are known beforehand (RFC 5848, sections 5.3 and 7). Whoever reviews has
 -- them from elsewhere, so what strangers say about the key of a session is left out.
 use Rattle.std.specs.Prelude.{ℕ, ◌-◌, ◌==◌, ◌&&◌, ◌||◌, nat_eq, not, Bool, true, false, List, ◌++◌, length, drop, map}
-use Rattle.std.specs.Prelude.{filter, flat_map, Result, Ok, Err}
+use Rattle.std.specs.Prelude.{filter, flat_map, Option, Some, None, Result, Ok, Err}
 use Rattle.std.specs.List.{list_any, starts_with}
 use Rattle.std.specs.Str.{bytes_eq}
 use Rattle.ss_block.specs.Block as block
@@ -16,7 +16,7 @@ use Rattle.ss_review.specs.declared.report.report.Report.{Report}
 use Rattle.ss_review.specs.declared.report.session_report.SessionState.{SessionState}
 use Rattle.ss_review.specs.counted.Counted.{counted_sessions}
 use Rattle.ss_review.specs.keep.Contents.{Contents}
-use Rattle.ss_review.specs.questions.Questions.{asked, asked_session}
+use Rattle.ss_review.specs.questions.Questions.{asked, asked_session, asked_sessions, questions}
 use Rattle.ss_review.specs.report.Report.{report_of}
 use Rattle.ss_review.specs.report.Verdict.{is_none}
 use Rattle.ss_review.specs.sessions.Payloads.{certificates, cover, is_payload, stated_payload}
@@ -122,3 +122,29 @@ session_pinned ps s bs =
 
 unfoldable pub pinned_sessions : List (List ℕ) → List BlockMessage → List AskedSession
 pinned_sessions ps bs = flat_map (λ s. session_pinned ps s (of_session bs s)) (sessions bs)
+
+-- ---- by given payloads, or without any
+
+-- the report of a log: sessions are joined by the payloads, where some are given
+abbrev pub report_by : Option (List (List ℕ)) → Answers → Contents → Report
+report_by None says log = report_of says log
+report_by (Some ps) says log = pinned_report says ps log
+
+-- the blocks that such a report rests on
+abbrev pub blocks_by : Option (List (List ℕ)) → Answers → List BlockMessage → List BlockMessage
+blocks_by None says bs = bs
+blocks_by (Some ps) says bs = kept says ps bs
+
+-- the GBC of the verified signature blocks of each session
+abbrev pub counted_by : Option (List (List ℕ)) → Answers → List BlockMessage → List CountedSession
+counted_by known says bs = counted_sessions says (blocks_by known says bs)
+
+-- what is asked about a log
+abbrev pub questions_by : Option (List (List ℕ)) → List BlockMessage → List Question
+questions_by None bs = questions bs
+questions_by (Some ps) bs = pinned_questions ps bs
+
+-- the same session by session
+abbrev pub sessions_by : Option (List (List ℕ)) → List BlockMessage → List AskedSession
+sessions_by None bs = asked_sessions bs
+sessions_by (Some ps) bs = pinned_sessions ps bs
