@@ -28,7 +28,7 @@ impl Reviewer {
         known: Option<&[Bytes]>,
     ) -> Result<Report, ReviewFault>
         requires sound { J.sound judge }
-        requires askable { AreAskable J.askable judge (questions_by (option_map (λ ps. ps.now) known.entry)
+        requires askable { AreAskable J.askable judge (questions_by (option_map (λ ps. ps.now) known)
             (kept_blocks self)) }
         ensures report { (ns : List Note)
             → Keeps self ns
@@ -47,7 +47,7 @@ impl Reviewer {
         known: Option<&[Bytes]>,
     ) -> Result<CountedReport, ReviewFault>
         requires sound { J.sound judge }
-        requires askable { AreAskable J.askable judge (questions_by (option_map (λ ps. ps.now) known.entry)
+        requires askable { AreAskable J.askable judge (questions_by (option_map (λ ps. ps.now) known)
             (kept_blocks self)) }
         ensures report { (ns : List Note)
             → Keeps self ns
