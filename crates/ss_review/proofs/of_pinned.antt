@@ -1,1 +1,2 @@
 pub mod HiddenBlocks
+pub mod InOrder
