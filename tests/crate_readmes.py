@@ -39,7 +39,6 @@ LAW_CRATES = {
     "ss_keeper",
     "ss_nights",
     "ss_parts",
-    "ss_pinned",
     "ss_plans",
     "ss_strangers",
     "ss_whole_nights",
