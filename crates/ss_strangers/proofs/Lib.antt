@@ -18,3 +18,4 @@ pub mod StoredTexts
 pub mod AddedMessages
 pub mod SmallAttack
 pub mod NewestCounters
+pub mod PinnedAnswers

@@ -9,3 +9,4 @@ pub mod StrangerRows
 pub mod AddedMessages
 pub mod SmallAttack
 pub mod NewestCounters
+pub mod PinnedAnswers

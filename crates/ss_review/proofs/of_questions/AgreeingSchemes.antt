@@ -70,7 +70,7 @@ module _ (says other : Answers) (bs : List BlockMessage) (alike : (q : Question)
   unfolding joined
   joined_alike s h = judged_alike says other (of_session bs s) (stated_payload (certificates (of_session bs s))) (alike_of s h)
 
-  verified_alike : (b : BlockMessage) → Has bs b → is_verified says bs b ≡ is_verified other bs b
+  pub verified_alike : (b : BlockMessage) → Has bs b → is_verified says bs b ≡ is_verified other bs b
   unfolding is_verified joined
   verified_alike b h =
       let own = of_session bs b.session in

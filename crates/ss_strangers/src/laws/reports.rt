@@ -1,6 +1,8 @@
 //! What holds of the reports of all logs by given payloads.
+ghost use Rattle.ss_strangers.specs.PinnedAnswers.{AgreeingSchemesGiveOnePinnedReport};
 ghost use Rattle.ss_strangers.specs.PinnedReports.{EveryBlockIsTold, EveryNumberIsTold};
 
+use crate::laws::states::logs_are_within;
 use ss_review::laws::kept;
 use ss_review::laws::pinned::pinned_reports_are_of_logs;
 
@@ -20,4 +22,12 @@ pub fn every_block_is_told()
 {
     kept::every_block_is_told();
     pinned_reports_are_of_logs();
+}
+
+/// Two schemes that answer alike all that is asked about a log under given payloads give it one report. So whoever
+/// answers these questions has answered all that the report rests on.
+pub fn agreeing_schemes_give_one_pinned_report()
+    ensures { AgreeingSchemesGiveOnePinnedReport }
+{
+    logs_are_within();
 }
