@@ -19,3 +19,4 @@ pub mod AddedMessages
 pub mod SmallAttack
 pub mod NewestCounters
 pub mod PinnedAnswers
+pub mod PinnedListings

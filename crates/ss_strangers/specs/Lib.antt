@@ -10,3 +10,4 @@ pub mod AddedMessages
 pub mod SmallAttack
 pub mod NewestCounters
 pub mod PinnedAnswers
+pub mod PinnedListings
