@@ -20,3 +20,4 @@ pub mod SmallAttack
 pub mod NewestCounters
 pub mod PinnedAnswers
 pub mod PinnedListings
+pub mod SmallListing

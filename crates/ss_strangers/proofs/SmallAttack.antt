@@ -93,11 +93,11 @@ abbrev block_text : List ℕ
 block_text = chains.block 0 1 (message 49 ∷ [])
 
 -- a text that says this for the session
-record Says (t : List ℕ) (said : BlockContent) : Type 0 where
-  octets : List ℕ
-  read : said_in (reading t) ≡ Some said
-  signed_is : signed t ≡ Some octets
-  session_is : session t ≡ Some (own_session small)
+pub record Says (t : List ℕ) (said : BlockContent) : Type 0 where
+  pub octets : List ℕ
+  pub read : said_in (reading t) ≡ Some said
+  pub signed_is : signed t ≡ Some octets
+  pub session_is : session t ≡ Some (own_session small)
 
 module _ (signatures : SignaturesAreRead) (certificates_read : CertificatesAreRead) where
   stating_says : (last signature : ℕ) → last < 128 → signature < 256 → Says (stating_text last signature) (Fragment (stating last signature))
@@ -115,19 +115,19 @@ module _ (signatures : SignaturesAreRead) (certificates_read : CertificatesAreRe
       }) (octets_of signature small_two) (omega arith) in
       record { octets = _; read = ap said_in r.read; signed_is = r.signed; session_is = r.session }
 
-  own_says : Says certificate (Fragment (stating 78 83))
+  pub own_says : Says certificate (Fragment (stating 78 83))
   unfolding payload_text
   own_says = stating_says 78 83 (omega arith) (omega arith)
 
-  forged_says : Says forged_certificate (Fragment (stating 85 84))
+  pub forged_says : Says forged_certificate (Fragment (stating 85 84))
   unfolding payload_text
   forged_says = stating_says 85 84 (omega arith) (omega arith)
 
-  record IsOwnBlock : Type 0 where
-    text_is : Says block_text (Hashes own_block)
-    read : reading block_text ≡ readings.Signature own_block
+  pub record IsOwnBlock : Type 0 where
+    pub text_is : Says block_text (Hashes own_block)
+    pub read : reading block_text ≡ readings.Signature own_block
 
-  block_says : IsOwnBlock
+  pub block_says : IsOwnBlock
   block_says =
       let r = signatures small.config.head None own_block is_setting.head refl
       (record {
@@ -214,13 +214,13 @@ module _ (signatures : SignaturesAreRead) (certificates_read : CertificatesAreRe
 
   -- ---- the stranger's block is foreign
 
+  pub foreign : (place : ℕ) (b : BlockMessage) → block_in place forged_certificate ≡ Some b → IsForeign (says attacked) b
+  foreign place b e p t =
+      let said : b.said ≡ Fragment (stating 85 84) = sym (same_Some _ _ (sym forged_says.read ∙ (block_read place forged_certificate b e).said_is)) in
+      ap (λ s. bytes_eq (signature_of s) mark) said
+
   added : IsWith (MayBeAdded (says attacked) bare.log) bare.log attacked.log
   added = inr (inr foreign, inl (block_text ∷ [], refl, inl ([], refl, refl)))
-    where
-      foreign : (place : ℕ) (b : BlockMessage) → block_in place forged_certificate ≡ Some b → IsForeign (says attacked) b
-      foreign place b e p t =
-          let said : b.said ≡ Fragment (stating 85 84) = sym (same_Some _ _ (sym forged_says.read ∙ (block_read place forged_certificate b e).said_is)) in
-          ap (λ s. bytes_eq (signature_of s) mark) said
 
   -- ---- what arrived
 
@@ -252,7 +252,7 @@ module _ (signatures : SignaturesAreRead) (certificates_read : CertificatesAreRe
     last = omega arith;
   }
 
-  not_normal : (t : List ℕ) (said : BlockContent) → Says t said → is_normal (note t) ≡ true → ⊥
+  pub not_normal : (t : List ℕ) (said : BlockContent) → Says t said → is_normal (note t) ≡ true → ⊥
   not_normal t said s n = let no : true ≡ false = sym n ∙ block_not_normal t said s.read in cc
 
   no_message : (n : List ℕ) → Has attacked.log n → is_normal (note n) ≡ true → ⊥

@@ -1,10 +1,14 @@
-//! A small log that a stranger attacks: the premises of laws are met.
+//! Small logs that a stranger attacks: the premises of laws are met.
 ghost use Rattle.ss_strangers.specs.SmallAttack.{SmallAttackIsThis};
+ghost use Rattle.ss_strangers.specs.SmallListing.{SmallListingIsThis};
 
+use crate::laws::reports::pinned_reports_list_what_is_announced;
+use crate::laws::states::{logs_are_within, reports_agree};
+use crate::laws::strangers::{added_anywhere, strangers_take_nothing};
 use crate::laws::{unforged, untrusted};
 use ss_block::laws::writing::{certificates_are_read, signatures_are_read};
 use ss_review::laws::ahead::cases_go_on_ahead;
-use ss_review::laws::cases::premises_are_met;
+use ss_review::laws::cases::{premises_are_met, whole_is_reported};
 use ss_review::laws::kept::own_counters_reach_the_end;
 
 /// A small log of one originator meets the premises of the laws of `unforged` and `untrusted`. A stranger's certificate
@@ -23,4 +27,21 @@ pub fn small_attack_is_this()
     unforged::nothing_is_disputed();
     unforged::listed_have_their_hash();
     untrusted::lost_are_reported();
+}
+
+/// A small log has everything that the originator sent, and a stranger's certificate block with another payload. With the
+/// originator's payload its message is listed, and a kept block stands behind it.
+pub fn small_listing_is_this()
+    ensures { SmallListingIsThis }
+{
+    signatures_are_read();
+    certificates_are_read();
+    premises_are_met();
+    whole_is_reported();
+    logs_are_within();
+    unforged::arrived_payloads_claim();
+    reports_agree();
+    added_anywhere();
+    strangers_take_nothing();
+    pinned_reports_list_what_is_announced();
 }

@@ -1,0 +1,25 @@
+-- A small log that has everything, into which a stranger wrote a certificate block, and what is listed of it.
+use Rattle.std.specs.Prelude.{ℕ, ◌∷◌}
+use Rattle.ss_review.specs.deliveries.Delivered.{own_number}
+use Rattle.ss_review.specs.deliveries.Delivery.{own_session}
+use Rattle.ss_review.specs.deliveries.DeliveryLaws.{Case, says, HasMessage}
+use Rattle.ss_review.specs.deliveries.SmallChains.{small, whole}
+use Rattle.ss_review.specs.keep.Contents.{blocks}
+use Rattle.ss_review.specs.keep.Notes.{notes}
+use Rattle.ss_review.specs.sessions.Sessions.{of_session}
+use Rattle.ss_strangers.specs.AddedMessages.{IsWith, MayBeAdded}
+use Rattle.ss_strangers.specs.PinnedListings.{IsWitnessedByKept}
+use Rattle.ss_strangers.specs.SmallAttack.{own_payload, given, forged_certificate}
+use Rattle.ss_strangers.specs.States.{IsClaimant}
+use Rattle.ss_strangers.specs.Unforged.{pinned_in}
+
+-- The originator's certificate block, its one message and the block of it arrived, and so did the stranger's block.
+abbrev pub attacked_whole : Case
+attacked_whole = record whole { log = forged_certificate ∷ whole.log }
+
+-- With the originator's payload the message is listed, and a kept block stands behind it.
+pub record SmallListingIsThis : Type 0 where
+  pub added : IsWith (MayBeAdded (says attacked_whole) whole.log) whole.log attacked_whole.log
+  pub claimant : IsClaimant (says attacked_whole) given (of_session (blocks (notes attacked_whole.log)) (own_session small)) own_payload
+  pub listed : HasMessage (pinned_in attacked_whole given) (own_number attacked_whole 0 1)
+  pub witnessed : (place : ℕ) × IsWitnessedByKept (says attacked_whole) given attacked_whole.log (own_number attacked_whole 0 1) place
