@@ -1,6 +1,6 @@
 -- A report by given payloads lists what the kept blocks announce.
 use Rattle.std.proofs.Common.{◌≡◌, ℕ, true, List, length, map, refl, sym, ap, ◌∙◌, subst}
-use Rattle.std.specs.Prelude.{Contains, Some, slice_get}
+use Rattle.std.specs.Prelude.{Some, slice_get}
 use Rattle.ss_block.specs.Block as block
 use Rattle.ss_block.specs.Hashes.{pair}
 use Rattle.ss_block.specs.Reading.{reading}
@@ -9,7 +9,7 @@ use Rattle.ss_block.specs.declared.hash.Hash.{Hash}
 use Rattle.ss_block.specs.declared.hash.HashPair.{HashPair}
 use Rattle.ss_block.specs.declared.reading.Reading.TheVariants as readings
 use Rattle.ss_review.specs.Laws.{ListsWhatIsAnnounced, ReportsListWhatIsAnnounced}
-use Rattle.ss_review.specs.announced.Announced.{Key, key_cmp, rows}
+use Rattle.ss_review.specs.announced.Announced.{Key, rows}
 use Rattle.ss_review.specs.announced.Announcing.{IsAnnounced}
 use Rattle.ss_review.specs.assign.Assigned.{has_hash, assigned}
 use Rattle.ss_review.specs.assign.Listing.{Wants, IsDue}
@@ -17,11 +17,10 @@ use Rattle.ss_review.specs.declared.keep.message.BlockContent.{BlockContent}
 use Rattle.ss_review.specs.declared.keep.message.BlockMessage.{BlockMessage}
 use Rattle.ss_review.specs.declared.keep.message.NormalMessage.{NormalMessage}
 use Rattle.ss_review.specs.declared.keep.spoilt.SpoiltPlace.{SpoiltPlace}
-use Rattle.ss_review.specs.declared.report.entry.Entry.TheVariants as entry
 use Rattle.ss_review.specs.declared.report.report.Report.{Report}
 use Rattle.ss_review.specs.keep.Contents.{Contents, normals, blocks, spoilts, contents}
 use Rattle.ss_review.specs.keep.Notes.{notes}
-use Rattle.ss_review.specs.report.Meaning.{IsListed, IsGap}
+use Rattle.ss_review.specs.report.Meaning.{IsListed}
 use Rattle.ss_review.specs.report.Report.{report_of, report}
 use Rattle.ss_review.specs.sessions.Sessions.{of_session}
 use Rattle.ss_review.specs.sessions.Verified.{Answers, joined, signature_of}
@@ -29,9 +28,9 @@ use Rattle.ss_octets.proofs.Members.{has_from_contains, contains_from_has, has-m
 use Rattle.ss_review.proofs.of_lists.Keyed.{has-slice_get}
 use Rattle.ss_review.proofs.of_lists.Tests.{all_member}
 use Rattle.ss_review.proofs.of_reports.Witnesses.{stored_normal, stored_block, said_signature, hash_is, verified_cases}
-use Rattle.ss_review.specs.pinned.Pinned.{kept, pinned_contents, pinned_report}
+use Rattle.ss_review.specs.pinned.Pinned.{pinned_contents, pinned_report}
 use Rattle.ss_review.specs.pinned.Stands.{IsReportedAs, PinnedReportsAreOfLogs, PinnedReportsAreInOrder}
-use Rattle.ss_strangers.specs.PinnedListings.{kept_in, IsAssignedByKept, IsWitnessedByKept, ListsWhatKeptAnnounce, PinnedReportsListWhatIsAnnounced}
+use Rattle.ss_strangers.specs.PinnedListings.{kept_in, IsWitnessedByKept, ListsWhatKeptAnnounce, PinnedReportsListWhatIsAnnounced}
 use Rattle.ss_strangers.proofs.Reported.{told_in, borne}
 use Rattle.ss_strangers.proofs.ReportsAgree.{from_has-kept}
 

@@ -1,6 +1,6 @@
 -- A report by given payloads is in rising order.
-use Rattle.std.proofs.Common.{◌≡◌, List, map, filter, not, subst}
-use Rattle.std.specs.Prelude.{ℕ, All}
+use Rattle.std.proofs.Common.{List, map, not, subst}
+use Rattle.std.specs.Prelude.{All}
 use Rattle.std.specs.Ordering.{nat_cmp}
 use Rattle.std.specs.List.Sorted.{IsStrictlySortedBy}
 use Rattle.ss_block.specs.Order.{session_cmp, group_cmp}
