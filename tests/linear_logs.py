@@ -5,7 +5,7 @@
     linear_logs.py trusted COUNT       the longest payload that is looked at, of the type U, and COUNT signature blocks
     linear_logs.py sessions COUNT      COUNT sessions, each with a payload of its own in one certificate block
     linear_logs.py kinds COUNT FILE    the same, but the payloads are of the types P and C in turn: keys of OpenPGP, whose
-                                       numbers are any, and the certificate FILE, in DER, with another last octet each
+                                       numbers are any, and the certificate FILE, in DER, with other last octets each
 """
 from __future__ import annotations
 
@@ -58,7 +58,8 @@ def blocks(kind: str, count: int, words: List[str]) -> Iterator[str]:
         with open(words[0], "rb") as file:
             certificate = file.read()
         for number in range(count):
-            changed = certificate[:-2] + number.to_bytes(2, "big")
+            # an odd number isn't 0, so no certificate here is that of the file
+            changed = certificate[:-2] + (int.from_bytes(certificate[-2:], "big") ^ number).to_bytes(2, "big")
             blob, letter = (changed, "C") if number % 2 else (numbers(number), "P")
             yield from certificates(number, f"- {letter} {base64.b64encode(blob).decode()}")
     else:
