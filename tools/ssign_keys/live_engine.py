@@ -70,9 +70,9 @@ class Engine:
         words = [*words_of(session, stamp), "--wrap"]
         log = framed(messages)
         wants = wants_of(self._ask(["plan", *words], log, []))
-        blocks = [block_of(it, MADE_UP) for it in wants]
+        blocks = {block_of(it, MADE_UP) for it in wants}
         signed = self._ask(["sign", *words, "--answers=@0"], log, [answers_of(wants, [MADE_UP] * len(wants))])
-        wraps = [it for it in messages_of(signed) if it not in set(blocks)]
+        wraps = [it for it in messages_of(signed) if it not in blocks]
         ends = [b" wrapped - |" + it for it in messages]
         if len(wraps) != len(ends) or not all(wrap.endswith(end) for wrap, end in zip(wraps, ends)):
             raise own_mistake("wraps that don't hold the messages")
