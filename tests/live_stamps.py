@@ -77,7 +77,8 @@ def octets_of(path):
 
 
 def messages_about(it):
-    """What the log says of time stamps: name, SHA-256, time and SHA-256 of the counters, and the file where it stands."""
+    """The messages about time stamps: the file where one stands, and of the stamp its name, SHA-256, time, and the counters'
+    SHA-256."""
     found = []
     for name in it.files():
         for each in split_frames(octets_of(os.path.join(it.path("out"), name)))[0]:

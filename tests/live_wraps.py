@@ -71,7 +71,7 @@ def main():
         tell(f"{text[:60]!r} comes back", original(wrap) != text and f"{original(wrap)!r}")
     lines = (run(["inspect", "--findings"], none) or b"").decode("ascii").splitlines()
     found = [it for it in lines if it.startswith("unparsed ")]
-    tell("ssign says of each that it is no message", len(found) != len(none) and f"{len(found)} of {len(none)}; {lines[-3:]}")
+    tell("ssign reports each as no message", len(found) != len(none) and f"{len(found)} of {len(none)}; {lines[-3:]}")
     words = ["--payload=- K AAAA", "--rsid=7", "--host=relay.example.org", "--app=signer", "--procid=12", f"--stamp={STAMP}", "--wrap"]
     plan = run(["plan", *words], none)
     seals = [it[len(b"want "):] for it in (plan or b"").splitlines()]

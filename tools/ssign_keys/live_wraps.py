@@ -1,7 +1,7 @@
 """Wraps of messages that surely are none of RFC 5424, without a run of ssign for each: many senders still write the form of RFC
 3164, and rsyslog hands their messages over one at a time.
 
-ssign says of each such wrap that it is one before it is numbered (`Engine.check_wraps`).
+Before such a wrap gets a number, ssign checks that it is one (`Engine.check_wraps`).
 """
 from __future__ import annotations
 

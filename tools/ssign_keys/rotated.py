@@ -491,7 +491,8 @@ class Rotation:
         return Night(ongoing.rsid, words, f"{ongoing.rsid}-{label}", ongoing.ends.lines(ongoing.session))
 
     def _begin_trying(self, night: Night) -> None:
-        """Remembers at which counters a run begins, before it gives a number: what it gives in vain, its entry can say then."""
+        """Remembers at which counters a run begins, before it gives a number. If the run is stopped, no message has its numbers,
+        and the entry of the next log lists them as left out."""
         trying = self._state.trying
         if self._is_one and (trying is None or trying.rsid != night.rsid):
             self._state.trying = Trying(night.rsid, night.begin.decode("ascii").splitlines())

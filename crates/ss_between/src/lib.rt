@@ -1,5 +1,5 @@
-//! One night of a session that goes on: what a review says of a log between two counters (RFC 5848, sections 4.2.4 and
-//! 4.2.5).
+//! One night of a session that goes on: what a review of its log reports between two counters (RFC 5848, sections 4.2.4
+//! and 4.2.5).
 #![tactic(auto)]
 
 mod bounds;
