@@ -56,7 +56,8 @@ def refuse_lone(arguments: argparse.Namespace) -> None:
 
 def check_stamps(arguments: argparse.Namespace, counters: Optional[Digest], manifest: Optional[Digest],
                  workplace: Workplace) -> Stamps:
-    """The time stamps, where all of them hold of these files as they were read. Raises Fault with T1, T2 or T3."""
+    """The time stamps, where all of them hold of these files as they were read. Raises Fault with T1, T2 or T3 (docs/FORMATS.md,
+    "A time stamp")."""
     if not arguments.stamped:
         return NONE
     # this takes half of the time of a start, so it is loaded where a time stamp is checked
