@@ -1,11 +1,13 @@
 """The review of a stored log, a second time: the rules of docs/ in plain Python, with nothing of the program in it.
 
 `review(log, trusted, valid)` gives the lines of a report and `questions(log)` those of the questions of a `Log`, in the
-plain format of the program `tool_reviewed`, where octets are hexadecimal. Everything here goes over the whole log again
-and again, since what is wanted of it is that each rule can be read.
+plain format of the program `tool_reviewed`, where octets are hexadecimal. Both take the payloads that are known
+beforehand, if some are. Everything here goes over the whole log again and again, since what is wanted of it is that each
+rule can be read.
 """
 import base64
 import binascii
+import copy
 import functools
 import hashlib
 import re
@@ -161,6 +163,46 @@ class Log:
         return ("whole" if is_payload(joined) else "malformed"), joined
 
 
+# ---- payloads that are known beforehand
+
+def agrees(block, payload):
+    """Whether a certificate block states the length of a payload, and octets that stand there in it."""
+    start = block.index - 1
+    return block.total == len(payload) and payload[start:start + len(block.fragment)] == block.fragment
+
+
+def covered(blocks, payload):
+    """Whether the fragments of certificate blocks have each octet of a payload."""
+    return {block.index + j for block in blocks for j in range(len(block.fragment))} >= set(range(1, len(payload) + 1))
+
+
+def speaks_for(block, payload, valid):
+    """Whether a certificate block agrees with a payload, and is valid under it."""
+    return agrees(block, payload) and (payload, block.signed, block.sign) in valid
+
+
+def claimants(log, session, trusted, valid, known):
+    """Those of the known payloads that claim a session."""
+    return [payload for payload in known if is_payload(payload) and payload in trusted and covered(
+        [block for block in log.certificates(session) if speaks_for(block, payload, valid)], payload)]
+
+
+def kept(log, trusted, valid, known):
+    """The log without the certificate blocks of claimed sessions that speak for no payload that claims it."""
+    part = copy.copy(log)
+    left_out = []
+    for session in log.sessions:
+        claiming = claimants(log, session, trusted, valid, known)
+        if claiming:
+            left_out += [block for block in log.certificates(session)
+                         if not any(speaks_for(block, payload, valid) for payload in claiming)]
+    part.blocks = [block for block in log.blocks if block not in left_out]
+    part.sessions = sorted({block.session for block in part.blocks})
+    return part
+
+
+# ---- the report
+
 def state(log, session, trusted, valid):
     """The state of a session, and the blocks of it that are verified."""
     found, payload = log.payload(session)
@@ -175,9 +217,10 @@ def state(log, session, trusted, valid):
     return "joined", accepted
 
 
-def review(log, trusted, valid):
-    """The lines of the report: `trusted` has the payloads that are trusted, and `valid` the payload, signed octets and
-    signature of each signature that is."""
+def review(whole, trusted, valid, known=()):
+    """The lines of the report: `trusted` has the payloads that are trusted, `valid` the payload, signed octets and
+    signature of each signature that is, and `known` the payloads that are known beforehand."""
+    log = kept(whole, trusted, valid, known)
     states = {session: state(log, session, trusted, valid) for session in log.sessions}
     verified = [block for session in log.sessions for block in states[session][1]]
 
@@ -226,26 +269,31 @@ def review(log, trusted, valid):
                 else:
                     lines.append("gap %d %s" % (number, "lost" if len(hashes_of[key]) == 1 else "disputed"))
     lines += ["unlisted %d" % place for place in sorted(log.pairs) if place not in assigned.values()]
-    lines += ["refused %d" % block.place for block in log.blocks if block not in verified]
+    lines += ["refused %d" % block.place for block in whole.blocks if block not in verified]
     lines += ["spoilt %d S%d" % it for it in log.spoilt]
     lines.append("count %d" % log.count)
     return lines
 
 
-def asked(log):
-    """What is asked of each session whose octets join to a payload: the session and the payload, with None for whether
-    it is trusted, and then with each block."""
+def asked(log, known=()):
+    """What is asked of each session: the session and a payload, with None for whether it is trusted, and then with each
+    block. First comes the payload that all of its octets join to, then each other one that is known beforehand, whose
+    octets certificate blocks that agree with it have."""
     for session in log.sessions:
-        found, payload = log.payload(session)
-        if found == "whole":
+        found, joined = log.payload(session)
+        payloads = [joined] if found == "whole" else []
+        payloads += [payload for payload in known if is_payload(payload) and payload not in payloads
+                     and covered([block for block in log.certificates(session) if agrees(block, payload)], payload)]
+        for payload in payloads:
             for block in [None, *log.of(session)]:
                 yield session, payload, block
 
 
-def questions(log):
+def questions(log, known=()):
     """The lines of the questions."""
     return ["trust %s" % payload.hex() if block is None
-            else "yes %s %s %s" % (payload.hex(), block.signed.hex(), block.sign.hex()) for _, payload, block in asked(log)]
+            else "yes %s %s %s" % (payload.hex(), block.signed.hex(), block.sign.hex())
+            for _, payload, block in asked(log, known)]
 
 
 def shown(field):

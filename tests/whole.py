@@ -24,7 +24,7 @@ from review_examples import (
     ALL, C, C11, CERTIFICATE_ALONE, F1, F2, H1, K0, K2, M1, M2, NO_SIGNATURE, NO_TRUST, S, S7, S8, TA, TB, TC, TD, TE, A, B, always,
     certificate, h, signature)
 from review_logs import LAST
-from review_model import Log, review, state
+from review_model import Log, kept, review, state
 from review_runs import answers_text, answers_to, frame, is_clean, joined, line, read_frames, read_lines, report_text
 
 SEEDS = 2_000
@@ -71,16 +71,17 @@ def lines_missing(log, session, trusted, valid):
     return [f"blocks {names_of(session)} {first} {last}" for first, last in runs]
 
 
-def whole_text(log, trusted, valid, torn=None):
+def whole_text(log, trusted, valid, torn=None, known=()):
     """The lines of the report with the missing blocks."""
-    sessions, text, waiting = iter(log.sessions), [], []
-    for it in report_text(review(log, trusted, valid), torn):
+    part = kept(log, trusted, valid, known)
+    sessions, text, waiting = iter(part.sessions), [], []
+    for it in report_text(review(log, trusted, valid, known), torn):
         word = it.split(" ")[0]
         if word not in ENTRIES:
             text, waiting = text + waiting, []
         text.append(it)
         if word == "session":
-            waiting = lines_missing(log, next(sessions), trusted, valid)
+            waiting = lines_missing(part, next(sessions), trusted, valid)
     return text
 
 
