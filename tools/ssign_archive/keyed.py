@@ -9,6 +9,7 @@ from ssign_keys.answer import told_answers
 from ssign_keys.asking import ONCE
 from ssign_keys.commands import BUDGET
 from ssign_keys.faults import Fault
+from ssign_keys.pinned import Search
 from ssign_keys.programs import Refused, Run
 from ssign_keys.progress import Progress
 from ssign_keys.trust import Trust
@@ -27,10 +28,16 @@ def read_trust(given: Dict[str, Any]) -> Trust:
     return Trust.from_arguments(argparse.Namespace(**given))
 
 
-def ask(settings: Settings, trust: Trust, reader: Reader, workplace: Workplace) -> Tuple[str, List[str]]:
-    """Has ssign ask about a part, and keeps what holds. Gives the path of the answers, and what is found of the keys."""
+def ask(settings: Settings, trust: Trust, reader: Reader, workplace: Workplace) -> Tuple[List[str], List[str]]:
+    """Has ssign ask about a part, and keeps what holds. Gives the words for a review, and what is found of the keys."""
     BUDGET.renew()
-    asking = Run(settings.program, ["questions", *ONCE, *settings.log_words], workplace, Progress(), subprocess.PIPE,
+
+    def read_again() -> Iterator[bytes]:
+        again = Reader(reader.folder, reader.files, settings.are_lines, settings.longest, settings.max_expanded)
+        return candidates(again, settings.are_lines)
+
+    known = Search(settings.program, settings.log_words, read_again, settings.are_lines, workplace, Progress()).run(trust, 1)
+    asking = Run(settings.program, ["questions", *ONCE, *known.words, *settings.log_words], workplace, Progress(), subprocess.PIPE,
                  subprocess.PIPE)
     asking.feed(candidates(reader, settings.are_lines))
     weak: Dict[str, None] = {}
@@ -47,10 +54,10 @@ def ask(settings: Settings, trust: Trust, reader: Reader, workplace: Workplace) 
     except Refused as refused:
         where = "" if refused.where is None else f" {refused.where}"
         raise Fault(f"ssign questions refuses it: {refused.code or 'see above'}{where}") from refused
-    found = [f"keys, {it}" for it in answered.counts.sentences()]
+    found = [f"keys, {it}" for it in [*known.sentences, *answered.counts.sentences()]]
     if not settings.allows_sha1:
         found += [f"sha1, the session {it} rests on SHA-1, for which two texts with one hash can be made" for it in weak]
-    return workplace.path("answers"), found
+    return [f"--answers={workplace.path('answers')}", *known.words], found
 
 
 def candidates(reader: Reader, are_lines: bool) -> Iterator[bytes]:

@@ -111,15 +111,16 @@ class PartReview:
         return run_over(reader, settings.program, words, self._workplace, report)
 
     def _answers(self, reader: Reader) -> List[str]:
-        """The word that names the answers: a file that was given, or what holds under the keys that were given."""
+        """The word that names the answers, a file that was given; or what holds under the keys that were given, with the payloads
+        that these vouch for."""
         if self._trust is not None:
             from .keyed import ask
             asked = Reader(reader.folder, reader.files, self._settings.are_lines, self._settings.longest,
                            self._settings.max_expanded)
-            answers, found = ask(self._settings, self._trust, asked, self._workplace)
+            words, found = ask(self._settings, self._trust, asked, self._workplace)
             self._asked = asked.read
             self._extra += found
-            return [f"--answers={answers}"]
+            return words
         given = self._settings.answers_of(self._part)
         if given is not None and not os.path.isfile(given):
             raise Fault(f"the answers file {shown_name(given)} of this part isn't there")

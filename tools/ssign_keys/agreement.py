@@ -36,6 +36,8 @@ class Survey(ReportVisitor):
         """Nothing is surveyed yet."""
         super().__init__(is_whole, counters, begin)
         self.unlisted = array("I")
+        self.refused = array("I")
+        self.joined: Set[Session] = set()
         self.reach = Reach(counters)
         self._notes = notes
         self._facts: Optional[BlockFacts] = None
@@ -63,10 +65,15 @@ class Survey(ReportVisitor):
     @property
     def has_findings(self) -> bool:
         """Whether a line is a finding."""
+        return bool(self.totals.refused or self.has_others)
+
+    @property
+    def has_others(self) -> bool:
+        """Whether a line is another finding than an unverified block."""
         totals = self.totals
         outside = totals.early or totals.beyond
         return bool(totals.lost or totals.disputed or totals.unannounced or totals.tails or outside or totals.unlisted
-                    or totals.refused or totals.spoilt or totals.torn is not None or self.missing
+                    or totals.spoilt or totals.torn is not None or self.missing
                     or sum(self.states.values()) != self.states.get("joined", 0))
 
     def check(self, status: int, valid: int) -> None:
@@ -104,8 +111,9 @@ class Survey(ReportVisitor):
         """Looks up what its blocks vouch for."""
         self._facts, self._known = self._notes.of(session), set()
         self.on_sha1 += sha1.weakness(self._facts, state) is not None
-        if state == "joined" and self._facts is not None:
-            self._valid += self._facts.valid
+        if state == "joined":
+            self.joined.add(session)
+            self._valid += 0 if self._facts is None else self._facts.valid
         if state not in ("joined", "absent"):
             self.reach.pass_over(session)
 
@@ -140,6 +148,8 @@ class Survey(ReportVisitor):
         self._name((place,))
         if kind == "unlisted":
             self.unlisted.append(place)
+        elif kind == "refused":
+            self.refused.append(place)
 
     def torn(self, offset: int) -> None:
         """Is kept already."""

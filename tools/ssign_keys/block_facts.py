@@ -10,7 +10,9 @@ from dataclasses import dataclass, field
 from typing import BinaryIO, Dict, Iterable, Iterator, List, Optional, Set, Tuple
 
 from .answer import Answered
-from .blocks import Session
+from .blocks import Block, Session
+from .encoding import decode
+from .fragments import covers, read_fragment
 from .identity import UNKNOWN, Finding, finding_of, note_of
 from .workplace import put
 
@@ -28,32 +30,66 @@ class BlockFacts:
     """Each VER."""
     valid: int = 0
     """How many of its blocks, certificate blocks too, are validly signed."""
+    extents: Set[Tuple[int, int]] = field(default_factory=set)
+    """Of its payload, the index and the length of each fragment that is validly signed."""
+    length: int = 0
+    """How many octets its payload has; 0 where no fragment of it is validly signed."""
+
+    @property
+    def claims(self) -> bool:
+        """Whether validly signed fragments have all of the payload."""
+        return self.length > 0 and covers(self.extents, self.length)
+
+    def add(self, line: bytes, block: Block) -> None:
+        """Takes a `yes` line into account. A certificate block that doesn't agree with the payload vouches for nothing."""
+        if block.counters is not None:
+            sg, spri, gbc = block.counters
+            self.versions.add(block.version.decode("ascii"))
+            self.greatest[sg, spri] = max(gbc, self.greatest.get((sg, spri), 0))
+            self.valid += 1
+            return
+        payload, octets = (decode(it) or b"" for it in line.split(b" ")[1:3])
+        fragment = read_fragment(octets)
+        if fragment is not None and fragment.agrees(payload):
+            self.extents.add((fragment.piece[1], len(fragment.piece[2])))
+            self.length = len(payload)
+            self.valid += 1
 
 
 def noted(answered: Iterable[Answered], notes: BinaryIO) -> Iterator[Answered]:
-    """Gives on what was answered, and keeps what its blocks vouch for."""
+    """Gives on what was answered, and keeps what the blocks of each session vouch for.
+
+    Where several payloads are asked about in a session, what counts is said under the first that claims it.
+    """
     session: Optional[Session] = None
-    facts = BlockFacts(UNKNOWN)
+    # under the first payload, or under the one that claims the session, and under the present one
+    kept: Optional[BlockFacts] = None
+    facts: Optional[BlockFacts] = None
     for it in answered:
-        if it.is_payload or it.session is None:
-            yield it
-            continue
-        if it.session != session:
-            if session is not None:
-                put_note(notes, session, facts)
-            session, facts = it.session, BlockFacts(it.finding)
-        facts.valid += bool(it.line)
-        if it.line and it.block is not None and it.block.counters is not None:
-            sg, spri, gbc = it.block.counters
-            facts.versions.add(it.block.version.decode("ascii"))
-            facts.greatest[sg, spri] = max(gbc, facts.greatest.get((sg, spri), 0))
+        if it.session != session or it.block is None:
+            kept, facts = better(kept, facts), None
+            if it.session != session:
+                put_note(notes, session, kept)
+                session, kept = it.session, None
+        if not it.is_payload:
+            facts = facts or BlockFacts(it.finding)
+            if it.line and it.block is not None:
+                facts.add(it.line, it.block)
         yield it
-    if session is not None:
-        put_note(notes, session, facts)
+    put_note(notes, session, better(kept, facts))
 
 
-def put_note(notes: BinaryIO, session: Session, facts: BlockFacts) -> None:
-    """Keeps a line of JSON."""
+def better(kept: Optional[BlockFacts], facts: Optional[BlockFacts]) -> Optional[BlockFacts]:
+    """Which facts of a session count."""
+    if kept is None or facts is not None and facts.claims and not kept.claims:
+        return facts
+    return kept
+
+
+def put_note(notes: BinaryIO, session: Optional[Session], facts: Optional[BlockFacts]) -> None:
+    """Keeps a line of JSON, where there is something to keep."""
+    if session is None or facts is None:
+        return
     groups = [[*group, gbc] for group, gbc in facts.greatest.items()]
     names = [it.decode("latin-1") for it in session]
     put(notes, json.dumps([names, note_of(facts.finding), groups, sorted(facts.versions), facts.valid]).encode("ascii") + b"\n")

@@ -51,6 +51,7 @@ class JsonVerdict(StretchVisitor):
         fields: Dict[str, object] = {"line": "session", **names_of(session), "state": state}
         fields.update(identity_fields(finding))
         fields["weakness"] = sha1.weakness(facts, state)
+        fields["strangers"] = self._reviewed.facts.strangers.get(session, 0)
         fields.update(zip(("first_timestamp", "last_timestamp"), self._reviewed.detailed().times.of_session(session)))
         self._put(fields)
 
@@ -127,7 +128,8 @@ class JsonVerdict(StretchVisitor):
             "line": "verdict", "status": facts.status, "review_status": facts.review_status, "verdict": sentence(facts),
             "sessions": dict(sorted(self.states.items())), "listed": totals.listed, "missing": totals.lost,
             "disputed": totals.disputed, "unannounced": totals.unannounced, **missing, "unlisted": totals.unlisted,
-            "verified": survey.verified, "unverified": totals.refused, "spoilt": totals.spoilt,
+            "verified": survey.verified, "unverified": totals.refused, "strangers": facts.of_strangers,
+            "strangers_ignored": facts.is_ignoring, "spoilt": totals.spoilt,
             **broken_fields(facts.broken), "torn": totals.torn is not None,
             "groups": [self._group(it) for it in survey.reach],
         })

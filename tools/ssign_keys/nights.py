@@ -11,6 +11,7 @@ import os
 from dataclasses import dataclass, field
 from typing import BinaryIO, Dict, Iterator, List, NamedTuple, Optional, Sequence, Tuple
 
+from . import strangers
 from .blocks import Session
 from .cli import main
 from .commands import BUDGET
@@ -73,6 +74,8 @@ class Judged:
     said: str
     """Its verdict, or why there is none."""
     listed: Optional[int] = None
+    ignored: int = 0
+    """How many blocks of strangers were ignored."""
 
     def text(self) -> str:
         """As a line for a person."""
@@ -106,7 +109,9 @@ class Verdict:
 
     def sentence(self) -> str:
         """In one line, with what time stamps show."""
-        return " ".join([self._of_nights(), *self.stamps])
+        ignored = sum(it.ignored for it in self.judged)
+        strange = [f"{strangers.ignored_words(ignored)}."] if ignored else []
+        return " ".join([self._of_nights(), *strange, *self.stamps])
 
     def _of_nights(self) -> str:
         """What the nights come to."""
@@ -386,11 +391,12 @@ def judged(night: Night, status: int, file: Dict[str, object], verdict: Dict[str
     if int(str(verdict["status"])) != status:
         raise ValueError("the status isn't that of the verdict")
     listed = int(str(verdict["listed"]))
-    if status and not entry.groups and not listed and verdict["review_status"] == 0:
+    ignored = int(str(verdict["strangers"])) if verdict["strangers_ignored"] else 0
+    if status and not entry.groups and not listed and (verdict["review_status"] == 0 or ignored):
         # a night without a message lists none
         status, said = 0, "no message was signed in it, and none is missing"
     size, sha256 = file["plain_size"] or file["size"], file["plain_sha256"] or file["sha256"]
     found = differs(Stored(shown_name(night.path), entry.name, int(str(size)), str(sha256)), entry.number, entry.size, entry.sha256)
     if found is not None:
         status, said = max(status, 1), f"{found.what}; {said}"
-    return Judged(night.number, entry, status, said, listed)
+    return Judged(night.number, entry, status, said, listed, ignored)

@@ -7,6 +7,7 @@ from __future__ import annotations
 from typing import BinaryIO, Dict, List, NamedTuple, Optional, Sequence, Tuple
 
 from . import sha1
+from . import strangers
 from .blocks import Session
 from .finder import Found, most_shown
 from .identity import identity_lines
@@ -125,6 +126,11 @@ class Page(StretchVisitor):
             lines.append(weakness)
             if self._takes("SHA-1"):
                 self._add("SHA-1", named(short(session)), "", weakness)
+        of_strangers = self._reviewed.facts.strangers.get(session, 0)
+        if of_strangers:
+            lines.append(strangers.words_of(of_strangers))
+            if self._takes("strangers"):
+                self._add("strangers", named(short(session)), "", strangers.words_of(of_strangers))
         if state == "joined":
             lines.append(times_words(*self._times.of_session(session)))
             self._session_lines = lines

@@ -209,6 +209,18 @@ class Trust:
         """Whether the reviewer trusts one key by its file, and nothing else."""
         return len(self._keys) == 1 and not (self._session_keys or self._authorities or self._signers)
 
+    @property
+    def has_authorities(self) -> bool:
+        """Whether a certificate is trusted that isn't given by itself."""
+        return bool(self._authorities)
+
+    def keys_for(self, session: Session) -> List[PublicKey]:
+        """The keys that the reviewer gave for a session, each once. Those of certificates that an authority issued aren't among
+        them."""
+        given = next((it.trusted for it in self._session_keys if it.is_for(session)), None)
+        trusted = [given] if given else [*self._keys.values(), *self._signers.values()]
+        return list({it.key.numbers: it.key for it in trusted}.values())
+
     def judge(self, payload: bytes, session: Optional[Session]) -> Judged:
         """The key that is trusted for a session with this payload, or why there is none.
 

@@ -8,6 +8,8 @@ from dataclasses import dataclass, field
 from typing import Dict, List, Optional
 
 from . import sha1
+from . import strangers
+from .blocks import Session
 from .broken_blocks import Broken
 from .reach import Coverage
 from .report import Totals
@@ -43,18 +45,35 @@ class Facts:
     """Whether the log is judged from counters on."""
     stamps: List[str] = field(default_factory=list)
     """What time stamps show, each in a sentence."""
+    strangers: Dict[Session, int] = field(default_factory=dict)
+    """How many unverified blocks claim each joined session that has some."""
+    are_strangers_ignored: bool = False
+    has_others: bool = True
+    """Whether the review found something else than unverified blocks."""
+
+    @property
+    def of_strangers(self) -> int:
+        """How many unverified blocks claim joined sessions."""
+        return sum(self.strangers.values())
+
+    @property
+    def is_ignoring(self) -> bool:
+        """Whether the review found nothing but such blocks, which are to be ignored."""
+        return self.are_strangers_ignored and not self.has_others and 0 < self.totals.refused == self.of_strangers
 
     @property
     def status(self) -> int:
-        """The status of the verdict: never lower than that of the review, and 0 only where something is authentic."""
+        """The status of the verdict: never lower than that of the review, but for strangers' blocks that are to be ignored, and
+        0 only where something is authentic."""
         is_shown = self.totals.listed and not self.manifest_findings and (self.is_sha1_allowed or not self.on_sha1)
-        return self.review_status if is_shown else max(self.review_status, 1)
+        found = 0 if self.is_ignoring else self.review_status
+        return found if is_shown else max(found, 1)
 
 
 def sentence(facts: Facts) -> str:
     """What the report comes to, in sentences of one line."""
     if facts.status == 0:
-        said = clean(facts.totals) + (f" But {sha1.finding(facts.on_sha1)}." if facts.on_sha1 else "")
+        said = clean(facts) + (f" But {sha1.finding(facts.on_sha1)}." if facts.on_sha1 else "")
     else:
         said = findings(facts)
     said += order(facts.totals) + facts.broken.sentences()
@@ -65,12 +84,16 @@ def sentence(facts: Facts) -> str:
     return " ".join([said + covered(facts), *facts.stamps])
 
 
-def clean(totals: Totals) -> str:
-    """Of a log in which all is well: something is listed, and ssign found nothing else than that and verified blocks."""
+def clean(facts: Facts) -> str:
+    """Of a log in which all is well: something is listed, and ssign found nothing else than that and verified blocks, and
+    strangers' blocks that are to be ignored."""
+    totals = facts.totals
     if totals.listed == 1:
         front = "The one announced message is present and unchanged"
     else:
         front = f"All {totals.listed:,} announced messages are present and unchanged"
+    if facts.is_ignoring:
+        return f"{front}. {strangers.ignored_words(facts.of_strangers)}. Each other stored message is a verified block."
     return f"{front}, and each other stored message is a verified block."
 
 

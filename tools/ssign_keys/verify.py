@@ -13,6 +13,7 @@ from . import manifested
 from . import nights
 from . import sha1
 from . import stamped as stamp_options
+from . import strangers
 from . import trust as trust_options
 from .agreement import Survey, Walked
 from .answer import told_answers
@@ -34,6 +35,8 @@ from .output import file_pieces, write_out
 from .page import FRONT, Page
 from .page_file import PageFile
 from .payloads import present_stamp
+from .pinned import Known
+from .pinned import Search as KnownSearch
 from .program_facts import ssign_facts, tool_facts
 from .text_verdict import TextVerdict
 from .programs import Refused, Run, add_limit_arguments, add_program_argument, find_program, log_words
@@ -43,6 +46,7 @@ from .report import Reading
 from .reviewed import Reviewed
 from .finder import Finder
 from .stamped import NONE, Stamps, check_stamps
+from .summaries import FEW
 from .times import Owners, Times
 from .trust import Trust
 from .verdict import NOTHING, Facts
@@ -60,6 +64,7 @@ def add_arguments(parser: argparse.ArgumentParser) -> None:
                         help="an originator's public key, which you got by another way than with the log")
     trust_options.add_arguments(parser)
     sha1.add_arguments(parser)
+    strangers.add_arguments(parser)
     forms.add_arguments(parser)
     add_limit_arguments(parser)
     expand_options.add_arguments(parser)
@@ -144,7 +149,7 @@ class Verification:
             listed = Listed.from_arguments(arguments)
             log, verifier = self._open(listed, workplace)
             verifier.answer(trust, arguments.jobs)
-            reviewed = verifier.review(listed, arguments.allow_sha1, self._stamps)
+            reviewed = verifier.review(listed, arguments, self._stamps)
             if arguments.json or arguments.details or arguments.html is not None:
                 reviewed = reviewed._replace(details=self._details(verifier, reviewed, trust, listed))
             verifier.name_unused(trust)
@@ -224,10 +229,13 @@ class Verifier:
         self._walked = Walked(0, 0, 0, 0)
         # how many blocks have a valid signature
         self._valid = 0
+        # the payloads that are known beforehand
+        self._known = Known([], [])
 
     def answer(self, trust: Trust, jobs: int) -> None:
         """Has ssign ask, and keeps what holds as the answers file, and what valid blocks vouch for as notes."""
-        asking = Run(self._program, ["questions", *ONCE, *self._words], self._workplace, self._progress, subprocess.PIPE,
+        self._known = self._find_known(trust, jobs)
+        asking = Run(self._program, ["questions", *ONCE, *self._known.words, *self._words], self._workplace, self._progress, subprocess.PIPE,
                      subprocess.PIPE)
         asking.feed(self._candidates())
         try:
@@ -238,6 +246,20 @@ class Verifier:
             self._refuse(refused)
             raise
         self._log.check_unchanged()
+
+    def _find_known(self, trust: Trust, jobs: int) -> Known:
+        """The payloads that are known beforehand, by what the reviewer trusts."""
+        def candidates() -> Iterator[bytes]:
+            walk = Walk(self._log.file, self._log.are_lines)
+            for it in walk.candidates():
+                yield it
+                self._progress.show("looking for certificate blocks", walk.offset, self._log.size, "octets")
+
+        known = KnownSearch(self._program, self._words, candidates, self._log.are_lines, self._workplace, self._progress).run(trust, jobs)
+        for sentence in known.sentences:
+            self._progress.clear()
+            notify(f"ssign-keys: {sentence}")
+        return known
 
     def _keep(self, asking: Run, trust: Trust, jobs: int) -> None:
         """Answers the questions of a run, and keeps the answers, and what they vouch for."""
@@ -271,16 +293,18 @@ class Verifier:
             self._progress.show("looking for blocks", walk.offset, self._log.size, "octets")
         self._walked = Walked(walk.place, walk.offset, self._log.size, marked)
 
-    def review(self, listed: Optional[Listed], is_sha1_allowed: bool, stamps: Stamps) -> Reviewed:
+    def review(self, listed: Optional[Listed], arguments: argparse.Namespace, stamps: Stamps) -> Reviewed:
         """Has ssign review the log under the answers that were kept, and sees that all that is known of it agrees."""
-        status = self._review([f"--answers={self.answers_path}", *self.missing.words])
+        status = self._review([f"--answers={self.answers_path}", *self._known.words, *self.missing.words])
         is_whole, counters, begin = bool(self.missing.words), self.missing.counters, self.missing.begin
         survey = Survey(self._walked, Notes(self._notes), is_whole, counters, begin)
         Reading(survey).read(self._report, self._progress)
         survey.check(status, self._valid)
         facts = Facts(status, survey.totals, survey.states, survey.missing or 0, survey.reach.coverage(),
                       self._broken_blocks(survey), 0 if listed is None else listed.count(self._report, counters, begin),
-                      survey.on_sha1, is_sha1_allowed, begin is not None, stamps.sentences)
+                      survey.on_sha1, arguments.allow_sha1, begin is not None, stamps.sentences,
+                      strangers.count_strangers(self._log, survey.refused, survey.joined, self._progress),
+                      arguments.ignore_strangers, survey.has_others)
         finder = Finder(self._log, self._progress)
         return Reviewed(self._log, finder, Notes(self._notes), survey, facts, is_whole, counters, begin)
 
@@ -299,7 +323,7 @@ class Verifier:
     def count(self) -> str:
         """Has ssign count how far each session went, which its blocks alone say. Gives the path of the counters file."""
         with self._workplace.new_file("counted") as file:
-            counting = Run(self._program, ["counters", f"--answers={self.answers_path}", *self._words], self._workplace,
+            counting = Run(self._program, ["counters", f"--answers={self.answers_path}", *self._known.words, *self._words], self._workplace,
                            self._progress, subprocess.PIPE, file)
             counting.feed(self._candidates())
             counting.end(lambda: None)
@@ -342,7 +366,7 @@ class Verifier:
                 sha1.say_finding(reviewed.facts.on_sha1)
             if not reviewed.facts.totals.listed:
                 notify(f"ssign-keys: {NOTHING}")
-            for it in reviewed.facts.stamps:
+            for it in [*strangers.sentences(reviewed.facts.strangers, FEW), *reviewed.facts.stamps]:
                 notify(f"ssign-keys: {it}")
             pieces = file_pieces(self._report)
             return without_listed(pieces) if arguments.findings else pieces

@@ -1,0 +1,186 @@
+"""Finds the payloads that a reviewer's keys vouch for, so that strangers can't dispute a session.
+
+Anybody can write certificate blocks into a log, and blocks that contradict each other leave a session without a key. ssign
+is given, as known beforehand, each payload that such a session's blocks spell, as far as a key that the reviewer trusts
+signed them. It decides by itself which of them claims a session.
+"""
+from __future__ import annotations
+
+import base64
+import subprocess
+from typing import Callable, Dict, Iterable, Iterator, List, NamedTuple, Optional, Sequence, Set, Tuple
+
+from .answer import answers
+from .blocks import Session
+from .encoding import decode
+from .fragments import MARK, Joiner, Piece, read_fragment
+from .keys import Numbers, PublicKey
+from .payloads import state_key
+from .programs import Refused, Run
+from .progress import Progress
+from .trust import Trust, Trusted
+from .words import grouped, shown_name
+from .workplace import Workplace, finish, put
+
+# Of one session, so many different fragments are kept that nobody is known to have signed, and so many steps are taken to
+# join fragments. More can be there only if strangers, or the holder of a key, wrote them.
+MOST_FRAGMENTS, MOST_STEPS = 2000, 1000000
+# so many payloads are offered for one session
+MOST_TEXTS = 16
+
+
+class Known(NamedTuple):
+    """What ssign is given as known beforehand."""
+
+    words: List[str]
+    """The option of `ssign questions`, `review` and `counters`, or none."""
+    sentences: List[str]
+    """What is to be said of what couldn't be looked for, or be given."""
+
+
+class Search:
+    """Looks for such payloads in a log."""
+
+    def __init__(self, program: str, words: Sequence[str], candidates: Callable[[], Iterable[bytes]], are_lines: bool,
+                 workplace: Workplace, progress: Progress) -> None:
+        """The log is gone over more than once: each time `candidates` gives the messages that may be blocks, as they are stored,
+        each with its frame or LF."""
+        self._program = program
+        self._words = list(words)
+        self._candidates = candidates
+        self._are_lines = are_lines
+        self._workplace = workplace
+        self._progress = progress
+        self._sentences: List[str] = []
+
+    def run(self, trust: Trust, jobs: int) -> Known:
+        """What to give to ssign."""
+        disputed = self._disputed()
+        if not disputed:
+            return Known([], [])
+        keys = {session: trust.keys_for(session) for session in disputed}
+        if trust.has_authorities:
+            self._add_certified(keys, trust)
+        texts = self._signed_texts(keys, trust, jobs)
+        if not texts:
+            return Known([], self._sentences)
+        with self._workplace.new_file("pinned") as file:
+            for text in texts:
+                put(file, b"trust %s\n" % base64.b64encode(text))
+            finish(file)
+        words = [f"--pinned={self._workplace.path('pinned')}"]
+        return Known(words if self._has_option(words) else [], self._sentences)
+
+    def _has_option(self, words: List[str]) -> bool:
+        """Whether the program knows the option. An empty log shows it."""
+        try:
+            Run(self._program, ["review", *words], self._workplace, self._progress, subprocess.DEVNULL,
+                subprocess.DEVNULL).end(lambda: None)
+        except Refused as refused:
+            if refused.code is not None or refused.mistake is None:
+                raise
+            self._sentences.append(f"the program {shown_name(self._program)} has no `review --pinned`, so strangers can dispute a "
+                                   "session by blocks that they didn't sign: name a newer one with --ssign")
+            return False
+        return True
+
+    # ---- sessions
+
+    def _disputed(self) -> Set[Session]:
+        """The sessions whose certificate blocks contradict each other, by what ssign says of these blocks alone."""
+        report = self._workplace.new_file("disputed")
+        reviewing = Run(self._program, ["review", *self._words], self._workplace, self._progress, subprocess.PIPE, report)
+        reviewing.feed(self._certificates())
+        try:
+            reviewing.end(lambda: None)
+        except Refused:
+            # whoever asks about the log, or reviews it, is refused too, and says so
+            return set()
+        found = set()
+        with report:
+            report.seek(0)
+            for line in report:
+                word, *fields = line.split()
+                if word == b"session" and fields[4:] == [b"disputed"]:
+                    found.add(Session(*fields[:4]))
+        return found
+
+    def _certificates(self) -> Iterator[bytes]:
+        """The messages that may be certificate blocks, each with its frame or LF."""
+        for stored in self._candidates():
+            if MARK in stored:
+                yield stored
+
+    def _messages(self) -> Iterator[bytes]:
+        """The same without frame or LF."""
+        for stored in self._certificates():
+            yield stored[:-1] if self._are_lines else stored[stored.index(b" ") + 1:]
+
+    # ---- keys
+
+    def _add_certified(self, keys: Dict[Session, List[PublicKey]], trust: Trust) -> None:
+        """Adds the keys of certificates that an authority issued, as fragments spell them that nobody is known to have
+        signed."""
+        pieces: Dict[Session, Dict[Piece, None]] = {session: {} for session in keys}
+        cut: Set[Session] = set()
+        for message in self._messages():
+            found = read_fragment(message)
+            if found is None or found.session not in pieces or found.piece[0] > trust.longest:
+                continue
+            of_session = pieces[found.session]
+            if len(of_session) < MOST_FRAGMENTS:
+                of_session[found.piece] = None
+            elif found.piece not in of_session:
+                cut.add(found.session)
+        for session, found_pieces in pieces.items():
+            joiner = Joiner(MOST_STEPS)
+            for text in joiner.texts(found_pieces):
+                trusted = trust.judge(text, session).trusted
+                if trusted is not None and all(it.numbers != trusted.key.numbers for it in keys[session]):
+                    keys[session].append(trusted.key)
+            if joiner.is_cut:
+                cut.add(session)
+        if cut:
+            self._sentences.append(f"{grouped(len(cut), 'session has', 'sessions have')} more fragments than are looked at, so a "
+                                   "certificate that --ca would trust may not be found: --cert names it")
+
+    # ---- payloads
+
+    def _signed_texts(self, keys: Dict[Session, List[PublicKey]], trust: Trust, jobs: int) -> List[bytes]:
+        """The payloads that validly signed fragments of these sessions spell under these keys, if they are trusted there."""
+        pieces = self._signed_pieces(keys, jobs)
+        texts: Dict[bytes, None] = {}
+        for (session, _), found in pieces.items():
+            trusted = 0
+            for text in Joiner(MOST_STEPS).texts(found):
+                if trusted < MOST_TEXTS and trust.judge(text, session).trusted is not None:
+                    trusted += 1
+                    texts[text] = None
+        return list(texts)
+
+    def _signed_pieces(self, keys: Dict[Session, List[PublicKey]], jobs: int) -> Dict[Tuple[Session, bytes], Dict[Piece, None]]:
+        """The fragments that are validly signed, by their sessions and by the payload that stands for their key.
+
+        They are asked about as ssign asks about blocks, under payloads that state no time.
+        """
+        stated = {key.numbers: base64.b64encode(state_key(key, "-")) for of_session in keys.values() for key in of_session}
+        trust = Trust({key.numbers: Trusted("", key, None) for of_session in keys.values() for key in of_session}, [], [], {}, False)
+        pieces: Dict[Tuple[Session, bytes], Dict[Piece, None]] = {}
+        with answers(self._asked(keys, stated), trust, jobs) as answered:
+            for it in answered:
+                _, payload, octets, _ = it.line.split(b" ")
+                found = read_fragment(decode(octets) or b"")
+                if found is not None:
+                    pieces.setdefault((found.session, payload), {})[found.piece] = None
+        return pieces
+
+    def _asked(self, keys: Dict[Session, List[PublicKey]], stated: Dict[Numbers, bytes]) -> Iterator[bytes]:
+        """The questions about the fragments of these sessions, under each key."""
+        for message in self._messages():
+            found = read_fragment(message)
+            if found is None or decode(found.signature) is None:
+                continue
+            octets: Optional[bytes] = None
+            for key in keys.get(found.session, []):
+                octets = octets or base64.b64encode(found.octets)
+                yield b"yes %s %s %s\n" % (stated[key.numbers], octets, found.signature)
