@@ -43,10 +43,12 @@ ROOM, ROOM_FOR_EACH = 1 << 19, 32
 # a run that takes more seconds hangs, however busy the machine is
 PATIENCE = 300
 COMMANDS = (REVIEW, WHOLE, KEPT, NIGHT, TALLY, EXTRACT, UNLISTED, UNWRAPPED, QUESTIONS, ONCE, OBJECTS, INSPECT, ORIGINALS, PLAN,
-            AHEAD, RESUMED, SIGN, COUNTERS, CARRY) = (
+            AHEAD, RESUMED, SIGN, COUNTERS, CARRY, PINNED, ASKED, COUNTED, CARRIED) = (
     "review", "review --whole", "review --counters", "review --from", "review --tally", "extract", "extract --unlisted",
     "extract --unlisted --unwrap", "questions", "questions --once", "questions --once --json", "inspect", "inspect --unwrap",
-    "plan", "plan --ahead", "plan --ahead --resume", "sign", "counters", "carry")
+    "plan", "plan --ahead", "plan --ahead --resume", "sign", "counters", "carry", "review --pinned", "questions --once --pinned",
+    "counters --pinned", "carry --pinned")
+BY_KNOWN = (PINNED, ASKED, COUNTED, CARRIED)
 
 # each shape, how large its smaller input is, the commands whose steps are counted, and those of which the rest is
 SHAPES = [
@@ -88,6 +90,10 @@ SHAPES = [
     (logs.scattered, 900, [], [REVIEW, QUESTIONS]),
     (logs.stated, 900, [], [REVIEW]),
     (logs.totals, 900, [], [REVIEW]),
+    (logs.strangers_disagree, 900, [PINNED, ASKED], [COUNTED, CARRIED]),
+    (logs.strangers_agree, 900, [PINNED], [ASKED, COUNTED, CARRIED]),
+    (logs.strangers_apart, 900, [PINNED, ASKED], [COUNTED, CARRIED]),
+    (logs.strangers_payloads, 900, [PINNED, ASKED], [COUNTED, CARRIED]),
     (logs.spoilt, 900, [REVIEW], [INSPECT]),
     (logs.shortest, 3000, [REVIEW, INSPECT], []),
     (logs.wraps, 900, [UNWRAPPED, ORIGINALS], []),
@@ -269,11 +275,16 @@ class Bench:
             with open(log + ".counters", "wb") as file:
                 file.writelines(line + b"\n" for line in made.counters)
             words = [log + ".counters", *words]
+        if command in BY_KNOWN:
+            with open(log + ".known", "wb") as file:
+                file.writelines(b"trust %s\n" % it for it in made.known)
+            words = [log + ".known", *words]
         if command == NIGHT:
             with open(log + ".first", "wb") as file:
                 file.writelines(line + b"\n" for line in made.first)
             words = [log + ".first", "--counters", *words]
-        if command in (REVIEW, WHOLE, KEPT, NIGHT, TALLY, EXTRACT, UNLISTED, UNWRAPPED, SIGN, COUNTERS, CARRY):
+        if command in (REVIEW, WHOLE, KEPT, NIGHT, TALLY, EXTRACT, UNLISTED, UNWRAPPED, SIGN, COUNTERS, CARRY, PINNED, COUNTED,
+                       CARRIED):
             with open(log + ".answers", "wb") as file:
                 file.writelines(line + b"\n" for line in lines)
             words = words + ["--answers", log + ".answers"]
@@ -283,7 +294,7 @@ class Bench:
         if self.counter and stepped:
             with open(log, "rb") as file:
                 counts["steps"] = self.counter.count(words, stdin=file, env={**self.environment, **TUNED}) or 0
-        return counts, fault_of(said, made.says[command], command in (EXTRACT, UNLISTED, UNWRAPPED, SIGN, CARRY))
+        return counts, fault_of(said, made.says[command], command in (EXTRACT, UNLISTED, UNWRAPPED, SIGN, CARRY, CARRIED))
 
     def counts(self, made, name, commands, stepped):
         """The same of each command, as frames and as lines."""

@@ -20,13 +20,14 @@ PARSED = b"[ssign]"
 
 
 class Input:
-    """A log, its answers, the counters that were kept of it and before it, and what each command says."""
+    """A log, its answers, the counters that were kept of it and before it, the payloads that are known beforehand, and what
+    each command says."""
 
     def __init__(self, *options, payload=PAYLOAD, answered=True):
         self.messages, self.options, self.says = [], list(options), {}
         self.payload = b64(payload)
         self.answers = [b"trust " + self.payload] if answered else []
-        self.counters, self.first = [], []
+        self.counters, self.first, self.known = [], [], []
 
     def put(self, *texts):
         self.messages += texts
@@ -93,8 +94,10 @@ def number(i):
 def nothing(n=0):
     """The empty log."""
     made = Input(answered=False)
-    for command in ("questions", "questions --once", "questions --once --json"):
+    for command in ("questions", "questions --once", "questions --once --json", "questions --once --pinned", "counters --pinned"):
         made.say(command, 0, {})
+    made.say("carry --pinned", 0, 0)
+    made.say("review --pinned", 0, {"end": 1})
     made.say("extract", 0, 0)
     made.say("inspect", 0, {"end": 1})
     made.say("inspect --unwrap", 0, {"end": 1})
@@ -498,6 +501,52 @@ def totals(n):
     for i in range(n):
         made.put_block(certificate(1, b"x", 1 + i), False)
     return made.review(1, session=1, refused=n)
+
+
+def attacked(n, strange, payloads=(PAYLOAD,), joined=True):
+    """Ten messages in a block, of a session whose payload is known, as many blocks of strangers, and what is said if their
+    session is this one. `strange` gives such a block by its number."""
+    made = Input()
+    made.known = [b64(it) for it in payloads]
+    made.answers = [b"trust " + it for it in made.known]
+    made.put_block(certificate())
+    for first in range(1, n + 1, 10):
+        texts = [message(i, 70) for i in range(first, first + 10)]
+        made.put(*texts)
+        made.put_block(announcing(*texts, first=first, gbc=first // 10))
+        for i in range(first - 1, first + 9):
+            made.put_block(strange(i), False, b64(b"%09d" % i))
+    made.say("counters --pinned", 0, {"count": 2})
+    if joined:
+        made.say("review --pinned", 1, {"session": 1, "ok": n, "refused": n, "end": 1})
+        made.say("carry --pinned", 0, 1)
+        asked = len(payloads)
+        made.say("questions --once --pinned", 0, {"payload": asked, "trust": asked, "yes": asked * (1 + n // 10 + n)})
+    return made
+
+
+def strangers_disagree(n):
+    """Each stranger's block states another octet of the payload."""
+    return attacked(n, lambda i: certificate(i % len(PAYLOAD) + 1, b"AB"[i % 2:i % 2 + 1], len(PAYLOAD)))
+
+
+def strangers_agree(n):
+    """Each stranger's block states what the payload has, and isn't valid."""
+    return attacked(n, lambda i: certificate(i % len(PAYLOAD) + 1, PAYLOAD[i % len(PAYLOAD):]))
+
+
+def strangers_apart(n):
+    """Each stranger's block is of another session, and states the payload."""
+    made = attacked(n, lambda i: certificate(rsid=8 + i * 7919 % n), joined=False)
+    made.say("review --pinned", 1, {"session": n + 1, "ok": n, "refused": n, "end": 1})
+    made.say("carry --pinned", 0, 1 + n)
+    return made.say("questions --once --pinned", 0, {"payload": 1, "trust": n + 1, "yes": 1 + n // 10 + n})
+
+
+def strangers_payloads(n):
+    """Twenty payloads are known and trusted, and each stranger's block states one of them."""
+    payloads = [PAYLOAD[:17] + b"%02d" % i + PAYLOAD[19:] for i in range(20)]
+    return attacked(n, lambda i: certificate(fragment=payloads[i % 20]), payloads)
 
 
 def spoilt(n):

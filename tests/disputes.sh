@@ -1,0 +1,234 @@
+#!/usr/bin/env bash
+# `ssign-keys verify` of logs into which strangers wrote certificate blocks: the session stays joined by the payload that
+# the reviewer's keys vouch for, and the strangers' blocks are counted, and ignored where that is asked for.
+# shellcheck source=tests/lib.sh
+. "$(dirname -- "$0")/lib.sh"
+need_program
+export SSIGN=$program
+keys_program=$root/tools/ssign-keys
+if ! python3 -c 'import cryptography' 2>/dev/null; then
+    echo "$name: no cryptography for python3 here (apt-get install python3-cryptography), so nothing of ssign-keys is run"
+    holds 'ssign-keys is there' test -x "$keys_program"
+    finish
+fi
+mkdir -- "$scratch/passing"
+export TMPDIR=$scratch/passing
+cd -- "$scratch" || exit 1
+
+# keys ARG..: runs ssign-keys as `run` does the program.
+keys() {
+    timeout "$patience" "$keys_program" "$@" >"$scratch/out" 2>"$scratch/err"
+    status=$?
+}
+# disputes ARG..: runs disputes.py.
+disputes() {
+    python3 -B "$root/tests/disputes.py" "$@"
+}
+# signs FILE KEY RSID [OPTION..]: signs ten messages into a file.
+signs() {
+    local file=$1 key=$2 rsid=$3
+    shift 3
+    keys sign --key "$key/private-key.pem" --host h --app 'a"b\]c' --rsid "$rsid" --count 3 --frag 300 "$@" --lines "$root/examples/signed/ten-messages.log"
+    holds "$file is signed" test "$status" = 0
+    cp out "$file"
+}
+verdict() {
+    sed -n '$s/^Verdict: //p' out
+}
+# listed: the session, its key and the numbers of the last verdict, and nothing of the places.
+listed() {
+    sed -n '/^Session:/,/^Stored\|^Un/{/^Session:\|state:\|key:\|numbers/p}' out
+}
+
+mkdir one two
+keys make one
+keys make two
+stated='2026-01-01T00:00:00Z'
+payload="$stated ${payload_of_one=$(cut -d ' ' -f 2- one/payload)}"
+key=(--key one/public-key.pem)
+signs signed one 1 --payload "$payload"
+keys verify "${key[@]}" signed
+holds 'without strangers: status 0' test "$status" = 0
+clean=$(listed)
+sentence='All 10 announced messages are present and unchanged'
+
+# ---- each kind of block that nobody signed
+while read -r kind; do
+    disputes "$kind" 12 <signed >log
+    keys verify "${key[@]}" log
+    holds "$kind: status 1" test "$status" = 1
+    holds "$kind: nothing on standard error" test ! -s err
+    holds "$kind: all numbers are there" test "$(listed)" = "$clean"
+    [[ $kind != spoilt ]] || continue
+    holds "$kind: they are counted" grep -qx "  12 blocks claim this session and aren't validly signed; they were left out and change nothing" out
+    holds "$kind: the verdict" test "$(verdict)" = 'FINDINGS: of 10 announced messages 10 are present and unchanged; 12 blocks are unverified.'
+    keys verify "${key[@]}" --ignore-strangers log
+    holds "$kind, ignored: status 0" test "$status" = 0
+    holds "$kind, ignored: the verdict" test "$(verdict)" = "$sentence. 12 unverified blocks were ignored: they claim joined \
+sessions, aren't validly signed, and change nothing. Each other stored message is a verified block."
+done < <(disputes kinds)
+disputes spoilt 12 <signed >log
+keys verify "${key[@]}" --ignore-strangers log
+holds 'a spoilt block is no such block' test "$status" = 1
+
+# ---- one, as text, JSON, page and report
+disputes octet 1 <signed >log
+keys verify "${key[@]}" --ignore-strangers --html page.html log
+holds 'one: it is counted' grep -qx "  1 block claims this session and isn't validly signed; it was left out and changes nothing" out
+said="$sentence. 1 unverified block was ignored: it claims a joined session, isn't validly signed, and changes nothing. Each other \
+stored message is a verified block."
+holds 'one, ignored: the verdict' test "$(verdict)" = "$said"
+holds 'one: the page' python3 - page.html "$said" "1 block claims this session and isn't validly signed; it was left out and changes nothing" <<'END'
+import html, re, sys
+text = html.unescape(re.sub("<[^>]*>", "", open(sys.argv[1], encoding="utf-8").read()))
+sys.exit(not all(it in text for it in sys.argv[2:]) or "✓ Clean" not in text)
+END
+keys verify "${key[@]}" --json log
+holds 'one: JSON' python3 - out <<'END'
+import json, sys
+lines = [json.loads(it) for it in open(sys.argv[1], encoding="ascii")]
+session, verdict = next(it for it in lines if it["line"] == "session"), lines[-1]
+sys.exit([session["strangers"], verdict["strangers"], verdict["strangers_ignored"], verdict["status"]] != [1, 1, False, 1])
+END
+keys verify "${key[@]}" --json --ignore-strangers log
+holds 'one, ignored: JSON' python3 - out <<'END'
+import json, sys
+lines = [json.loads(it) for it in open(sys.argv[1], encoding="ascii")]
+verdict = lines[-1]
+said = [verdict[it] for it in ("strangers", "strangers_ignored", "status", "review_status", "unverified")]
+sys.exit(said != [1, True, 0, 1, 1] or "--ignore-strangers" not in lines[0]["options"])
+END
+keys verify "${key[@]}" --raw log
+holds 'one: the report' grep -q '^refused ' out
+holds 'one: what the report lacks' test "$(<err)" = "ssign-keys: 1 block claims the session h a\"b\\x5c]c - 1 and isn't validly signed; it \
+was left out and changes nothing"
+keys verify "${key[@]}" --findings log
+holds 'one, findings alone: it is shown with its session' test "$(sed -n 5p out)" = \
+    "  1 block claims this session and isn't validly signed; it was left out and changes nothing"
+
+# ---- what is found besides is never softened
+frame 'a message that nobody signed' >more
+disputes mixed more <log >both
+keys verify "${key[@]}" --ignore-strangers both
+holds 'an unlisted message: status 1' test "$status" = 1
+holds 'an unlisted message: the verdict' test "$(verdict)" = \
+    'FINDINGS: of 10 announced messages 10 are present and unchanged; 1 stored message is unlisted; 1 block is unverified.'
+disputes certificates <signed >certificates
+disputes others <signed >others
+disputes octet 5 <certificates >log
+keys verify "${key[@]}" --ignore-strangers log
+holds 'nothing is announced: status 1' test "$status" = 1
+holds 'nothing is announced: the verdict' grep -q '^NOTHING IS SHOWN: no verified block announces a message; 5 blocks are unverified' <(verdict)
+keys verify --key two/public-key.pem --ignore-strangers both
+holds 'another key: the session is disputed' grep -qx '  state: disputed; .*' out
+holds 'another key: status 1' test "$status" = 1
+
+# ---- blocks that somebody signed
+signs elsewhere one 2 --payload "2025-01-01T00:00:00Z $payload_of_one"
+disputes certificates <elsewhere | sed -E 's/RSID="2"/RSID="1"/g' >replayed
+disputes mixed replayed <signed >log
+keys verify "${key[@]}" --ignore-strangers log
+holds 'the certificate blocks of another session: status 0' test "$status" = 0
+holds 'the certificate blocks of another session: the numbers' test "$(listed)" = "$clean"
+disputes mixed replayed elsewhere <signed >log
+keys verify "${key[@]}" --ignore-strangers log
+holds 'the same, and the other session is here: status' test "$status" = 0
+holds 'the same, and the other session is here: both are joined' test "$(grep -c '  state: joined' out)" = 2
+signs before one 1 --payload "2025-01-01T00:00:00Z $payload_of_one"
+disputes certificates <before >replayed
+disputes mixed replayed <signed >log
+keys verify "${key[@]}" --ignore-strangers log
+holds 'two payloads of one key claim a session: it is disputed' grep -qx '  state: disputed; .*' out
+holds 'two payloads of one key claim a session: status 1' test "$status" = 1
+signs before one 1 --payload "2025-01-01T00:00:00.5Z $payload_of_one"
+disputes certificates <before | disputes first >replayed
+disputes mixed replayed <signed >log
+keys verify "${key[@]}" log
+holds 'one old block of the key: the numbers' test "$(listed)" = "$clean"
+holds 'one old block of the key: it was left out' grep -qx '  1 block claims this session .*' out
+signs other two 1 --payload "$stated $(cut -d ' ' -f 2- two/payload)"
+disputes mixed other <signed >log
+keys verify "${key[@]}" log
+holds 'blocks of another key: the numbers' test "$(listed)" = "$clean"
+keys verify "${key[@]}" --key two/public-key.pem log
+holds 'two keys, and both are trusted: it is disputed' grep -qx '  state: disputed; .*' out
+keys verify "${key[@]}" --key two/public-key.pem signed
+holds 'two keys, and one signs: status 0' test "$status" = 0
+disputes octet 3 <signed >log
+keys verify "${key[@]}" --key two/public-key.pem log
+holds 'two keys, one signs, and strangers write: the numbers' test "$(listed)" = "$clean"
+
+# ---- other ways to name a key
+keys verify --session-key 'h * - 1' one/public-key.pem log
+holds 'a key for the session: the numbers' test "$(listed)" = "$clean"
+keys verify --session-key 'h * - 1' two/public-key.pem "${key[@]}" log
+holds 'another key for the session: it is disputed' grep -qx '  state: disputed; .*' out
+signs bare one 1 --payload "$stated N"
+disputes total 3 <bare >log
+keys verify --session-key 'h * - 1' one/public-key.pem --ignore-strangers log
+holds 'a payload without a key: status 0' test "$status" = 0
+keys verify "${key[@]}" log
+holds 'a payload without a key, and no session is named: status 1' test "$status" = 1
+if command -v openssl >/dev/null && python3 -B "$root/tests/asked_once.py" authority one/public-key.pem . 2>said; then
+    keys sign --key one/private-key.pem --host gate --app s --rsid 1 --count 3 --frag 300 --lines \
+        --payload "$stated C $(base64 -w 0 leaf.der)" "$root/examples/signed/ten-messages.log"
+    cp out certified
+    disputes octet 12 <certified >log
+    openssl x509 -inform DER -in leaf.der -out leaf.pem
+    keys verify --cert leaf.pem --ignore-strangers log
+    holds 'a certificate: status 0' test "$status" = 0
+    keys verify --ca ca.pem --ignore-strangers log
+    holds 'an authority: status 0' test "$status" = 0
+    disputes octet 3000 <certified >log
+    keys verify --cert leaf.pem --ignore-strangers log
+    holds 'a certificate among many fragments: status 0' test "$status" = 0
+    keys verify --ca ca.pem --ignore-strangers log
+    holds 'an authority, and many fragments: it is said' grep -q '^ssign-keys: 1 session has more fragments than are looked at' err
+else
+    echo "$name: no openssl here, or no certificates can be made, so none is tried"
+fi
+
+# ---- counters, one night and lines
+disputes total 7 <signed >log
+keys verify "${key[@]}" --counters-out counters signed
+keys verify "${key[@]}" --counters-out attacked log
+holds 'the counters are the same' cmp counters attacked
+keys verify "${key[@]}" --counters counters --ignore-strangers log
+holds 'up to the counters: status 0' test "$status" = 0
+holds 'up to the counters: the verdict' grep -q ' Nothing is missing up to the counters\.$' <(verdict)
+keys verify "${key[@]}" --whole --ignore-strangers log
+holds 'whole: status 0' test "$status" = 0
+: >none
+keys verify "${key[@]}" --from none --counters counters --ignore-strangers log
+holds 'one night: status 0' test "$status" = 0
+disputes octet 4 <signed | python3 -c 'import sys; sys.path.insert(0, sys.argv[1]); from disputes import frames
+sys.stdout.buffer.write(b"".join(it + b"\n" for it in frames(sys.stdin.buffer.read())))' "$root/tests" >lines
+keys verify "${key[@]}" --ignore-strangers lines
+holds 'lines: status 0' test "$status" = 0
+
+# ---- an older program, and one that fails
+cat >older <<END
+#!/usr/bin/env bash
+for it in "\$@"; do
+    case \$it in --pinned*) echo "error: unexpected argument '--pinned' found" >&2; echo "For more information, try '--help'." >&2; exit 2 ;; esac
+done
+exec "$program" "\$@"
+END
+chmod +x older
+keys verify "${key[@]}" --ssign ./older log
+holds 'an older program: status 1' test "$status" = 1
+holds 'an older program: the session is disputed' grep -qx '  state: disputed; .*' out
+holds 'an older program: it is said' test "$(<err)" = "ssign-keys: the program ./older has no \`review --pinned\`, so strangers can \
+dispute a session by blocks that they didn't sign: name a newer one with --ssign"
+keys verify "${key[@]}" --ssign ./older signed
+expect 'an older program, and no stranger' 0 'SOME TEXT' ''
+
+# ---- many blocks, in little memory
+disputes octet 20000 <signed >log
+(ulimit -v 1500000 && exec timeout "$patience" "$keys_program" verify "${key[@]}" --ignore-strangers log >out 2>err)
+status=$?
+holds 'many blocks: status 0' test "$status" = 0
+holds 'many blocks: they are counted' grep -qx "  20,000 blocks claim this session .*" out
+holds 'no passing file is left' test -z "$(ls -A -- "$TMPDIR")"
+
+finish
