@@ -69,7 +69,8 @@ class Attacker(Maker):
         kind = chance.randrange(11)
         if kind == 0:
             at = chance.randrange(len(octets))
-            return self.certificates_of(session, [(len(payload), index, octets[:at] + chance.choice([b"x", b'"', b"]"]) + octets[at + 1:])])
+            octets = octets[:at] + chance.choice([b"x", b'"', b"]"]) + octets[at + 1:]
+            return self.certificates_of(session, [(len(payload), index, octets)])
         if kind == 1:
             total = chance.choice([index + len(octets) - 1, len(payload) + 1, 99999999])
             return self.certificates_of(session, [(total, index, octets)])

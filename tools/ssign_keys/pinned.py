@@ -163,8 +163,9 @@ class Search:
 
         They are asked about as ssign asks about blocks, under payloads that state no time.
         """
-        stated = {key.numbers: base64.b64encode(state_key(key, "-")) for of_session in keys.values() for key in of_session}
-        trust = Trust({key.numbers: Trusted("", key, None) for of_session in keys.values() for key in of_session}, [], [], {}, False)
+        every = [key for of_session in keys.values() for key in of_session]
+        stated = {key.numbers: base64.b64encode(state_key(key, "-")) for key in every}
+        trust = Trust({key.numbers: Trusted("", key, None) for key in every}, [], [], {}, False)
         pieces: Dict[Tuple[Session, bytes], Dict[Piece, None]] = {}
         with answers(self._asked(keys, stated), trust, jobs) as answered:
             for it in answered:

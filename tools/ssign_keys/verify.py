@@ -235,8 +235,8 @@ class Verifier:
     def answer(self, trust: Trust, jobs: int) -> None:
         """Has ssign ask, and keeps what holds as the answers file, and what valid blocks vouch for as notes."""
         self._known = self._find_known(trust, jobs)
-        asking = Run(self._program, ["questions", *ONCE, *self._known.words, *self._words], self._workplace, self._progress, subprocess.PIPE,
-                     subprocess.PIPE)
+        words = ["questions", *ONCE, *self._known.words, *self._words]
+        asking = Run(self._program, words, self._workplace, self._progress, subprocess.PIPE, subprocess.PIPE)
         asking.feed(self._candidates())
         try:
             self._keep(asking, trust, jobs)
@@ -255,7 +255,8 @@ class Verifier:
                 yield it
                 self._progress.show("looking for certificate blocks", walk.offset, self._log.size, "octets")
 
-        known = KnownSearch(self._program, self._words, candidates, self._log.are_lines, self._workplace, self._progress).run(trust, jobs)
+        search = KnownSearch(self._program, self._words, candidates, self._log.are_lines, self._workplace, self._progress)
+        known = search.run(trust, jobs)
         for sentence in known.sentences:
             self._progress.clear()
             notify(f"ssign-keys: {sentence}")
@@ -323,8 +324,8 @@ class Verifier:
     def count(self) -> str:
         """Has ssign count how far each session went, which its blocks alone say. Gives the path of the counters file."""
         with self._workplace.new_file("counted") as file:
-            counting = Run(self._program, ["counters", f"--answers={self.answers_path}", *self._known.words, *self._words], self._workplace,
-                           self._progress, subprocess.PIPE, file)
+            words = ["counters", f"--answers={self.answers_path}", *self._known.words, *self._words]
+            counting = Run(self._program, words, self._workplace, self._progress, subprocess.PIPE, file)
             counting.feed(self._candidates())
             counting.end(lambda: None)
         return self._workplace.path("counted")
