@@ -100,8 +100,10 @@ sys.exit(said != [1, True, 0, 1, 1] or "--ignore-strangers" not in lines[0]["opt
 END
 keys verify "${key[@]}" --raw log
 holds 'one: the report' grep -q '^refused ' out
-holds 'one: what the report lacks' test "$(<err)" = "ssign-keys: 1 block claims the session h a\"b\\x5c]c - 1 and isn't validly signed; it \
-was left out and changes nothing"
+holds 'one: nothing is said beside it' test "$status.$(wc -c <err)" = 1.0
+keys verify "${key[@]}" --raw --ignore-strangers log
+holds 'one, ignored: it is said beside the report' test "$status.$(<err)" = "0.ssign-keys: 1 unverified block was ignored: it claims a \
+joined session, isn't validly signed, and changes nothing"
 keys verify "${key[@]}" --findings log
 holds 'one, findings alone: it is shown with its session' test "$(sed -n 5p out)" = \
     "  1 block claims this session and isn't validly signed; it was left out and changes nothing"

@@ -200,8 +200,11 @@ def check_json(report: str, path: str, log: str, status: str, *options: str) -> 
         missing["missing_blocks"] = in_runs(lines, "blocks")
     assert {key: verdict[key] for key in verdict if "missing_" in key} == missing, (verdict, missing)
     assert list(verdict) == ["line", "status", "review_status", "verdict", "sessions", "listed", "missing", "disputed",
-                             "unannounced", *missing, "unlisted", "verified", "unverified", "spoilt", *MARKED, "torn",
-                             "groups"], list(verdict)
+                             "unannounced", *missing, "unlisted", "verified", "unverified", "strangers", "strangers_ignored",
+                             "spoilt", *MARKED, "torn", "groups"], list(verdict)
+    # blocks of sessions that aren't joined are unverified as well
+    assert verdict["strangers"] <= verdict["unverified"] and not verdict["strangers_ignored"], verdict
+    assert verdict["strangers"] == verdict["unverified"] or set(verdict["sessions"]) - {"joined", "absent"}, verdict
     assert [verdict[it] for it in MARKED] == [0, None, None, None, 0, None], verdict
     counters = options[options.index("--counters") + 1] if "--counters" in options else None
     found = [{key: it[key] for key in it if key not in ("gbc", "out_of_order", "first_out_of_order")} for it in verdict["groups"]]
@@ -241,8 +244,9 @@ def check_key(session: Dict[str, object], is_known: bool) -> None:
     """Takes out of a session what it says of its key, which is that of the test where it is known."""
     with open("keys/public-key.pem", "rb") as file:
         der = base64.b64decode(b"".join(file.read().split(b"\n")[1:-2]))
-    key, fingerprint, certificate, payload_time, why, weakness = (
-        session.pop(it) for it in ("key", "fingerprint", "certificate", "payload_time", "why", "weakness"))
+    key, fingerprint, certificate, payload_time, why, weakness, strangers = (
+        session.pop(it) for it in ("key", "fingerprint", "certificate", "payload_time", "why", "weakness", "strangers"))
+    assert isinstance(strangers, int) and (strangers == 0 or session["state"] == "joined"), strangers
     assert certificate is None and weakness is None, (certificate, weakness)
     if is_known:
         assert (key, fingerprint, why) == ("keys/public-key.pem", hashlib.sha256(der).hexdigest(), None), session

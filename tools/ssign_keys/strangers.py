@@ -6,13 +6,12 @@ from __future__ import annotations
 
 import argparse
 from array import array
-from typing import Dict, List, Set
+from typing import Dict, Set
 
 from .blocks import Session, read_block
 from .logs import Log
 from .progress import Progress
 from .walk import Walk
-from .words import grouped, shown
 
 def add_arguments(parser: argparse.ArgumentParser) -> None:
     """Says which words the command takes."""
@@ -20,11 +19,11 @@ def add_arguments(parser: argparse.ArgumentParser) -> None:
                         "and aren't validly signed, if nothing else is found: anybody can write them, and they change nothing")
 
 
-def words_of(count: int, what: str = "this session") -> str:
+def words_of(count: int) -> str:
     """What is said of so many of them, below their session."""
     if count == 1:
-        return f"1 block claims {what} and isn't validly signed; it was left out and changes nothing"
-    return f"{count:,} blocks claim {what} and aren't validly signed; they were left out and change nothing"
+        return "1 block claims this session and isn't validly signed; it was left out and changes nothing"
+    return f"{count:,} blocks claim this session and aren't validly signed; they were left out and change nothing"
 
 
 def ignored_words(count: int) -> str:
@@ -51,9 +50,3 @@ def count_strangers(log: Log, refused: "array[int]", joined: Set[Session], progr
         if block is not None and block.session in joined:
             found[block.session] = found.get(block.session, 0) + 1
     return found
-
-
-def sentences(found: Dict[Session, int], most: int) -> List[str]:
-    """What is said of each session beside a raw report, which names none of them."""
-    said = [words_of(count, f"the session {' '.join(map(shown, session))}") for session, count in list(found.items())[:most]]
-    return said + ([f"and {grouped(len(found) - most, 'more session')} with such blocks"] if len(found) > most else [])

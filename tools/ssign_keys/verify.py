@@ -46,7 +46,6 @@ from .report import Reading
 from .reviewed import Reviewed
 from .finder import Finder
 from .stamped import NONE, Stamps, check_stamps
-from .summaries import FEW
 from .times import Owners, Times
 from .trust import Trust
 from .verdict import NOTHING, Facts
@@ -367,7 +366,9 @@ class Verifier:
                 sha1.say_finding(reviewed.facts.on_sha1)
             if not reviewed.facts.totals.listed:
                 notify(f"ssign-keys: {NOTHING}")
-            for it in [*strangers.sentences(reviewed.facts.strangers, FEW), *reviewed.facts.stamps]:
+            if reviewed.facts.is_ignoring:
+                notify(f"ssign-keys: {strangers.ignored_words(reviewed.facts.of_strangers)}")
+            for it in reviewed.facts.stamps:
                 notify(f"ssign-keys: {it}")
             pieces = file_pieces(self._report)
             return without_listed(pieces) if arguments.findings else pieces
