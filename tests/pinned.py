@@ -166,9 +166,10 @@ class Program:
         self.path, self.answers, self.pinned = path, folder / "answers", folder / "pinned"
 
     def give(self, trusted, valid, known):
-        """Puts the answers and the payloads that are known."""
+        """Puts the answers and the payloads that are known, of which the first stands twice, among lines of another kind."""
         self.answers.write_bytes(answers_text(trusted, valid))
-        self.pinned.write_bytes(b"".join(b"trust %s\n" % base64.b64encode(it) for it in known))
+        lines = [b"trust %s\n" % base64.b64encode(it) for it in [*known, *known[:1]]]
+        self.pinned.write_bytes(b"".join(lines[:2] + [b"yes AAAA AAAA AAAA\n"] + lines[2:]))
 
     def run(self, words, octets):
         """The status, standard output and standard error."""
@@ -200,7 +201,8 @@ def compare(program, name, messages, trusted, valid, known):
     """Each command over one log."""
     octets = b"".join(map(frame, messages))
     program.give(trusted, valid, known)
-    for words, (status, out) in runs_of(messages, trusted, valid, known).items():
+    # the program goes over them by their octets
+    for words, (status, out) in runs_of(messages, trusted, valid, sorted(set(known))).items():
         command, *options = words.split(" ")
         options += [] if command == "questions" else ["--answers", program.answers]
         tell("%s, %s" % (name, words), (status, out, b""), program.run([command, *options], octets))
