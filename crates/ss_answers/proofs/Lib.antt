@@ -10,3 +10,4 @@ mod LineLaws
 mod OrderedLines
 mod ReadLines
 pub mod Starts
+mod TrustedPayloads

@@ -128,7 +128,7 @@ and_turned false true false = refl
 and_turned false false true = refl
 and_turned false false false = refl
 
-has_trust_key : (payload : List ℕ) (line : Answer) → is_eq (key_cmp (key_of line) (trust_key payload)) ≡ is_trust payload line
+pub has_trust_key : (payload : List ℕ) (line : Answer) → is_eq (key_cmp (key_of line) (trust_key payload)) ≡ is_trust payload line
 has_trust_key payload (Trust p) = then_Equal _ ∙ is_eq-slice_cmp p payload
 has_trust_key payload (Yes p o s) = refl
 has_trust_key payload (Seal o s) = refl
@@ -164,7 +164,7 @@ module _ (bytes : List ℕ) where
   abbrev pub is_before : Place → Place → Bool
   is_before a b = is_lt (key_cmp (place_key bytes a) (place_key bytes b))
 
-  rising : (key : SortKey) (places : List Place) → IsInOrder bytes places → IsNonDecreasingBy (λ place. ordering_index (against key place)) places
+  pub rising : (key : SortKey) (places : List Place) → IsInOrder bytes places → IsNonDecreasingBy (λ place. ordering_index (against key place)) places
   rising key places h = searchable_from_sorted key_cmp_total (place_key bytes) places key h
 
   pub IsPartitionedBy-is_below : (key : SortKey) (places : List Place) → IsInOrder bytes places → IsPartitionedBy (is_below key) places
@@ -234,7 +234,7 @@ module _ (bytes : List ℕ) where
   find-answers p q h (x ∷ places) =
       rw (← h x) (elim (q x) as (λ b. cond b (Some (answer_at bytes x)) (find p (answers_at bytes places)) ≡ option_map (answer_at bytes) (cond b (Some x) (find q places))) [ true ↦ refl | false ↦ find-answers p q h places ])
 
-  has_key-answer : (p : Answer → Bool) (key : SortKey) → ((line : Answer) → is_eq (key_cmp (key_of line) key) ≡ p line) → (place : Place)
+  pub has_key-answer : (p : Answer → Bool) (key : SortKey) → ((line : Answer) → is_eq (key_cmp (key_of line) key) ≡ p line) → (place : Place)
       → has_key bytes key place ≡ p (answer_at bytes place)
   unfolding place_key
   has_key-answer p key h place = h (answer_at bytes place)

@@ -1,11 +1,11 @@
 -- What reading a file of answers takes from its reader, and when each fault comes.
-use Rattle.std.specs.Prelude.{ℕ, ◌^◌, ◌<◌, Bool, true, false, List, length, Option, Result, Ok, Err}
+use Rattle.std.specs.Prelude.{◌≡◌, ℕ, ◌^◌, ◌<◌, Bool, true, false, List, length, Option, Result, Ok, Err}
 use Rattle.ss_answers.specs.declared.fault.AnswerFault.{AnswerFault}
 use Rattle.ss_answers.specs.declared.fault.AnswerFault.TheVariants.{BadLine, Read, TooBig, Memory}
 use Rattle.ss_answers.specs.declared.input.InputFault.{InputFault}
 use Rattle.ss_answers.specs.declared.input.InputFault.TheVariants as inputs
 use Rattle.ss_answers.specs.Input.{GivesAll, GivesMore}
-use Rattle.ss_answers.specs.Answers.{Answer, HasFirstBadLine, HasLines, SaysTheSame}
+use Rattle.ss_answers.specs.Answers.{Answer, HasFirstBadLine, HasLines, SaysTheSame, payloads_of}
 
 -- a file that wasn't read gives no answers
 abbrev pub answer_fault : InputFault → AnswerFault
@@ -62,6 +62,12 @@ pub record AreOfFile (answers : List Answer) : Type 0 where
   pub within : length text < 2 ^ 32
   pub has : HasLines text lines
   pub same : SaysTheSame lines answers
+
+-- the payloads are those that the lines of such a text trust
+pub record ArePayloadsOfFile (payloads : List (List ℕ)) : Type 0 where
+  pub answers : List Answer
+  pub of_file : AreOfFile answers
+  pub are : payloads ≡ payloads_of answers
 
 -- what a fault says about a file
 abbrev pub IsFileFault : AnswerFault → Type 0

@@ -1,8 +1,8 @@
 -- Files that hold the answers of a signature checker: what a line says, how it is spelt, which lines a text
 -- has, and what lines say together.
 use Rattle.std.specs.Prelude.{◌≡◌, ℕ, ◌<◌, Bool, false, ◌&&◌, List, ◌∷◌, ◌++◌, length, codes, Option, Some, None}
-use Rattle.std.specs.Prelude.{option_and_then}
-use Rattle.std.specs.List.{find, list_any}
+use Rattle.std.specs.Prelude.{[], if◌then◌else◌, option_and_then}
+use Rattle.std.specs.List.{IsDistinct, cons_option, find, list_any}
 use Rattle.std.specs.Str.{bytes_eq}
 use Rattle.base64.specs.GeneralPurpose.{IsBytes}
 use Rattle.ss_octets.specs.Ascii.{sp}
@@ -121,3 +121,30 @@ pub record SaysTheSame (lines answers : List Answer) : Type 0 where
   pub valid : (payload octets signature : List ℕ)
       → valid answers payload octets signature ≡ valid lines payload octets signature
   pub seal : (octets : List ℕ) → seal_of answers octets ≡ seal_of lines octets
+
+-- ---- the payloads that lines trust
+
+-- the payload that a line trusts
+abbrev pub trusted_payload : Answer → Option (List ℕ)
+trusted_payload (Trust p) = Some p
+trusted_payload (Yes p o s) = None
+trusted_payload (Seal o s) = None
+
+-- the same, unless one of these lines trusts it too
+abbrev pub last_trust : Answer → List Answer → Option (List ℕ)
+last_trust (Trust p) lines = if trusted lines p then None else Some p
+last_trust (Yes p o s) lines = None
+last_trust (Seal o s) lines = None
+
+-- the payloads that lines trust, each once, in the order of the last lines that trust them
+abbrev pub payloads_of : List Answer → List (List ℕ)
+payloads_of [] = []
+payloads_of (line ∷ lines) = cons_option (last_trust line lines) (payloads_of lines)
+
+-- a payload is among them exactly if some line trusts it, and no two of them are equal
+pub record AreThoseTrusted (lines : List Answer) (payloads : List (List ℕ)) : Type 0 where
+  pub among : (payload : List ℕ) → list_any (λ p. bytes_eq p payload) payloads ≡ trusted lines payload
+  pub once : IsDistinct bytes_eq payloads
+
+abbrev pub PayloadsAreThoseTrusted : Type 0
+PayloadsAreThoseTrusted = (lines : List Answer) → AreThoseTrusted lines (payloads_of lines)

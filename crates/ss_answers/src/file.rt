@@ -1,13 +1,15 @@
 //! Reading a file of answers.
 ghost use Rattle.std.specs.Prelude.{◌≡◌, false, IfOk, IfErr};
 ghost use Rattle.ss_frame.specs.Watched.{has_failed, inner_of};
-ghost use Rattle.ss_answers.specs.AnswerInput.{AreOfFile, AreRead, IsAnswerFault, IsFileFault, failed_read};
+ghost use Rattle.ss_answers.specs.AnswerInput.{AreOfFile, ArePayloadsOfFile, AreRead, IsAnswerFault, IsFileFault};
+ghost use Rattle.ss_answers.specs.AnswerInput.{failed_read};
 
 use crate::fault::AnswerFault;
 use crate::input::read_all;
 use crate::lines::read_lines;
 use crate::table::Answers;
 use ss_frame::Watched;
+use ss_octets::Bytes;
 use std::alloc::Global;
 use std::fs;
 use std::io::Read;
@@ -55,6 +57,22 @@ pub fn open_answers<R: Files + AllocGlobal>(rt: &R, path: &str) -> Result<Answer
     };
     let mut reader = Watched::new(file);
     read_file(rt.alloc(), &mut reader)
+}
+
+/// The payloads that the lines `trust PAYLOAD` of an answers file trust, each once.
+///
+/// # Errors
+///
+/// As `open_answers`.
+pub fn open_payloads<R: Files + AllocGlobal>(rt: &R, path: &str) -> Result<Vec<Bytes>, AnswerFault>
+    ensures ok { IfOk result (λ payloads. ArePayloadsOfFile payloads.items) }
+    ensures err { IfErr result IsFileFault }
+{
+    let answers = open_answers(rt, path)?;
+    match answers.payloads(rt.alloc()) {
+        Ok(payloads) => Ok(payloads),
+        Err(_) => Err(AnswerFault::Memory),
+    }
 }
 
 /// The answers that a file gives.

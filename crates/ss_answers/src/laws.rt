@@ -1,5 +1,6 @@
 //! Laws on all texts of answers, and on all texts of counters.
 ghost use Rattle.ss_answers.specs.Answers.{BadLineIsDetermined, LinesAreDetermined, NoTextIsGoodAndBad};
+ghost use Rattle.ss_answers.specs.Answers.{PayloadsAreThoseTrusted};
 ghost use Rattle.ss_answers.specs.CounterLine.{BadCounterIsDetermined, CountersAreDetermined};
 ghost use Rattle.ss_answers.specs.CounterLine.{LinesHaveTheirCounters, NoCountersAreGoodAndBad};
 
@@ -16,6 +17,11 @@ pub fn lines_are_determined()
 /// A text has at most one first bad line.
 pub fn bad_line_is_determined()
     ensures { BadLineIsDetermined }
+{}
+
+/// The payloads of lines are exactly those that some line trusts, and each stands there once.
+pub fn payloads_are_those_trusted()
+    ensures { PayloadsAreThoseTrusted }
 {}
 
 /// A text of counters has no bad line, so that a fault of a line comes only where there are no counters.

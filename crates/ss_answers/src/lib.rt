@@ -21,6 +21,6 @@ pub use counters::file::{open_counters, read_counters};
 pub use counters::start::start_of;
 pub use counters::start_fault::StartFault;
 pub use fault::AnswerFault;
-pub use file::{open_answers, read_answers};
+pub use file::{open_answers, open_payloads, read_answers};
 pub use seals::GivenSeals;
 pub use table::Answers;

@@ -1,7 +1,7 @@
 //! Where the fields of a line stand among the octets of all lines.
 ghost use Rattle.std.specs.Prelude.{◌≡◌};
 ghost use Rattle.std.specs.Option.{option_copied};
-ghost use Rattle.ss_answers.specs.Answers.{given_signature};
+ghost use Rattle.ss_answers.specs.Answers.{given_signature, is_trust, trusted_payload};
 ghost use Rattle.ss_answers.specs.AnswerKey.{sort_key};
 ghost use Rattle.ss_answers.specs.AnswerLine.{part};
 
@@ -57,6 +57,31 @@ impl Place {
             Some(part(octets, self.middle, self.end))
         } else {
             None
+        }
+    }
+
+    /// The payload that the line trusts.
+    pub fn trusted_payload<'a>(&self, octets: &'a [u8]) -> Option<&'a [u8]>
+        ensures { option_copied result ≡ trusted_payload (answer_at octets.now self.now) }
+    {
+        let payload = part(octets, self.payload.start, self.payload.end);
+        let bytes = part(octets, self.start, self.middle);
+        if payload.is_empty() {
+            None
+        } else if bytes.is_empty() {
+            Some(payload)
+        } else {
+            None
+        }
+    }
+
+    /// Whether the line trusts this payload.
+    pub fn trusts(&self, octets: &[u8], payload: &[u8]) -> bool
+        ensures { result ≡ is_trust payload.now (answer_at octets.now self.now) }
+    {
+        match self.trusted_payload(octets) {
+            Some(trusted) => trusted == payload,
+            None => false,
         }
     }
 }

@@ -1,15 +1,16 @@
 //! Answers in order, and their look-ups.
-ghost use Rattle.std.specs.Prelude.{◌≡◌, Option, OnOk, OnErr};
-ghost use Rattle.std.specs.List.{find};
+ghost use Rattle.std.specs.Prelude.{◌≡◌, [], ◌∷◌, ◌++◌, Option, IfOk, OnOk, OnErr};
+ghost use Rattle.std.specs.List.{cons_option, find};
 ghost use Rattle.std.specs.Option.{option_copied};
-ghost use Rattle.ss_answers.specs.Answers.{SaysTheSame};
+ghost use Rattle.ss_answers.specs.Answers.{SaysTheSame, last_trust, payloads_of};
 ghost use Rattle.ss_answers.specs.AnswerKey.{sort_key};
-ghost use Rattle.ss_answers.specs.AnswerLine.{answers_at, has_key, IsInOrder};
+ghost use Rattle.ss_answers.specs.AnswerLine.{answer_at, answers_at, has_key, IsInOrder};
 
 use crate::key::Key;
 use crate::lines::Lines;
 use crate::place::Place;
 use ss_block::Scheme;
+use ss_octets::Bytes;
 use ss_origin::SealFault;
 use ss_review::Judge;
 use std::alloc::{AllocError, Global};
@@ -38,7 +39,7 @@ impl Model for Answers {
 
 impl Answers {
     ghost use Rattle.std.specs.Prelude.{◌≡◌, Some, None, Err, IfOk, IfErr};
-    ghost use Rattle.ss_answers.specs.Answers.{SaysTheSame, trusted, valid, seal_of};
+    ghost use Rattle.ss_answers.specs.Answers.{SaysTheSame, payloads_of, trusted, valid, seal_of};
     ghost use Rattle.ss_answers.specs.AnswerLine.{answers_of, IfRefused};
 
     /// The answers that lines give.
@@ -95,6 +96,17 @@ impl Answers {
             Err(_) => Err(SealFault::Memory),
         }
     }
+
+    /// The payloads that lines trust, each once.
+    ///
+    /// # Errors
+    ///
+    /// Only out of memory.
+    pub fn payloads(&self, alloc: Global) -> Result<Vec<Bytes>, AllocError>
+        ensures { IfOk result (λ payloads. payloads.items ≡ payloads_of self.now) }
+    {
+        payloads_at(alloc, &self.octets, &self.places)
+    }
 }
 
 impl Scheme for Answers {
@@ -149,4 +161,49 @@ fn find<'a>(octets: &[u8], places: &'a [Place], key: Key<'_>) -> Option<&'a Plac
     } else {
         None
     }
+}
+
+/// The payloads that the lines at these places trust, each once. They are in order, so a payload that two lines trust
+/// stands in neighbours.
+fn payloads_at(alloc: Global, octets: &[u8], places: &[Place]) -> Result<Vec<Bytes>, AllocError>
+    requires { IsInOrder octets.now places.now }
+    ensures { IfOk result (λ payloads. payloads.items ≡ payloads_of (answers_at octets.now places.now)) }
+{
+    let mut payloads = Vec::new(alloc);
+    let mut rest = places;
+    while let Some((first, others)) = rest.split_first() {
+        add_payload(alloc, &mut payloads, last_trust(octets, first, others))?;
+        rest = others;
+    }
+    Ok(payloads)
+}
+
+/// The payload that the first line trusts, unless one of the others does too, which stand after it in their order.
+fn last_trust<'a>(octets: &'a [u8], first: &Place, others: &[Place]) -> Option<&'a [u8]>
+    requires { IsInOrder octets.now (first.now ∷ others.now) }
+    ensures { option_copied result ≡ last_trust (answer_at octets.now first.now) (answers_at octets.now others.now) }
+{
+    let payload = first.trusted_payload(octets)?;
+    let Some((next, _)) = others.split_first() else {
+        return Some(payload);
+    };
+    if next.trusts(octets, payload) {
+        None
+    } else {
+        Some(payload)
+    }
+}
+
+/// Adds a copy of the payload, if there is one.
+fn add_payload(
+    alloc: Global,
+    payloads: &mut Vec<Bytes>,
+    payload: Option<&[u8]>,
+) -> Result<(), AllocError>
+    ensures { OnOk result (payloads.new.items ≡ payloads.old.items ++ cons_option (option_copied payload.entry) []) }
+{
+    if let Some(payload) = payload {
+        payloads.push(Bytes::from_vec(Vec::from_slice(alloc, payload)?))?;
+    }
+    Ok(())
 }
