@@ -1,5 +1,5 @@
 -- The payloads that lines trust: which they are, and how they are found among lines in order.
-use Rattle.std.proofs.Common.{◌≡◌, ℕ, zero, suc, ◌+◌, ◌<◌, ◌≤◌, Bool, true, false, eqb, cond, ◌||◌, List, [], ◌∷◌, ◌++◌, length, get_or, Option, Some, None, sym, refl, ap, ◌∙◌, arith, append_assoc}
+use Rattle.std.proofs.Common.{◌≡◌, ℕ, suc, ◌+◌, ◌<◌, ◌≤◌, Bool, true, false, eqb, cond, ◌||◌, List, [], ◌∷◌, ◌++◌, length, get_or, Option, Some, None, sym, refl, ap, ◌∙◌, arith, append_assoc}
 use Rattle.std.specs.List.{AllByRecursion, IsDistinct, cons_option, find, list_any}
 use Rattle.std.specs.Str.{bytes_eq}
 use Rattle.std.specs.Ordering.{is_eq, is_lt, ordering_index}
@@ -8,9 +8,9 @@ use Rattle.std.specs.declared.cmp.Ordering.TheVariants.{Less, Equal, Greater}
 use Rattle.std.proofs.lemmas.Bool.Decides.{nat_tests}
 use Rattle.std.proofs.lemmas.Slice.Eq.{bytes_eq-Decides}
 use Rattle.ss_answers.specs.declared.place.Place.{Place}
-use Rattle.ss_answers.specs.Answers.{Answer, Seal, Trust, Yes, AreThoseTrusted, PayloadsAreThoseTrusted, is_trust, last_trust, payloads_of, trusted, trusted_payload}
-use Rattle.ss_answers.specs.AnswerKey.{SortKey, key_cmp, key_of, trust_key}
-use Rattle.ss_answers.specs.AnswerLine.{IsInOrder, answer_at, answer_by_fields, answers_at, has_key, place_key}
+use Rattle.ss_answers.specs.Answers.{Answer, Seal, Trust, Yes, PayloadsAreThoseTrusted, is_trust, last_trust, payloads_of, trusted, trusted_payload}
+use Rattle.ss_answers.specs.AnswerKey.{key_of, trust_key}
+use Rattle.ss_answers.specs.AnswerLine.{IsInOrder, answer_at, answer_by_fields, answers_at, has_key}
 use Rattle.ss_answers.proofs.OrderedLines.{against, find_absent, has_key-answer, has_trust_key, is_before, is_below, rising, trusted_from_find}
 
 -- ---- what a line trusts, by its fields

@@ -1,4 +1,4 @@
-use Rattle.std.proofs.Common.{◌∷◌, Some, sym, ap, ◌∙◌, subst}
+use Rattle.std.proofs.Common.{◌∷◌, sym, ap, ◌∙◌, subst}
 use Rattle.ss_answers.specs.Answers.{last_trust}
 use Rattle.ss_answers.specs.AnswerLine.{IsInOrder, answer_at, answers_at}
 use Rattle.ss_answers.proofs.TrustedPayloads.{last_of_all}
