@@ -238,7 +238,8 @@ def main():
             tell(f"{word} with a value", "" if ran.returncode == 2 and ran.stderr and not ran.stdout else repr(ran))
         for words in (["extract", "--json"], ["extract", "--findings"], ["questions", "--findings"], ["counters", "--findings"],
                       ["review", "--once"], ["extract", "--once"], ["inspect", "--once"], ["counters", "--once"],
-                      ["questions", "--once=x"], ["questions", "--once", "--once"],
+                      ["questions", "--once=x"], ["questions", "--once", "--once"], ["inspect", "--pinned", os.devnull],
+                      ["plan", "--pinned", os.devnull], ["carry", "--pinned", os.devnull, "--pinned", os.devnull],
                       ["carry", "--json"], ["carry", "--findings"], ["explain", "--json"], ["inspect", "--json", "--json"]):
             ran = subprocess.run([PROGRAM, *words], input=log, capture_output=True, check=False)
             tell(" ".join(words), "" if ran.returncode == 2 and ran.stderr and not ran.stdout else repr(ran))

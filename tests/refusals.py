@@ -41,7 +41,7 @@ CODES = {
     "extract": "(W2 )+(A4 )*((F4|V1|W2) )*",
     "carry": "(W2 )+(A4 )*((F4|V1|W2) )*",
     "counters": "(W2 )+(A4 )*((F4|V1|W2) )*",
-    "questions": "(W2 )*((F4|V1|W2) )*",
+    "questions": "(W2 )*(A4 )*((F4|V1|W2) )*",
     "inspect": "(W2 )*((F4|W2) )*",
     "plan": "(W2 )*(C4 )*((F4|O10|W2) )*((F4|O10 p|W2) )*((O10|W2) )*",
     "sign": "(W2 )*(C4 )*(A4 )*((F4|O10|W2) )*((F4|O10 p|W2) )*((O10|W2) )*",
@@ -55,7 +55,8 @@ BUFFER = 65536
 
 # `wanted` is all that a run says, or its status; `some` is whether some allocations are refused alone; `counters` are those up
 # to which a log is reviewed, and those at which an originator goes on; `first` are those at which a night begins
-Case = collections.namedtuple("Case", "name words log wanted answers some counters first", defaults=[None, False, None, None])
+Case = collections.namedtuple("Case", "name words log wanted answers some counters first pinned",
+                              defaults=[None, False, None, None, None])
 Said = collections.namedtuple("Said", "status out err")
 
 passed = failed = 0
@@ -222,6 +223,23 @@ def night_reviews():
     yield Case("a night: a bad line of its end", ["review"], octets, refused("C1 2"), text, counters=own + b"\n", first=own)
     yield Case("a night: two bad lines", ["review"], octets, refused("C1 1"), text, counters=own + b"\n", first=b"\n")
     yield Case("a night: a folder", ["review", "--from", HERE], octets, refused("C2"), text, counters=b"count\n")
+
+
+def known_reviews():
+    """Runs by payloads that are known beforehand, and refusals of their file. A session without a dispute stays as it is."""
+    answers, octets = answers_of(EXAMPLE, ALL), b"".join(map(frame, EXAMPLE))
+    text = answers_text(*answers)
+    for command in ("review", "extract", "questions", "questions --once --json", "counters", "carry"):
+        case = reviewed("a clean log, by known payloads,", command, octets, answers)
+        yield case._replace(pinned=text)
+        yield case._replace(name=case.name + " of which there are none", pinned=b"")
+    yield Case("known payloads: a bad line", ["review"], octets, refused("A1 2"), text, pinned=text.splitlines(True)[0] + b"\n")
+    yield Case("known payloads: a bad line, and one of the answers", ["carry"], octets, refused("A1 1"), b"trust QQ==\nwant\n",
+               pinned=b"want\n")
+    yield Case("known payloads: a bad line, and one of the counters", ["review"], octets, refused("C1 1"), text, counters=b"count\n",
+               pinned=b"want\n")
+    yield Case("known payloads: a folder", ["questions", "--pinned", HERE], octets, refused("A2"))
+    yield Case("known payloads: an extract of a place", ["extract", "--place", "0"], octets, Said(0, frame(EXAMPLE[0]), b""), pinned=text)
 
 
 def tallies():
@@ -491,9 +509,10 @@ class Runner:
 
     def case(self, place, case, first):
         """Faults, the codes, and how often the run did without memory; `first` is the first allocation to refuse."""
-        log, answers, counters, first_ones = (os.path.join(self.folder, "%d.%s" % (place, end))
-                                              for end in ("log", "answers", "counters", "first"))
-        for path, octets in ((log, case.log), (answers, case.answers), (counters, case.counters), (first_ones, case.first)):
+        log, answers, counters, first_ones, pinned = (os.path.join(self.folder, "%d.%s" % (place, end))
+                                                      for end in ("log", "answers", "counters", "first", "pinned"))
+        for path, octets in ((log, case.log), (answers, case.answers), (counters, case.counters), (first_ones, case.first),
+                             (pinned, case.pinned)):
             if octets is not None:
                 with open(path, "wb") as file:
                     file.write(octets)
@@ -501,6 +520,7 @@ class Runner:
         option = "--resume" if case.words and case.words[0] in ("plan", "sign") else "--counters"
         words += [] if case.counters is None else [option, counters]
         words += [] if case.first is None else ["--from", first_ones]
+        words += [] if case.pinned is None else ["--pinned", pinned]
         clean, count = self.run(words, log, 0)
         wanted = clean._replace(status=case.wanted) if isinstance(case.wanted, int) else case.wanted
         faults = ["" if clean == wanted else "it says %r, and not %r" % (clean, wanted)]
@@ -536,7 +556,7 @@ def firsts(cases):
     """The first allocation to refuse of each case."""
     seen = set()
     for case in cases:
-        words = (*case.words, case.answers is None, case.counters is None, case.first is None)
+        words = (*case.words, case.answers is None, case.counters is None, case.first is None, case.pinned is None)
         yield WORDS_ALONE if words in seen else 1
         seen.add(words)
 
@@ -553,8 +573,8 @@ def main():
     parser.add_argument("library", nargs="?", default="")
     parser.add_argument("--show", action="store_true")
     given = parser.parse_args()
-    cases = [case for make in (reviews, kept_reviews, night_reviews, tallies, extracts, inspections, answers, signings, resumed_signings,
-                               wrapped_signings, refused_signings, others, long_outputs)
+    cases = [case for make in (reviews, kept_reviews, night_reviews, known_reviews, tallies, extracts, inspections, answers, signings,
+                               resumed_signings, wrapped_signings, refused_signings, others, long_outputs)
              for case in make()]
     first = cases[0].wanted.out.decode().splitlines()
     for word in WORDS:

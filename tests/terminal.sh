@@ -145,6 +145,11 @@ refused 'sign: a line that is no answer' 'A1 1' "The answers file is --answers \
 refused 'no such file' 'A2' 'The answers file is --answers "no\n\u{1b}[31m file".' extract --answers $'no\n\e[31m file'
 refused 'a folder' 'A2' 'The answers file is --answers "/".' sign "${given[@]}" --answers /
 
+# ---- the file of known payloads
+refused 'carry: a line that is no known payload' 'A1 1' "The file of known payloads is --pinned \"$scratch/answers\"." \
+    carry --pinned "$scratch/answers" --answers /
+refused 'a folder of known payloads' 'A2' 'The file of known payloads is --pinned "/".' questions --pinned /
+
 # ---- the counters files of a review
 printf 'count\n' >"$scratch/counters"
 refused 'review: a bad line of the counters' 'C1 1' "The counters file is --counters \"$scratch/counters\"." review --counters "$scratch/counters"

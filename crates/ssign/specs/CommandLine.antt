@@ -37,6 +37,7 @@ use Rattle.ssign.specs.declared.options.from.TheConstants as from
 use Rattle.ssign.specs.declared.options.json.TheConstants as json
 use Rattle.ssign.specs.declared.options.lines_out.TheConstants as lines_out
 use Rattle.ssign.specs.declared.options.once.TheConstants as once
+use Rattle.ssign.specs.declared.options.pinned.TheConstants as pinned
 use Rattle.ssign.specs.declared.options.resume.TheConstants as resume
 use Rattle.ssign.specs.declared.options.tally.TheConstants as tally
 use Rattle.ssign.specs.declared.options.unlisted.TheConstants as unlisted
@@ -133,14 +134,15 @@ task_name Carry = carry.NAME.now
 abbrev pub task_rules : Task → List Rule
 task_rules Review =
     text_rule answers.NAME.now ∷ flag_rule findings.NAME.now ∷ flag_rule json.NAME.now ∷ flag_rule whole.NAME.now
-    ∷ flag_rule tally.NAME.now ∷ text_rule counters_option.NAME.now ∷ text_rule from.NAME.now ∷ []
-task_rules Questions = flag_rule json.NAME.now ∷ flag_rule once.NAME.now ∷ []
+    ∷ flag_rule tally.NAME.now ∷ text_rule counters_option.NAME.now ∷ text_rule from.NAME.now ∷ text_rule pinned.NAME.now
+    ∷ []
+task_rules Questions = flag_rule json.NAME.now ∷ flag_rule once.NAME.now ∷ text_rule pinned.NAME.now ∷ []
 task_rules Extract =
     text_rule answers.NAME.now ∷ flag_rule unlisted.NAME.now ∷ place_rule ∷ flag_rule lines_out.NAME.now
-    ∷ flag_rule unwrap.NAME.now ∷ []
+    ∷ flag_rule unwrap.NAME.now ∷ text_rule pinned.NAME.now ∷ []
 task_rules Inspect = flag_rule findings.NAME.now ∷ flag_rule json.NAME.now ∷ flag_rule unwrap.NAME.now ∷ []
-task_rules Counters = text_rule answers.NAME.now ∷ flag_rule json.NAME.now ∷ []
-task_rules Carry = text_rule answers.NAME.now ∷ []
+task_rules Counters = text_rule answers.NAME.now ∷ flag_rule json.NAME.now ∷ text_rule pinned.NAME.now ∷ []
+task_rules Carry = text_rule answers.NAME.now ∷ text_rule pinned.NAME.now ∷ []
 
 abbrev pub task_app : Task → App
 task_app task = with_limits (with_rules (new_app (task_name task)) (task_rules task))

@@ -1,5 +1,5 @@
 -- What is asked of a log.
-use Rattle.std.specs.Prelude.{false, List, Option, Some, None, if◌then◌else◌, option_map}
+use Rattle.std.specs.Prelude.{ℕ, false, List, Option, Some, None, if◌then◌else◌, option_map}
 use Rattle.std.specs.Borrow.{Bor}
 use Rattle.ss_review.specs.sessions.Verified.{Answers}
 use Rattle.ss_review.specs.declared.counted.counter.Counter.{Counter}
@@ -16,16 +16,18 @@ use Rattle.ssign.specs.declared.task.Reporting.{Reporting}
 use Rattle.ssign.specs.declared.task.Task.{Task}
 use Rattle.ssign.specs.declared.task.Task.TheVariants.{Review, Questions, Extract, Inspect, Counters, Carry}
 
--- the counters of a file, where one is given
-abbrev pub given : Option (Bor (List Counter)) → Option (List Counter)
-given counters = option_map (λ cs. cs.now) counters
+-- what a file has, counters or payloads, where one is given
+abbrev pub given : {X : Type 0} → Option (Bor (List X)) → Option (List X)
+given xs = option_map (λ ys. ys.now) xs
 
--- a review, with or without what is missing beside the report, up to these counters; or of one night, where those at
--- which it begins are given
-abbrev pub review_of : Answers → Reporting → (first counters : Option (List Counter)) → Job
-review_of says r (Some first) counters = reviewing_between r.form r.detail first counters says
-review_of says r None counters = if r.whole then reviewing_whole r.form r.detail (end_counters counters) says
-    else reviewing_as r.form r.detail says
+-- a review by these known payloads, with or without what is missing beside the report, up to these counters; or of one
+-- night, where those at which it begins are given
+abbrev pub review_of :
+    Answers → Reporting → (known : Option (List (List ℕ))) → (first counters : Option (List Counter)) → Job
+review_of says r known (Some first) counters = reviewing_between r.form r.detail first counters known says
+review_of says r known None counters =
+    if r.whole then reviewing_whole r.form r.detail (end_counters counters) known says
+    else reviewing_as r.form r.detail known says
 
 -- what is carried over to the next log, as frames, and as it stands
 abbrev pub carrying : Extraction
@@ -35,12 +37,14 @@ carrying = record { selection = Carried; form = Frames; unwrap = false }
 abbrev pub inspection_form : Reporting → InspectionForm
 inspection_form r = record { lines = r.form; unwrap = r.unwrap }
 
--- what a run makes of a log: under these answers, or without any, and as it is to be reported; of a review that is to
--- be whole, from the first counters up to the others, and of an extract what is to be written
-abbrev pub job_of : Answers → Reporting → (first counters : Option (List Counter)) → Extraction → Task → Job
-job_of says r first counters e Review = review_of says r first counters
-job_of says r first counters e Questions = asking_as (notation_of r.form) r.payloads
-job_of says r first counters e Extract = extracting_as e says
-job_of says r first counters e Inspect = inspecting (inspection_form r)
-job_of says r first counters e Counters = counting (notation_of r.form) says
-job_of says r first counters e Carry = extracting_as carrying says
+-- what a run makes of a log: under these answers, or without any, by these known payloads, and as it is to be reported;
+-- of a review that is to be whole, from the first counters up to the others, and of an extract what is to be written
+abbrev pub job_of :
+    Answers → Reporting → (known : Option (List (List ℕ))) → (first counters : Option (List Counter)) → Extraction → Task
+    → Job
+job_of says r known first counters e Review = review_of says r known first counters
+job_of says r known first counters e Questions = asking_as (notation_of r.form) r.payloads known
+job_of says r known first counters e Extract = extracting_as e known says
+job_of says r known first counters e Inspect = inspecting (inspection_form r)
+job_of says r known first counters e Counters = counting (notation_of r.form) known says
+job_of says r known first counters e Carry = extracting_as carrying known says

@@ -22,6 +22,7 @@ ghost use Rattle.ssign.specs.declared.options.lines_out.TheConstants as lines_ou
 ghost use Rattle.ssign.specs.declared.options.max_len.TheConstants as max_len;
 ghost use Rattle.ssign.specs.declared.options.max_messages.TheConstants as max_messages;
 ghost use Rattle.ssign.specs.declared.options.once.TheConstants as once;
+ghost use Rattle.ssign.specs.declared.options.pinned.TheConstants as pinned;
 ghost use Rattle.ssign.specs.declared.options.resume.TheConstants as resume;
 ghost use Rattle.ssign.specs.declared.options.tally.TheConstants as tally;
 ghost use Rattle.ssign.specs.declared.options.unwrap.TheConstants as unwrap;
@@ -195,9 +196,10 @@ fn review<'a>(alloc: Global) -> Result<Command<'a>, AllocError>
         .arg(flag(alloc, options::whole::NAME, options::whole::HELP))?
         .arg(flag(alloc, options::tally::NAME, options::tally::HELP))?;
     let review = review.arg(file(alloc, options::counters::NAME, options::counters::HELP))?;
+    let review = review.arg(file(alloc, options::from::NAME, options::from::HELP))?;
     limited(
         alloc,
-        review.arg(file(alloc, options::from::NAME, options::from::HELP))?,
+        review.arg(file(alloc, options::pinned::NAME, options::pinned::HELP))?,
     )
 }
 
@@ -212,9 +214,10 @@ fn questions<'a>(alloc: Global) -> Result<Command<'a>, AllocError>
         commands::questions::USAGE,
     )
     .arg(flag(alloc, options::json::NAME, options::json::HELP))?;
+    let questions = questions.arg(flag(alloc, options::once::NAME, options::once::HELP))?;
     limited(
         alloc,
-        questions.arg(flag(alloc, options::once::NAME, options::once::HELP))?,
+        questions.arg(file(alloc, options::pinned::NAME, options::pinned::HELP))?,
     )
 }
 
@@ -233,9 +236,10 @@ fn extract<'a>(alloc: Global) -> Result<Command<'a>, AllocError>
         .arg(flag(alloc, options::unlisted::NAME, options::unlisted::HELP))?
         .arg(place(alloc))?;
     let extract = extract.arg(flag(alloc, options::lines_out::NAME, options::lines_out::HELP))?;
+    let extract = extract.arg(flag(alloc, options::unwrap::NAME, options::unwrap::WRITTEN))?;
     limited(
         alloc,
-        extract.arg(flag(alloc, options::unwrap::NAME, options::unwrap::WRITTEN))?,
+        extract.arg(file(alloc, options::pinned::NAME, options::pinned::HELP))?,
     )
 }
 
@@ -303,9 +307,10 @@ fn counters<'a>(alloc: Global) -> Result<Command<'a>, AllocError>
         commands::counters::USAGE,
     )
     .arg(file(alloc, options::answers::NAME, options::answers::CHECKED))?;
+    let counters = counters.arg(flag(alloc, options::json::NAME, options::json::HELP))?;
     limited(
         alloc,
-        counters.arg(flag(alloc, options::json::NAME, options::json::HELP))?,
+        counters.arg(file(alloc, options::pinned::NAME, options::pinned::HELP))?,
     )
 }
 
@@ -318,10 +323,11 @@ fn carry<'a>(alloc: Global) -> Result<Command<'a>, AllocError>
         commands::carry::NAME,
         commands::carry::ABOUT,
         commands::carry::USAGE,
-    );
+    )
+    .arg(file(alloc, options::answers::NAME, options::answers::CHECKED))?;
     limited(
         alloc,
-        carry.arg(file(alloc, options::answers::NAME, options::answers::CHECKED))?,
+        carry.arg(file(alloc, options::pinned::NAME, options::pinned::HELP))?,
     )
 }
 
@@ -410,6 +416,13 @@ pub fn from_file<'a>(matches: &ArgMatches<'a>) -> Option<&'a str>
     ensures { option_map (λ s. s.now) result ≡ first_value (found_of matches.now) from.NAME.now }
 {
     matches.get_str(options::from::NAME)
+}
+
+/// The file of the payloads that are known beforehand, if one was given.
+pub fn pinned_file<'a>(matches: &ArgMatches<'a>) -> Option<&'a str>
+    ensures { option_map (λ s. s.now) result ≡ first_value (found_of matches.now) pinned.NAME.now }
+{
+    matches.get_str(options::pinned::NAME)
 }
 
 /// The form of a report that the flags ask for. A command without these flags has plain text.

@@ -19,6 +19,7 @@ pub mod max_messages;
 pub mod msgid;
 pub mod once;
 pub mod payload;
+pub mod pinned;
 pub mod place;
 pub mod pri;
 pub mod procid;

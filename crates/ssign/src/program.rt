@@ -7,7 +7,7 @@ ghost use Rattle.ssign.specs.Task.{given};
 
 use crate::command_line::{
     Order, answers_file, asked_code, command, counters_file, extract_conflict, from_file,
-    limits_of, order_of, reporting_of, resume_file, sending_of,
+    limits_of, order_of, pinned_file, reporting_of, resume_file, sending_of,
 };
 use crate::explain::explanation_of;
 use crate::explanations::{Tables, all_tables};
@@ -27,7 +27,7 @@ use crate::streams::{explain_on_output, run_streams, sign_streams};
 use crate::task::{Task, TaskRequest};
 use clap::ArgMatches;
 use clap::error::ErrorKind;
-use ss_answers::{open_answers, open_counters};
+use ss_answers::{open_answers, open_counters, open_payloads};
 use ss_frame::Form;
 use ss_report::{RunFault, Verdict};
 use ss_review::{Counter, Counters};
@@ -107,8 +107,8 @@ fn run_command<R: Input + Print + Eprint + Screen + Files + Clock + AllocGlobal>
     }
 }
 
-/// Makes a run over standard input. Before it the counters files are read, that of `--from` first, and then the answers
-/// file.
+/// Makes a run over standard input. Before it the counters files are read, that of `--from` first, then the file of known
+/// payloads, and then the answers file.
 fn run_log<R: Input + Print + Eprint + Screen + Files + Clock + AllocGlobal>(
     rt: &R,
     task: Task,
@@ -137,9 +137,17 @@ fn run_log<R: Input + Print + Eprint + Screen + Files + Clock + AllocGlobal>(
             Err(fault) => return refuse(rt, &fault.code(), Remark::CountersFile(file)),
         },
     };
+    let known = match pinned_file(options) {
+        None => None,
+        Some(file) => match open_payloads(rt, file) {
+            Ok(payloads) => Some(payloads),
+            Err(fault) => return refuse(rt, &fault.code(), Remark::PinnedFile(file)),
+        },
+    };
     let request = TaskRequest {
         task,
         reporting: reporting_of(options),
+        known: known.as_deref(),
         first: given(&first),
         counters: given(&counters),
         extraction,

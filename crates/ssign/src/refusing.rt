@@ -6,7 +6,7 @@ use crate::asked::asked_word;
 use crate::explain::explanation_of;
 use crate::explanations::{Tables, all_tables};
 use crate::likely_cause::LikelyCause;
-use crate::options::{answers, counters, from, resume};
+use crate::options::{answers, counters, from, pinned, resume};
 use crate::settings::SettingsFault;
 use crate::text_option::TextOption;
 use arrayvec::ArrayString;
@@ -38,6 +38,8 @@ pub enum Remark<'a> {
     CountersFile(&'a str),
     /// This counters file, at which a night was to begin.
     FromFile(&'a str),
+    /// This file of payloads that are known beforehand.
+    PinnedFile(&'a str),
     /// This counters file, at which an originator was to go on.
     ResumeFile(&'a str),
     /// This option, and its text.
@@ -58,6 +60,13 @@ impl Display for Remark<'_> {
             }
             Remark::FromFile(file) => {
                 writeln!(f, "The counters file is --{} {file:?}.", from::NAME)
+            }
+            Remark::PinnedFile(file) => {
+                writeln!(
+                    f,
+                    "The file of known payloads is --{} {file:?}.",
+                    pinned::NAME
+                )
             }
             Remark::ResumeFile(file) => {
                 writeln!(f, "The counters file is --{} {file:?}.", resume::NAME)

@@ -8,6 +8,7 @@ ghost use Rattle.ss_report.specs.lines.Between.{end_counters};
 ghost use Rattle.ssign.specs.Task.{carrying, given, inspection_form, review_of, job_of};
 
 use ss_frame::{Form, Limits, Watched};
+use ss_octets::Bytes;
 use ss_report::{
     Detail, Extraction, InspectionForm, Payloads, ReportForm, Run, RunFault, Selection, Verdict,
     run_counters, run_extract_as, run_inspect, run_questions_as, run_review_as, run_review_between,
@@ -57,6 +58,8 @@ pub struct TaskRequest<'c> {
     pub task: Task,
     /// How that is reported.
     pub reporting: Reporting,
+    /// The payloads that are known beforehand, if they are given.
+    pub known: Option<&'c [Bytes]>,
     /// At which counters a review of one night is to begin, if it is one.
     pub first: Option<&'c [Counter]>,
     /// Up to which counters a review is to be whole, if they are given.
@@ -68,8 +71,10 @@ pub struct TaskRequest<'c> {
 }
 
 /// Reads a log to its end, and writes what is asked of it in the form that is wanted. A whole review goes up to these
-/// counters, one of a night begins at the first ones, and an extract has the messages that are wanted. Questions, inspections and extracts of given places ask
-/// the judge nothing. The judge is freed once it is known which blocks are verified.
+/// counters, one of a night begins at the first ones, and an extract has the messages that are wanted. Where payloads
+/// are known beforehand, sessions are joined by them; inspections and extracts of given places don't look at them.
+/// Questions, inspections and extracts of given places ask the judge nothing. The judge is freed once it is known which
+/// blocks are verified.
 ///
 /// Nothing is written before the log is read and the output can be written. `RunFault::Write` exactly where a call of
 /// the writer failed; what was written then is a prefix of the output. After any other fault nothing was written:
@@ -87,13 +92,15 @@ pub fn run_task<R: Read, W: Write, J: Judge + Drop>(
     requires sound { J.sound judge }
     requires askable { (q : Question) → J.askable judge q }
     ensures done { IfOk result
-        (Runs (job_of (answers J.trusted J.valid judge) request.entry.reporting (given request.entry.first)
-        (given request.entry.counters) request.entry.extraction request.entry.task) request.entry.limits
+        (Runs (job_of (answers J.trusted J.valid judge) request.entry.reporting (given request.entry.known)
+        (given request.entry.first) (given request.entry.counters) request.entry.extraction request.entry.task)
+        request.entry.limits
         (source_of R.remaining reader.old) (source_of R.remaining reader.new)
         (sink_of W.contents writer.old) (sink_of W.contents writer.new)) }
     ensures stopped { IfErr result
-        (Stops (job_of (answers J.trusted J.valid judge) request.entry.reporting (given request.entry.first)
-        (given request.entry.counters) request.entry.extraction request.entry.task) request.entry.limits
+        (Stops (job_of (answers J.trusted J.valid judge) request.entry.reporting (given request.entry.known)
+        (given request.entry.first) (given request.entry.counters) request.entry.extraction request.entry.task)
+        request.entry.limits
         (source_of R.remaining reader.old) (source_of R.remaining reader.new)
         (sink_of W.contents writer.old) (sink_of W.contents writer.new)) }
     ensures untouched { IfErr result (λ fault. fault ≢ RunFault.Write → writer.new ≡ writer.old) }
@@ -101,6 +108,7 @@ pub fn run_task<R: Read, W: Write, J: Judge + Drop>(
     let TaskRequest {
         task,
         reporting,
+        known,
         first,
         counters,
         extraction,
@@ -110,6 +118,7 @@ pub fn run_task<R: Read, W: Write, J: Judge + Drop>(
         reader,
         writer,
         limits,
+        known,
         alloc,
     };
     let notation = reporting.form.notation();
@@ -157,13 +166,13 @@ fn run_reported<R: Read, W: Write, J: Judge + Drop>(
     requires sound { J.sound judge }
     requires askable { (q : Question) → J.askable judge q }
     ensures done { IfOk result
-        (Runs (review_of (answers J.trusted J.valid judge) reporting (given first.entry) (given counters.entry))
-        run.entry.limits
+        (Runs (review_of (answers J.trusted J.valid judge) reporting (given run.entry.known) (given first.entry)
+        (given counters.entry)) run.entry.limits
         (source_of R.remaining run.entry.reader.now) (source_of R.remaining run.exit.0.now)
         (sink_of W.contents run.entry.writer.now) (sink_of W.contents run.exit.1.0.now)) }
     ensures stopped { IfErr result
-        (Stops (review_of (answers J.trusted J.valid judge) reporting (given first.entry) (given counters.entry))
-        run.entry.limits
+        (Stops (review_of (answers J.trusted J.valid judge) reporting (given run.entry.known) (given first.entry)
+        (given counters.entry)) run.entry.limits
         (source_of R.remaining run.entry.reader.now) (source_of R.remaining run.exit.0.now)
         (sink_of W.contents run.entry.writer.now) (sink_of W.contents run.exit.1.0.now)) }
     ensures untouched { IfErr result (λ fault. fault ≢ RunFault.Write → run.exit.1.0.now ≡ run.entry.writer.now) }

@@ -47,7 +47,7 @@ pub static REFUSALS: [Explanation; 32] = [
     Explanation {
         code: "A2",
         text: "The answers file can't be opened, is a folder, or reading it failed. See that the path after --answers \
-            is right, and that the file can be read.",
+            or --pinned is right, and that the file can be read.",
     },
     Explanation {
         code: "A3",

@@ -114,7 +114,8 @@ pub static WORDS: [Explanation; 44] = [
         code: "refused",
         text: "This block is unverified: its session isn't joined, or its own signature isn't valid under the \
             session's payload. Look at the state of the session first. If that is joined, the block was changed, or \
-            the answers file lacks its yes line.",
+            the answers file lacks its yes line. With --pinned it may also be a certificate block with another payload \
+            than the known one.",
     },
     Explanation {
         code: "spoilt",
@@ -158,7 +159,8 @@ pub static WORDS: [Explanation; 44] = [
         text: "Of a session: its certificate blocks state two lengths of the payload, or two different octets at one \
             place of it. So its key isn't known, and its blocks are unverified. Of a gap: verified signature blocks \
             have two different hashes for the number. Either blocks of somebody else stand in the log, or the \
-            originator used the session, or the number, twice. Look at the blocks with ssign inspect.",
+            originator used the session, or the number, twice. Look at the blocks with ssign inspect. If you know the \
+            payload of the session from elsewhere, review with --pinned.",
     },
     Explanation {
         code: "incomplete",
