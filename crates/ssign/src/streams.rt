@@ -1,6 +1,8 @@
 //! Runs from standard input to standard output.
-ghost use Rattle.std.specs.Prelude.{◌≡◌, ◌≢◌, false, IfErr, MatchResult};
-ghost use Rattle.ss_frame.specs.Watched.{has_failed};
+ghost use Rattle.std.specs.Prelude.{◌≡◌, ◌≢◌, [], false, IfOk, IfErr, MatchResult};
+ghost use Rattle.ss_frame.specs.Buffered.{behind, has_failed_behind, waiting};
+ghost use Rattle.ss_frame.specs.Watched.{has_failed, inner_of};
+ghost use Rattle.std.specs.Io.Buffered.{writer_buffer};
 ghost use Rattle.ss_review.specs.declared.questions.question.Question.{Question};
 
 use crate::explain::write_explanation;
@@ -58,7 +60,12 @@ pub fn explain_on_output<R: Print + AllocGlobal>(
 
 /// The input, through a buffer.
 fn buffered<I: Drop>(alloc: Global, input: I) -> Result<Watched<Buffered<I>>, RunFault>
-    ensures { MatchResult result (λ reader. has_failed reader ≡ false) (λ fault. fault ≡ RunFault.Memory) }
+    // No read has failed, of the buffer or behind it.
+    ensures opened { MatchResult result
+        (λ reader. (has_failed reader ≡ false) × (has_failed_behind (inner_of reader) ≡ false))
+        (λ fault. fault ≡ RunFault.Memory) }
+    // Nothing was read: behind the buffer is the input, and no octet waits in it.
+    ensures given { IfOk result (λ reader. (behind (inner_of reader) ≡ input) × (waiting (inner_of reader) ≡ [])) }
 {
     let Ok(input) = Buffered::new(alloc, input) else {
         return Err(RunFault::Memory);
@@ -70,7 +77,10 @@ fn buffered<I: Drop>(alloc: Global, input: I) -> Result<Watched<Buffered<I>>, Ru
 fn standard_output<R: Print + AllocGlobal>(
     rt: &R,
 ) -> Result<Watched<BufWriter<Printer<'_, R>>>, RunFault>
-    ensures { MatchResult result (λ writer. has_failed writer ≡ false) (λ fault. fault ≡ RunFault.Memory) }
+    // No write has failed.
+    ensures opened { MatchResult result (λ writer. has_failed writer ≡ false) (λ fault. fault ≡ RunFault.Memory) }
+    // Nothing was written: no octet waits in the buffer.
+    ensures empty { IfOk result (λ writer. writer_buffer (inner_of writer) ≡ []) }
 {
     let Ok(output) = BufWriter::with_capacity(rt.alloc(), BUFFER_SIZE, io::writer(rt)) else {
         return Err(RunFault::Memory);
