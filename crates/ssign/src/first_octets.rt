@@ -1,9 +1,10 @@
 //! A reader that keeps the first octets that it gives.
-ghost use Rattle.std.specs.Prelude.{◌≡◌, ◌++◌, [], take, MatchResult};
+ghost use Rattle.std.specs.Prelude.{◌≡◌, ◌++◌, ◌||◌, [], false, is_err, take, MatchResult};
 ghost use Rattle.std.specs.Io.{ReadsAtMost};
 ghost use Rattle.std.specs.Io.KnownBytes.{ReadConsumes};
 
 use arrayvec::ArrayVec;
+use ss_frame::Watched;
 use std::io;
 use std::io::Read;
 
@@ -13,20 +14,21 @@ const KEPT: usize = 6;
 /// A reader that passes each call on, and keeps the first six octets of all that it gives.
 #[derive(Drop)]
 pub struct FirstOctets<R> {
-    inner: R,
+    inner: Watched<R>,
     kept: ArrayVec<u8, KEPT>,
 }
 
 impl<R> FirstOctets<R> {
-    ghost use Rattle.ssign.specs.FirstOctets.{inside, kept_octets};
+    ghost use Rattle.ssign.specs.FirstOctets.{inside, has_failed_inside, kept_octets};
 
     /// A reader of which nothing was read.
     pub fn new(inner: R) -> FirstOctets<R>
         ensures inner { inside result ≡ inner }
+        ensures failed { has_failed_inside result ≡ false }
         ensures kept { kept_octets result ≡ [] }
     {
         FirstOctets {
-            inner,
+            inner: Watched::new(inner),
             kept: ArrayVec::new(),
         }
     }
@@ -48,12 +50,14 @@ fn keep(kept: &mut ArrayVec<u8, KEPT>, octets: &[u8])
 }
 
 impl<R: Read> Read for FirstOctets<R> {
-    ghost use Rattle.ssign.specs.FirstOctets.{inside, kept_octets};
+    ghost use Rattle.ssign.specs.FirstOctets.{inside, has_failed_inside, kept_octets};
 
     ghost remaining = { λ o. R.remaining (inside o) };
 
     fn read(&mut self, buf: &mut [u8]) -> io::Result<usize>
         ensures bound { ReadsAtMost result buf.new }
+        // It fails where a read of the reader in it has failed, in this call, and nowhere else.
+        ensures failed { has_failed_inside self.new ≡ (has_failed_inside self.old || is_err result) }
         ensures bytes { ReadConsumes (R.remaining (inside self.old)) (R.remaining (inside self.new)) result buf.new }
         ensures kept { MatchResult result (λ count.
             kept_octets self.new ≡ take 6 (kept_octets self.old ++ take count buf.new))

@@ -183,8 +183,8 @@ fn run_request<R: Input + Print + Eprint + Screen + Files + Clock + AllocGlobal>
             Err(fault) => return refuse(rt, &fault.code(), Remark::AnswersFile(file)),
         },
     };
-    input.hide();
-    end(rt, ended, form, input.inner().kept())
+    let input = input.finish();
+    end(rt, ended, form, input.kept())
 }
 
 /// Says why options give no extract.
@@ -252,8 +252,8 @@ fn run_sent<R: Input + Print + Eprint + Screen + Files + Clock + AllocGlobal>(
         limits,
     };
     let ended = sign_streams(rt, &mut input, request);
-    input.hide();
-    end_signing(rt, ended, limits.form(), input.inner().kept())
+    let input = input.finish();
+    end_signing(rt, ended, limits.form(), input.kept())
 }
 
 /// Explains the code that is asked about.

@@ -1,12 +1,12 @@
 //! A reader that reports on a terminal how many messages it has given.
-ghost use Rattle.std.specs.Prelude.{◌≡◌};
+ghost use Rattle.std.specs.Prelude.{◌≡◌, ◌||◌, false, is_err};
 ghost use Rattle.std.specs.Io.{ReadsAtMost};
 ghost use Rattle.std.specs.Io.KnownBytes.{ReadConsumes};
-ghost use Rattle.ssign.specs.Progress.{read_from};
+ghost use Rattle.ssign.specs.Progress.{has_failed_reading, read_from};
 
 use crate::message_count::MessageCount;
 use crate::refusing::Screen;
-use ss_frame::Form;
+use ss_frame::{Form, Watched};
 use std::io;
 use std::io::Read;
 use std::rt::Clock;
@@ -21,7 +21,7 @@ const PAUSE: u64 = 250;
 #[derive(Drop)]
 pub struct Progress<'r, R, I> {
     rt: &'r R,
-    inner: I,
+    inner: Watched<I>,
     meter: Option<Meter>,
 }
 
@@ -39,30 +39,30 @@ impl<'r, R: Eprint + Screen + Clock, I> Progress<'r, R, I> {
     /// A reader of a log in this form, of which nothing was read. It is silent where no person looks, or the clock
     /// can't be read.
     pub fn new(rt: &'r R, inner: I, form: Form) -> Progress<'r, R, I>
-        ensures { read_from result ≡ inner }
+        ensures inner { read_from result ≡ inner }
+        ensures failed { has_failed_reading result ≡ false }
     {
         let meter = if rt.shows_refusals() {
             Meter::start(rt, form)
         } else {
             None
         };
-        Progress { rt, inner, meter }
-    }
-
-    /// The reader after it.
-    pub fn inner(&self) -> &I
-        ensures { result.now ≡ read_from self.now }
-    {
-        &self.inner
-    }
-
-    /// Clears the line, where there is one.
-    pub fn hide(&mut self)
-        ensures { read_from self.new ≡ read_from self.old }
-    {
-        if let Some(meter) = &mut self.meter {
-            meter.hide(self.rt);
+        Progress {
+            rt,
+            inner: Watched::new(inner),
+            meter,
         }
+    }
+
+    /// Clears the line, where there is one, and gives back the reader after it.
+    pub fn finish(self) -> I
+        ensures { result ≡ read_from self.entry }
+    {
+        let Progress { rt, inner, meter } = self;
+        if let Some(mut meter) = meter {
+            meter.hide(rt);
+        }
+        inner.into_inner()
     }
 }
 
@@ -125,6 +125,8 @@ impl<R: Eprint + Clock, I: Read> Read for Progress<'_, R, I> {
 
     fn read(&mut self, buf: &mut [u8]) -> io::Result<usize>
         ensures bound { ReadsAtMost result buf.new }
+        // It fails where a read of the reader after it has failed, in this call, and nowhere else.
+        ensures failed { has_failed_reading self.new ≡ (has_failed_reading self.old || is_err result) }
         ensures bytes { ReadConsumes (I.remaining (read_from self.old)) (I.remaining (read_from self.new)) result
             buf.new }
     {
