@@ -40,7 +40,7 @@ use Rattle.ss_review.proofs.of_sessions.Stating.{stated_by-IsStatedBy}
 use Rattle.ss_nights.specs.Nights.{Nights, night_log, IsJoined, IsSettled}
 use Rattle.ss_nights.specs.Together.{FilesFollow, AgreeLater}
 use Rattle.ss_nights.proofs.AnnouncedNights.{verified_joined}
-use Rattle.ss_nights.proofs.Fragments.{total_of}
+use Rattle.ss_review.proofs.of_sessions.Fragments.{total_of}
 use Rattle.ss_nights.proofs.NightBlocks.{from_of_session, from_night, reviewed_file}
 use Rattle.ss_carried.specs.CarriedNights.{nights_of}
 use Rattle.ss_keeper.specs.CounterRows.{cut_at}

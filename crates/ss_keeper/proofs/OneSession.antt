@@ -11,7 +11,7 @@ use Rattle.ss_review.specs.sessions.Verified.{Answers, signature_of, is_valid, j
 use Rattle.ss_octets.proofs.Members.{Has, has_from_contains, contains_from_has}
 use Rattle.ss_nights.specs.Nights.{Nights, night_log, so_far, IsJoined, HasVerifiedOctet}
 use Rattle.ss_nights.proofs.AnnouncedNights.{verified_joined}
-use Rattle.ss_nights.proofs.Fragments.{fragment_in}
+use Rattle.ss_review.proofs.of_sessions.Fragments.{fragment_in}
 use Rattle.ss_nights.proofs.LeftBlocks.{AreInRange, IsEnough, IsNext, joins_or_not, left_kept, next_alike}
 use Rattle.ss_nights.proofs.NightBlocks.{from_of_session, has-of_session, valid_of, verified_of, from_night, has-night, from_so_far, has-so_far, own_reviewed, left_reviewed, reviewed_cases, reviewed_file, in_night, in_files, IsNew, IsKeptBy}
 use Rattle.ss_nights.proofs.SameStates.{Alike, alike_same, same_joined}

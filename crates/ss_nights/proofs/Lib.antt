@@ -1,4 +1,3 @@
-pub mod Fragments
 pub mod SameStates
 pub mod LeftBlocks
 pub mod NightBlocks

@@ -23,7 +23,7 @@ use Rattle.ss_octets.proofs.Members.{Has, has_from_contains, contains_from_has, 
 use Rattle.ss_parts.proofs.PartBlocks.{session_is}
 use Rattle.ss_review.proofs.of_reports.Witnesses.{stored_block}
 use Rattle.ss_nights.specs.Nights.{Nights, is_reviewed, night_log, so_far, AreContents, HasVerifiedOctet, LeavesEnough, LeaveEnough}
-use Rattle.ss_nights.proofs.Fragments.{fragment_in}
+use Rattle.ss_review.proofs.of_sessions.Fragments.{fragment_in}
 use Rattle.ss_nights.proofs.SameStates.{Alike, alike_same, same_joined}
 use Rattle.ss_nights.proofs.LeftBlocks.{Joins, AreInRange, IsEnough, IsNext, left_kept, next_alike}
 

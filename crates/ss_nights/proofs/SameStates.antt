@@ -10,7 +10,7 @@ use Rattle.ss_review.specs.sessions.Verified.{Answers, joined, state_in}
 use Rattle.ss_review.specs.sessions.States.{stated_by, StatesText, HasValidOctet, IsCovered, IsJoinedUnder, IsInState}
 use Rattle.ss_octets.proofs.Members.{Has, has_from_contains, contains_from_has}
 use Rattle.ss_review.proofs.of_sessions.StatesTold.{joined_under, in_state, state_told, payload_told}
-use Rattle.ss_nights.proofs.Fragments.{StatesTotal, StatesOctet, total_of, has-total, octet_of, has-octet, fragment_in, same_stated, Fits, fits_stated}
+use Rattle.ss_review.proofs.of_sessions.Fragments.{StatesTotal, StatesOctet, total_of, has-total, octet_of, has-octet, fragment_in, same_stated, Fits, fits_stated}
 
 -- the first blocks are among the others, and state and cover what those do
 pub record Alike (says : Answers) (ns fs : List BlockMessage) : Type 0 where

@@ -9,7 +9,7 @@ use Rattle.ss_review.specs.sessions.States.{stated_by, IsCovered}
 use Rattle.ss_octets.proofs.Members.{Has, has_from_contains}
 use Rattle.ss_review.proofs.of_sessions.Stating.{IsStatedBy, stated_by-IsStatedBy}
 use Rattle.ss_review.proofs.of_sessions.StatesTold.{joined_under, payload_told}
-use Rattle.ss_nights.proofs.Fragments.{StatesTotal, total_of, has-total, octet_of, has-octet, fragment_in, Fits, fits_stated, fits_within, fits_one}
+use Rattle.ss_review.proofs.of_sessions.Fragments.{StatesTotal, total_of, has-total, octet_of, has-octet, fragment_in, Fits, fits_stated, fits_within, fits_one}
 use Rattle.ss_nights.proofs.SameStates.{valid_in}
 use Rattle.ss_nights.proofs.LeftBlocks.{Joins}
 

@@ -1,2 +1,10 @@
 pub mod HiddenBlocks
 pub mod InOrder
+pub mod Agreeing
+pub mod Claims
+pub mod KeptOfSessions
+pub mod WithinTexts
+pub mod Asking
+pub mod Keeping
+pub mod Finding
+pub mod Refusing

@@ -6,3 +6,4 @@ pub mod Verifying
 pub mod Covering
 pub mod SessionStates
 pub mod StatesTold
+pub mod Fragments

@@ -1,2 +1,4 @@
 pub mod Pinned
 pub mod Stands
+pub mod Claimants
+pub mod Finding

@@ -9,6 +9,7 @@ mod fault;
 mod keep;
 pub mod laws;
 mod lists;
+mod pinned;
 pub mod plain;
 mod questions;
 mod report;

@@ -38,10 +38,10 @@ use Rattle.ss_review.proofs.of_reports.Witnesses.{stored_block}
 use Rattle.ss_review.proofs.of_sessions.StatesTold.{joined_under, state_told, payload_told}
 use Rattle.ss_review.specs.pinned.Pinned.{agrees_in}
 use Rattle.ss_strangers.specs.StateLaws.{LogsAreWithin, SessionsAreJoinedByGiven}
-use Rattle.ss_strangers.specs.States.{IsOnlyClaimant}
+use Rattle.ss_review.specs.pinned.Claimants.{IsOnlyClaimant}
 use Rattle.ss_strangers.specs.Unforged.{blocks_in, pinned_in}
 use Rattle.ss_strangers.specs.UnforgedLaws.{ArrivedPayloadsClaim, ArrivedAreAnnounced, ArrivedPayloadsClaimAhead, ArrivedAheadAreAnnounced}
-use Rattle.ss_strangers.proofs.Claims.{Claims, to_claims}
+use Rattle.ss_review.proofs.of_pinned.Claims.{Claims, to_claims}
 use Rattle.ss_strangers.proofs.JoinedByGiven.{own_within}
 use Rattle.ss_strangers.proofs.Reported.{announced_told}
 use Rattle.ss_strangers.proofs.ReportsAgree.{has-kept, hashes_kept, joined_claims}

@@ -1,5 +1,3 @@
-pub mod Agreeing
-pub mod Claims
 pub mod JoinedByGiven
 pub mod ReportsAgree
 pub mod Reported

@@ -23,12 +23,12 @@ use Rattle.ss_review.proofs.of_numbers.Announcements.{announced_row, has-rows, r
 use Rattle.ss_review.proofs.of_reports.Witnesses.{verified_cases}
 use Rattle.ss_review.proofs.of_sessions.Stating.{IsStatedBy, stated_by-IsStatedBy}
 use Rattle.ss_review.proofs.of_sessions.StatesTold.{payload_told}
-use Rattle.ss_nights.proofs.Fragments.{HasFragment, total_of, has-total, octet_of, has-octet, StatesTotal}
+use Rattle.ss_review.proofs.of_sessions.Fragments.{HasFragment, total_of, has-total, octet_of, has-octet, StatesTotal}
 use Rattle.ss_review.specs.pinned.Pinned.{agrees_in, speaks_for, kept}
 use Rattle.ss_strangers.specs.StateLaws.{pinned_joined, IsJoinedByGiven}
-use Rattle.ss_strangers.specs.States.{AreWithin, IsClaimant, IsOnlyClaimant, AreClaimants}
+use Rattle.ss_review.specs.pinned.Claimants.{AreWithin, IsClaimant, IsOnlyClaimant, AreClaimants}
 use Rattle.ss_strangers.specs.Strangers.{AreCopies, IsForeign, IsAddedTo}
-use Rattle.ss_strangers.proofs.Claims.{Claims, of_claims, to_claims, joined_claimed, valid_speaker}
+use Rattle.ss_review.proofs.of_pinned.Claims.{Claims, of_claims, to_claims, joined_claimed, valid_speaker}
 use Rattle.ss_strangers.proofs.JoinedByGiven.{own_within, joined_by_given}
 use Rattle.ss_strangers.proofs.ReportsAgree.{from_has-kept, has-kept, hashes_kept, joined_claims}
 

@@ -24,13 +24,14 @@ use Rattle.ss_review.proofs.of_lists.Sections.{map_agree}
 use Rattle.ss_review.proofs.of_lists.TotalOrders.{row_cmp_total}
 use Rattle.ss_review.proofs.of_numbers.Announcements.{announced_row, has-rows, rows-rise}
 use Rattle.ss_review.proofs.of_sessions.StatesTold.{payload_told}
-use Rattle.ss_nights.proofs.Fragments.{HasFragment, fits_stated, has-total, has-octet}
+use Rattle.ss_review.proofs.of_sessions.Fragments.{HasFragment, fits_stated, has-total, has-octet}
 use Rattle.ss_review.specs.pinned.Pinned.{agrees_in, speaks_for, is_signature, keeps, kept, pinned_contents, is_verified_pinned, refused_pinned}
-use Rattle.ss_strangers.specs.States.{AreWithin, IsClaimant}
+use Rattle.ss_review.specs.pinned.Claimants.{AreWithin, IsClaimant}
 use Rattle.ss_strangers.specs.StateLaws.{IsUndisputedOrUnclaimed, ReportsAgree}
-use Rattle.ss_strangers.proofs.Agreeing.{Says, from_placed, says_agreeing}
-use Rattle.ss_strangers.proofs.Claims.{Claims, some_octet}
-use Rattle.ss_strangers.proofs.JoinedByGiven.{session_is, is_session, claims_of, speaker_kept, signature_kept, unclaimed_kept, how_many, own_within, claimed_undisputed, states_agree}
+use Rattle.ss_review.proofs.of_pinned.Agreeing.{Says, from_placed, says_agreeing}
+use Rattle.ss_review.proofs.of_pinned.Claims.{Claims, some_octet}
+use Rattle.ss_review.proofs.of_pinned.KeptOfSessions.{session_is, is_session, claims_of, speaker_kept, signature_kept, unclaimed_kept, how_many}
+use Rattle.ss_strangers.proofs.JoinedByGiven.{own_within, claimed_undisputed, states_agree}
 
 -- ---- rows
 

@@ -48,16 +48,16 @@ use Rattle.ss_review.proofs.of_kept_messages.NotesTold.{block_read, has-block}
 use Rattle.ss_review.proofs.of_lists.Keyed.{has-slice_get, slice_get-has}
 use Rattle.ss_review.proofs.of_reports.Witnesses.{stored_block}
 use Rattle.ss_review.proofs.of_sessions.Stating.{stated_by-IsStatedBy}
-use Rattle.ss_nights.proofs.Fragments.{HasFragment, has-octet}
+use Rattle.ss_review.proofs.of_sessions.Fragments.{HasFragment, has-octet}
 use Rattle.ss_strangers.specs.SmallAttack.{own_payload, given, forged_certificate, attacked, untrusting, SmallAttackIsThis}
 use Rattle.ss_strangers.specs.AddedMessages.{IsWith, MayBeAdded}
 use Rattle.ss_strangers.specs.Strangers.{IsForeign}
-use Rattle.ss_strangers.specs.States.{IsOnlyClaimant}
+use Rattle.ss_review.specs.pinned.Claimants.{IsOnlyClaimant}
 use Rattle.ss_strangers.specs.Unforged.{IsAsSent, NothingIsForged, IsUnforged, pinned_in}
 use Rattle.ss_strangers.specs.UnforgedLaws.{OnlyClaimantsJoin, ArrivedPayloadsClaim, ArrivedAreAnnounced, NothingIsDisputed, ListedHaveTheirHash}
 use Rattle.ss_strangers.specs.Untrusted as untrusted
-use Rattle.ss_strangers.proofs.Claims.{joined_disputed}
-use Rattle.ss_strangers.proofs.JoinedByGiven.{is_session}
+use Rattle.ss_review.proofs.of_pinned.Claims.{joined_disputed}
+use Rattle.ss_review.proofs.of_pinned.KeptOfSessions.{is_session}
 
 -- ---- texts
 

@@ -29,10 +29,10 @@ use Rattle.ss_review.proofs.of_lists.Tests.{all_member}
 use Rattle.ss_review.proofs.of_sessions.Verifying.{unstated}
 use Rattle.ss_review.specs.pinned.Pinned.{claims, kept}
 use Rattle.ss_strangers.specs.StateLaws.{pinned_joined, IsUndisputedOrUnclaimed}
-use Rattle.ss_strangers.specs.States.{AreWithin, IsClaimant, IsOnlyClaimant, AreClaimants}
+use Rattle.ss_review.specs.pinned.Claimants.{AreWithin, IsClaimant, IsOnlyClaimant, AreClaimants}
 use Rattle.ss_strangers.specs.Strangers.{AreCopies, IsForeign, AnnouncedTellPairs, IsAddedTo, JoinedAreClaimed}
 use Rattle.ss_strangers.specs.StrangerRows.{here, payload, other_payload, wary, stated, two_announced, strangers_log, two_claimants_blocks, PremisesAreMet}
-use Rattle.ss_strangers.proofs.JoinedByGiven.{session_is}
+use Rattle.ss_review.proofs.of_pinned.KeptOfSessions.{session_is}
 use Rattle.ss_strangers.proofs.ReportsAgree.{from_has-kept}
 
 -- ---- who claims

@@ -24,11 +24,11 @@ use Rattle.ss_review.proofs.of_lists.Rising.{has-in_order, in_order_same}
 use Rattle.ss_review.proofs.of_lists.TotalOrders.{key_cmp_total}
 use Rattle.ss_review.proofs.of_numbers.Announcements.{keys-rise}
 use Rattle.ss_review.specs.pinned.Pinned.{keeps, kept, pinned_contents, pinned_report}
-use Rattle.ss_strangers.specs.States.{IsClaimant}
+use Rattle.ss_review.specs.pinned.Claimants.{IsClaimant}
 use Rattle.ss_strangers.specs.Strangers.{IsAddedTo, session_in, gbcs_in, without_places, group_without_places, StrangersTakeNothing, StrangersAddNothing}
 use Rattle.ss_strangers.proofs.AlikeNumbers.{same_groups, same_tails}
-use Rattle.ss_strangers.proofs.Claims.{some_octet}
-use Rattle.ss_strangers.proofs.JoinedByGiven.{session_is, is_session, claims_of, speaker_kept}
+use Rattle.ss_review.proofs.of_pinned.Claims.{some_octet}
+use Rattle.ss_review.proofs.of_pinned.KeptOfSessions.{session_is, is_session, claims_of, speaker_kept}
 use Rattle.ss_strangers.proofs.MoreBlocks.{K, L, rs, rs_more, IsSame, HasCopy, claimed_stays, claimant_up, verified_still, verified_before, key_before, key_still, same_hashes}
 use Rattle.ss_strangers.proofs.ReportsAgree.{has-kept}
 use Rattle.ss_strangers.proofs.StrangersListings.{listed_still, listed_anew}

@@ -1,4 +1,3 @@
-pub mod States
 pub mod StateLaws
 pub mod Unforged
 pub mod PinnedReports

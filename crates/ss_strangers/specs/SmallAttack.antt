@@ -18,7 +18,7 @@ use Rattle.ss_review.specs.report.Meaning.{IsGap, IsTold}
 use Rattle.ss_review.specs.sessions.Sessions.{of_session}
 use Rattle.ss_review.specs.sessions.Verified.{joined}
 use Rattle.ss_strangers.specs.AddedMessages.{IsWith, MayBeAdded}
-use Rattle.ss_strangers.specs.States.{IsOnlyClaimant}
+use Rattle.ss_review.specs.pinned.Claimants.{IsOnlyClaimant}
 use Rattle.ss_strangers.specs.Unforged.{IsUnforged, pinned_in}
 use Rattle.ss_strangers.specs.UnforgedLaws.{AreAhead}
 use Rattle.ss_strangers.specs.Untrusted as untrusted

@@ -11,7 +11,7 @@ use Rattle.ss_review.specs.sessions.Payloads.{certificates, is_disputed}
 use Rattle.ss_review.specs.sessions.Sessions.{of_session}
 use Rattle.ss_review.specs.sessions.Verified.{Answers, joined}
 use Rattle.ss_review.specs.pinned.Pinned.{kept, pinned_report}
-use Rattle.ss_strangers.specs.States.{AreWithin, IsClaimant, IsUnclaimed, IsOnlyClaimant, AreClaimants}
+use Rattle.ss_review.specs.pinned.Claimants.{AreWithin, IsClaimant, IsUnclaimed, IsOnlyClaimant, AreClaimants}
 
 -- the payload under which a session is joined, or else its state, among the blocks that are kept
 abbrev pub pinned_joined : Answers → List (List ℕ) → List BlockMessage → Session → Result (List ℕ) SessionState

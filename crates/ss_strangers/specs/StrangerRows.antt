@@ -21,7 +21,7 @@ use Rattle.ss_review.specs.sessions.Sessions.{of_session}
 use Rattle.ss_review.specs.sessions.Verified.{Answers}
 use Rattle.ss_review.specs.pinned.Pinned.{claims, pinned_report}
 use Rattle.ss_strangers.specs.StateLaws.{pinned_joined, IsUndisputedOrUnclaimed}
-use Rattle.ss_strangers.specs.States.{IsOnlyClaimant, AreClaimants}
+use Rattle.ss_review.specs.pinned.Claimants.{IsOnlyClaimant, AreClaimants}
 use Rattle.ss_strangers.specs.Strangers.{IsAddedTo, JoinedAreClaimed}
 
 -- ---- what the logs are made of

@@ -23,7 +23,7 @@ use Rattle.ss_review.specs.sessions.Sessions.{of_session}
 use Rattle.ss_review.specs.sessions.Verified.{Answers, is_valid}
 use Rattle.ss_review.specs.pinned.Pinned.{kept, pinned_contents, pinned_report}
 use Rattle.ss_strangers.specs.StateLaws.{pinned_joined}
-use Rattle.ss_strangers.specs.States.{AreWithin, IsClaimant}
+use Rattle.ss_review.specs.pinned.Claimants.{AreWithin, IsClaimant}
 
 -- ---- what strangers add
 

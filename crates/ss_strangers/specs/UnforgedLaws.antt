@@ -20,7 +20,7 @@ use Rattle.ss_review.specs.keep.Contents.{blocks}
 use Rattle.ss_review.specs.keep.Notes.{notes}
 use Rattle.ss_review.specs.report.Meaning.{IsListed, IsGap, IsTold}
 use Rattle.ss_review.specs.sessions.Sessions.{of_session}
-use Rattle.ss_strangers.specs.States.{IsClaimant, IsOnlyClaimant}
+use Rattle.ss_review.specs.pinned.Claimants.{IsClaimant, IsOnlyClaimant}
 use Rattle.ss_review.specs.pinned.Stands.{pinned_shortfalls}
 use Rattle.ss_strangers.specs.Unforged.{IsUnforged, IsJoinedUnderNoOther, blocks_in, pinned_in}
 

@@ -9,7 +9,7 @@ use Rattle.ss_review.specs.sessions.States.{stated_by, HasValidOctet, IsJoinedUn
 use Rattle.ss_octets.proofs.Members.{Has, has_from_contains, has-append_left, has-append_cases}
 use Rattle.ss_review.proofs.of_sessions.Stating.{IsStatedBy, stated_by-IsStatedBy, from_has-placed}
 use Rattle.ss_review.proofs.of_sessions.StatesTold.{payload_told}
-use Rattle.ss_nights.proofs.Fragments.{StatesTotal, StatesOctet, HasFragment, total_of, has-total, octet_of, has-octet, fragment_in, Fits, fits_stated, fits_within, fits_one}
+use Rattle.ss_review.proofs.of_sessions.Fragments.{StatesTotal, StatesOctet, HasFragment, total_of, has-total, octet_of, has-octet, fragment_in, Fits, fits_stated, fits_within, fits_one}
 use Rattle.ss_nights.proofs.LeftBlocks.{AreInRange}
 use Rattle.ss_nights.proofs.SameStates.{same_joined}
 

@@ -34,7 +34,7 @@ use Rattle.ss_review.proofs.of_kept_messages.NotesTold.{normal_noted}
 use Rattle.ss_review.proofs.of_sessions.Stating.{stated_by-IsStatedBy}
 use Rattle.ss_review.proofs.of_sessions.StatesTold.{payload_told}
 use Rattle.ss_review.specs.sessions.Payloads.{certificates}
-use Rattle.ss_nights.proofs.Fragments.{total_of}
+use Rattle.ss_review.proofs.of_sessions.Fragments.{total_of}
 use Rattle.ss_whole_nights.proofs.TwoLogs.{same_ok}
 
 -- ---- the blocks of the first night are read as blocks

@@ -33,7 +33,7 @@ use Rattle.ss_review.proofs.of_numbers.Announcements.{announced_key, has-announc
 use Rattle.ss_parts.proofs.MovedBlocks.{moved_block, joined_moved}
 use Rattle.ss_parts.proofs.MovedReports.{moved_normal}
 use Rattle.ss_parts.proofs.PartBlocks.{session_is}
-use Rattle.ss_nights.proofs.Fragments.{fragment_in}
+use Rattle.ss_review.proofs.of_sessions.Fragments.{fragment_in}
 use Rattle.ss_nights.proofs.LeftBlocks.{AreInRange}
 use Rattle.ss_nights.proofs.NightBlocks.{all_in_range}
 use Rattle.ss_nights.proofs.AnnouncedNights.{verified_joined}

@@ -35,7 +35,7 @@ keys_all : {X K : Type 0} (key : X → K) (P : K → Type 0) (xs : List X) → A
 keys_all key P [] a = tt
 keys_all key P (x ∷ xs) a = (a.0, keys_all key P xs a.1)
 
-rise_from : {X K : Type 0} (key : X → K) (R : K → K → Ordering) (xs : List X) → IsStrictlySortedBy R (map key xs) → IsStrictlySortedBy (λ x y. R (key x) (key y)) xs
+pub rise_from : {X K : Type 0} (key : X → K) (R : K → K → Ordering) (xs : List X) → IsStrictlySortedBy R (map key xs) → IsStrictlySortedBy (λ x y. R (key x) (key y)) xs
 unfolding IsStrictlySortedBy
 rise_from key R [] up = tt
 rise_from key R (x ∷ xs) up = (keys_all key (λ k. R (key x) k ≡ Less) xs up.0, rise_from key R xs up.1)

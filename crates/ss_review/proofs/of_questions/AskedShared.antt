@@ -1,5 +1,5 @@
 -- The questions about sessions that share their payloads.
-use Rattle.std.proofs.Common.{◌≡◌, List, [], ◌∷◌, ◌++◌, map, refl, ap, ◌∙◌, ℕ}
+use Rattle.std.proofs.Common.{◌≡◌, List, [], ◌∷◌, ◌++◌, map, filter, refl, ap, ◌∙◌, ℕ}
 use Rattle.std.specs.Prelude.{Result, Ok, Err}
 use Rattle.std.specs.List.{flat_map}
 use Rattle.std.proofs.lemmas.List.{append-nil}
@@ -11,6 +11,7 @@ use Rattle.ss_review.specs.declared.keep.message.BlockMessage.{BlockMessage}
 use Rattle.ss_review.specs.declared.questions.question.Question.TheVariants as question
 use Rattle.ss_review.specs.sessions.Sessions.{sessions, of_session}
 use Rattle.ss_review.specs.sessions.Payloads.{certificates, stated_payload}
+use Rattle.ss_review.specs.pinned.Pinned.{asked_pinned, is_candidate, pinned_questions, pinned_sessions, session_pinned}
 use Rattle.ss_review.specs.questions.Questions.{asked, asked_block, asked_session, asked_sessions, question_under, questions, session_questions, questions_shared}
 
 flat_map-flat_map : {X Y Z : Type 0} (g : Y → List Z) (f : X → List Y) (xs : List X) → flat_map g (flat_map f xs) ≡ flat_map (λ x. flat_map g (f x)) xs
@@ -30,3 +31,25 @@ unfolding questions_shared asked_sessions questions
 sessions_shared bs =
     flat_map-flat_map session_questions (λ s. asked_session s (of_session bs s) (stated_payload (certificates (of_session bs s)))) (sessions bs)
     ∙ (λ i. flat_map (λ s. session_shared s (of_session bs s) (stated_payload (certificates (of_session bs s))) i) (sessions bs))
+
+-- ---- the same where payloads are known
+
+pinned_shared_at : (ps : List (List ℕ)) (s : Session) (bs : List BlockMessage) → flat_map session_questions (session_pinned ps s bs) ≡ asked_pinned ps bs
+pinned_shared_at ps s bs =
+    let stated = stated_payload (certificates bs) in
+    let others = filter (is_candidate bs) ps in
+    let each : flat_map session_questions (flat_map (λ p. asked_session s bs (Ok p)) others) ≡ flat_map (λ p. asked bs (Ok p)) others
+    = flat_map-flat_map session_questions (λ p. asked_session s bs (Ok p)) others ∙ (λ i. flat_map (λ p. session_shared s bs (Ok p) i) others) in
+    flat_map-append session_questions (asked_session s bs stated) (flat_map (λ p. asked_session s bs (Ok p)) others)
+    ∙ (λ i. session_shared s bs stated i ++ each i)
+
+pub pinned_shared : (ps : List (List ℕ)) (bs : List BlockMessage) → questions_shared (pinned_sessions ps bs) ≡ pinned_questions ps bs
+unfolding questions_shared pinned_sessions pinned_questions
+pinned_shared ps bs =
+    flat_map-flat_map session_questions (λ s. session_pinned ps s (of_session bs s)) (sessions bs)
+    ∙ (λ i. flat_map (λ s. pinned_shared_at ps s (of_session bs s) i) (sessions bs))
+
+-- where none is known, no more is asked
+pub none_known : (bs : List BlockMessage) → pinned_sessions [] bs ≡ asked_sessions bs
+unfolding pinned_sessions asked_sessions
+none_known bs = λ i. flat_map (λ s. append-nil (asked_session s (of_session bs s) (stated_payload (certificates (of_session bs s)))) i) (sessions bs)

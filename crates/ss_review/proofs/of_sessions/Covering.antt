@@ -9,9 +9,10 @@ use Rattle.std.specs.Ordering.{nat_cmp, ordering_then, is_lt}
 use Rattle.std.specs.Cmp.{IsTotalOrder}
 use Rattle.std.proofs.lemmas.Bool.{ltb-true, ltb-false, leb-true, true≢false, cases_Bool, and_parts, false_from_ne_true}
 use Rattle.std.proofs.lemmas.Cmp.{then_total, on_total, nat_cmp_total}
-use Rattle.std.proofs.lemmas.List.{get_or_default, map_more, map-append}
+use Rattle.std.proofs.lemmas.List.{get_or_default, get_or-map, map_more, map-append}
 use Rattle.std.proofs.lemmas.List.Elements.{filter-append, filter_map-append}
 use Rattle.std.proofs.lemmas.List.Sorted.{sorted_far, ranks_by, list_any-IsPermutation}
+use Rattle.std.proofs.lemmas.Simd.{map-map}
 use Rattle.std.proofs.lemmas.Map.Keys.{ge_from_not_lt}
 use Rattle.ss_block.specs.Block as block
 use Rattle.ss_review.specs.declared.sessions.span.Span.{Span}
@@ -131,15 +132,34 @@ spans_at true m None e = ap (λ p. spans_of (cons_option p [])) e
 spans_at true m (Some c) e = ap (λ p. spans_of (cons_option p [])) e
 spans_at false m o e = refl
 
+-- the span of one block more that counts, if it does
+pub spans_more : (f : BlockMessage → Bool) (bs : List (Bor BlockMessage)) (i : ℕ) (b : Bor BlockMessage) → i < length bs → b ≡ get_or bs i b
+    → spans_of (certificates (filter f (map (λ (m : Bor BlockMessage). m.now) (take (i + 1) bs))))
+    ≡ spans_of (certificates (filter f (map (λ (m : Bor BlockMessage). m.now) (take i bs)))) ++ spans_of (certificates (cond (f b.now) (b.now ∷ []) []))
+spans_more f bs i b below e =
+    let before = map (λ (m : Bor BlockMessage). m.now) (take i bs) in
+    let here : map (λ (m : Bor BlockMessage). m.now) (take (i + 1) bs) ≡ before ++ b.now ∷ []
+    = map_more (λ (m : Bor BlockMessage). m.now) bs i b below ∙ ap (λ (m : Bor BlockMessage). before ++ m.now ∷ []) (sym e) in
+    ap (λ ms. spans_of (certificates (filter f ms))) here
+    ∙ ap (λ ms. spans_of (certificates ms)) (filter-append f before (b.now ∷ []))
+    ∙ ap spans_of (filter_map-append (λ (m : BlockMessage). certificate_of m.said) (filter f before) (cond (f b.now) (b.now ∷ []) []))
+    ∙ map-append span_of (certificates (filter f before)) (certificates (cond (f b.now) (b.now ∷ []) []))
+
 pub accepted_more : (says : Answers) (payload : List ℕ) (bs : List (Bor BlockMessage)) (i : ℕ) (b : Bor BlockMessage) → i < length bs → b ≡ get_or bs i b
     → spans_of (certificates (filter (is_valid says payload) (map (λ (m : Bor BlockMessage). m.now) (take (i + 1) bs))))
     ≡ spans_of (certificates (filter (is_valid says payload) (map (λ (m : Bor BlockMessage). m.now) (take i bs)))) ++ cons_option (accepted_span says payload b.now) []
 accepted_more says payload bs i b below e =
     let before = map (λ (m : Bor BlockMessage). m.now) (take i bs) in
-    let here : map (λ (m : Bor BlockMessage). m.now) (take (i + 1) bs) ≡ before ++ b.now ∷ []
-    = map_more (λ (m : Bor BlockMessage). m.now) bs i b below ∙ ap (λ (m : Bor BlockMessage). before ++ m.now ∷ []) (sym e) in
-    ap (λ ms. spans_of (certificates (filter (is_valid says payload) ms))) here
-    ∙ ap (λ ms. spans_of (certificates ms)) (filter-append (is_valid says payload) before (b.now ∷ []))
-    ∙ ap spans_of (filter_map-append (λ (m : BlockMessage). certificate_of m.said) (filter (is_valid says payload) before) (cond (is_valid says payload b.now) (b.now ∷ []) []))
-    ∙ map-append span_of (certificates (filter (is_valid says payload) before)) (certificates (cond (is_valid says payload b.now) (b.now ∷ []) []))
+    spans_more (is_valid says payload) bs i b below e
     ∙ ap (λ ss. spans_of (certificates (filter (is_valid says payload) before)) ++ ss) (spans_at (is_valid says payload b.now) b.now (certificate_of b.now.said) refl)
+
+-- the same, where a mark says whether it counts
+pub spans_marked : (f : BlockMessage → Bool) (bs : List (Bor BlockMessage)) (marks : List Bool) (i : ℕ) (b : Bor BlockMessage) (v : Bool) → i < length bs → b ≡ get_or bs i b → v ≡ get_or marks i v
+    → marks ≡ map f (map (λ (m : Bor BlockMessage). m.now) bs)
+    → spans_of (certificates (filter f (map (λ (m : Bor BlockMessage). m.now) (take (i + 1) bs))))
+    ≡ spans_of (certificates (filter f (map (λ (m : Bor BlockMessage). m.now) (take i bs)))) ++ spans_of (certificates (cond v (b.now ∷ []) []))
+spans_marked f bs marks i b v below e at told =
+    let before = spans_of (certificates (filter f (map (λ (m : Bor BlockMessage). m.now) (take i bs)))) in
+    let here : marks ≡ map (λ (m : Bor BlockMessage). f m.now) bs = told ∙ map-map f (λ (m : Bor BlockMessage). m.now) bs in
+    let same : f b.now ≡ v = ap (λ (m : Bor BlockMessage). f m.now) e ∙ sym (get_or-map (λ (m : Bor BlockMessage). f m.now) bs i b v below) ∙ sym (at ∙ ap (λ vs. get_or vs i v) here) in
+    spans_more f bs i b below e ∙ ap (λ w. before ++ spans_of (certificates (cond w (b.now ∷ []) []))) same

@@ -16,7 +16,8 @@ use Rattle.ss_review.specs.sessions.Sectioned.{sections, referred}
 use Rattle.ss_review.specs.sessions.Payloads.{certificates, stated_payload}
 use Rattle.ss_review.specs.sessions.Verified.{Answers, joined}
 use Rattle.ss_review.specs.announced.Numbered.{sessions_joined}
-use Rattle.ss_review.specs.questions.Questions.{asked, questions, asked_session, asked_sessions}
+use Rattle.ss_review.specs.questions.Questions.{asked, questions}
+use Rattle.ss_review.specs.pinned.Pinned.{session_pinned, pinned_sessions}
 
 -- ---- the sections that are left
 
@@ -47,9 +48,9 @@ pub questions_asked : (bs : List BlockMessage) → flat_map section_asked (secti
 unfolding questions
 questions_asked bs = flat_map-map section_asked (λ s. (s, of_session bs s)) (sessions bs)
 
-abbrev pub section_told : Session × List BlockMessage → List AskedSession
-section_told section = asked_session section.0 section.1 (stated_payload (certificates section.1))
+abbrev pub section_pinned : List (List ℕ) → Session × List BlockMessage → List AskedSession
+section_pinned ps section = session_pinned ps section.0 section.1
 
-pub sessions_told : (bs : List BlockMessage) → flat_map section_told (sections bs) ≡ asked_sessions bs
-unfolding asked_sessions
-sessions_told bs = flat_map-map section_told (λ s. (s, of_session bs s)) (sessions bs)
+pub sessions_pinned : (ps : List (List ℕ)) (bs : List BlockMessage) → flat_map (section_pinned ps) (sections bs) ≡ pinned_sessions ps bs
+unfolding pinned_sessions
+sessions_pinned ps bs = flat_map-map (section_pinned ps) (λ s. (s, of_session bs s)) (sessions bs)

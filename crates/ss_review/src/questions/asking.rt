@@ -1,14 +1,16 @@
 //! What a review asks of a signature scheme (RFC 5848, section 7).
-ghost use Rattle.std.specs.Prelude.{◌≡◌, ◌++◌, map, IfOk, OnOk};
-ghost use Rattle.ss_review.specs.sessions.Payloads.{certificates, stated_payload};
+ghost use Rattle.std.specs.Prelude.{◌≡◌, ◌++◌, map, flat_map, Ok, IfOk, OnOk};
 ghost use Rattle.ss_review.specs.questions.Questions.{asked_block, asked_session, asked_sessions, question_under};
 ghost use Rattle.ss_review.specs.questions.Questions.{session_questions, questions, questions_shared};
 ghost use Rattle.ss_review.specs.sessions.Sectioned.{referred, SessionsRise};
+ghost use Rattle.ss_review.specs.pinned.Pinned.{pinned_sessions, session_pinned};
 
 use crate::keep::message::{BlockMessage, signature_of};
+use crate::pinned::candidates::candidates;
 use crate::questions::asked::{AskedBlock, AskedSession, AskedSessions};
 use crate::questions::parameters::parameters_of;
 use crate::questions::question::{Question, Questions};
+use crate::report::session_report::SessionState;
 use crate::sessions::joining::stated_payload;
 use crate::sessions::sectioning::{by_session, section_end};
 use ss_block::Session;
@@ -45,35 +47,88 @@ fn asked_blocks(alloc: Global, blocks: &[&BlockMessage]) -> Result<Vec<AskedBloc
     Ok(asked)
 }
 
-/// Adds the session, whose blocks these are, if they state a payload.
-fn add_session(
+/// Adds the session, whose blocks these are, with the payload under which they are asked about.
+fn push_session(
     alloc: Global,
     sessions: &mut Vec<AskedSession>,
     session: &Session,
+    payload: Bytes,
     blocks: &[&BlockMessage],
 ) -> Result<(), NoMemory>
-    ensures { OnOk result (sessions.new.items ≡ sessions.old.items
-        ++ asked_session session.now (referred blocks.now) (stated_payload (certificates (referred blocks.now)))) }
+    ensures { OnOk result (sessions.new.items
+        ≡ sessions.old.items ++ asked_session session.now (referred blocks.now) (Ok payload)) }
 {
-    match stated_payload(alloc, blocks)? {
-        Ok(payload) => {
-            let blocks = List::from_vec(asked_blocks(alloc, blocks)?);
-            let session = session.try_clone(alloc)?;
-            sessions.push(AskedSession {
-                session,
-                payload,
-                blocks,
-            })?;
-            Ok(())
-        }
+    let blocks = List::from_vec(asked_blocks(alloc, blocks)?);
+    let session = session.try_clone(alloc)?;
+    sessions.push(AskedSession {
+        session,
+        payload,
+        blocks,
+    })?;
+    Ok(())
+}
+
+/// Adds the session, whose blocks these are, if they state a payload.
+fn add_stated(
+    alloc: Global,
+    sessions: &mut Vec<AskedSession>,
+    session: &Session,
+    stated: Result<Bytes, SessionState>,
+    blocks: &[&BlockMessage],
+) -> Result<(), NoMemory>
+    ensures { OnOk result (sessions.new.items
+        ≡ sessions.old.items ++ asked_session session.now (referred blocks.now) stated) }
+{
+    match stated {
+        Ok(payload) => push_session(alloc, sessions, session, payload, blocks),
         Err(_) => Ok(()),
     }
 }
 
-/// What is asked about blocks in the order of their sessions.
-fn asked_in_turn(alloc: Global, blocks: &[&BlockMessage]) -> Result<Vec<AskedSession>, NoMemory>
+/// Adds the session, whose blocks these are, once for each of the payloads.
+fn add_each(
+    alloc: Global,
+    sessions: &mut Vec<AskedSession>,
+    session: &Session,
+    payloads: &[&Bytes],
+    blocks: &[&BlockMessage],
+) -> Result<(), NoMemory>
+    ensures { OnOk result (sessions.new.items
+        ≡ sessions.old.items
+        ++ flat_map (λ p. asked_session session.now (referred blocks.now) (Ok p)) (map (λ p. p.now) payloads.now)) }
+{
+    for payload in payloads {
+        push_session(alloc, sessions, session, copy_of(alloc, payload)?, blocks)?;
+    }
+    Ok(())
+}
+
+/// Adds the session, whose blocks these are, if they state a payload, and for each of the known payloads about which
+/// else is asked.
+fn add_session(
+    alloc: Global,
+    sessions: &mut Vec<AskedSession>,
+    session: &Session,
+    known: &[Bytes],
+    blocks: &[&BlockMessage],
+) -> Result<(), NoMemory>
+    ensures { OnOk result (sessions.new.items
+        ≡ sessions.old.items ++ session_pinned known.now session.now (referred blocks.now)) }
+{
+    let stated = stated_payload(alloc, blocks)?;
+    let candidates = candidates(alloc, known, &stated, blocks)?;
+    add_stated(alloc, sessions, session, stated, blocks)?;
+    add_each(alloc, sessions, session, candidates.as_slice(), blocks)
+}
+
+/// What is asked about blocks in the order of their sessions, where these payloads are known.
+fn asked_in_turn(
+    alloc: Global,
+    known: &[Bytes],
+    blocks: &[&BlockMessage],
+) -> Result<Vec<AskedSession>, NoMemory>
     requires { SessionsRise (referred blocks.now) }
-    ensures { IfOk result (λ v. v.items ≡ asked_sessions (referred blocks.now)) }
+    ensures { IfOk result (λ v. v.items ≡ pinned_sessions known.now (referred blocks.now)) }
 {
     let mut sessions = Vec::new(alloc);
     let mut start = 0;
@@ -83,6 +138,7 @@ fn asked_in_turn(alloc: Global, blocks: &[&BlockMessage]) -> Result<Vec<AskedSes
             alloc,
             &mut sessions,
             &blocks[start].session,
+            known,
             &blocks[start..end],
         )?;
         start = end;
@@ -90,15 +146,27 @@ fn asked_in_turn(alloc: Global, blocks: &[&BlockMessage]) -> Result<Vec<AskedSes
     Ok(sessions)
 }
 
+/// What a review of these blocks asks of a scheme where these payloads are known, in the order of their sessions.
+pub(crate) fn pinned_sessions(
+    alloc: Global,
+    known: &[Bytes],
+    blocks: &[BlockMessage],
+) -> Result<AskedSessions, NoMemory>
+    ensures { IfOk result (λ ss. ss ≡ pinned_sessions known.now blocks.now) }
+{
+    let sorted = by_session(alloc, blocks)?;
+    Ok(AskedSessions::from_vec(asked_in_turn(alloc, known, sorted.as_slice())?))
+}
+
 /// What a review of these blocks asks of a scheme, in the order of their sessions.
+#[tactic(auto, using(crate::proofs::of_questions::AskedShared::none_known))]
 pub(crate) fn asked_sessions(
     alloc: Global,
     blocks: &[BlockMessage],
 ) -> Result<AskedSessions, NoMemory>
     ensures { IfOk result (λ ss. ss ≡ asked_sessions blocks.now) }
 {
-    let sorted = by_session(alloc, blocks)?;
-    Ok(AskedSessions::from_vec(asked_in_turn(alloc, sorted.as_slice())?))
+    pinned_sessions(alloc, &[], blocks)
 }
 
 /// Whether the block is valid under the payload.

@@ -13,7 +13,7 @@ use crate::report::grouping::session_reports;
 use crate::report::report::Report;
 use crate::report::unlisted::unlisted;
 use crate::sessions::joined_session::JoinedSession;
-use crate::sessions::verified::refused;
+use crate::sessions::verified::unmarked;
 use ss_octets::NoMemory;
 use std::alloc::Global;
 use std::mem::drop;
@@ -41,7 +41,7 @@ pub(crate) fn reported<I: Index + Drop>(
         spoilt,
         count,
     } = held;
-    let refused = refused(alloc, blocks.as_slice(), verified.as_slice())?;
+    let refused = unmarked(alloc, blocks.as_slice(), verified.as_slice())?;
     let announced = announced(alloc, sessions, blocks, verified)?;
     let hashes = announced.hashes.as_slice();
     let places = index.assign(alloc, hashes)?;

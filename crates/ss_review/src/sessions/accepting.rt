@@ -19,7 +19,7 @@ use ss_octets::{Bytes, NoMemory};
 use std::alloc::Global;
 
 /// Whether the block's signature is valid under the payload.
-fn is_valid<J: Judge>(judge: &J, payload: &[u8], message: &BlockMessage) -> bool
+pub(crate) fn is_valid<J: Judge>(judge: &J, payload: &[u8], message: &BlockMessage) -> bool
     requires sound { J.sound judge.now }
     requires askable { J.askable judge.now (question_about payload.now message.now) }
     ensures { result ≡ is_valid (answers J.trusted J.valid judge.now) payload.now message.now }

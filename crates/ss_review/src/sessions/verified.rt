@@ -1,10 +1,9 @@
 //! Which blocks of a log are verified, and the places of those that aren't (RFC 5848, section 7).
-ghost use Rattle.std.specs.Prelude.{◌≡◌, ◌++◌, ◌∷◌, [], ℕ, List, Contains, Bool, map, Ok, IfOk, OnOk, if◌then◌else◌};
+ghost use Rattle.std.specs.Prelude.{◌≡◌, ◌++◌, ◌∷◌, [], ℕ, List, Contains, Bool, not, map, filter, Ok, IfOk, OnOk, if◌then◌else◌};
 ghost use Rattle.ss_review.specs.declared.keep.message.BlockMessage.{BlockMessage};
-ghost use Rattle.ss_review.specs.sessions.Verified.{Answers, answers, is_valid_in, is_verified};
+ghost use Rattle.ss_review.specs.sessions.Verified.{answers, is_valid_in, is_verified};
 ghost use Rattle.ss_review.specs.questions.Questions.{question_about, IsAskableIn};
 ghost use Rattle.ss_review.specs.announced.Numbered.{session_with_joined, sessions_joined};
-ghost use Rattle.ss_review.specs.report.Report.{refused};
 ghost use Rattle.ss_review.specs.sessions.FoundBlocks.{TellsEqualsAlike, KeepsWhatHolds};
 
 use crate::keep::message::BlockMessage;
@@ -92,34 +91,34 @@ pub(crate) fn verified<J: Judge>(
     Ok(verified)
 }
 
-/// Adds the place of a block, unless it is verified.
-fn add_refused(
+/// Adds the place of a block, unless it is marked.
+fn add_unmarked(
     places: &mut Vec<u32>,
     block: &BlockMessage,
-    is_verified: bool,
+    is_marked: bool,
 ) -> Result<(), NoMemory>
-    ensures { OnOk result (places.new.items ≡ places.old.items ++ (if is_verified then [] else block.now.place ∷ [])) }
+    ensures { OnOk result (places.new.items ≡ places.old.items ++ (if is_marked then [] else block.now.place ∷ [])) }
 {
-    if is_verified {
+    if is_marked {
         return Ok(());
     }
     places.push(block.place)?;
     Ok(())
 }
 
-/// The places of the blocks that aren't verified, from which of them are.
-pub(crate) fn refused(
+/// The places of the blocks that aren't marked.
+pub(crate) fn unmarked(
     alloc: Global,
     blocks: &[BlockMessage],
-    verified: &[bool],
+    marks: &[bool],
 ) -> Result<Places, NoMemory>
-    ensures { (says : Answers)
-        → verified.now ≡ map (is_verified says blocks.now) blocks.now
-        → IfOk result (λ p. p ≡ refused says blocks.now) }
+    ensures { (f : BlockMessage → Bool)
+        → marks.now ≡ map f blocks.now
+        → IfOk result (λ p. p ≡ map (λ b. b.place) (filter (λ b. not (f b)) blocks.now)) }
 {
     let mut places = Vec::new(alloc);
-    for (block, is_verified) in blocks.iter().zip(verified) {
-        add_refused(&mut places, block, *is_verified)?;
+    for (block, is_marked) in blocks.iter().zip(marks) {
+        add_unmarked(&mut places, block, *is_marked)?;
     }
     Ok(Places::from_vec(places))
 }

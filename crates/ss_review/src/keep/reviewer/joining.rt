@@ -7,14 +7,22 @@ ghost use Rattle.ss_review.specs.keep.Contents.{blocks, contents};
 ghost use Rattle.ss_review.specs.sessions.Verified.{answers};
 ghost use Rattle.ss_review.specs.questions.Questions.{AreAskable};
 ghost use Rattle.ss_review.specs.keep.Keeping.{Keeps, kept_blocks};
-ghost use Rattle.ss_review.specs.pinned.Pinned.{counted_by, questions_by, report_by};
+ghost use Rattle.ss_review.specs.pinned.Pinned.{counted_by, pinned_counted, pinned_questions, pinned_report};
+ghost use Rattle.ss_review.specs.pinned.Pinned.{questions_by, report_by};
 
 use crate::counted::counted_report::CountedReport;
+use crate::counted::reviewing::review_counted;
 use crate::fault::ReviewFault;
+use crate::keep::review_input::ReviewInput;
 use crate::keep::reviewer::Reviewer;
+use crate::keep::reviewer::concluding::blocks_of;
+use crate::pinned::keeping::kept_blocks;
+use crate::pinned::refusing::with_left_out;
 use crate::report::report::Report;
+use crate::review::review;
 use crate::sessions::verifier::Judge;
-use ss_octets::Bytes;
+use ss_block::laws::readings::blocks_are_in_range;
+use ss_octets::{Bytes, NoMemory};
 
 impl Reviewer {
     /// Makes the report on the messages that it was fed, by the answers of `judge`, as `conclude_with` does. Where
@@ -28,15 +36,17 @@ impl Reviewer {
         known: Option<&[Bytes]>,
     ) -> Result<Report, ReviewFault>
         requires sound { J.sound judge }
-        requires askable { AreAskable J.askable judge (questions_by (option_map (λ ps. ps.now) known)
-            (kept_blocks self)) }
+        requires askable { AreAskable J.askable judge (questions_by (option_map (λ ps. ps.now) known) (kept_blocks self)) }
         ensures report { (ns : List Note)
             → Keeps self ns
             → IfOk result (λ r. r ≡ report_by (option_map (λ ps. ps.now) known.entry)
             (answers J.trusted J.valid judge) (contents ns)) }
         ensures fault { IfErr result (λ f. f ≡ Memory) }
     {
-        Err(ReviewFault::Memory)
+        match known {
+            None => self.conclude_with(judge),
+            Some(payloads) => Ok(self.pinned_report(judge, payloads)?),
+        }
     }
 
     /// The report of `conclude_by`, and the GBC of the verified signature blocks of each session, as `conclude_counted`
@@ -47,8 +57,7 @@ impl Reviewer {
         known: Option<&[Bytes]>,
     ) -> Result<CountedReport, ReviewFault>
         requires sound { J.sound judge }
-        requires askable { AreAskable J.askable judge (questions_by (option_map (λ ps. ps.now) known)
-            (kept_blocks self)) }
+        requires askable { AreAskable J.askable judge (questions_by (option_map (λ ps. ps.now) known) (kept_blocks self)) }
         ensures report { (ns : List Note)
             → Keeps self ns
             → IfOk result (λ r. r.report ≡ report_by (option_map (λ ps. ps.now) known.entry)
@@ -59,6 +68,68 @@ impl Reviewer {
             (answers J.trusted J.valid judge) (blocks ns)) }
         ensures fault { IfErr result (λ f. f ≡ Memory) }
     {
-        Err(ReviewFault::Memory)
+        match known {
+            None => self.conclude_counted(judge),
+            Some(payloads) => Ok(self.pinned_counted(judge, payloads)?),
+        }
+    }
+
+    /// The report where these payloads are known.
+    fn pinned_report<J: Judge + Drop>(
+        self,
+        judge: J,
+        payloads: &[Bytes],
+    ) -> Result<Report, NoMemory>
+        requires sound { J.sound judge }
+        requires askable { AreAskable J.askable judge (pinned_questions payloads.now (kept_blocks self)) }
+        ensures { (ns : List Note)
+            → Keeps self ns
+            → IfOk result (λ r. r ≡ pinned_report (answers J.trusted J.valid judge) payloads.now (contents ns)) }
+    {
+        blocks_are_in_range();
+        let blocks = blocks_of(self.alloc, self.blocks)?;
+        let found = kept_blocks(self.alloc, &judge, payloads, blocks)?;
+        let held = ReviewInput {
+            index: self.normal,
+            blocks: found.kept,
+            spoilt: self.spoilt.as_slice(),
+            count: self.count,
+        };
+        let report = review(self.alloc, judge, held)?;
+        with_left_out(report, found.left_out)
+    }
+
+    /// The report and the GBC where these payloads are known.
+    fn pinned_counted<J: Judge + Drop>(
+        self,
+        judge: J,
+        payloads: &[Bytes],
+    ) -> Result<CountedReport, NoMemory>
+        requires sound { J.sound judge }
+        requires askable { AreAskable J.askable judge (pinned_questions payloads.now (kept_blocks self)) }
+        ensures report { (ns : List Note)
+            → Keeps self ns
+            → IfOk result (λ r. r.report
+            ≡ pinned_report (answers J.trusted J.valid judge) payloads.now (contents ns)) }
+        ensures counted { (ns : List Note)
+            → Keeps self ns
+            → IfOk result (λ r. r.counted
+            ≡ pinned_counted (answers J.trusted J.valid judge) payloads.now (blocks ns)) }
+    {
+        blocks_are_in_range();
+        let blocks = blocks_of(self.alloc, self.blocks)?;
+        let found = kept_blocks(self.alloc, &judge, payloads, blocks)?;
+        let held = ReviewInput {
+            index: self.normal,
+            blocks: found.kept,
+            spoilt: self.spoilt.as_slice(),
+            count: self.count,
+        };
+        let counted = review_counted(self.alloc, judge, held)?;
+        let report = with_left_out(counted.report, found.left_out)?;
+        Ok(CountedReport {
+            report,
+            counted: counted.counted,
+        })
     }
 }

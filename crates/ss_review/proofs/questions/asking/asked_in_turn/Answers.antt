@@ -2,25 +2,25 @@ use Rattle.std.proofs.Common.{◌++◌, drop, sym, ap, ◌∙◌}
 use Rattle.std.specs.Prelude.{flat_map}
 use Rattle.std.proofs.lemmas.List.{append-nil, append_assoc}
 use Rattle.ss_review.specs.sessions.Sectioned.{sections, referred}
-use Rattle.ss_review.proofs.of_sessions.SectionsTold.{section_told, sessions_told, no_sections}
+use Rattle.ss_review.proofs.of_sessions.SectionsTold.{section_pinned, sessions_pinned, no_sections}
 use Rattle.ss_review.proofs.questions.asking.asked_in_turn.Goals as goal
 
 pub loop-start-init : goal.loop-start-init
 loop-start-init c =
-    ap (λ ss. ss ++ flat_map section_told (sections (referred c.args.blocks.now))) c.new-sessions.ensures.items
-    ∙ sessions_told (referred c.args.blocks.now)
+    ap (λ ss. ss ++ flat_map (section_pinned c.args.known.now) (sections (referred c.args.blocks.now))) c.new-sessions.ensures.items
+    ∙ sessions_pinned c.args.known.now (referred c.args.blocks.now)
 
 pub loop-start-preserved : goal.loop-start-preserved
 loop-start-preserved c =
     let done = c.loop-start.sessions.items in
-    let later = flat_map section_told (sections (referred (drop c.section_end-end.result c.args.blocks.now))) in
+    let later = flat_map (section_pinned c.args.known.now) (sections (referred (drop c.section_end-end.result c.args.blocks.now))) in
     ap (λ ss. ss ++ later) c.in_ok-add_session.ensures
     ∙ append_assoc done _ later
-    ∙ ap (λ ss. done ++ flat_map section_told ss) (sym (c.section_end-end.ensures.sectioned c.index-blocks-start.result))
+    ∙ ap (λ ss. done ++ flat_map (section_pinned c.args.known.now) ss) (sym (c.section_end-end.ensures.sectioned c.index-blocks-start.result))
     ∙ c.loop-start.invariant
 
 pub returns : goal.returns
 returns c =
     let done = c.loop-start.sessions.items in
-    sym (ap (λ ss. done ++ flat_map section_told ss) (no_sections c.args.blocks.now c.loop-start.start c.loop-start-test.false) ∙ append-nil done)
+    sym (ap (λ ss. done ++ flat_map (section_pinned c.args.known.now) ss) (no_sections c.args.blocks.now c.loop-start.start c.loop-start-test.false) ∙ append-nil done)
     ∙ c.loop-start.invariant

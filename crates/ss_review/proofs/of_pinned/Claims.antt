@@ -21,10 +21,10 @@ use Rattle.ss_octets.proofs.Members.{Has, contains_from_has, has-filter, from_ha
 use Rattle.ss_review.proofs.of_lists.Tests.{any_member, member_any, all_member, member_all, in_range, from_in_range}
 use Rattle.ss_review.proofs.of_sessions.Stating.{IsStatedBy, stated_by-IsStatedBy, has-placed}
 use Rattle.ss_review.proofs.of_sessions.StatesTold.{fragment_of, joined_under, in_state}
-use Rattle.ss_nights.proofs.Fragments.{HasFragment, total_of, has-total, octet_of, has-octet, one_total}
+use Rattle.ss_review.proofs.of_sessions.Fragments.{HasFragment, total_of, has-total, octet_of, has-octet, one_total}
 use Rattle.ss_review.specs.pinned.Pinned.{agrees_in, speaks_for, claims}
-use Rattle.ss_strangers.specs.States.{AreWithin}
-use Rattle.ss_strangers.proofs.Agreeing.{Says, agreeing_says, differ_at}
+use Rattle.ss_review.specs.pinned.Claimants.{AreWithin}
+use Rattle.ss_review.proofs.of_pinned.Agreeing.{Says, agreeing_says, differ_at}
 
 -- ---- what claims a session
 
