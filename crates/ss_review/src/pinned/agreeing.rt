@@ -35,11 +35,7 @@ pub(crate) fn agrees_in(payload: &[u8], said: &BlockContent) -> bool
 }
 
 /// Which of the blocks agree with the payload.
-fn agreeing(
-    alloc: Global,
-    payload: &[u8],
-    blocks: &[&BlockMessage],
-) -> Result<Vec<bool>, NoMemory>
+fn agreeing(alloc: Global, payload: &[u8], blocks: &[&BlockMessage]) -> Result<Vec<bool>, NoMemory>
     ensures { IfOk result (λ v. v.items ≡ map (λ b. agrees_in payload.now b.said) (referred blocks.now)) }
 {
     let mut agreeing = Vec::with_capacity(alloc, blocks.len())?;

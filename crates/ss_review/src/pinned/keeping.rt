@@ -86,11 +86,7 @@ fn keeps_by<'a, J: Judge>(judge: &J, claimants: &[Claimant<'a>], block: &'a Bloc
 }
 
 /// Whether the block is kept. `sessions` are those of its log, in their order.
-fn keeps<'a, J: Judge>(
-    judge: &J,
-    sessions: &[ClaimedSession<'a>],
-    block: &'a BlockMessage,
-) -> bool
+fn keeps<'a, J: Judge>(judge: &J, sessions: &[ClaimedSession<'a>], block: &'a BlockMessage) -> bool
     requires sound { J.sound judge.now }
     requires askable { IsAskableBlock J.askable judge.now sessions.now block.now }
     ensures { (ps : List (List ℕ)) (bs : List BlockMessage)

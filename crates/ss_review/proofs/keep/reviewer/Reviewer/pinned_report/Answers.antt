@@ -45,5 +45,5 @@ returns g c =
     (subst (λ (xs : List ℕ). IsTogether (refused says (kept says ps (blocks ns))) xs (refused_pinned says ps (blocks ns))) (sym (out ns k))
     (refused_together says ps (blocks ns) (blocks_rise ns))) in
     λ ns k.
-        IfOk-weaker c.with_left_out.result _ _ (λ r e. e ∙ ap (λ (x : Report). record x { refused = refused_pinned says ps (blocks ns) }) (report ns k))
-        (c.with_left_out.ensures (refused_pinned says ps (blocks ns)) (together ns k))
+    IfOk-weaker c.with_left_out.result _ _ (λ r e. e ∙ ap (λ (x : Report). record x { refused = refused_pinned says ps (blocks ns) }) (report ns k))
+    (c.with_left_out.ensures (refused_pinned says ps (blocks ns)) (together ns k))
