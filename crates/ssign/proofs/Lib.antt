@@ -1,3 +1,4 @@
+mod CountedMessages
 mod FoundCommands
 mod OptionValues
 mod Flags

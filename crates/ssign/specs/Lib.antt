@@ -10,6 +10,7 @@ pub mod Extraction
 pub mod FirstOctets
 pub mod LikelyCause
 pub mod Remark
+pub mod MessageCount
 pub mod Progress
 pub mod ReadBack
 pub mod FaultText
