@@ -1,3 +1,4 @@
+pub mod PinnedLogs
 pub mod WholeLines
 pub mod MissingTaken
 pub mod CountersWritten

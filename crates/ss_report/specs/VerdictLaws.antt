@@ -1,17 +1,19 @@
 -- What a verdict means for the report itself.
-use Rattle.std.specs.Prelude.{◌≡◌, ◌&&◌, Bool, List, ℕ, if◌then◌else◌}
+use Rattle.std.specs.Prelude.{◌≡◌, ◌&&◌, Bool, List, ℕ, Option, if◌then◌else◌}
 use Rattle.std.specs.List.{list_all}
 use Rattle.ss_frame.specs.declared.step.Tail.{Tail}
 use Rattle.ss_review.specs.declared.counted.counter.Counter.{Counter}
 use Rattle.ss_review.specs.declared.counted.shortfall.LogShortfalls.{LogShortfalls}
 use Rattle.ss_review.specs.declared.counted.shortfall.Shortfall.{Shortfall}
 use Rattle.ss_review.specs.declared.report.report.Report.{Report}
-use Rattle.ss_review.specs.counted.KeptLaws.{shortfalls_of}
-use Rattle.ss_review.specs.report.Report.{report}
+use Rattle.ss_review.specs.keep.Contents.{contents}
+use Rattle.ss_review.specs.keep.Notes.{notes}
+use Rattle.ss_review.specs.pinned.Pinned.{report_by}
+use Rattle.ss_review.specs.pinned.Stands.{shortfalls_by}
 use Rattle.ss_review.specs.report.Verdict.{is_clean, is_none}
 use Rattle.ss_review.specs.sessions.Verified.{Answers}
 use Rattle.ss_report.specs.Verdict.{end_verdict, report_verdict}
-use Rattle.ss_report.specs.lines.Whole.{whole_verdict}
+use Rattle.ss_report.specs.lines.Whole.{whole_verdict_by}
 use Rattle.ss_report.specs.declared.verdict.verdict.Verdict.{Verdict}
 use Rattle.ss_report.specs.declared.verdict.verdict.Verdict.TheVariants as verdicts
 
@@ -28,10 +30,12 @@ abbrev pub verdict_where : Bool → Tail → Verdict
 verdict_where clean tail = if clean then end_verdict tail else verdicts.Findings
 
 -- A verdict is clean exactly where the report is and the log has a clean end. If a review reports what is missing, its
--- verdict is clean exactly where nothing is missing either.
+-- verdict is clean exactly where nothing is missing either, by the payloads that are known beforehand, or without any.
 pub record VerdictsAreOfReports : Type 0 where
   pub plain : (r : Report) (tail : Tail) → report_verdict r tail ≡ verdict_where (is_clean r) tail
   pub whole :
-      (says : Answers) (counters : List Counter) (log : List (List ℕ)) (tail : Tail)
-      → whole_verdict says counters log tail
-      ≡ verdict_where (is_clean (report says log) && is_nothing_short (shortfalls_of says log counters)) tail
+      (known : Option (List (List ℕ))) (says : Answers) (counters : List Counter) (log : List (List ℕ)) (tail : Tail)
+      → whole_verdict_by known says counters log tail
+      ≡ verdict_where
+      (is_clean (report_by known says (contents (notes log)))
+      && is_nothing_short (shortfalls_by known says log counters)) tail

@@ -1,5 +1,5 @@
 -- The text of a log's counters has these counters, and they add nothing to its review.
-use Rattle.std.proofs.Common.{ℕ, List, sym, ap, flat_map, subst}
+use Rattle.std.proofs.Common.{ℕ, List, None, sym, ap, flat_map, subst}
 use Rattle.ss_review.specs.counted.KeptLaws.{CountersGivenBack, LogCountersAddNothing, LogCountersAreInRange, log_counters}
 use Rattle.ss_review.specs.report.Report.{report}
 use Rattle.ss_review.specs.sessions.Verified.{Answers}
@@ -24,8 +24,8 @@ pub read_back : LinesHaveTheirCounters → CountersAreTheLogs → LogCountersAre
     → LogCountersAddNothing → CountersGivenBack → CountersAreReadBack
 read_back lines written in_range nothing given_back says log tail =
     let own = log_counters says log in
-    let read : HasOnly ((counting Plain says).output log tail) own
-    = subst (λ text. HasOnly text own) (sym (written says log tail)) (lines own (in_range says log)) in
+    let read : HasOnly ((counting Plain None says).output log tail) own
+    = subst (λ text. HasOnly text own) (sym (written None says log tail)) (lines own (in_range says log)) in
     record {
       read = read;
       given_back = λ counters has.

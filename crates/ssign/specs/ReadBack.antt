@@ -1,5 +1,5 @@
 -- What comes of the text of `ssign counters` where a review of the same log reads it: `ssign review --counters`.
-use Rattle.std.specs.Prelude.{◌≡◌, ℕ, List, []}
+use Rattle.std.specs.Prelude.{◌≡◌, ℕ, List, [], None}
 use Rattle.ss_frame.specs.declared.step.Tail.{Tail}
 use Rattle.ss_review.specs.declared.counted.counter.Counter.{Counter}
 use Rattle.ss_review.specs.keep.Notes.{notes}
@@ -17,11 +17,11 @@ use Rattle.ss_answers.specs.CounterLine.{HasCounters, HasOnly}
 -- has no tail and no absent session, and the missing blocks are those that the log shows by itself.
 pub record ChangeNothing (says : Answers) (log : List (List ℕ)) (counters : List Counter) : Type 0 where
   pub output : (form : ReportForm) (detail : Detail) (tail : Tail)
-      → (reviewing_whole form detail counters says).output log tail
-      ≡ (reviewing_whole form detail [] says).output log tail
+      → (reviewing_whole form detail counters None says).output log tail
+      ≡ (reviewing_whole form detail [] None says).output log tail
   pub verdict : (form : ReportForm) (detail : Detail) (tail : Tail)
-      → (reviewing_whole form detail counters says).verdict log tail
-      ≡ (reviewing_whole form detail [] says).verdict log tail
+      → (reviewing_whole form detail counters None says).verdict log tail
+      ≡ (reviewing_whole form detail [] None says).verdict log tail
   pub missing : AddNothing (counted_sessions says (blocks (notes log))) (shortfalls_of says log counters)
 
 -- A text is read as the counters of a log and as no others. Whatever is read of it changes nothing in the log's review.
@@ -32,4 +32,4 @@ pub record IsReadBack (says : Answers) (log : List (List ℕ)) (text : List ℕ)
 -- so is the plain text of a log's counters
 abbrev pub CountersAreReadBack : Type 0
 CountersAreReadBack =
-    (says : Answers) (log : List (List ℕ)) (tail : Tail) → IsReadBack says log ((counting Plain says).output log tail)
+    (says : Answers) (log : List (List ℕ)) (tail : Tail) → IsReadBack says log ((counting Plain None says).output log tail)

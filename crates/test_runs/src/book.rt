@@ -52,13 +52,13 @@ impl<'b> Scheme for Book<'b> {
 }
 
 impl<'b> Book<'b> {
-    fn trusts(&self, payload: &[u8]) -> bool
+    pub(crate) fn trusts(&self, payload: &[u8]) -> bool
         ensures { result ≡ (self.now.all || bytes_eq payload.now self.now.trusted.now) }
     {
         self.all || payload == self.trusted
     }
 
-    fn accepts(&self, payload: &[u8], octets: &[u8], sign: &[u8]) -> bool
+    pub(crate) fn accepts(&self, payload: &[u8], octets: &[u8], sign: &[u8]) -> bool
         ensures { result
             ≡ (self.now.all || (bytes_eq payload.now self.now.payload.now && bytes_eq sign.now self.now.sign.now
             && (bytes_eq octets.now self.now.signed.0.now || bytes_eq octets.now self.now.signed.1.now))) }
@@ -104,6 +104,7 @@ pub(crate) fn run_by<R: Read, W: Write>(
         reader,
         writer,
         limits,
+        known,
         alloc,
     } = run;
     let trust = |payload: &[u8]| book.trusts(payload);
@@ -118,6 +119,7 @@ pub(crate) fn run_by<R: Read, W: Write>(
                 reader,
                 writer,
                 limits,
+                known,
                 alloc,
             };
             run_questions_as(run, notation_of(job), Payloads::Once)
@@ -128,6 +130,7 @@ pub(crate) fn run_by<R: Read, W: Write>(
                 reader,
                 writer,
                 limits,
+                known,
                 alloc,
             };
             run_extract_as(run, verifier, carrying())

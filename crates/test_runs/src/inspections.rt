@@ -57,6 +57,7 @@ fn inspect_over<R: Read>(
         reader: &mut reader,
         writer: &mut writer,
         limits,
+        known: None,
         alloc,
     };
     let form = InspectionForm {

@@ -259,6 +259,7 @@ fn make(alloc: Global, kind: Kind) -> Result<Done, AllocError> {
         reader: &mut reader,
         writer: &mut writer,
         limits: Limits::standard(),
+        known: None,
         alloc,
     };
     let form = ReportForm::Text;

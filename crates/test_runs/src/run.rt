@@ -48,6 +48,7 @@ pub(crate) fn run<R: Read + Drop>(
         reader: &mut reader,
         writer: &mut writer,
         limits,
+        known: None,
         alloc,
     };
     let said = run_by(run, job, &book);

@@ -126,6 +126,7 @@ fn extract(
         reader: &mut reader,
         writer: &mut writer,
         limits: Limits::standard(),
+        known: None,
         alloc,
     };
     let said = run_extract_as(run, Yes, extraction);
@@ -140,6 +141,7 @@ fn inspect(alloc: Global, log: &[u8], form: InspectionForm) -> (Result<Verdict, 
         reader: &mut reader,
         writer: &mut writer,
         limits: Limits::standard(),
+        known: None,
         alloc,
     };
     let said = run_inspect(run, form);

@@ -1,5 +1,5 @@
 -- The counters of the sessions so far, and then those of the next one.
-use Rattle.std.proofs.Common.{◌≡◌, ℕ, ◌+◌, ◌<◌, ◌≤◌, List, [], ◌∷◌, ◌++◌, length, get_or, take, map, flat_map, refl, sym, ap, ◌∙◌, subst, arith}
+use Rattle.std.proofs.Common.{◌≡◌, ℕ, ◌+◌, ◌<◌, ◌≤◌, List, [], ◌∷◌, ◌++◌, length, get_or, take, map, flat_map, Option, Some, None, refl, sym, ap, ◌∙◌, subst, arith}
 use Rattle.std.specs.Prelude.{All, zip, min}
 use Rattle.std.proofs.lemmas.List.{take_all}
 use Rattle.std.proofs.lemmas.List.Elements.{All-get_or, All-weaker}
@@ -19,9 +19,12 @@ use Rattle.ss_review.specs.sessions.Verified.{Answers}
 use Rattle.ss_review.specs.report.Report.{session_report, report_of, report}
 use Rattle.ss_review.specs.counted.Counted.{counted_session, counted_sessions, next_after, next_number}
 use Rattle.ss_review.specs.counted.CountedLaws.{IsInRange, CountedAreInRange, NextNumbersAreInRange}
+use Rattle.ss_review.specs.pinned.Pinned.{blocks_by, counted_by, kept, pinned_contents, report_by}
+use Rattle.ss_review.specs.pinned.Stands.{PinnedReportsAreOfLogs}
 use Rattle.ss_report.specs.log.Writing.{Writes}
 use Rattle.ss_report.specs.declared.notation.Notation.{Notation}
 use Rattle.ss_report.specs.runs.Counters.{AreInRange, counters_of, counter_lines, counters_beside, counter_lines_with}
+use Rattle.ss_report.proofs.of_reports.PinnedLogs.{of_sessions_by}
 use Rattle.ss_report.proofs.of_writing.Writings.{writes_more, writes_same}
 
 module _ (ss : List SessionReport) (cs : List CountedSession) where
@@ -53,15 +56,19 @@ module _ (ss : List SessionReport) (cs : List CountedSession) where
   all_counters notation a b n all so_far =
       writes_same a b _ _ so_far (ap (flat_map (counters_beside notation)) (take_all n (zip ss cs) (omega (arith, length-zip ss cs, all))))
 
--- the report of a review is in range
-pub report_in_range : CountedAreInRange → NextNumbersAreInRange → (says : Answers) (log : List (List ℕ)) (r : Report) (cs : List CountedSession)
-    → r ≡ report says log → cs ≡ counted_sessions says (blocks (notes log)) → AreInRange r.sessions cs
-report_in_range counted numbers says log r cs r_is cs_is = record {
-  numbers = subst (λ (q : Report). All (λ s. All (λ g. next_number g ≤ past_last_number) s.groups) q.sessions) (sym r_is) (numbers says log);
-  gbcs =
-      subst (λ (ds : List CountedSession). All (λ c. next_after c.gbcs ≤ past_last_number) ds) (sym cs_is)
-      (All-weaker IsInRange (λ c. next_after c.gbcs ≤ past_last_number) (λ c range. range.next) (counted_sessions says (blocks (notes log))) (counted says log));
+-- the sessions of a report, and the GBC of their blocks, are in range
+in_range : CountedAreInRange → NextNumbersAreInRange → (says : Answers) (log : List (List ℕ)) → AreInRange (report says log).sessions (counted_sessions says (blocks (notes log)))
+in_range counted numbers says log = record {
+  numbers = numbers says log;
+  gbcs = All-weaker IsInRange (λ c. next_after c.gbcs ≤ past_last_number) (λ c range. range.next) (counted_sessions says (blocks (notes log))) (counted says log);
 }
+
+pub report_in_range : CountedAreInRange → NextNumbersAreInRange → PinnedReportsAreOfLogs
+    → (known : Option (List (List ℕ))) (says : Answers) (log : List (List ℕ)) (r : Report) (cs : List CountedSession)
+    → r ≡ report_by known says (contents (notes log)) → cs ≡ counted_by known says (blocks (notes log)) → AreInRange r.sessions cs
+report_in_range counted numbers law known says log r cs r_is cs_is =
+    subst (λ (p : Report × List CountedSession). AreInRange p.0.sessions p.1) (λ i. (sym r_is i, sym cs_is i))
+    (of_sessions_by law AreInRange says (in_range counted numbers says) known log)
 
 -- the counters that are found, session by session, are those of the log
 counters_found : (notation : Notation) (says : Answers) (log : Contents) (rs : List Row) (bs : List BlockMessage) (ss : List Session)
@@ -69,9 +76,13 @@ counters_found : (notation : Notation) (says : Answers) (log : Contents) (rs : L
 counters_found notation says log rs bs [] = refl
 counters_found notation says log rs bs (s ∷ ss) = ap (λ ls. counters_of notation says bs (session_report says log rs s) ++ ls) (counters_found notation says log rs bs ss)
 
-pub counters_are : (notation : Notation) (says : Answers) (messages : List (List ℕ))
-    → counter_lines_with notation (report says messages) (counted_sessions says (blocks (notes messages))) ≡ counter_lines notation says (blocks (notes messages)) (report says messages)
+pub counters_are : (notation : Notation) (known : Option (List (List ℕ))) (says : Answers) (messages : List (List ℕ))
+    → counter_lines_with notation (report_by known says (contents (notes messages))) (counted_by known says (blocks (notes messages)))
+    ≡ counter_lines notation says (blocks_by known says (blocks (notes messages))) (report_by known says (contents (notes messages)))
 unfolding report_of counter_lines counter_lines_with
-counters_are notation says messages =
+counters_are notation None says messages =
     let bs = blocks (notes messages) in
     counters_found notation says (contents (notes messages)) (rows says bs) bs (sessions bs)
+counters_are notation (Some ps) says messages =
+    let bs = kept says ps (blocks (notes messages)) in
+    counters_found notation says (pinned_contents says ps (contents (notes messages))) (rows says bs) bs (sessions bs)

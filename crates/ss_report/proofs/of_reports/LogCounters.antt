@@ -13,12 +13,12 @@ use Rattle.ss_review.specs.declared.counted.counter.Counts.TheVariants.{Blocks, 
 use Rattle.ss_review.specs.declared.report.group_report.GroupReport.{GroupReport}
 use Rattle.ss_review.specs.declared.report.session_report.SessionReport.{SessionReport}
 use Rattle.ss_review.specs.keep.Notes.{notes}
-use Rattle.ss_review.specs.keep.Contents.{blocks}
-use Rattle.ss_review.specs.counted.Counted.{counted_sessions, next_after, next_number}
+use Rattle.ss_review.specs.keep.Contents.{blocks, contents}
+use Rattle.ss_review.specs.counted.Counted.{next_after, next_number}
+use Rattle.ss_review.specs.pinned.Pinned.{counted_by, report_by}
 use Rattle.ss_review.specs.counted.CounterText as spelling
 use Rattle.ss_review.specs.counted.CounterText.{counter_line, counter_text, lines_of_counters}
 use Rattle.ss_review.specs.counted.KeptLaws.{group_given, session_given, given_beside, counters_given}
-use Rattle.ss_review.specs.report.Report.{report}
 use Rattle.ss_review.specs.report.Verdict.{is_joined}
 use Rattle.ss_report.specs.runs.CounterLaws.{CountersAreTheLogs}
 use Rattle.ss_report.specs.runs.Counters.{block_counter, message_counter, group_counter, session_counters, counters_beside, counter_lines_with}
@@ -85,6 +85,6 @@ lines_beside (p ∷ ps) =
 
 pub counters_are_the_logs : CountersAreTheLogs
 unfolding counter_lines_with counters_given
-counters_are_the_logs says log tail =
-    sym (counters_are Plain says log)
-    ∙ lines_beside (zip (report says log).sessions (counted_sessions says (blocks (notes log))))
+counters_are_the_logs known says log tail =
+    sym (counters_are Plain known says log)
+    ∙ lines_beside (zip (report_by known says (contents (notes log))).sessions (counted_by known says (blocks (notes log))))

@@ -1,5 +1,5 @@
 -- A verdict is that of the report, of its end, and of what is missing beside it.
-use Rattle.std.proofs.Common.{◌≡◌, ℕ, Bool, true, false, List, [], ◌∷◌, ◌++◌, ◌&&◌, length, map, flat_map, refl, ap, ◌∙◌, arith}
+use Rattle.std.proofs.Common.{◌≡◌, ℕ, Bool, true, false, List, [], ◌∷◌, ◌++◌, ◌&&◌, length, map, flat_map, Option, Some, None, refl, ap, ◌∙◌, arith}
 use Rattle.std.specs.Prelude.{zip}
 use Rattle.std.specs.List.{list_all}
 use Rattle.std.proofs.lemmas.List.{length-map}
@@ -20,19 +20,20 @@ use Rattle.ss_review.specs.declared.report.entry.Entry.TheVariants as entry
 use Rattle.ss_review.specs.declared.report.group_report.GroupReport.{GroupReport}
 use Rattle.ss_review.specs.declared.report.report.Report.{Report}
 use Rattle.ss_review.specs.declared.report.session_report.SessionReport.{SessionReport}
-use Rattle.ss_review.specs.keep.Contents.{blocks}
+use Rattle.ss_review.specs.keep.Contents.{Contents, contents}
 use Rattle.ss_review.specs.keep.Notes.{notes}
 use Rattle.ss_review.specs.counted.Counted.{counted_session, counted_sessions}
 use Rattle.ss_review.specs.counted.Kept.{log_shortfalls, shortfall_beside}
-use Rattle.ss_review.specs.counted.KeptLaws.{shortfalls_of}
-use Rattle.ss_review.specs.report.Report.{report, report_of}
+use Rattle.ss_review.specs.pinned.Pinned.{pinned_contents, report_by}
+use Rattle.ss_review.specs.pinned.Stands.{shortfalls_by}
+use Rattle.ss_review.specs.report.Report.{report_of}
 use Rattle.ss_review.specs.report.Verdict.{is_clean, is_joined, is_listed, is_none}
 use Rattle.ss_review.specs.sessions.Sessions.{sessions}
 use Rattle.ss_review.specs.sessions.Verified.{Answers}
 use Rattle.ss_report.specs.declared.lines.detail.Detail.TheVariants as details
 use Rattle.ss_report.specs.lines.Lines.{UnlistedLine, RefusedLine, EndLine, entry_line, group_lines, session_lines, spoilt_place_line, tail_lines, single_lines, other_lines, lines}
 use Rattle.ss_report.specs.lines.Settled.{is_settled}
-use Rattle.ss_report.specs.lines.Whole.{absent_lines, lines_beside, lines_with, missing_line, shortfall_lines, tail_line, whole_verdict}
+use Rattle.ss_report.specs.lines.Whole.{absent_lines, lines_beside, lines_with, missing_line, shortfall_lines, tail_line, whole_verdict_by}
 use Rattle.ss_report.specs.Verdict.{report_verdict, verdict_of}
 use Rattle.ss_report.specs.VerdictLaws.{is_complete, is_nothing_short, verdict_where, VerdictsAreOfReports}
 
@@ -182,24 +183,31 @@ whole_by true true true true true false tail = refl
 whole_by true true true true true true tails.Clean = refl
 whole_by true true true true true true (tails.Torn pos) = refl
 
-as_many : (says : Answers) (counters : List Counter) (log : List (List ℕ)) → length (report says log).sessions ≡ length (shortfalls_of says log counters).known
+-- a report and what is missing beside it have as many sessions, which are those of the blocks
+as_many_of : (says : Answers) (counters : List Counter) (log : Contents)
+    → length (report_of says log).sessions ≡ length (log_shortfalls counters (report_of says log).sessions (counted_sessions says log.blocks)).known
 unfolding report_of log_shortfalls
-as_many says counters log =
-    let bs = blocks (notes log) in
-    let ss = (report says log).sessions in
+as_many_of says counters log =
+    let bs = log.blocks in
+    let ss = (report_of says log).sessions in
     let cs = counted_sessions says bs in
     let of_report : length ss ≡ length (sessions bs) = length-map (sessions bs) _ in
     let of_counted : length cs ≡ length (sessions bs) = length-map (sessions bs) (counted_session says bs) in
     let of_known : length (map (shortfall_beside counters) (zip ss cs)) ≡ length (zip ss cs) = length-map (zip ss cs) (shortfall_beside counters) in
     omega (arith, of_report, of_counted, of_known, length-zip ss cs)
 
-whole : (says : Answers) (counters : List Counter) (log : List (List ℕ)) (tail : Tail)
-    → whole_verdict says counters log tail ≡ verdict_where (is_clean (report says log) && is_nothing_short (shortfalls_of says log counters)) tail
+as_many : (known : Option (List (List ℕ))) (says : Answers) (counters : List Counter) (log : List (List ℕ))
+    → length (report_by known says (contents (notes log))).sessions ≡ length (shortfalls_by known says log counters).known
+as_many None says counters log = as_many_of says counters (contents (notes log))
+as_many (Some ps) says counters log = as_many_of says counters (pinned_contents says ps (contents (notes log)))
+
+whole : (known : Option (List (List ℕ))) (says : Answers) (counters : List Counter) (log : List (List ℕ)) (tail : Tail)
+    → whole_verdict_by known says counters log tail ≡ verdict_where (is_clean (report_by known says (contents (notes log))) && is_nothing_short (shortfalls_by known says log counters)) tail
 unfolding is_clean
-whole says counters log tail =
-    let r = report says log in
-    let short = shortfalls_of says log counters in
-    ap verdict_of (settled_whole r short tail (as_many says counters log))
+whole known says counters log tail =
+    let r = report_by known says (contents (notes log)) in
+    let short = shortfalls_by known says log counters in
+    ap verdict_of (settled_whole r short tail (as_many known says counters log))
     ∙ whole_by (list_all is_whole r.sessions) (is_none r.unlisted) (is_none r.refused) (is_none r.spoilt) (list_all is_complete short.known) (is_none short.absent) tail
 
 pub verdicts_are_of_reports : VerdictsAreOfReports

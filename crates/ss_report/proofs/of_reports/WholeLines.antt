@@ -1,5 +1,5 @@
 -- The lines and the verdict that are made of a report, and of what was found to be missing beside it.
-use Rattle.std.proofs.Common.{◌≡◌, false, Option, List, ℕ, flat_map, refl, ap, ◌∙◌}
+use Rattle.std.proofs.Common.{◌≡◌, false, Option, List, ℕ, flat_map, refl, sym, ap, ◌∙◌, subst}
 use Rattle.ss_frame.specs.Limits.{Allowance}
 use Rattle.ss_frame.specs.Watched.{Source}
 use Rattle.ss_frame.specs.declared.step.Tail.{Tail}
@@ -8,12 +8,12 @@ use Rattle.ss_review.specs.declared.counted.counter.Counter.{Counter}
 use Rattle.ss_review.specs.declared.counted.shortfall.LogShortfalls.{LogShortfalls}
 use Rattle.ss_review.specs.declared.report.report.Report.{Report}
 use Rattle.ss_review.specs.keep.Notes.{notes}
-use Rattle.ss_review.specs.keep.Contents.{blocks}
+use Rattle.ss_review.specs.keep.Contents.{blocks, contents}
 use Rattle.ss_review.specs.sessions.Verified.{Answers}
-use Rattle.ss_review.specs.counted.Counted.{counted_sessions}
-use Rattle.ss_review.specs.counted.Kept.{log_shortfalls}
-use Rattle.ss_review.specs.counted.KeptLaws.{shortfalls_of}
-use Rattle.ss_review.specs.report.Report.{report}
+use Rattle.ss_review.specs.pinned.Pinned.{counted_by, report_by}
+use Rattle.ss_review.specs.counted.Kept.{AreReviewed, log_shortfalls}
+use Rattle.ss_review.specs.counted.KeptLaws.{LogsAreReviewed}
+use Rattle.ss_review.specs.pinned.Stands.{PinnedReportsAreOfLogs, shortfalls_by}
 use Rattle.ss_report.specs.log.Log.{ReadsLog, tail_end}
 use Rattle.ss_report.specs.declared.lines.detail.Detail.{Detail}
 use Rattle.ss_report.specs.forms.Forms.{line_as}
@@ -23,38 +23,46 @@ use Rattle.ss_report.specs.lines.Whole.{lines_with, verdict_with}
 use Rattle.ss_report.specs.lines.Between.{end_counters, lines_between, verdict_between}
 use Rattle.ss_report.specs.runs.Run.{Makes}
 use Rattle.ss_report.specs.runs.Jobs.{reviewing_between, reviewing_whole}
+use Rattle.ss_report.proofs.of_reports.PinnedLogs.{of_sessions_by}
 
 -- what was found to be missing is what is missing of the log
-found_is : (counters : List Counter) (says : Answers) (messages : List (List ℕ)) (r : Report) (cs : List CountedSession) (short : LogShortfalls)
-    → r ≡ report says messages → cs ≡ counted_sessions says (blocks (notes messages)) → short ≡ log_shortfalls counters r.sessions cs → short ≡ shortfalls_of says messages counters
-found_is counters says messages r cs short told counted found =
-    found ∙ (ap (λ (x : Report). log_shortfalls counters x.sessions cs) told ∙ ap (log_shortfalls counters (report says messages).sessions) counted)
+found_is : (counters : List Counter) (known : Option (List (List ℕ))) (says : Answers) (messages : List (List ℕ)) (r : Report) (cs : List CountedSession) (short : LogShortfalls)
+    → r ≡ report_by known says (contents (notes messages)) → cs ≡ counted_by known says (blocks (notes messages)) → short ≡ log_shortfalls counters r.sessions cs → short ≡ shortfalls_by known says messages counters
+found_is counters known says messages r cs short told counted found = found ∙ (λ i. log_shortfalls counters (told i).sessions (counted i))
 
-pub makes_whole : (form : ReportForm) (detail : Detail) (counters : List Counter) (says : Answers) (limits : Allowance) (before after : Source) (messages : List (List ℕ)) (tail : Tail)
+-- the sessions of a review, and the GBC of their blocks, are as what computes it needs them
+pub reviewed_by : LogsAreReviewed → PinnedReportsAreOfLogs
+    → (known : Option (List (List ℕ))) (says : Answers) (messages : List (List ℕ)) (r : Report) (cs : List CountedSession)
+    → r ≡ report_by known says (contents (notes messages)) → cs ≡ counted_by known says (blocks (notes messages)) → AreReviewed r.sessions cs
+reviewed_by reviewed law known says messages r cs told counted =
+    subst (λ (p : Report × List CountedSession). AreReviewed p.0.sessions p.1) (λ i. (sym told i, sym counted i))
+    (of_sessions_by law AreReviewed says (reviewed says) known messages)
+
+pub makes_whole : (form : ReportForm) (detail : Detail) (counters : List Counter) (known : Option (List (List ℕ))) (says : Answers) (limits : Allowance) (before after : Source) (messages : List (List ℕ)) (tail : Tail)
     → ReadsLog limits before after messages (tail_end tail) → after.failed ≡ false
     → (r : Report) (cs : List CountedSession) (short : LogShortfalls) (verdict : Verdict)
-    → r ≡ report says messages → cs ≡ counted_sessions says (blocks (notes messages)) → short ≡ log_shortfalls counters r.sessions cs → verdict ≡ verdict_with r short tail
-    → Makes (reviewing_whole form detail counters says) limits before after (flat_map (line_as form) (lines_with detail r short tail)) verdict
-makes_whole form detail counters says limits before after messages tail reading no_read_failed r cs short verdict told counted found judged =
-    let of_log = found_is counters says messages r cs short told counted found in
+    → r ≡ report_by known says (contents (notes messages)) → cs ≡ counted_by known says (blocks (notes messages)) → short ≡ log_shortfalls counters r.sessions cs → verdict ≡ verdict_with r short tail
+    → Makes (reviewing_whole form detail counters known says) limits before after (flat_map (line_as form) (lines_with detail r short tail)) verdict
+makes_whole form detail counters known says limits before after messages tail reading no_read_failed r cs short verdict told counted found judged =
+    let of_log = found_is counters known says messages r cs short told counted found in
     record {
       messages = messages;
       tail = tail;
       reading = reading;
       no_read_failed = no_read_failed;
       unrefused = refl;
-      output_is = ap (flat_map (line_as form)) (ap (λ x. lines_with detail x short tail) told ∙ ap (λ x. lines_with detail (report says messages) x tail) of_log);
-      verdict_is = judged ∙ (ap (λ x. verdict_with x short tail) told ∙ ap (λ x. verdict_with (report says messages) x tail) of_log);
+      output_is = λ i. flat_map (line_as form) (lines_with detail (told i) (of_log i) tail);
+      verdict_is = judged ∙ (λ i. verdict_with (told i) (of_log i) tail);
     }
 
-pub makes_between : (form : ReportForm) (detail : Detail) (first : List Counter) (second : Option (List Counter)) (says : Answers) (limits : Allowance) (before after : Source) (messages : List (List ℕ)) (tail : Tail)
+pub makes_between : (form : ReportForm) (detail : Detail) (first : List Counter) (second : Option (List Counter)) (known : Option (List (List ℕ))) (says : Answers) (limits : Allowance) (before after : Source) (messages : List (List ℕ)) (tail : Tail)
     → ReadsLog limits before after messages (tail_end tail) → after.failed ≡ false
     → (r : Report) (cs : List CountedSession) (short : LogShortfalls) (own : List Counter) (other : Option (List Counter)) (verdict : Verdict)
-    → r ≡ report says messages → cs ≡ counted_sessions says (blocks (notes messages)) → short ≡ log_shortfalls (end_counters second) r.sessions cs
+    → r ≡ report_by known says (contents (notes messages)) → cs ≡ counted_by known says (blocks (notes messages)) → short ≡ log_shortfalls (end_counters second) r.sessions cs
     → own ≡ first → other ≡ second → verdict ≡ verdict_between own other r short tail
-    → Makes (reviewing_between form detail first second says) limits before after (flat_map (line_as form) (lines_between detail own other r short tail)) verdict
-makes_between form detail first second says limits before after messages tail reading no_read_failed r cs short own other verdict told counted found is_first is_second judged =
-    let of_log = found_is (end_counters second) says messages r cs short told counted found in
+    → Makes (reviewing_between form detail first second known says) limits before after (flat_map (line_as form) (lines_between detail own other r short tail)) verdict
+makes_between form detail first second known says limits before after messages tail reading no_read_failed r cs short own other verdict told counted found is_first is_second judged =
+    let of_log = found_is (end_counters second) known says messages r cs short told counted found in
     record {
       messages = messages;
       tail = tail;

@@ -1,5 +1,5 @@
 -- The lines of what is asked about sessions, one session after the other.
-use Rattle.std.proofs.Common.{◌≡◌, ℕ, List, [], ◌∷◌, ◌++◌, map, refl, sym, ap, ◌∙◌, append-nil}
+use Rattle.std.proofs.Common.{◌≡◌, ℕ, List, [], ◌∷◌, ◌++◌, map, Option, refl, sym, ap, ◌∙◌, append-nil}
 use Rattle.std.specs.List.{flat_map}
 use Rattle.std.proofs.lemmas.List.{map-append}
 use Rattle.std.proofs.lemmas.List.Concat.{flat_map-append}
@@ -8,8 +8,8 @@ use Rattle.ss_review.specs.declared.questions.asked.AskedBlock.{AskedBlock}
 use Rattle.ss_review.specs.declared.questions.asked.AskedSession.{AskedSession}
 use Rattle.ss_review.specs.declared.questions.question.Question.{Question}
 use Rattle.ss_review.specs.declared.questions.question.Question.TheVariants.{Trust}
-use Rattle.ss_review.specs.questions.Questions.{asked_sessions, question_under, questions, session_questions, questions_shared}
-use Rattle.ss_review.proofs.of_questions.AskedShared.{sessions_shared}
+use Rattle.ss_review.specs.questions.Questions.{question_under, session_questions, questions_shared}
+use Rattle.ss_review.specs.pinned.Pinned.{questions_by, sessions_by}
 use Rattle.ss_report.specs.declared.notation.Notation.{Notation}
 use Rattle.ss_report.specs.declared.notation.Notation.TheVariants.{Plain}
 use Rattle.ss_report.specs.declared.payloads.Payloads.{Payloads}
@@ -56,10 +56,11 @@ unfolding asking_lines question_lines
 plain_is ss qs are = plain_lines (askings ss) ∙ ap (flat_map question_text) (all_asked ss ∙ are)
 
 -- what is written of the sessions that a log asks about is what the run writes of its blocks
-pub lines_as : (notation : Notation) (payloads : Payloads) (bs : List BlockMessage) (ss : List AskedSession) → ss ≡ asked_sessions bs → asking_lines_as notation payloads ss ≡ questions_as notation payloads bs
-lines_as Plain InEach bs ss are = plain_is ss (questions bs) (ap questions_shared are ∙ sessions_shared bs)
-lines_as notation InEach bs ss are = ap (asking_lines notation) are
-lines_as notation Once bs ss are = ap (once_text_of notation) are
+pub lines_as : (notation : Notation) (payloads : Payloads) (known : Option (List (List ℕ))) (bs : List BlockMessage) (ss : List AskedSession)
+    → ss ≡ sessions_by known bs → questions_shared ss ≡ questions_by known bs → asking_lines_as notation payloads ss ≡ questions_as notation payloads known bs
+lines_as Plain InEach known bs ss are asked = plain_is ss (questions_by known bs) asked
+lines_as notation InEach known bs ss are asked = ap (asking_lines notation) are
+lines_as notation Once known bs ss are asked = ap (once_text_of notation) are
 
 -- where each payload is written in each question, and where it is written once
 pub each_lines : (notation : Notation) (payloads : Payloads) (ts ss : List AskedSession) → payloads ≡ InEach → ts ≡ ss → asking_lines notation ts ≡ asking_lines_as notation payloads ss

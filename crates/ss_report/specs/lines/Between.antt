@@ -15,6 +15,10 @@ use Rattle.ss_review.specs.declared.report.session_report.SessionReport.{Session
 use Rattle.ss_review.specs.declared.report.report.Report.{Report}
 use Rattle.ss_review.specs.sessions.Verified.{Answers}
 use Rattle.ss_review.specs.counted.KeptLaws.{shortfalls_of}
+use Rattle.ss_review.specs.keep.Contents.{contents}
+use Rattle.ss_review.specs.keep.Notes.{notes}
+use Rattle.ss_review.specs.pinned.Pinned.{report_by}
+use Rattle.ss_review.specs.pinned.Stands.{shortfalls_by}
 use Rattle.ss_review.specs.report.Report.{report}
 use Rattle.ss_between.specs.Between.{NumberRun, SessionBetween, session_between, absent_left, is_idle, shortfall_left}
 use Rattle.ss_between.specs.Between.{number_at, numbers, runs, runs_from}
@@ -77,13 +81,23 @@ abbrev pub end_counters : Option (List Counter) → List Counter
 end_counters None = []
 end_counters (Some counters) = counters
 
--- the lines of a log between these counters, with what is missing up to the second ones
-abbrev pub between_lines :
-    Detail → Answers → (first : List Counter) → (second : Option (List Counter)) → List (List ℕ) → Tail
-    → List ReportLine
-between_lines detail says first second messages tail =
-    lines_between detail first second (report says messages) (shortfalls_of says messages (end_counters second)) tail
+-- the lines of a log between these counters, with what is missing up to the second ones, by the payloads that are known
+-- beforehand, or without any
+abbrev pub between_lines_by :
+    Option (List (List ℕ)) → Detail → Answers → (first : List Counter) → (second : Option (List Counter))
+    → List (List ℕ) → Tail → List ReportLine
+between_lines_by known detail says first second messages tail =
+    lines_between detail first second (report_by known says (contents (notes messages)))
+    (shortfalls_by known says messages (end_counters second)) tail
 
+abbrev pub between_verdict_by :
+    Option (List (List ℕ)) → Answers → (first : List Counter) → (second : Option (List Counter)) → List (List ℕ)
+    → Tail → Verdict
+between_verdict_by known says first second messages tail =
+    verdict_between first second (report_by known says (contents (notes messages)))
+    (shortfalls_by known says messages (end_counters second)) tail
+
+-- the verdict without any
 abbrev pub between_verdict :
     Answers → (first : List Counter) → (second : Option (List Counter)) → List (List ℕ) → Tail → Verdict
 between_verdict says first second messages tail =

@@ -1,7 +1,7 @@
 -- The report of a log with what is missing beside it. Signature blocks are missing by their Global Block Counter, GBC:
 -- how many were sent before them in their session, in all groups (RFC 5848, section 4.2.4). Up to counters that were
 -- kept elsewhere, messages of each group are missing, and sessions of which the log has no block.
-use Rattle.std.specs.Prelude.{ℕ, List, ◌∷◌, ◌++◌, map, flat_map}
+use Rattle.std.specs.Prelude.{ℕ, List, ◌∷◌, ◌++◌, map, flat_map, Option}
 use Rattle.std.specs.List.{list_all, zip}
 use Rattle.ss_frame.specs.declared.step.Tail.{Tail}
 use Rattle.ss_block.specs.declared.session.Session.{Session}
@@ -17,8 +17,10 @@ use Rattle.ss_review.specs.sessions.Verified.{Answers}
 use Rattle.ss_review.specs.counted.Counted.{gbcs, missing}
 use Rattle.ss_review.specs.counted.CountedLaws.{AreMissing, IsCounted}
 use Rattle.ss_review.specs.counted.Kept.{counters_of, end_of_blocks}
-use Rattle.ss_review.specs.counted.KeptLaws.{shortfalls_of}
-use Rattle.ss_review.specs.report.Report.{report}
+use Rattle.ss_review.specs.keep.Contents.{contents}
+use Rattle.ss_review.specs.keep.Notes.{notes}
+use Rattle.ss_review.specs.pinned.Pinned.{report_by}
+use Rattle.ss_review.specs.pinned.Stands.{shortfalls_by}
 use Rattle.ss_report.specs.declared.lines.detail.Detail.{Detail}
 use Rattle.ss_report.specs.declared.lines.detail.Detail.TheVariants as details
 use Rattle.ss_report.specs.lines.Lines.{ReportLine, TailLine, BlocksLine, AbsentLine, session_lines, other_lines}
@@ -60,14 +62,17 @@ verdict_with report short tail = verdict_of (list_all is_settled (lines_with det
 
 -- ---- of a log
 
--- the lines with what is missing of the sessions of a log, and up to these counters
-abbrev pub whole_lines : Detail → Answers → List Counter → List (List ℕ) → Tail → List ReportLine
-whole_lines detail says counters messages tail =
-    lines_with detail (report says messages) (shortfalls_of says messages counters) tail
+-- the lines with what is missing of the sessions of a log, and up to these counters, by the payloads that are known
+-- beforehand, or without any
+abbrev pub whole_lines_by :
+    Option (List (List ℕ)) → Detail → Answers → List Counter → List (List ℕ) → Tail → List ReportLine
+whole_lines_by known detail says counters messages tail =
+    lines_with detail (report_by known says (contents (notes messages))) (shortfalls_by known says messages counters)
+    tail
 
-abbrev pub whole_verdict : Answers → List Counter → List (List ℕ) → Tail → Verdict
-whole_verdict says counters messages tail =
-    verdict_with (report says messages) (shortfalls_of says messages counters) tail
+abbrev pub whole_verdict_by : Option (List (List ℕ)) → Answers → List Counter → List (List ℕ) → Tail → Verdict
+whole_verdict_by known says counters messages tail =
+    verdict_with (report_by known says (contents (notes messages))) (shortfalls_by known says messages counters) tail
 
 -- Each GBC below the greatest of a session, and below its counter, is that of a verified signature block, or missing,
 -- and never both.

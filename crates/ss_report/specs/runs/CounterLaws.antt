@@ -1,14 +1,20 @@
 -- What the plain text of a log's counters is.
-use Rattle.std.specs.Prelude.{◌≡◌, ℕ, List}
+use Rattle.std.specs.Prelude.{◌≡◌, ℕ, List, Option}
 use Rattle.ss_frame.specs.declared.step.Tail.{Tail}
 use Rattle.ss_review.specs.counted.CounterText.{lines_of_counters}
-use Rattle.ss_review.specs.counted.KeptLaws.{log_counters}
+use Rattle.ss_review.specs.counted.KeptLaws.{counters_given}
+use Rattle.ss_review.specs.keep.Contents.{blocks, contents}
+use Rattle.ss_review.specs.keep.Notes.{notes}
+use Rattle.ss_review.specs.pinned.Pinned.{counted_by, report_by}
 use Rattle.ss_review.specs.sessions.Verified.{Answers}
 use Rattle.ss_report.specs.runs.Jobs.{counting}
 use Rattle.ss_report.specs.declared.notation.Notation.TheVariants.{Plain}
 
 -- in plain notation, a run writes the counters of a log as the lines of the counters that the log itself gives
+-- (`log_counters` of `ss_review`), or those that it gives by the payloads that are known beforehand
 abbrev pub CountersAreTheLogs : Type 0
 CountersAreTheLogs =
-    (says : Answers) (log : List (List ℕ)) (tail : Tail)
-    → (counting Plain says).output log tail ≡ lines_of_counters (log_counters says log)
+    (known : Option (List (List ℕ))) (says : Answers) (log : List (List ℕ)) (tail : Tail)
+    → (counting Plain known says).output log tail
+    ≡ lines_of_counters
+    (counters_given (report_by known says (contents (notes log))).sessions (counted_by known says (blocks (notes log))))

@@ -1,21 +1,24 @@
--- The runs over a log: what each writes of its messages and its tail, and its verdict.
-use Rattle.std.specs.Prelude.{true, false, ℕ, Option, List, flat_map}
+-- The runs over a log: what each writes of its messages and its tail, and its verdict. Those that review go by the
+-- payloads that are known beforehand, where some are given (`Pinned.antt` of `ss_review`).
+use Rattle.std.specs.Prelude.{true, false, ℕ, Option, None, List, flat_map}
 use Rattle.ss_frame.specs.Frame.{frames, units_in}
 use Rattle.ss_frame.specs.Limits.{Allowance}
 use Rattle.ss_frame.specs.Watched.{Source, Sink}
 use Rattle.ss_review.specs.keep.Notes.{notes}
-use Rattle.ss_review.specs.keep.Contents.{blocks}
+use Rattle.ss_review.specs.keep.Contents.{blocks, contents}
 use Rattle.ss_review.specs.sessions.Verified.{Answers}
 use Rattle.ss_review.specs.report.Report.{report}
 use Rattle.ss_review.specs.report.Extract.{extract}
 use Rattle.ss_review.specs.Laws.{ListsWhatIsAnnounced}
 use Rattle.ss_review.specs.announced.Announced.{Key}
 use Rattle.ss_review.specs.counted.KeptLaws.{NumberIsTold, BlockIsTold}
+use Rattle.ss_review.specs.pinned.Pinned.{blocks_by, report_by}
+use Rattle.ss_review.specs.pinned.Stands.{StandsFor}
 use Rattle.ss_report.specs.texts.Inspection.{inspection}
 use Rattle.ss_report.specs.forms.Forms.{line_as, report_as, report_lines}
 use Rattle.ss_block.specs.declared.session.Session.{Session}
-use Rattle.ss_report.specs.lines.Whole.{TellsMissing, whole_lines, whole_verdict}
-use Rattle.ss_report.specs.lines.Between.{between_lines, between_verdict, end_counters}
+use Rattle.ss_report.specs.lines.Whole.{TellsMissing, whole_lines_by, whole_verdict_by}
+use Rattle.ss_report.specs.lines.Between.{between_lines_by, between_verdict_by, end_counters}
 use Rattle.ss_review.specs.declared.counted.counter.Counter.{Counter}
 use Rattle.ss_report.specs.texts.QuestionForms.{questions_as}
 use Rattle.ss_report.specs.runs.Counters.{counter_lines}
@@ -50,19 +53,20 @@ reviewing says = record {
 }
 
 -- the report in a form, with the verdict of the whole report
-abbrev pub reviewing_as : ReportForm → Detail → Answers → Job
-reviewing_as form detail says = record {
-  output = λ messages tail. report_as form detail (report says messages) tail;
-  verdict = λ messages tail. report_verdict (report says messages) tail;
+abbrev pub reviewing_as : ReportForm → Detail → (known : Option (List (List ℕ))) → Answers → Job
+reviewing_as form detail known says = record {
+  output = λ messages tail. report_as form detail (report_by known says (contents (notes messages))) tail;
+  verdict = λ messages tail. report_verdict (report_by known says (contents (notes messages))) tail;
   reviews = true;
   refusal = nothing;
 }
 
 -- the report in a form, with what is missing of each session's signature blocks, and of all up to these counters
-abbrev pub reviewing_whole : ReportForm → Detail → List Counter → Answers → Job
-reviewing_whole form detail counters says = record {
-  output = λ messages tail. flat_map (line_as form) (whole_lines detail says counters messages tail);
-  verdict = λ messages tail. whole_verdict says counters messages tail;
+abbrev pub reviewing_whole :
+    ReportForm → Detail → List Counter → (known : Option (List (List ℕ))) → Answers → Job
+reviewing_whole form detail counters known says = record {
+  output = λ messages tail. flat_map (line_as form) (whole_lines_by known detail says counters messages tail);
+  verdict = λ messages tail. whole_verdict_by known says counters messages tail;
   reviews = true;
   refusal = nothing;
 }
@@ -70,31 +74,34 @@ reviewing_whole form detail counters says = record {
 -- the report of one night in a form: between these counters of each session, with what is missing of it up to the
 -- second ones, if they are given, and with what is announced outside of the night
 abbrev pub reviewing_between :
-    ReportForm → Detail → (first : List Counter) → (second : Option (List Counter)) → Answers → Job
-reviewing_between form detail first second says = record {
-  output = λ messages tail. flat_map (line_as form) (between_lines detail says first second messages tail);
-  verdict = λ messages tail. between_verdict says first second messages tail;
+    ReportForm → Detail → (first : List Counter) → (second : Option (List Counter))
+    → (known : Option (List (List ℕ))) → Answers → Job
+reviewing_between form detail first second known says = record {
+  output = λ messages tail. flat_map (line_as form) (between_lines_by known detail says first second messages tail);
+  verdict = λ messages tail. between_verdict_by known says first second messages tail;
   reviews = true;
   refusal = nothing;
 }
 
 -- what a review asks of a signature scheme, with each payload in each question about it, or once
-abbrev pub asking_as : Notation → Payloads → Job
-asking_as notation payloads = record {
-  output = λ messages tail. questions_as notation payloads (blocks (notes messages));
+abbrev pub asking_as : Notation → Payloads → (known : Option (List (List ℕ))) → Job
+asking_as notation payloads known = record {
+  output = λ messages tail. questions_as notation payloads known (blocks (notes messages));
   verdict = λ messages tail. end_verdict tail;
   reviews = true;
   refusal = nothing;
 }
 
--- the same with each payload in each question about it
+-- the same with each payload in each question about it, where no payload is known beforehand
 abbrev pub asking : Notation → Job
-asking notation = asking_as notation payloads.InEach
+asking notation = asking_as notation payloads.InEach None
 
 -- the counters of the joined sessions
-abbrev pub counting : Notation → Answers → Job
-counting notation says = record {
-  output = λ messages tail. counter_lines notation says (blocks (notes messages)) (report says messages);
+abbrev pub counting : Notation → (known : Option (List (List ℕ))) → Answers → Job
+counting notation known says = record {
+  output = λ messages tail.
+      counter_lines notation says (blocks_by known says (blocks (notes messages)))
+      (report_by known says (contents (notes messages)));
   verdict = λ messages tail. end_verdict tail;
   reviews = true;
   refusal = nothing;
@@ -102,13 +109,13 @@ counting notation says = record {
 
 -- the messages that are selected, as they stand or out of their wraps, in a form, whatever the form of the log; a place
 -- that the log hasn't is refused, and a message that is no line of the form
-abbrev pub extracting_as : Extraction → Answers → Job
-extracting_as e says = record {
+abbrev pub extracting_as : Extraction → (known : Option (List (List ℕ))) → Answers → Job
+extracting_as e known says = record {
   output = λ messages tail.
-      units_in e.form (messages_at (shown e.unwrap messages) (selected e.selection says messages));
-  verdict = λ messages tail. selected_verdict e.selection says messages tail;
+      units_in e.form (messages_at (shown e.unwrap messages) (selected e.selection known says messages));
+  verdict = λ messages tail. selected_verdict e.selection known says messages tail;
   reviews = is_reviewed e.selection;
-  refusal = refusal e says;
+  refusal = refusal e known says;
 }
 
 -- the messages that the report lists, in its order, as octet-counted frames
@@ -126,28 +133,37 @@ pub record Reviews (says : Answers) (limits : Allowance) (before after : Source)
   pub run : Runs (reviewing says) limits before after was is verdict
   pub listed : ListsWhatIsAnnounced says run.messages (report says run.messages)
 
--- the same of a review in a form
-pub record ReviewsAs (form : ReportForm) (detail : Detail) (says : Answers) (limits : Allowance) (before after : Source)
-    (was is : Sink) (verdict : Verdict) : Type 0 where
-  pub run : Runs (reviewing_as form detail says) limits before after was is verdict
-  pub listed : ListsWhatIsAnnounced says run.messages (report says run.messages)
+-- The same of a review in a form, by payloads that are known beforehand: what is announced is that of another log, of
+-- which the same is reported. Without such payloads it is the log itself.
+pub record ReviewsAs (form : ReportForm) (detail : Detail) (known : Option (List (List ℕ))) (says : Answers)
+    (limits : Allowance) (before after : Source) (was is : Sink) (verdict : Verdict) : Type 0 where
+  pub run : Runs (reviewing_as form detail known says) limits before after was is verdict
+  pub other : List (List ℕ)
+  pub stands : StandsFor known says run.messages other
+  pub listed : ListsWhatIsAnnounced says other (report says other)
 
 -- the same of a review in a form with what is missing of each session's signature blocks, and of all up to these
 -- counters
-pub record ReviewsWhole (form : ReportForm) (detail : Detail) (counters : List Counter) (says : Answers)
-    (limits : Allowance) (before after : Source) (was is : Sink) (verdict : Verdict) : Type 0 where
-  pub run : Runs (reviewing_whole form detail counters says) limits before after was is verdict
-  pub listed : ListsWhatIsAnnounced says run.messages (report says run.messages)
-  pub missing : (s : Session) → TellsMissing says counters (blocks (notes run.messages)) s
-  pub numbers_told : (k : Key) → NumberIsTold says run.messages counters k
-  pub blocks_told : (s : Session) (gbc : ℕ) → BlockIsTold says run.messages counters s gbc
+pub record ReviewsWhole (form : ReportForm) (detail : Detail) (counters : List Counter)
+    (known : Option (List (List ℕ))) (says : Answers) (limits : Allowance) (before after : Source) (was is : Sink)
+    (verdict : Verdict) : Type 0 where
+  pub run : Runs (reviewing_whole form detail counters known says) limits before after was is verdict
+  pub other : List (List ℕ)
+  pub stands : StandsFor known says run.messages other
+  pub listed : ListsWhatIsAnnounced says other (report says other)
+  pub missing : (s : Session) → TellsMissing says counters (blocks (notes other)) s
+  pub numbers_told : (k : Key) → NumberIsTold says other counters k
+  pub blocks_told : (s : Session) (gbc : ℕ) → BlockIsTold says other counters s gbc
 
 -- the same of a review of one night in a form, which leaves out of what is missing up to the second counters what lies
 -- below the first ones
 pub record ReviewsBetween (form : ReportForm) (detail : Detail) (first : List Counter) (second : Option (List Counter))
-    (says : Answers) (limits : Allowance) (before after : Source) (was is : Sink) (verdict : Verdict) : Type 0 where
-  pub run : Runs (reviewing_between form detail first second says) limits before after was is verdict
-  pub listed : ListsWhatIsAnnounced says run.messages (report says run.messages)
-  pub missing : (s : Session) → TellsMissing says (end_counters second) (blocks (notes run.messages)) s
-  pub numbers_told : (k : Key) → NumberIsTold says run.messages (end_counters second) k
-  pub blocks_told : (s : Session) (gbc : ℕ) → BlockIsTold says run.messages (end_counters second) s gbc
+    (known : Option (List (List ℕ))) (says : Answers) (limits : Allowance) (before after : Source) (was is : Sink)
+    (verdict : Verdict) : Type 0 where
+  pub run : Runs (reviewing_between form detail first second known says) limits before after was is verdict
+  pub other : List (List ℕ)
+  pub stands : StandsFor known says run.messages other
+  pub listed : ListsWhatIsAnnounced says other (report says other)
+  pub missing : (s : Session) → TellsMissing says (end_counters second) (blocks (notes other)) s
+  pub numbers_told : (k : Key) → NumberIsTold says other (end_counters second) k
+  pub blocks_told : (s : Session) (gbc : ℕ) → BlockIsTold says other (end_counters second) s gbc

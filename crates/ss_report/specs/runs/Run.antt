@@ -1,5 +1,6 @@
 -- What a run over a log does, from octets to octets.
-use Rattle.std.specs.Prelude.{◌≡◌, ℕ, Bool, false, List, Option, Some, None}
+use Rattle.std.specs.Prelude.{◌≡◌, ℕ, Bool, false, List, Option, Some, None, option_map}
+use Rattle.std.specs.Borrow.{Bor}
 use Rattle.ss_frame.specs.Limits.{Allowance}
 use Rattle.ss_frame.specs.Watched.{Source, Sink}
 use Rattle.ss_frame.specs.Output.{WritesWhole, WritesPrefix}
@@ -16,6 +17,10 @@ pub record Job : Type 0 where
   pub verdict : List (List ℕ) → Tail → Verdict
   pub reviews : Bool
   pub refusal : List (List ℕ) → Option ExtractFault
+
+-- the payloads that are known beforehand, where some are given
+abbrev pub given : Option (Bor (List (List ℕ))) → Option (List (List ℕ))
+given known = option_map (λ ps. ps.now) known
 
 -- nothing is refused, whatever the messages
 abbrev pub nothing : List (List ℕ) → Option ExtractFault

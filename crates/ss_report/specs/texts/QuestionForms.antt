@@ -1,8 +1,8 @@
 -- The forms of the text of the questions about a log.
-use Rattle.std.specs.Prelude.{ℕ, List}
+use Rattle.std.specs.Prelude.{ℕ, List, Option}
 use Rattle.ss_review.specs.declared.keep.message.BlockMessage.{BlockMessage}
 use Rattle.ss_review.specs.declared.questions.asked.AskedSession.{AskedSession}
-use Rattle.ss_review.specs.questions.Questions.{asked_sessions, questions}
+use Rattle.ss_review.specs.pinned.Pinned.{questions_by, sessions_by}
 use Rattle.ss_report.specs.texts.QuestionText.{asking_lines, question_lines}
 use Rattle.ss_report.specs.texts.QuestionsOnce.{once_text_of}
 use Rattle.ss_report.specs.declared.notation.Notation.{Notation}
@@ -15,8 +15,9 @@ abbrev pub asking_lines_as : Notation → Payloads → List AskedSession → Lis
 asking_lines_as notation payloads.InEach ss = asking_lines notation ss
 asking_lines_as notation payloads.Once ss = once_text_of notation ss
 
--- what a review of these blocks asks: in plain text the questions alone, with each payload in each
-abbrev pub questions_as : Notation → Payloads → List BlockMessage → List ℕ
-questions_as Plain payloads.InEach bs = question_lines (questions bs)
-questions_as notation payloads.InEach bs = asking_lines notation (asked_sessions bs)
-questions_as notation payloads.Once bs = once_text_of notation (asked_sessions bs)
+-- what a review of these blocks asks, by the payloads that are known beforehand, or without any: in plain text the
+-- questions alone, with each payload in each
+abbrev pub questions_as : Notation → Payloads → (known : Option (List (List ℕ))) → List BlockMessage → List ℕ
+questions_as Plain payloads.InEach known bs = question_lines (questions_by known bs)
+questions_as notation payloads.InEach known bs = asking_lines notation (sessions_by known bs)
+questions_as notation payloads.Once known bs = once_text_of notation (sessions_by known bs)

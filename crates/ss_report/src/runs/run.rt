@@ -1,5 +1,6 @@
 //! What a run over a log takes.
 use ss_frame::{Limits, Watched};
+use ss_octets::Bytes;
 use std::alloc::Global;
 
 /// What a run over a log takes: a log, where its output goes, and what it may use.
@@ -13,6 +14,11 @@ pub struct Run<'r, R, W> {
     pub writer: &'r mut Watched<W>,
     /// In which form the log is stored, and how long it and its messages may be.
     pub limits: Limits,
+    /// The payloads by which sessions are joined, if they are known beforehand: each a whole payload block, as its
+    /// originator sends it in pieces (RFC 5848, section 5.3). A session that one of them claims is joined by it, and
+    /// certificate blocks that don't speak for it are refused (`Reviewer::conclude_by`). An inspection doesn't look at
+    /// them.
+    pub known: Option<&'r [Bytes]>,
     /// Where memory comes from.
     pub alloc: Global,
 }

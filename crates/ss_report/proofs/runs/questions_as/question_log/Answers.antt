@@ -1,7 +1,9 @@
 use Rattle.std.proofs.Common.{◌≡◌, refl, rules}
 use Rattle.ss_review.specs.keep.Notes.{notes}
 use Rattle.ss_review.specs.keep.Contents.{blocks}
-use Rattle.ss_review.specs.questions.Questions.{asked_sessions}
+use Rattle.ss_review.specs.questions.Questions.{questions_shared}
+use Rattle.ss_review.specs.pinned.Pinned.{questions_by, sessions_by}
+use Rattle.ss_report.specs.runs.Run.{given}
 use Rattle.ss_report.proofs.of_writing.QuestionLines.{lines_as}
 use Rattle.ss_report.proofs.runs.questions_as.question_log.Goals as goal
 
@@ -9,14 +11,16 @@ pub returns-clause-made : goal.returns-clause-made
 returns-clause-made g c = λ notation.
     let fed = c.in_ok-questioner.ensures.fed in
     let bs = blocks (notes fed.messages) in
+    let known = given c.args.known in
     let sessions = c.in_ok-sessions.sessions in
-    let are : sessions ≡ asked_sessions bs = c.in_ok-sessions.ensures.sessions (notes fed.messages) fed.keeps in
+    let are : sessions ≡ sessions_by known bs = c.in_ok-sessions.ensures.sessions (notes fed.messages) fed.keeps in
+    let asked : questions_shared sessions ≡ questions_by known bs = c.in_ok-sessions.ensures.asked (notes fed.messages) fed.keeps in
     record {
       messages = fed.messages;
       tail = c.in_ok-questioner.field-0.tail;
       reading = fed.reading;
       no_read_failed = fed.no_read_failed;
       unrefused = refl;
-      output_is = lines_as notation c.args.payloads bs sessions are;
+      output_is = lines_as notation c.args.payloads known bs sessions are asked;
       verdict_is = search rules;
     }

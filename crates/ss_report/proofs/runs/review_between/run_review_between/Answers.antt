@@ -1,4 +1,4 @@
-use Rattle.std.proofs.Common.{List, Option, Result, Ok, Err, refl}
+use Rattle.std.proofs.Common.{ℕ, List, Option, Result, Ok, Err, refl}
 use Rattle.std.specs.Borrow.{Bor}
 use Rattle.std.specs.Prelude.{IfOk, option_map}
 use Rattle.ss_frame.specs.Limits.{Allowance}
@@ -12,6 +12,7 @@ use Rattle.ss_review.specs.counted.Kept.{counters_of, end_of_blocks}
 use Rattle.ss_review.specs.declared.counted.counter.Counter.{Counter}
 use Rattle.ss_review.specs.counted.CountedLaws.{CountedOrMissing}
 use Rattle.ss_review.specs.counted.KeptLaws.{EveryNumberIsTold, EveryBlockIsTold}
+use Rattle.ss_review.specs.pinned.Stands.{PinnedReportsAreOfLogs}
 use Rattle.ss_report.specs.declared.fault.RunFault.{RunFault}
 use Rattle.ss_report.specs.declared.forms.report_form.ReportForm.{ReportForm}
 use Rattle.ss_report.specs.declared.lines.detail.Detail.{Detail}
@@ -19,26 +20,31 @@ use Rattle.ss_report.specs.declared.verdict.verdict.Verdict.{Verdict}
 use Rattle.ss_report.specs.lines.Between.{end_counters}
 use Rattle.ss_report.specs.declared.fault.RunFault.TheVariants as run
 use Rattle.ss_report.specs.log.Log.{StopsRun}
-use Rattle.ss_report.specs.runs.Run.{Job, Runs, Stops}
+use Rattle.ss_report.specs.runs.Run.{Job, Runs, Stops, given}
 use Rattle.ss_report.specs.runs.Jobs.{ReviewsBetween, reviewing_between}
+use Rattle.ss_report.proofs.of_reports.PinnedLogs.{stands_for}
 use Rattle.ss_report.proofs.of_reading.Answered.{runs_if_ok, stops_if_err, fails_by_write}
 use Rattle.ss_report.proofs.runs.review_between.run_review_between.Goals.{in-Ok, in-Err}
 use Rattle.ss_report.proofs.runs.review_between.run_review_between.Goals as goal
 
 -- a review that succeeds lists what is announced, as each report does
-reviews_if_ok : (form : ReportForm) (detail : Detail) (first : List Counter) (second : Option (List Counter)) (says : Answers) (limits : Allowance) (before after : Source) (was is : Sink) (r : Result Verdict RunFault)
-    → ReportsListWhatIsAnnounced → CountedOrMissing → EveryNumberIsTold → EveryBlockIsTold
-    → IfOk r (Runs (reviewing_between form detail first second says) limits before after was is) → IfOk r (ReviewsBetween form detail first second says limits before after was is)
-reviews_if_ok form detail first second says limits before after was is (Ok verdict) law other number block ran =
+reviews_if_ok : (form : ReportForm) (detail : Detail) (first : List Counter) (second : Option (List Counter)) (known : Option (List (List ℕ))) (says : Answers) (limits : Allowance) (before after : Source) (was is : Sink) (r : Result Verdict RunFault)
+    → ReportsListWhatIsAnnounced → PinnedReportsAreOfLogs → CountedOrMissing → EveryNumberIsTold → EveryBlockIsTold
+    → IfOk r (Runs (reviewing_between form detail first second known says) limits before after was is) → IfOk r (ReviewsBetween form detail first second known says limits before after was is)
+reviews_if_ok form detail first second known says limits before after was is (Ok verdict) law pinned missing number block ran =
     let counters = end_counters second in
+    let stands = stands_for pinned known says ran.messages in
+    let log = stands.0 in
     record {
       run = ran;
-      listed = law says ran.messages;
-      missing = λ s. other says ran.messages s (end_of_blocks (counters_of counters s) (gbcs says (blocks (notes ran.messages)) s));
-      numbers_told = number says ran.messages counters;
-      blocks_told = block says ran.messages counters;
+      other = log;
+      stands = stands.1;
+      listed = law says log;
+      missing = λ s. missing says log s (end_of_blocks (counters_of counters s) (gbcs says (blocks (notes log)) s));
+      numbers_told = number says log counters;
+      blocks_told = block says log counters;
     }
-reviews_if_ok form detail first second says limits before after was is (Err fault) law other number block ran = tt
+reviews_if_ok form detail first second known says limits before after was is (Err fault) law pinned missing number block ran = tt
 
 -- a run that fails before anything is written
 stops_of : (job : Job) (limits : Allowance) (before after : Source) (was is : Sink) (fault : RunFault) → StopsRun job.reviews limits before after fault → Stops job limits before after was is fault
@@ -54,7 +60,7 @@ returns-clause-reviewed g c = elim c.match-review_log.branch [
       let second = option_map {T = Bor (List Counter)} (λ cs. cs.now) c.args.second in
       let told = w.write_reviewed.ensures _ _ _ _ (w.in-Ok.ensures c.args.form c.args.detail) in
       rw (w.result-is, w.writer-is)
-      (reviews_if_ok c.args.form c.args.detail c.args.first.now second _ _ _ _ _ _ _ c.reports_list_what_is_announced.ensures c.counted_or_missing.ensures c.every_number_is_told.ensures c.every_block_is_told.ensures (runs_if_ok _ _ _ _ _ _ _ told))
+      (reviews_if_ok c.args.form c.args.detail c.args.first.now second _ _ _ _ _ _ _ _ c.reports_list_what_is_announced.ensures c.pinned_reports_are_of_logs.ensures c.counted_or_missing.ensures c.every_number_is_told.ensures c.every_block_is_told.ensures (runs_if_ok _ _ _ _ _ _ _ told))
   | in-Err w ↦ rw w.result-is tt
 ]
 
@@ -65,7 +71,7 @@ returns-clause-stopped g c = elim c.match-review_log.branch [
       rw (w.result-is, w.writer-is) (stops_if_err _ _ _ _ _ _ _ told)
   | in-Err w ↦
       let second = option_map {T = Bor (List Counter)} (λ cs. cs.now) c.args.second in
-      let job = reviewing_between c.args.form c.args.detail c.args.first.now second (answers g.J.Judge.trusted g.J.Judge.valid c.args.judge) in
+      let job = reviewing_between c.args.form c.args.detail c.args.first.now second (given c.args.run.known) (answers g.J.Judge.trusted g.J.Judge.valid c.args.judge) in
       let before = source_of g.R.Read.remaining c.args.run.reader.now in
       let after = source_of g.R.Read.remaining c.review_log.new.reader in
       let was = sink_of g.W.Write.contents c.args.run.writer.now in
