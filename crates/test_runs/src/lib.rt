@@ -22,6 +22,8 @@ mod memory;
 #[cfg(test)]
 mod originating;
 #[cfg(test)]
+mod pinned;
+#[cfg(test)]
 mod rows;
 #[cfg(test)]
 mod run;
