@@ -208,7 +208,24 @@ sys.stdout.buffer.write(b"".join(it + b"\n" for it in frames(sys.stdin.buffer.re
 keys verify "${key[@]}" --ignore-strangers lines
 holds 'lines: status 0' test "$status" = 0
 
-# ---- an older program, and one that fails
+mkdir nights
+cp log nights/first.frames
+: >manifest
+keys manifest add manifest nights/first.frames --counters counters
+holds 'a manifest names the night' test "$status" = 0
+keys verify "${key[@]}" --nights manifest nights
+holds 'all nights: status 1' test "$status" = 1
+holds 'all nights: the night' test "$(head -n 1 out)" = "Night 1 (entry 1, first.frames): FINDINGS: of 10 announced messages 10 are \
+present and unchanged; 7 blocks are unverified. Nothing is missing between the counters."
+keys verify "${key[@]}" --ignore-strangers --nights manifest nights
+holds 'all nights, ignored: status 0' test "$status" = 0
+holds 'all nights, ignored: the verdict' test "$(verdict)" = "Night 1: clean; numbers 1 to 10 are there, each once, and nothing else \
+is. 7 unverified blocks were ignored: they claim joined sessions, aren't validly signed, and change nothing."
+frame 'a message that nobody signed' >>nights/first.frames
+keys verify "${key[@]}" --ignore-strangers --nights manifest nights
+holds 'all nights, and an unlisted message: status 1' test "$status" = 1
+
+# ---- an older program
 cat >older <<END
 #!/usr/bin/env bash
 for it in "\$@"; do
@@ -226,11 +243,11 @@ keys verify "${key[@]}" --ssign ./older signed
 expect 'an older program, and no stranger' 0 'SOME TEXT' ''
 
 # ---- many blocks, in little memory
-disputes octet 20000 <signed >log
+disputes octet 10000 <signed >log
 (ulimit -v 1500000 && exec timeout "$patience" "$keys_program" verify "${key[@]}" --ignore-strangers log >out 2>err)
 status=$?
 holds 'many blocks: status 0' test "$status" = 0
-holds 'many blocks: they are counted' grep -qx "  20,000 blocks claim this session .*" out
+holds 'many blocks: they are counted' grep -qx "  10,000 blocks claim this session .*" out
 holds 'no passing file is left' test -z "$(ls -A -- "$TMPDIR")"
 
 finish
