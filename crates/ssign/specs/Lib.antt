@@ -14,3 +14,4 @@ pub mod MessageCount
 pub mod Progress
 pub mod ReadBack
 pub mod FaultText
+pub mod Names

@@ -1,5 +1,5 @@
 -- Rules of the options of a command over a log, and of the word of `explain`: names, ranges and defaults.
-use Rattle.std.specs.Prelude.{◌-◌, ℕ, pos, true, List, [], ◌∷◌, Some}
+use Rattle.std.specs.Prelude.{◌-◌, ℕ, pos, true, List, [], ◌∷◌, Some, codes}
 use Rattle.clap.specs.Words.{Rule, new_rule}
 use Rattle.clap.specs.Lexer.{usize_max}
 use Rattle.clap.specs.declared.builder.ArgAction.TheVariants.{Append, Set, SetTrue}
@@ -18,16 +18,15 @@ flag_rule name = record (new_rule name) { long = Some name; action = Some SetTru
 -- it may be given often, and is each time one place of a log of as many messages as are allowed
 abbrev pub place_rule : Rule
 place_rule =
-    record (number_rule place.NAME.now (pos place.MIN) (pos (most_messages - 1))) { action = Some Append }
+    record (number_rule place.NAME.now (pos 0) (pos (most_messages - 1))) { action = Some Append }
 
 abbrev pub max_len_rule : Rule
 max_len_rule =
-    usual_rule (number_rule max_len.NAME.now (pos max_len.MIN) (pos longest_message)) max_len.DEFAULT.now
+    usual_rule (number_rule max_len.NAME.now (pos 1) (pos longest_message)) (codes "65536")
 
 abbrev pub max_messages_rule : Rule
 max_messages_rule =
-    usual_rule (number_rule max_messages.NAME.now (pos max_messages.MIN) (pos most_messages))
-    max_messages.DEFAULT.now
+    usual_rule (number_rule max_messages.NAME.now (pos 1) (pos most_messages)) (codes "10000000")
 
 -- what `explain` is asked about: one word or more
 abbrev pub code_rule : Rule

@@ -49,11 +49,11 @@ header_in c t = record {
   msgid = field_in t.msgid.now;
 }
 
--- PRI and the fields are in their ranges
+-- PRI and the fields are in their ranges (RFC 5424, section 6)
 abbrev pub is_head : HeadValue → Bool
 is_head h =
-    nat_le h.pri pri.MAX && is_field host.LONGEST h.hostname && is_field app.LONGEST h.app_name
-    && is_field procid.LONGEST h.procid && is_field msgid.LONGEST h.msgid
+    nat_le h.pri 191 && is_field 255 h.hostname && is_field 48 h.app_name && is_field 128 h.procid
+    && is_field 32 h.msgid
 
 abbrev pub head_in : Choices → Texts → Option HeadValue
 head_in c t = if is_head (header_in c t) then Some (header_in c t) else None
@@ -93,10 +93,10 @@ option_name Msgid = msgid.NAME.now
 -- the first option of a field of the header whose text is out of its form
 abbrev pub refused_field : Texts → Option TextOption
 refused_field t =
-    if not (is_field host.LONGEST (field_in t.host.now)) then Some Host
-    else (if not (is_field app.LONGEST (field_in t.app.now)) then Some App
-    else (if not (is_field procid.LONGEST (field_in t.procid.now)) then Some Procid
-    else (if not (is_field msgid.LONGEST (field_in t.msgid.now)) then Some Msgid
+    if not (is_field 255 (field_in t.host.now)) then Some Host
+    else (if not (is_field 48 (field_in t.app.now)) then Some App
+    else (if not (is_field 128 (field_in t.procid.now)) then Some Procid
+    else (if not (is_field 32 (field_in t.msgid.now)) then Some Msgid
     else None)))
 
 -- the first option, in this order, whose text is read as nothing
@@ -131,11 +131,11 @@ pub record HasNumberIn (matches : ArgMatches) (option : List ℕ) (least most n 
 -- the version and the numbers
 pub record HasChoices (matches : ArgMatches) (c : Choices) : Type 0 where
   pub alg : option_and_then version_in (first_value (found_of matches) ver.NAME.now) ≡ Some c.alg
-  pub rsid : HasNumberIn matches rsid.NAME.now rsid.MIN rsid.MAX c.rsid
-  pub pri : HasNumberIn matches pri.NAME.now pri.MIN pri.MAX c.pri
-  pub count : HasNumberIn matches count.NAME.now count.MIN count.MAX c.count
-  pub frag : HasNumberIn matches frag.NAME.now frag.MIN frag.MAX c.frag
-  pub copies : HasNumberIn matches copies.NAME.now copies.MIN copies.MAX c.copies
+  pub rsid : HasNumberIn matches rsid.NAME.now 0 9999999999 c.rsid
+  pub pri : HasNumberIn matches pri.NAME.now 0 191 c.pri
+  pub count : HasNumberIn matches count.NAME.now 1 99 c.count
+  pub frag : HasNumberIn matches frag.NAME.now 1 9999 c.frag
+  pub copies : HasNumberIn matches copies.NAME.now 1 9 c.copies
 
 -- the texts
 pub record HasTexts (matches : ArgMatches) (t : Texts) : Type 0 where

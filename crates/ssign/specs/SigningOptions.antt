@@ -1,5 +1,5 @@
 -- Rules of options, and the options that say how a log is signed: names, ranges and defaults.
-use Rattle.std.specs.Prelude.{◌≡◌, ℕ, ℤ, pos, Bool, true, List, [], ◌∷◌, Some, map}
+use Rattle.std.specs.Prelude.{◌≡◌, ℕ, ℤ, pos, Bool, true, List, [], ◌∷◌, Some, codes, map}
 use Rattle.std.specs.Borrow.{Bor}
 use Rattle.clap.specs.Words.{App, Rule, new_rule, with_rule}
 use Rattle.clap.specs.declared.builder.ArgAction.TheVariants.{Set}
@@ -59,41 +59,48 @@ usual_rule rule usual = record rule { defaults = usual ∷ [] }
 abbrev pub payload_rule : Rule
 payload_rule = required_rule (text_rule payload.NAME.now)
 
+-- ten digits at most (RFC 5848, section 4.2.2)
 abbrev pub rsid_rule : Rule
-rsid_rule = required_rule (number_rule rsid.NAME.now (pos rsid.MIN) (pos rsid.MAX))
+rsid_rule = required_rule (number_rule rsid.NAME.now (pos 0) (pos 9999999999))
 
+-- none where it isn't given (RFC 5424, section 6.2.3)
 abbrev pub stamp_rule : Rule
-stamp_rule = usual_rule (text_rule stamp.NAME.now) stamp.DEFAULT.now
+stamp_rule = usual_rule (text_rule stamp.NAME.now) (codes "-")
 
+-- eight severities of each of 24 facilities (RFC 5424, section 6.2.1)
 abbrev pub pri_rule : Rule
-pri_rule = usual_rule (number_rule pri.NAME.now (pos pri.MIN) (pos pri.MAX)) pri.DEFAULT.now
+pri_rule = usual_rule (number_rule pri.NAME.now (pos 0) (pos 191)) (codes "110")
 
 abbrev pub host_rule : Rule
-host_rule = usual_rule (text_rule host.NAME.now) host.DEFAULT.now
+host_rule = usual_rule (text_rule host.NAME.now) (codes "-")
 
 abbrev pub app_rule : Rule
-app_rule = usual_rule (text_rule app.NAME.now) app.DEFAULT.now
+app_rule = usual_rule (text_rule app.NAME.now) (codes "-")
 
 abbrev pub procid_rule : Rule
-procid_rule = usual_rule (text_rule procid.NAME.now) procid.DEFAULT.now
+procid_rule = usual_rule (text_rule procid.NAME.now) (codes "-")
 
 abbrev pub msgid_rule : Rule
-msgid_rule = usual_rule (text_rule msgid.NAME.now) msgid.DEFAULT.now
+msgid_rule = usual_rule (text_rule msgid.NAME.now) (codes "-")
 
+-- SHA-1 where it isn't given (RFC 5848, section 4.2.1)
 abbrev pub ver_rule : Kept → Rule
-ver_rule versions = usual_rule (versions_rule ver.NAME.now versions) ver.DEFAULT.now
+ver_rule versions = usual_rule (versions_rule ver.NAME.now versions) (codes "0111")
 
+-- all messages are of one group where it isn't given (RFC 5848, section 4.2.3)
 abbrev pub groups_rule : Rule
-groups_rule = usual_rule (text_rule groups.NAME.now) groups.DEFAULT.now
+groups_rule = usual_rule (text_rule groups.NAME.now) (codes "one")
 
+-- two digits at most, and not 0 (RFC 5848, section 4.2.6)
 abbrev pub count_rule : Rule
-count_rule = usual_rule (number_rule count.NAME.now (pos count.MIN) (pos count.MAX)) count.DEFAULT.now
+count_rule = usual_rule (number_rule count.NAME.now (pos 1) (pos 99)) (codes "10")
 
+-- as many octets as FLEN may count (RFC 5848, section 5.3.2)
 abbrev pub frag_rule : Rule
-frag_rule = usual_rule (number_rule frag.NAME.now (pos frag.MIN) (pos frag.MAX)) frag.DEFAULT.now
+frag_rule = usual_rule (number_rule frag.NAME.now (pos 1) (pos 9999)) (codes "500")
 
 abbrev pub copies_rule : Rule
-copies_rule = usual_rule (number_rule copies.NAME.now (pos copies.MIN) (pos copies.MAX)) copies.DEFAULT.now
+copies_rule = usual_rule (number_rule copies.NAME.now (pos 1) (pos 9)) (codes "1")
 
 -- ---- the options, in their order
 

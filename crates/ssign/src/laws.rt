@@ -1,5 +1,6 @@
 //! Laws on several commands.
 ghost use Rattle.ssign.specs.CommandLine.{AreFoundByName};
+ghost use Rattle.ssign.specs.Names.{CommandsHaveTheirNames, OptionsHaveTheirNames};
 ghost use Rattle.ssign.specs.ReadBack.{CountersAreReadBack};
 
 use ss_answers::laws::lines_have_their_counters;
@@ -7,6 +8,12 @@ use ss_report::laws::counters_are_the_logs;
 use ss_review::laws::kept::{
     counters_given_back, log_counters_add_nothing, log_counters_are_in_range,
 };
+
+/// The names of commands and options are those of the guide. All other clauses name the constants.
+pub fn names_are_given()
+    ensures commands { CommandsHaveTheirNames }
+    ensures options { OptionsHaveTheirNames }
+{}
 
 /// Each command is found by its name, and by no other text. So no two have one name.
 pub fn commands_are_found_by_name()
