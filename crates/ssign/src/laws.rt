@@ -1,13 +1,25 @@
 //! Laws on several commands.
+ghost use Rattle.std.specs.Prelude.{◌≡◌, false, List, ℕ};
+ghost use Rattle.ssign.specs.declared.refuse_all.RefuseAll.{RefuseAll};
 ghost use Rattle.ssign.specs.CommandLine.{AreFoundByName};
 ghost use Rattle.ssign.specs.Names.{CommandsHaveTheirNames, OptionsHaveTheirNames};
 ghost use Rattle.ssign.specs.ReadBack.{CountersAreReadBack};
 
+use crate::refuse_all::RefuseAll;
 use ss_answers::laws::lines_have_their_counters;
 use ss_report::laws::counters_are_the_logs;
+use ss_review::Judge;
 use ss_review::laws::kept::{
     counters_given_back, log_counters_add_nothing, log_counters_are_in_range,
 };
+
+/// Where no answers file is given, no payload is trusted, and no signature is valid: the judge of such a run says no to
+/// everything.
+pub fn nobody_is_trusted()
+    ensures trusted { (judge : RefuseAll) (payload : List ℕ) → ⟦<RefuseAll as Judge>⟧.trusted judge payload ≡ false }
+    ensures valid { (judge : RefuseAll) (payload octets signature : List ℕ) →
+        ⟦<RefuseAll as Judge>⟧.valid judge payload octets signature ≡ false }
+{}
 
 /// The names of commands and options are those of the guide. All other clauses name the constants.
 pub fn names_are_given()
