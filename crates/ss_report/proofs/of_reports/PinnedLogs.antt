@@ -1,17 +1,15 @@
 -- What holds of the reports of all logs holds of those by payloads that are known beforehand, because each is the report
 -- of a log.
-use Rattle.std.proofs.Common.{ℕ, List, Option, Some, None, refl, ap, subst}
+use Rattle.std.proofs.Common.{ℕ, List, Option, Some, None, refl, subst}
 use Rattle.ss_review.specs.declared.counted.counted_session.CountedSession.{CountedSession}
 use Rattle.ss_review.specs.declared.report.session_report.SessionReport.{SessionReport}
 use Rattle.ss_review.specs.keep.Notes.{notes}
 use Rattle.ss_review.specs.keep.Contents.{blocks, contents}
 use Rattle.ss_review.specs.sessions.Verified.{Answers}
-use Rattle.ss_review.specs.Laws.{ReportsAreInOrder}
-use Rattle.ss_review.specs.report.Meaning.{IsInOrder}
 use Rattle.ss_review.specs.report.Report.{report}
 use Rattle.ss_review.specs.counted.Counted.{counted_sessions}
 use Rattle.ss_review.specs.pinned.Pinned.{counted_by, report_by}
-use Rattle.ss_review.specs.pinned.Stands.{PinnedReportsAreInOrder, PinnedReportsAreOfLogs, StandsFor}
+use Rattle.ss_review.specs.pinned.Stands.{PinnedReportsAreOfLogs, StandsFor}
 
 -- the log that stands for this one
 pub stands_for : PinnedReportsAreOfLogs → (known : Option (List (List ℕ))) (says : Answers) (log : List (List ℕ))
@@ -30,8 +28,3 @@ of_sessions_by law P says of_logs (Some ps) log =
     let same = stands.1 in
     subst (λ (p : List SessionReport × List CountedSession). P p.0 p.1)
     (λ i. (same.sessions i, counted_sessions says (same.blocks_are i))) (of_logs stands.0)
-
-pub in_order_by : ReportsAreInOrder → PinnedReportsAreInOrder → (known : Option (List (List ℕ))) (says : Answers) (log : List (List ℕ))
-    → IsInOrder (report_by known says (contents (notes log)))
-in_order_by all pinned None says log = all says log
-in_order_by all pinned (Some ps) says log = pinned says ps log
