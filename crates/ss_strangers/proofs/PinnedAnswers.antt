@@ -29,10 +29,11 @@ use Rattle.ss_review.proofs.of_lists.Tests.{any_member, member_any, all_member, 
 use Rattle.ss_review.proofs.of_questions.AgreeingSchemes.{verified_alike, one_report_of}
 use Rattle.ss_review.proofs.of_questions.AskableBlocks.{has-sessions, has-own, stated_in_joined}
 use Rattle.ss_review.specs.pinned.Pinned.{agrees_in, speaks_for, claims, claimants, is_signature, keeps, kept, pinned_contents, is_verified_pinned, refused_pinned, pinned_counted, is_stated, is_candidate, asked_pinned, pinned_questions}
-use Rattle.ss_strangers.specs.States.{AreWithin}
+use Rattle.ss_review.specs.pinned.Claimants.{AreWithin}
 use Rattle.ss_strangers.specs.StateLaws.{LogsAreWithin}
 use Rattle.ss_strangers.specs.PinnedAnswers.{AgreeingSchemesGiveOnePinnedReport}
-use Rattle.ss_strangers.proofs.JoinedByGiven.{left, kept_of_session, unclaimed_left, one_joined, two_joined, how_many, own_within}
+use Rattle.ss_review.proofs.of_pinned.KeptOfSessions.{left, kept_of_session, unclaimed_left, one_joined, two_joined, how_many}
+use Rattle.ss_strangers.proofs.JoinedByGiven.{own_within}
 use Rattle.ss_strangers.proofs.ReportsAgree.{keeps_it, has-kept, same_sessions}
 
 -- ---- lists

@@ -38,11 +38,11 @@ use Rattle.ss_strangers.specs.PinnedListings.{PinnedReportsListWhatIsAnnounced}
 use Rattle.ss_strangers.specs.SmallAttack.{own_payload, given, forged_certificate}
 use Rattle.ss_strangers.specs.SmallListing.{attacked_whole, SmallListingIsThis}
 use Rattle.ss_strangers.specs.StateLaws.{LogsAreWithin, ReportsAgree}
-use Rattle.ss_strangers.specs.States.{IsClaimant}
+use Rattle.ss_review.specs.pinned.Claimants.{IsClaimant}
 use Rattle.ss_strangers.specs.Strangers.{IsAddedTo, StrangersTakeNothing}
 use Rattle.ss_strangers.specs.UnforgedLaws.{ArrivedPayloadsClaim}
-use Rattle.ss_strangers.proofs.Claims.{joined_disputed}
-use Rattle.ss_strangers.proofs.JoinedByGiven.{session_is}
+use Rattle.ss_review.proofs.of_pinned.Claims.{joined_disputed}
+use Rattle.ss_review.proofs.of_pinned.KeptOfSessions.{session_is}
 use Rattle.ss_strangers.proofs.SmallAttack.{own_says, forged_says, block_says, foreign, not_normal}
 
 -- the laws that it rests on

@@ -10,7 +10,7 @@ use Rattle.ss_review.specs.sessions.Sessions.{of_session}
 use Rattle.ss_strangers.specs.AddedMessages.{IsWith, MayBeAdded}
 use Rattle.ss_strangers.specs.PinnedListings.{IsWitnessedByKept}
 use Rattle.ss_strangers.specs.SmallAttack.{own_payload, given, forged_certificate}
-use Rattle.ss_strangers.specs.States.{IsClaimant}
+use Rattle.ss_review.specs.pinned.Claimants.{IsClaimant}
 use Rattle.ss_strangers.specs.Unforged.{pinned_in}
 
 -- The originator's certificate block, its one message and the block of it arrived, and so did the stranger's block.
