@@ -1,8 +1,6 @@
 -- Which payloads claim a session, step by step.
-use Rattle.std.proofs.Common.{◌≡◌, inl, inr, ℕ, ◌+◌, ◌<◌, Bool, true, false, cond, ◌&&◌, List, [], ◌∷◌, ◌++◌, length, get_or, take, map, filter, refl, sym, ap, ◌∙◌, subst, All}
-use Rattle.std.specs.Prelude.{Option, Some, None, Contains}
-use Rattle.std.specs.List.{cons_option}
-use Rattle.std.proofs.lemmas.Bool.{and_parts, and_from, true≢false, false_from_ne_true}
+use Rattle.std.proofs.Common.{◌≡◌, ℕ, ◌+◌, ◌<◌, true, false, cond, ◌&&◌, List, [], ◌∷◌, ◌++◌, length, get_or, take, filter, sym, ap, ◌∙◌}
+use Rattle.std.proofs.lemmas.Bool.{and_parts, true≢false, false_from_ne_true}
 use Rattle.std.proofs.lemmas.List.{append-nil}
 use Rattle.std.proofs.lemmas.List.Elements.{filter_more}
 use Rattle.ss_review.specs.declared.keep.message.BlockMessage.{BlockMessage}

@@ -1,16 +1,15 @@
 -- Which blocks are kept, by what is known of the sessions of their log.
-use Rattle.std.proofs.Common.{◌≡◌, inl, inr, ℕ, ◌+◌, ◌<◌, Bool, true, false, cond, ◌||◌, List, [], ◌∷◌, ◌++◌, length, get_or, take, map, filter, refl, sym, ap, ◌∙◌, subst, All, arith}
+use Rattle.std.proofs.Common.{◌≡◌, inl, inr, ℕ, ◌+◌, ◌<◌, Bool, true, false, ◌||◌, List, [], ◌∷◌, ◌++◌, length, get_or, take, map, refl, sym, ap, ◌∙◌, subst, arith}
 use Rattle.std.specs.Prelude.{Contains, Ok}
 use Rattle.std.specs.declared.cmp.Ordering.{Ordering}
 use Rattle.std.specs.declared.cmp.Ordering.TheVariants.{Less, Equal, Greater}
 use Rattle.std.specs.List.{list_any}
 use Rattle.std.specs.List.Sorted.{IsStrictlySortedBy, IsNonDecreasingBy, IsPartitionPoint}
-use Rattle.std.specs.Ordering.{is_eq, ordering_index}
+use Rattle.std.specs.Ordering.{ordering_index}
 use Rattle.std.proofs.lemmas.Bool.{cases_lt, true≢false, false_from_ne_true}
 use Rattle.std.proofs.lemmas.Cmp.{tied_itself}
-use Rattle.std.proofs.lemmas.List.{get_or_default, map_more, map-id}
+use Rattle.std.proofs.lemmas.List.{map_more, map-id}
 use Rattle.std.proofs.lemmas.List.Folds.{list_any_at}
-use Rattle.std.proofs.lemmas.List.Elements.{Contains-get_or}
 use Rattle.std.proofs.lemmas.Simd.{map-map}
 use Rattle.ss_block.specs.declared.session.Session.{Session}
 use Rattle.ss_block.specs.Order.{session_cmp}
@@ -22,12 +21,12 @@ use Rattle.ss_review.specs.declared.questions.question.Question.{Question}
 use Rattle.ss_review.specs.questions.Questions.{question_about, asked}
 use Rattle.ss_review.specs.report.Verdict.{is_none}
 use Rattle.ss_review.specs.sessions.Sectioned.{sections}
-use Rattle.ss_review.specs.sessions.Sessions.{same_session, sessions, of_session}
+use Rattle.ss_review.specs.sessions.Sessions.{sessions, of_session}
 use Rattle.ss_review.specs.sessions.Verified.{Answers}
 use Rattle.ss_review.specs.pinned.Finding.{payloads_of, session_claimed, section_claimed, AreAskableUnder, IsAskableBlock}
 use Rattle.ss_review.specs.pinned.Pinned.{is_signature, claims, claimants, keeps, speaks_for}
 use Rattle.ss_octets.proofs.Members.{Has, has_from_contains, contains_from_has, has-append_cases, has-map, from_has-map, from_has-filter}
-use Rattle.ss_review.proofs.of_lists.Rising.{rises-in_order, has-in_order}
+use Rattle.ss_review.proofs.of_lists.Rising.{rises-in_order}
 use Rattle.ss_review.proofs.of_lists.Tests.{any_member, member_any}
 use Rattle.ss_review.proofs.of_pinned.Asking.{claims_may}
 use Rattle.ss_review.proofs.of_questions.AskableBlocks.{has-sessions, has-own}

@@ -1,5 +1,5 @@
 -- The fragments of the blocks that texts hold lie within their payloads.
-use Rattle.std.proofs.Common.{◌≡◌, ℕ, List, sym, ap, ◌∙◌}
+use Rattle.std.proofs.Common.{◌≡◌, List, ap, ◌∙◌}
 use Rattle.std.specs.Prelude.{Some}
 use Rattle.std.specs.List.{filter_map}
 use Rattle.ss_block.specs.Block as block
@@ -9,7 +9,6 @@ use Rattle.ss_block.specs.declared.reading.Reading.{Reading}
 use Rattle.ss_block.specs.declared.reading.Reading.TheVariants as readings
 use Rattle.ss_review.specs.declared.keep.message.BlockContent.{BlockContent}
 use Rattle.ss_review.specs.declared.keep.message.BlockContent.TheVariants.{Fragment}
-use Rattle.ss_review.specs.declared.keep.message.BlockMessage.{BlockMessage}
 use Rattle.ss_review.specs.declared.keep.reviewer.BlockText.{BlockText}
 use Rattle.ss_review.specs.keep.Contents.{said_in, block_in}
 use Rattle.ss_review.specs.pinned.Claimants.{AreWithin}

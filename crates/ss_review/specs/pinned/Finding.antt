@@ -10,7 +10,6 @@ use Rattle.ss_review.specs.declared.questions.question.Question.{Question}
 use Rattle.ss_review.specs.questions.Questions.{asked, question_about, AreAskable}
 use Rattle.ss_review.specs.sessions.FoundBlocks.{KeepsWhatHolds}
 use Rattle.ss_review.specs.sessions.Payloads.{certificates, cover, is_payload}
-use Rattle.ss_review.specs.sessions.Sectioned.{sections}
 use Rattle.ss_review.specs.sessions.Verified.{Answers, is_valid}
 use Rattle.ss_review.specs.pinned.Pinned.{agrees_in, claims, claimants}
 

@@ -1,4 +1,4 @@
-use Rattle.std.proofs.Common.{rules, ◌++◌, ◌∷◌, [], length, cond, take, map, filter, ap, ◌∙◌, sym, length-append}
+use Rattle.std.proofs.Common.{rules, ◌++◌, ◌∷◌, [], length, cond, take, filter, ap, ◌∙◌, sym, length-append}
 use Rattle.std.proofs.lemmas.Slice.Zip.{zip_turn}
 use Rattle.ss_review.specs.sessions.Covering.{spans_of}
 use Rattle.ss_review.specs.sessions.Payloads.{certificates}

@@ -1,4 +1,4 @@
-use Rattle.std.proofs.Common.{◌++◌, List, All, Bor, get_or, drop, map, sym, ap, ◌∙◌, subst}
+use Rattle.std.proofs.Common.{◌++◌, List, All, get_or, drop, map, sym, ap, ◌∙◌, subst}
 use Rattle.std.specs.Prelude.{slice_range}
 use Rattle.std.proofs.lemmas.List.{append-nil}
 use Rattle.std.proofs.lemmas.List.Elements.{All-push}

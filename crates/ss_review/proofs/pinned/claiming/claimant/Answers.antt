@@ -1,11 +1,11 @@
-use Rattle.std.proofs.Common.{ℕ, List, map, sym, ap, ◌∙◌, subst}
-use Rattle.ss_review.specs.questions.Questions.{question_about, AreAskable}
+use Rattle.std.proofs.Common.{map, sym, ap, ◌∙◌}
+use Rattle.ss_review.specs.questions.Questions.{question_about}
 use Rattle.ss_review.specs.declared.questions.question.Question.TheVariants as question
 use Rattle.ss_review.specs.sessions.Sectioned.{referred}
 use Rattle.ss_review.specs.sessions.Verified.{answers}
 use Rattle.ss_review.specs.pinned.Finding.{may_claim}
 use Rattle.ss_review.proofs.of_pinned.Finding.{no_claim, distrusted}
-use Rattle.ss_review.proofs.of_questions.AskableBlocks.{askable_rest, askable_trust}
+use Rattle.ss_review.proofs.of_questions.AskableBlocks.{askable_rest}
 use Rattle.ss_review.proofs.pinned.claiming.claimant.Goals as goal
 
 pub returns-then-not-branch : goal.returns-then-not-branch

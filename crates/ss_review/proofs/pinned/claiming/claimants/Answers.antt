@@ -1,11 +1,10 @@
-use Rattle.std.proofs.Common.{◌≡◌, ℕ, List, [], ◌∷◌, ◌++◌, get_or, take, All, sym, ap, ◌∙◌, subst}
+use Rattle.std.proofs.Common.{[], ◌∷◌, ◌++◌, All, sym, ap, ◌∙◌, subst}
 use Rattle.std.proofs.lemmas.List.{map-append}
 use Rattle.std.proofs.lemmas.List.Elements.{All-push}
 use Rattle.ss_review.specs.declared.pinned.claimant.Claimant.{Claimant}
 use Rattle.ss_review.specs.sessions.Sectioned.{referred}
 use Rattle.ss_review.specs.sessions.Verified.{answers}
 use Rattle.ss_review.specs.pinned.Finding.{payloads_of, IsClaimantIf, IsFoundRight}
-use Rattle.ss_review.specs.pinned.Pinned.{claimants}
 use Rattle.ss_review.proofs.of_pinned.Finding.{one_claimant, no_claimant}
 use Rattle.ss_review.proofs.pinned.claiming.claimants.Goals as goal
 use Rattle.ss_review.proofs.pinned.claiming.claimants.Goals.{in-Some+in_ok-push-in-Some, in-None}

@@ -1,7 +1,6 @@
 use Rattle.std.proofs.Common.{◌&&◌, refl, sym, ap, ◌∙◌}
 use Rattle.std.proofs.lemmas.Result.{IfOk-weaker}
 use Rattle.ss_review.specs.sessions.Verified.{answers, is_valid}
-use Rattle.ss_review.proofs.of_sessions.EqualBlocks.{valid_alike}
 use Rattle.ss_review.proofs.pinned.claiming.speaks_once.Goals as goal
 
 pub returns-then-agrees_in-clause-speaks : goal.returns-then-agrees_in-clause-speaks

@@ -1,9 +1,9 @@
-use Rattle.std.proofs.Common.{◌≡◌, ◌&&◌, true, Bool, ℕ, List, length, filter, map, refl, sym, ap, ◌∙◌, subst}
+use Rattle.std.proofs.Common.{◌≡◌, ℕ, List, length, filter, map, refl, sym, ap, ◌∙◌, subst}
 use Rattle.ss_review.specs.sessions.FoundBlocks.{KeepsWhatHolds}
-use Rattle.ss_review.specs.sessions.Payloads.{certificates, cover, is_payload}
+use Rattle.ss_review.specs.sessions.Payloads.{certificates, cover}
 use Rattle.ss_review.specs.sessions.Sectioned.{referred}
 use Rattle.ss_review.specs.sessions.Verified.{answers, is_valid}
-use Rattle.ss_review.specs.pinned.Pinned.{claims, speaks_for}
+use Rattle.ss_review.specs.pinned.Pinned.{speaks_for}
 use Rattle.ss_review.proofs.of_pinned.Finding.{claims_where}
 use Rattle.ss_review.proofs.pinned.claiming.spoken_for.Goals as goal
 

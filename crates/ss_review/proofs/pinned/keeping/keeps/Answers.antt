@@ -5,7 +5,6 @@ use Rattle.std.proofs.lemmas.Fn.{always_returns_same}
 use Rattle.std.proofs.lemmas.List.Elements.{All-get_or, Contains-get_or}
 use Rattle.ss_block.specs.Order.{session_cmp}
 use Rattle.ss_block.specs.OrderLaws.{session_cmp_exact}
-use Rattle.ss_review.specs.declared.pinned.claimant.Claimant.{Claimant}
 use Rattle.ss_review.specs.declared.pinned.claimant.ClaimedSession.{ClaimedSession}
 use Rattle.ss_review.specs.sessions.Verified.{answers}
 use Rattle.ss_review.specs.pinned.Finding.{payloads_of, IsFoundRight, AreFoundRight}

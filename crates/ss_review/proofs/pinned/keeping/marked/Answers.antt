@@ -1,7 +1,6 @@
-use Rattle.std.proofs.Common.{◌≡◌, map, sym, ap, ◌∙◌, subst, All}
-use Rattle.ss_review.specs.sessions.Sectioned.{sections}
+use Rattle.std.proofs.Common.{map, sym, ap, ◌∙◌, subst, All}
 use Rattle.ss_review.specs.sessions.Verified.{answers}
-use Rattle.ss_review.specs.pinned.Finding.{session_claimed, section_claimed, AreFoundRight}
+use Rattle.ss_review.specs.pinned.Finding.{session_claimed, AreFoundRight}
 use Rattle.ss_review.proofs.of_pinned.Keeping.{askable_block}
 use Rattle.ss_review.proofs.pinned.keeping.marked.Goals as goal
 

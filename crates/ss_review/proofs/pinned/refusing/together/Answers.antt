@@ -1,4 +1,4 @@
-use Rattle.std.proofs.Common.{◌++◌, ap, sym, ◌∙◌}
+use Rattle.std.proofs.Common.{◌++◌, ap, ◌∙◌}
 use Rattle.std.proofs.lemmas.List.{take_all}
 use Rattle.ss_review.proofs.of_pinned.Refusing.{together_is}
 use Rattle.ss_review.proofs.pinned.refusing.together.Goals as goal

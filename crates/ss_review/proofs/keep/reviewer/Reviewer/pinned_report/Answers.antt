@@ -7,7 +7,6 @@ use Rattle.ss_review.specs.keep.Notes.{Note}
 use Rattle.ss_review.specs.report.Report.{refused, report_of}
 use Rattle.ss_review.specs.questions.Questions.{questions, AreAskable}
 use Rattle.ss_review.specs.sessions.Verified.{answers}
-use Rattle.ss_review.specs.counted.Counted.{counted_sessions}
 use Rattle.ss_review.specs.pinned.Finding.{IsTogether}
 use Rattle.ss_review.specs.pinned.Pinned.{kept, left_out, pinned_contents, pinned_questions, refused_pinned}
 use Rattle.ss_review.proofs.of_kept_messages.TextsTold.{blocks_kept}
