@@ -12,7 +12,7 @@ use Rattle.ss_review.specs.deliveries.Delivery.{own_session}
 use Rattle.ss_review.specs.deliveries.DeliveryLaws.{Case, says}
 use Rattle.ss_review.specs.keep.Contents.{blocks, contents}
 use Rattle.ss_review.specs.keep.Notes.{notes}
-use Rattle.ss_review.specs.sessions.Verified.{Answers, is_valid}
+use Rattle.ss_review.specs.sessions.Verified.{is_valid}
 use Rattle.ss_review.specs.pinned.Pinned.{kept, pinned_report}
 use Rattle.ss_strangers.specs.StateLaws.{pinned_joined}
 
