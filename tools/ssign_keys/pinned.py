@@ -101,7 +101,10 @@ class Search:
             report.seek(0)
             for line in report:
                 word, *fields = line.split()
-                if word == b"session" and fields[4:] == [b"disputed"]:
+                # without answers, lines about sessions stand in front, and no other line is between them
+                if word != b"session":
+                    break
+                if fields[4] == b"disputed":
                     found.add(Session(*fields[:4]))
         return found
 
@@ -137,7 +140,7 @@ class Search:
             for text in joiner.texts(found_pieces):
                 trusted = trust.judge(text, session).trusted
                 if trusted is not None and all(it.numbers != trusted.key.numbers for it in keys[session]):
-                    keys[session].append(trusted.key)
+                    keys[session] = [*keys[session], trusted.key]
             if joiner.is_cut:
                 cut.add(session)
         if cut:
@@ -163,7 +166,7 @@ class Search:
 
         They are asked about as ssign asks about blocks, under payloads that state no time.
         """
-        every = [key for of_session in keys.values() for key in of_session]
+        every = list({key.numbers: key for of_session in keys.values() for key in of_session}.values())
         stated = {key.numbers: base64.b64encode(state_key(key, "-")) for key in every}
         trust = Trust({key.numbers: Trusted("", key, None) for key in every}, [], [], {}, False)
         pieces: Dict[Tuple[Session, bytes], Dict[Piece, None]] = {}

@@ -159,6 +159,8 @@ class Trust:
         self._signers = signers
         self._is_at_signing_time = is_at_signing_time
         self.longest = longest
+        # the keys that may sign in any session that --session-key doesn't name, each once
+        self._any_session = list({it.key.numbers: it.key for it in [*keys.values(), *signers.values()]}.values())
         self._now = datetime.now(timezone.utc).replace(microsecond=0)
         # each key and certificate, in the order of the options; whoever makes trust of something else leaves it empty
         self.given: List[Given] = []
@@ -218,8 +220,7 @@ class Trust:
         """The keys that the reviewer gave for a session, each once. Those of certificates that an authority issued aren't among
         them."""
         given = next((it.trusted for it in self._session_keys if it.is_for(session)), None)
-        trusted = [given] if given else [*self._keys.values(), *self._signers.values()]
-        return list({it.key.numbers: it.key for it in trusted}.values())
+        return [given.key] if given else self._any_session
 
     def judge(self, payload: bytes, session: Optional[Session]) -> Judged:
         """The key that is trusted for a session with this payload, or why there is none.
