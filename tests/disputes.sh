@@ -225,6 +225,12 @@ frame 'a message that nobody signed' >>nights/first.frames
 keys verify "${key[@]}" --ignore-strangers --nights manifest nights
 holds 'all nights, and an unlisted message: status 1' test "$status" = 1
 
+# ---- an archive with keys
+mkdir -p archive/gate
+cp log archive/gate/night-1
+timeout "$patience" "$root/tools/archive" review archive --results results "${key[@]}" --jobs 1 >out 2>err
+holds 'an archive: its session is joined, and all numbers are there' grep -Eqx 'gate +1 +[0-9]+ +10 +0 +0 +0 +7 +0 +joined 1 +7 findings' out
+
 # ---- an older program
 cat >older <<END
 #!/usr/bin/env bash
