@@ -79,8 +79,8 @@ fn sees_row(
     Ok(())
 }
 
-/// Reads the units of `row` through a buffer. A read that fills the buffer takes at most `most` octets, and the read of
-/// the number `read`, from 1, fails. Nothing is read after it. A read that the stream doesn't need is passed over.
+/// Reads the units of `row` through a buffer. A read behind the buffer takes at most `most` octets, and the read of the
+/// number `read`, from 1, fails. Nothing is read after it. A read that the stream doesn't need is passed over.
 fn fails_at(
     rt: &(impl Abort + AllocGlobal),
     row: &Row,
@@ -104,7 +104,7 @@ fn fails_at(
 }
 
 #[test]
-fn a_read_that_fails_to_fill_a_buffer_is_reported_once(rt: HostRuntime) -> Result<(), Fail> {
+fn a_read_that_fails_behind_a_buffer_is_told_once(rt: HostRuntime) -> Result<(), Fail> {
     let limits = Limits::standard();
     let rows = [
         Row {
