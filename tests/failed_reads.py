@@ -8,6 +8,7 @@ write F3 and nothing else, and the failed read has to be its last one. The last 
 """
 import os
 import pathlib
+import re
 import subprocess
 import sys
 import tempfile
@@ -19,6 +20,9 @@ COMMANDS = [["review"], ["questions"], ["extract"], ["inspect"], ["counters"], [
 MESSAGES = [b"<13>1 - - - - - - message %d" % number for number in range(6000)]
 LOGS = {"frames": ([], b"".join(b"%d %s" % (len(it), it) for it in MESSAGES)),
         "lines": (["--lines"], b"".join(it + b"\n" for it in MESSAGES))}
+
+# the count of a run that takes longer than a second, and how it is cleared: tests/progress.py
+COUNTED = re.compile(rb"\r(ssign: \d+ messages read, \d+ a second)?\x1b\[K")
 
 passed = failed = 0
 
@@ -34,7 +38,7 @@ def tell(what, fault=""):
 
 
 def on_terminal(words, log, environment):
-    """A run with a terminal as standard error: its status, standard output and standard error."""
+    """A run with a terminal as standard error: its status, standard output, and standard error without the count."""
     ours, theirs = os.openpty()
     tty.setraw(theirs)
     with subprocess.Popen(words, stdin=log, stdout=subprocess.PIPE, stderr=theirs, env=environment) as done:
@@ -46,7 +50,7 @@ def on_terminal(words, log, environment):
         except OSError:
             pass
         os.close(ours)
-        return done.wait(), out, said
+        return done.wait(), out, COUNTED.sub(b"", said)
 
 
 def aside(words, log, environment):
