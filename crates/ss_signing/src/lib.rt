@@ -14,7 +14,6 @@ mod preparing;
 mod request;
 mod send;
 mod sign;
-mod sign_run;
 mod want_writer;
 
 pub use ahead::run_ahead;
@@ -22,4 +21,3 @@ pub use fault::SignFault;
 pub use plan::{run_plan, run_plan_from};
 pub use request::SendRequest;
 pub use sign::{run_sign, run_sign_from};
-pub use sign_run::SignRun;
