@@ -5,7 +5,7 @@ ghost use Rattle.ss_review.specs.declared.questions.question.Question.{Question}
 ghost use Rattle.ss_review.specs.sessions.Verified.{answers};
 ghost use Rattle.ss_report.specs.runs.Run.{Runs, Stops};
 ghost use Rattle.ss_report.specs.lines.Between.{end_counters};
-ghost use Rattle.ssign.specs.Task.{carrying, given, inspection_form, review_of, job_of};
+ghost use Rattle.ssign.specs.Task.{carrying, given, inspection_form, job_of};
 
 use ss_frame::{Form, Limits, Watched};
 use ss_octets::Bytes;
@@ -121,10 +121,21 @@ pub fn run_task<R: Read, W: Write, J: Judge + Drop>(
         known,
         alloc,
     };
-    let notation = reporting.form.notation();
+    let Reporting {
+        form,
+        whole,
+        detail,
+        payloads,
+        ..
+    } = reporting;
+    let notation = form.notation();
     match task {
-        Task::Review => run_reported(run, reporting, first, counters, judge),
-        Task::Questions => run_questions_as(run, notation, reporting.payloads),
+        Task::Review => match first {
+            Some(first) => run_review_between(run, judge, form, detail, first, counters),
+            None if whole => run_review_whole(run, judge, form, detail, up_to(counters)),
+            None => run_review_as(run, judge, form, detail),
+        },
+        Task::Questions => run_questions_as(run, notation, payloads),
         Task::Extract => run_extract_as(run, judge, extraction),
         Task::Inspect => run_inspect(run, inspection_form(reporting)),
         Task::Counters => run_counters(run, judge, notation),
@@ -150,46 +161,6 @@ fn inspection_form(reporting: Reporting) -> InspectionForm
     InspectionForm {
         lines: reporting.form,
         unwrap: reporting.unwrap,
-    }
-}
-
-/// Reads a log to its end, reviews its messages, and writes the report as it is requested.
-fn run_reported<R: Read, W: Write, J: Judge + Drop>(
-    run: Run<'_, R, W>,
-    reporting: Reporting,
-    first: Option<&[Counter]>,
-    counters: Option<&[Counter]>,
-    judge: J,
-) -> Result<Verdict, RunFault>
-    requires reader { has_failed run.reader.now ≡ false }
-    requires writer { has_failed run.writer.now ≡ false }
-    requires sound { J.sound judge }
-    requires askable { (q : Question) → J.askable judge q }
-    ensures done { IfOk result
-        (Runs (review_of (answers J.trusted J.valid judge) reporting (given run.entry.known) (given first.entry)
-        (given counters.entry)) run.entry.limits
-        (source_of R.remaining run.entry.reader.now) (source_of R.remaining run.exit.0.now)
-        (sink_of W.contents run.entry.writer.now) (sink_of W.contents run.exit.1.0.now)) }
-    ensures stopped { IfErr result
-        (Stops (review_of (answers J.trusted J.valid judge) reporting (given run.entry.known) (given first.entry)
-        (given counters.entry)) run.entry.limits
-        (source_of R.remaining run.entry.reader.now) (source_of R.remaining run.exit.0.now)
-        (sink_of W.contents run.entry.writer.now) (sink_of W.contents run.exit.1.0.now)) }
-    ensures untouched { IfErr result (λ fault. fault ≢ RunFault.Write → run.exit.1.0.now ≡ run.entry.writer.now) }
-{
-    let Reporting {
-        form,
-        whole,
-        detail,
-        ..
-    } = reporting;
-    if let Some(first) = first {
-        return run_review_between(run, judge, form, detail, first, counters);
-    }
-    if whole {
-        run_review_whole(run, judge, form, detail, up_to(counters))
-    } else {
-        run_review_as(run, judge, form, detail)
     }
 }
 

@@ -467,6 +467,20 @@ fn run_by<R: Read, W: Write>(
     requires reader { has_failed run.reader.now ≡ false }
     requires writer { has_failed run.writer.now ≡ false }
 {
+    let Run {
+        reader,
+        writer,
+        limits,
+        known,
+        alloc,
+    } = run;
+    let run = Run {
+        reader,
+        writer,
+        limits,
+        known,
+        alloc,
+    };
     let trust = |payload: &[u8]| book.trusts(payload);
     let check = |payload: &[u8], octets: &[u8], sign: &[u8]| book.accepts(payload, octets, sign);
     let verifier = Verifier::new(book, trust, check);
