@@ -8,3 +8,4 @@ pub mod GoingOn
 pub mod Wrapped
 pub mod NoLf
 pub mod LinesOut
+pub mod SignedOnce

@@ -8,6 +8,8 @@ pub mod RangesFirst
 pub mod Jobs
 pub mod Preparing
 pub mod Sending
+pub mod AskedRun
+pub mod SignedOnce
 pub mod PlanLaws
 pub mod GoingOn
 pub mod WrapLaws

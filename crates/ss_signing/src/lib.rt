@@ -14,6 +14,7 @@ mod preparing;
 mod request;
 mod send;
 mod sign;
+mod sign_run;
 mod want_writer;
 
 pub use ahead::run_ahead;
@@ -21,3 +22,4 @@ pub use fault::SignFault;
 pub use plan::{run_plan, run_plan_from};
 pub use request::SendRequest;
 pub use sign::{run_sign, run_sign_from};
+pub use sign_run::SignRun;

@@ -110,7 +110,7 @@ pub fn run_signing<R: Read, W: Write>(
         }
         Signing::Sign => {
             let sealer = GivenSeals::new(answers, payload);
-            run_sign_from(alloc, reader, writer, sealer, sent)
+            run_sign_from(alloc, reader, writer, sealer, sent).result
         }
     }
 }

@@ -34,7 +34,7 @@ fn signs<J: Seals>(
     let mut reader = Watched::new(log);
     let mut out = Watched::new(Vec::new(alloc));
     let limits = Limits::standard().lines();
-    run_sign(alloc, &mut reader, &mut out, config, sealer, stamp, limits)?;
+    run_sign(alloc, &mut reader, &mut out, config, sealer, stamp, limits).result?;
     let signed = out.into_inner();
     Ok(signed)
 }

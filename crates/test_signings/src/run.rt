@@ -136,10 +136,10 @@ pub(crate) fn run_by<R: Read, W: Write>(
             let seal = move |alloc: Global, octets: &[u8]| answer(alloc, told, octets);
             let sealer = Sealer::new(&Lenient, payload, seal);
             if !is_usual {
-                return run_sign_from(alloc, reader, writer, sealer, sending);
+                return run_sign_from(alloc, reader, writer, sealer, sending).result;
             }
             let SendRequest { config, limits, .. } = sending;
-            run_sign(alloc, reader, writer, config, sealer, None, limits)
+            run_sign(alloc, reader, writer, config, sealer, None, limits).result
         }
     }
 }
