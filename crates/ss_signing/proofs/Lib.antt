@@ -8,4 +8,3 @@ pub mod GoingOn
 pub mod Wrapped
 pub mod NoLf
 pub mod LinesOut
-pub mod SignedOnce

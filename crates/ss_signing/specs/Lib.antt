@@ -9,7 +9,6 @@ pub mod Jobs
 pub mod Preparing
 pub mod Sending
 pub mod AskedRun
-pub mod SignedOnce
 pub mod PlanLaws
 pub mod GoingOn
 pub mod WrapLaws

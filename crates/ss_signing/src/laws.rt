@@ -2,10 +2,8 @@
 ghost use Rattle.ss_signing.specs.GoingOn.{RunsGoOn};
 ghost use Rattle.ss_signing.specs.LineLaws.{LinesAreRead, LinesHoldNoLf};
 ghost use Rattle.ss_signing.specs.PlanLaws.{PlansTellWhatIsSigned};
-ghost use Rattle.ss_signing.specs.SignedOnce.{RunsSignOnce};
 ghost use Rattle.ss_signing.specs.WrapLaws.{AheadTakesEach, MessagesComeBack, PlanningTakesEach, SigningTakesEach};
 
-use ss_message::laws::faults_are_of_no_message;
 use ss_origin::Seals;
 
 /// A plan's lines have, in order, the signed octets of the block messages that `run_sign` emits for the same messages.
@@ -45,12 +43,3 @@ pub fn lines_hold_no_lf<J: Seals>()
 pub fn lines_are_read<J: Seals>()
     ensures { LinesAreRead J.answers }
 {}
-
-/// A run that signs has nothing signed twice with different contents, whether it succeeds or not: of the blocks whose octets
-/// its sealer was asked to sign, two with a hash for one number of a group, or with one GBC, are one block. Those that were
-/// signed and never sent are among them.
-pub fn runs_sign_once<J: Seals>()
-    ensures { RunsSignOnce J.answers J.asked }
-{
-    faults_are_of_no_message();
-}
