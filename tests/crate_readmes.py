@@ -36,6 +36,7 @@ LAW_CRATES = {
     "ss_ahead",
     "ss_carried",
     "ss_clean_nights",
+    "ss_counters",
     "ss_keeper",
     "ss_nights",
     "ss_parts",
