@@ -40,12 +40,15 @@ _ssign() {
     'review --answers') _ssign_offer files ;;
     'review --counters') _ssign_offer files ;;
     'review --from') _ssign_offer files ;;
+    'review --pinned') _ssign_offer files ;;
     'review --max-len') _ssign_offer text ;;
     'review --max-messages') _ssign_offer text ;;
+    'questions --pinned') _ssign_offer files ;;
     'questions --max-len') _ssign_offer text ;;
     'questions --max-messages') _ssign_offer text ;;
     'extract --answers') _ssign_offer files ;;
     'extract --place') _ssign_offer text ;;
+    'extract --pinned') _ssign_offer files ;;
     'extract --max-len') _ssign_offer text ;;
     'extract --max-messages') _ssign_offer text ;;
     'inspect --max-len') _ssign_offer text ;;
@@ -84,9 +87,11 @@ _ssign() {
     'sign --max-len') _ssign_offer text ;;
     'sign --max-messages') _ssign_offer text ;;
     'counters --answers') _ssign_offer files ;;
+    'counters --pinned') _ssign_offer files ;;
     'counters --max-len') _ssign_offer text ;;
     'counters --max-messages') _ssign_offer text ;;
     'carry --answers') _ssign_offer files ;;
+    'carry --pinned') _ssign_offer files ;;
     'carry --max-len') _ssign_offer text ;;
     'carry --max-messages') _ssign_offer text ;;
     *) _ssign_words "$command" "$current" ;;
@@ -96,14 +101,14 @@ _ssign() {
 # _ssign_words COMMAND CURRENT: a word that is no value of an option.
 _ssign_words() {
     case $1 in
-    review) _ssign_offer words '--answers --findings --json --whole --tally --counters --from --lines --max-len --max-messages --help' ;;
-    questions) _ssign_offer words '--json --once --lines --max-len --max-messages --help' ;;
-    extract) _ssign_offer words '--answers --unlisted --place --lines-out --unwrap --lines --max-len --max-messages --help' ;;
+    review) _ssign_offer words '--answers --findings --json --whole --tally --counters --from --pinned --lines --max-len --max-messages --help' ;;
+    questions) _ssign_offer words '--json --once --pinned --lines --max-len --max-messages --help' ;;
+    extract) _ssign_offer words '--answers --unlisted --place --lines-out --unwrap --pinned --lines --max-len --max-messages --help' ;;
     inspect) _ssign_offer words '--findings --json --unwrap --lines --max-len --max-messages --help' ;;
     plan) _ssign_offer words '--resume --ahead --wrap --payload --rsid --stamp --pri --host --app --procid --msgid --ver --groups --count --frag --copies --lines --max-len --max-messages --help' ;;
     sign) _ssign_offer words '--answers --resume --wrap --lines-out --payload --rsid --stamp --pri --host --app --procid --msgid --ver --groups --count --frag --copies --lines --max-len --max-messages --help' ;;
-    counters) _ssign_offer words '--answers --json --lines --max-len --max-messages --help' ;;
-    carry) _ssign_offer words '--answers --lines --max-len --max-messages --help' ;;
+    counters) _ssign_offer words '--answers --json --pinned --lines --max-len --max-messages --help' ;;
+    carry) _ssign_offer words '--answers --pinned --lines --max-len --max-messages --help' ;;
     explain)
         if [[ $2 == -* ]]; then
             _ssign_offer words '--help'
