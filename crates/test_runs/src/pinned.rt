@@ -521,10 +521,10 @@ fn payloads_of(alloc: Global, known: &[&[u8]]) -> Result<Vec<Bytes>, AllocError>
 fn made(alloc: Global, row: &Row) -> Result<(Result<Verdict, RunFault>, Paper), AllocError> {
     let log = log_of(alloc, row.log, Form::Frames, b"")?;
     let (first, second) = signed_texts(alloc, row.who)?;
-    let book = book_of(row.who, (first.as_slice(), second.as_slice()));
     let payloads = payloads_of(alloc, row.known.unwrap_or_default())?;
     let before = counters(alloc, 1, 2)?;
     let sent = counters(alloc, 2, 3)?;
+    let book = book_of(row.who, (first.as_slice(), second.as_slice()));
     let mut reader = Watched::new(log.as_slice());
     let mut writer = Watched::new(Paper::new(1024));
     let run = Run {
