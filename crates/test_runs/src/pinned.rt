@@ -517,15 +517,16 @@ fn payloads_of(alloc: Global, known: &[&[u8]]) -> Result<Vec<Bytes>, AllocError>
     Ok(payloads)
 }
 
-/// The run of a row over frames, and what it wrote.
-fn made(alloc: Global, row: &Row) -> Result<(Result<Verdict, RunFault>, Paper), AllocError> {
-    let log = log_of(alloc, row.log, Form::Frames, b"")?;
-    let (first, second) = signed_texts(alloc, row.who)?;
+/// The run of a row over a log, and what it wrote.
+fn made_of(
+    alloc: Global,
+    row: &Row,
+    log: &[u8],
+    book: &Book<'_>,
+    night: (&[Counter], &[Counter]),
+) -> Result<(Result<Verdict, RunFault>, Paper), AllocError> {
     let payloads = payloads_of(alloc, row.known.unwrap_or_default())?;
-    let before = counters(alloc, 1, 2)?;
-    let sent = counters(alloc, 2, 3)?;
-    let book = book_of(row.who, (first.as_slice(), second.as_slice()));
-    let mut reader = Watched::new(log.as_slice());
+    let mut reader = Watched::new(log);
     let mut writer = Watched::new(Paper::new(1024));
     let run = Run {
         reader: &mut reader,
@@ -537,8 +538,24 @@ fn made(alloc: Global, row: &Row) -> Result<(Result<Verdict, RunFault>, Paper), 
         },
         alloc,
     };
-    let said = run_by(run, row.job, &book, (before.as_slice(), sent.as_slice()));
+    let said = run_by(run, row.job, book, night);
     Ok((said, writer.into_inner()))
+}
+
+/// The run of a row over frames, and what it wrote.
+fn made(alloc: Global, row: &Row) -> Result<(Result<Verdict, RunFault>, Paper), AllocError> {
+    let log = log_of(alloc, row.log, Form::Frames, b"")?;
+    let before = counters(alloc, 1, 2)?;
+    let sent = counters(alloc, 2, 3)?;
+    let (first, second) = signed_texts(alloc, row.who)?;
+    let book = book_of(row.who, (first.as_slice(), second.as_slice()));
+    made_of(
+        alloc,
+        row,
+        log.as_slice(),
+        &book,
+        (before.as_slice(), sent.as_slice()),
+    )
 }
 
 fn sees(rt: &(impl Abort + AllocGlobal), row: &Row) -> Result<(), AllocError> {
