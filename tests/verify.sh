@@ -341,7 +341,7 @@ holds 'no block at all' grep -q "^Verdict: NOTHING IS SHOWN: .* $nothing_shown\$
 keys verify --key keys/public-key.pem --whole <(printf '')
 says 'an empty log, with --whole' 1 "Verdict: NOTHING IS SHOWN: the log is empty. $nothing_shown"
 
-# an older ssign: without --whole it is called by the same words as ever, and with it nothing is asked
+# an older ssign: without --whole it is called by words that it knows, and with it nothing is asked
 cp both stored
 # shellcheck disable=SC2016
 printf '#!/bin/sh\necho "$*" >>called\nfor it in "$@"; do\n    [ "$it" != --whole ] || { echo "error: unexpected argument" >&2; exit 2; }\ndone\nexec %q "$@"\n' "$program" >older
@@ -350,7 +350,7 @@ keys verify --key keys/public-key.pem --raw stored
 cp out with
 keys verify --key keys/public-key.pem --raw --ssign ./older stored
 holds 'an older ssign without --whole: the report' cmp out with
-holds 'an older ssign without --whole: its words' cmp <(sed 's|=.*/answers$|=answers|' called) <(printf '%s\n' 'questions --once --json' 'review --answers=answers')
+holds 'an older ssign without --whole: its words' cmp <(sed 's|=.*/answers$|=answers|' called) <(printf '%s\n' review 'questions --once --json' 'review --answers=answers')
 rm called
 for form in '' --json --raw; do
     keys verify --key keys/public-key.pem --whole ${form:+"$form"} --answers-out unkept --ssign ./older stored
@@ -365,7 +365,7 @@ chmod +x recording
 rm called
 keys verify --key keys/public-key.pem --whole --max-len 9999 --ssign ./recording stored
 holds 'a newer ssign: its words' cmp <(sed 's|=/.*/answers |=answers |' called) \
-    <(printf '%s\n' 'review --whole' 'questions --once --json --max-len=9999' 'review --answers=answers --whole --max-len=9999')
+    <(printf '%s\n' 'review --whole' 'review --max-len=9999' 'questions --once --json --max-len=9999' 'review --answers=answers --whole --max-len=9999')
 printf '#!/bin/sh\necho "ssign: F4" >&2\nexit 2\n' >older
 keys verify --key keys/public-key.pem --whole --ssign ./older stored
 refuses 'a refusal is no want of --whole' "ssign-keys: stored: there isn't enough memory for a message: give the program more memory (F4)"
@@ -376,7 +376,7 @@ refuses 'a program that dies is no want of --whole' 'ssign-keys: ssign review wa
 printf '#!/bin/sh\nexit 2\n' >older
 for form in '' --json --raw; do
     keys verify --key keys/public-key.pem ${form:+"$form"} --ssign ./older stored
-    refuses "a program that refuses without a word${form:+, $form}" "ssign-keys: ssign questions ended with the status 2, and didn't say why"
+    refuses "a program that refuses without a word${form:+, $form}" "ssign-keys: ssign review ended with the status 2, and didn't say why"
 done
 
 # ---- counters that were kept: what is missing up to them
@@ -647,7 +647,8 @@ rm called
 keys verify --key keys/public-key.pem --counters counters.1 --max-len 9999 --ssign ./recording signed
 says 'a newer ssign with --counters' 0 "$all_there Nothing is missing up to the counters."
 holds 'a newer ssign with --counters: its words' cmp <(sed 's#=/[^ ]*/\(answers\|counters\)#=\1#g' called) \
-    <(printf '%s\n' 'review --counters=counters' 'questions --once --json --max-len=9999' 'review --answers=answers --counters=counters --max-len=9999')
+    <(printf '%s\n' 'review --counters=counters' 'review --max-len=9999' 'questions --once --json --max-len=9999' \
+        'review --answers=answers --counters=counters --max-len=9999')
 
 # ---- what no block signed, and hostile texts
 for it in logger rsyslog syslog-ng; do
@@ -741,11 +742,14 @@ refuses 'no program' 'ssign-keys: the program ./none can'\''t be run: No such fi
 # shellcheck disable=SC2016
 printf '#!/bin/sh\nkill -9 $$\n' >dying && chmod +x dying
 keys verify --key keys/public-key.pem --ssign ./dying signed
-refuses 'a program that dies' 'ssign-keys: ssign questions was ended by the signal SIGKILL, as where memory runs out'
-# shellcheck disable=SC2016
-printf '#!/bin/sh\ncase $1 in review) kill -9 $$ ;; *) exec %q "$@" ;; esac\n' "$program" >dying
-keys verify --key keys/public-key.pem --ssign ./dying signed
-refuses 'a review that dies' 'ssign-keys: ssign review was ended by the signal SIGKILL, as where memory runs out'
+refuses 'a program that dies' 'ssign-keys: ssign review was ended by the signal SIGKILL, as where memory runs out'
+# a review of which sessions are disputed comes first, then the questions, and then the review under answers
+for it in 'questions --once' 'review --answers'; do
+    # shellcheck disable=SC2016
+    printf '#!/bin/sh\ncase "$*" in "%s"*) kill -9 $$ ;; *) exec %q "$@" ;; esac\n' "$it" "$program" >dying
+    keys verify --key keys/public-key.pem --ssign ./dying signed
+    refuses "a program that dies at $it" "ssign-keys: ssign ${it%% *} was ended by the signal SIGKILL, as where memory runs out"
+done
 timeout "$patience" "$keys_program" verify --key keys/public-key.pem signed >/dev/full 2>err
 holds 'a full device: status 2' test "$?" = 2
 holds 'a full device: what is said' cmp err <(echo "ssign-keys: standard output can't be written: No space left on device")
