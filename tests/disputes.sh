@@ -109,8 +109,8 @@ holds 'one, findings alone: it is shown with its session' test "$(sed -n 5p out)
     "  1 block claims this session and isn't validly signed; it was left out and changes nothing"
 
 # ---- what is found besides is never softened
-frame 'a message that nobody signed' >more
-disputes mixed more <log >both
+frame 'a message that nobody signed' >unlisted
+disputes mixed unlisted <log >both
 keys verify "${key[@]}" --ignore-strangers both
 holds 'an unlisted message: status 1' test "$status" = 1
 holds 'an unlisted message: the verdict' test "$(verdict)" = \
