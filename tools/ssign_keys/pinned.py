@@ -87,7 +87,7 @@ class Search:
     # ---- sessions
 
     def _disputed(self) -> Set[Session]:
-        """The sessions whose certificate blocks contradict each other, by what ssign says of these blocks alone."""
+        """The sessions whose certificate blocks contradict each other, by a review of these blocks alone."""
         report = self._workplace.new_file("disputed")
         reviewing = Run(self._program, ["review", *self._words], self._workplace, self._progress, subprocess.PIPE, report)
         reviewing.feed(self._certificates())

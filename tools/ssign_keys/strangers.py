@@ -27,7 +27,7 @@ def words_of(count: int) -> str:
 
 
 def ignored_words(count: int) -> str:
-    """What a verdict says of so many that were ignored."""
+    """The words of a verdict about so many that were ignored."""
     if count == 1:
         return "1 unverified block was ignored: it claims a joined session, isn't validly signed, and changes nothing"
     return f"{count:,} unverified blocks were ignored: they claim joined sessions, aren't validly signed, and change nothing"
