@@ -7,9 +7,10 @@ LIBRARY is made of tests/refuse.c; without it there are only runs with memory. F
 another program says: review_runs.py, kinds.py, signing_model.py, or what was worked out by hand. Then its first
 allocation is refused, its second one, and so on, until a run has none left to refuse. Each of these runs has to end
 with status 2, nothing on standard output and one line on standard error. That is a code of the command for being out
-of memory. The codes have to come in the order of the run. A review that does without some list may also say all
-that it says with memory, and a run that is refused anyway its own refusal. Of logs whose output is longer than a
-buffer some allocations are refused, the last ones among them. The last line is `refusals: N passed, M failed`.
+of memory. The codes have to come in the order of the run, and F4 at most as often as messages need room. So V1 can't be
+reported as F4, nor F4 as V1. A review that does without some list may also say all that it says with memory, and a run
+that is refused anyway its own refusal. Of logs whose output is longer than a buffer some allocations are refused, the
+last ones among them. The last line is `refusals: N passed, M failed`.
 """
 import argparse
 import base64
@@ -47,6 +48,8 @@ CODES = {
     "sign": "(W2 )*(C4 )*(A4 )*((F4|O10|W2) )*((F4|O10 p|W2) )*((O10|W2) )*",
     "explain": "(W2 )*",
 }
+# those that review each message once it is read, and then use its room for the next one
+REUSE = ("review", "counters", "questions")
 # those that do without a list that they couldn't make as long as it will be
 DO_WITHOUT = ("review", "extract", "carry", "counters")
 # fewer allocations than reading any command line takes: these are tried once for each command line
@@ -479,6 +482,17 @@ def fault_of_order(kind, codes):
     return "" if re.fullmatch(CODES[kind], text) else "the codes come in another order: %s" % text
 
 
+def fault_of_reading(kind, words, messages, is_torn, codes):
+    """Whether F4 comes only where a message needs more room than there is, and V1 where messages are reviewed."""
+    sizes = [len(it) for it in messages]
+    most = sum(size > max(sizes[:i], default=0) for i, size in enumerate(sizes)) if kind in REUSE else len(sizes)
+    reading, reviewing = codes.count("F4"), codes.count("V1")
+    if not min(len(sizes), 1) <= reading <= most + is_torn:
+        return "F4 comes %d times, but there are %d messages that need room" % (reading, most + is_torn)
+    reviews = kind in REUSE or kind == "carry" or (kind == "extract" and "--place" not in words)
+    return "V1 comes %d times" % reviewing if sizes and reviews != (reviewing > 0) else ""
+
+
 class Runner:
     """Runs a program with an allocation refused."""
 
@@ -542,6 +556,9 @@ class Runner:
             else:
                 faults.append("allocation %d of %d: %r" % (number, count, said))
         faults.append(fault_of_order(kind, codes))
+        if kind != "explain" and clean.status != 2 and not case.some:
+            messages, torn = (read_lines if "--lines" in case.words else read_frames)(case.log)
+            faults.append(fault_of_reading(kind, case.words, messages, torn is not None, codes))
         return faults, codes, without
 
 
