@@ -17,7 +17,7 @@ use Rattle.ss_strangers.specs.Unforged.{pinned_in}
 abbrev pub attacked_whole : Case
 attacked_whole = record whole { log = forged_certificate ∷ whole.log }
 
--- With the originator's payload the message is listed, and a kept block stands behind it.
+-- With the originator's payload the message is listed, and a kept block announces it.
 pub record SmallListingIsThis : Type 0 where
   pub added : IsWith (MayBeAdded (says attacked_whole) whole.log) whole.log attacked_whole.log
   pub claimant : IsClaimant (says attacked_whole) given (of_session (blocks (notes attacked_whole.log)) (own_session small)) own_payload

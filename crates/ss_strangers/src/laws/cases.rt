@@ -30,7 +30,7 @@ pub fn small_attack_is_this()
 }
 
 /// A small log has everything that the originator sent, and a stranger's certificate block with another payload. With the
-/// originator's payload its message is listed, and a kept block stands behind it.
+/// originator's payload its message is listed, and a kept block announces it.
 pub fn small_listing_is_this()
     ensures { SmallListingIsThis }
 {

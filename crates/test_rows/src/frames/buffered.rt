@@ -1,4 +1,4 @@
-//! A buffered reader behind which one read fails.
+//! A buffered reader, one of whose reads fails.
 use crate::frames::asking::Want;
 use ss_frame::{Buffered, FrameFault, FrameReader, Limits, Watched};
 use std::io;
@@ -79,7 +79,7 @@ fn sees_row(
     Ok(())
 }
 
-/// Reads the units of `row` through a buffer. A read behind the buffer takes at most `most` octets, and the read of the
+/// Reads the units of `row` through a buffer. Each read of the buffer takes at most `most` octets, and the read of the
 /// number `read`, from 1, fails. Nothing is read after it. A read that the stream doesn't need is passed over.
 fn fails_at(
     rt: &(impl Abort + AllocGlobal),
