@@ -40,6 +40,7 @@ LAW_CRATES = {
     "ss_keeper",
     "ss_nights",
     "ss_parts",
+    "ss_pending",
     "ss_plans",
     "ss_strangers",
     "ss_whole_nights",

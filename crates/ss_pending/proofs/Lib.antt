@@ -1,0 +1,4 @@
+pub mod CountedBlocks
+pub mod Pending
+pub mod RisingGbc
+pub mod SmallPending

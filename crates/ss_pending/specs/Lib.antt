@@ -1,0 +1,3 @@
+pub mod PendingAhead
+pub mod RisingGbc
+pub mod SmallPending
