@@ -44,6 +44,7 @@ LAW_CRATES = {
     "ss_plans",
     "ss_strangers",
     "ss_whole_nights",
+    "ss_whole_parts",
 }
 
 

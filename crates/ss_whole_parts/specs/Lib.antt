@@ -1,0 +1,2 @@
+pub mod PartCounters
+pub mod CounterRows
