@@ -3,4 +3,8 @@ pub mod BareSessions
 pub mod PartTexts
 pub mod CountersTogether
 pub mod AlikeCounters
+pub mod MissingTogether
+pub mod WholeTogether
 pub mod CounterRows
+pub mod MissingRows
+pub mod TextsInParts

@@ -1,2 +1,5 @@
 pub mod PartCounters
+pub mod WholeParts
 pub mod CounterRows
+pub mod MissingRows
+pub mod TextsInParts

@@ -1,4 +1,4 @@
-//! What the counters of a log are, where it is reviewed in parts.
+//! What the counters of a log are, and what is missing of it, where it is reviewed in parts.
 #![tactic(auto)]
 
 pub mod laws;
