@@ -179,7 +179,7 @@ module _ (f : ℕ → ℕ) (says : Answers) (bs : List BlockMessage) where
   valid_moved (Ok payload) b = refl
   valid_moved (Err state) b = refl
 
-  verified_moved : (b : BlockMessage) → is_verified says (map (moved_block f) bs) (moved_block f b) ≡ is_verified says bs b
+  pub verified_moved : (b : BlockMessage) → is_verified says (map (moved_block f) bs) (moved_block f b) ≡ is_verified says bs b
   unfolding is_verified
   verified_moved b =
       ap (λ r. is_valid_in says r (moved_block f b)) (joined_moved f says bs b.session) ∙ valid_moved (joined says (of_session bs b.session)) b

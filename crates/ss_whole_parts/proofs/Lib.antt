@@ -8,3 +8,4 @@ pub mod WholeTogether
 pub mod CounterRows
 pub mod MissingRows
 pub mod TextsInParts
+pub mod PinnedParts

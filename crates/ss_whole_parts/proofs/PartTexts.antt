@@ -53,10 +53,10 @@ module _ (part : ℕ → ℕ) (k : ℕ) (log : List (List ℕ)) where
       ap (filter (λ (n : ℕ × Note). part n.0 == k)) (enumerate_from-map note 0 log)
       ∙ filter-map (λ (n : ℕ × Note). part n.0 == k) noted (enumerate_from 0 log)
 
-  same_places : places_of part k (notes log) ≡ places_of part k log
+  pub same_places : places_of part k (notes log) ≡ places_of part k log
   same_places = ap (map (λ (n : ℕ × Note). n.0)) placed_notes ∙ map-map (λ (n : ℕ × Note). n.0) noted (placed_of part k log)
 
-  same_messages : messages_of part k (notes log) ≡ notes (messages_of part k log)
+  pub same_messages : messages_of part k (notes log) ≡ notes (messages_of part k log)
   same_messages =
       ap (map (λ (n : ℕ × Note). n.1)) placed_notes
       ∙ map-map (λ (n : ℕ × Note). n.1) noted (placed_of part k log)
@@ -88,18 +88,18 @@ module _ (f : ℕ → ℕ) (says : Answers) (ps : List (List ℕ)) where
   unfolding keeps
   keeps_moved bs b = ap (λ cs. is_signature b.said || is_none cs || list_any (λ p. speaks_for says p b) cs) (claimants_moved bs)
 
-  keeps_there : (bs : List BlockMessage) (b : BlockMessage) → keeps says ps (of_session (map (moved_block f) bs) b.session) (moved_block f b) ≡ keeps says ps (of_session bs b.session) b
+  pub keeps_there : (bs : List BlockMessage) (b : BlockMessage) → keeps says ps (of_session (map (moved_block f) bs) b.session) (moved_block f b) ≡ keeps says ps (of_session bs b.session) b
   keeps_there bs b =
       ap (λ own. keeps says ps own (moved_block f b)) (filter-map (λ (d : BlockMessage). same_session d.session b.session) (moved_block f) bs)
       ∙ keeps_moved (of_session bs b.session) b
 
-  kept_moved : (bs : List BlockMessage) → kept says ps (map (moved_block f) bs) ≡ map (moved_block f) (kept says ps bs)
+  pub kept_moved : (bs : List BlockMessage) → kept says ps (map (moved_block f) bs) ≡ map (moved_block f) (kept says ps bs)
   kept_moved bs =
       filter-map (λ b. keeps says ps (of_session (map (moved_block f) bs) b.session) b) (moved_block f) bs
       ∙ (λ i. map (moved_block f) (filter (λ b. keeps_there bs b i) bs))
 
 module _ (part : ℕ → ℕ) (bs : List BlockMessage) (k : ℕ) (whole : SessionsStayWhole part bs) (says : Answers) (ps : List (List ℕ)) where
-  kept_own : kept says ps (blocks_of part k bs) ≡ blocks_of part k (kept says ps bs)
+  pub kept_own : kept says ps (blocks_of part k bs) ≡ blocks_of part k (kept says ps bs)
   kept_own =
       filter_agree (λ b. keeps says ps (of_session (blocks_of part k bs) b.session) b) (λ b. keeps says ps (of_session bs b.session) b) (blocks_of part k bs)
       (λ b h. ap (λ own. keeps says ps own b) (all_own part bs k whole b.session (b, h, refl)))

@@ -13,12 +13,15 @@ use Rattle.ss_review.specs.declared.keep.message.NormalMessage.{NormalMessage}
 use Rattle.ss_review.specs.deliveries.SmallChains.{accepting}
 use Rattle.ss_review.specs.keep.Notes.{Note, Normal, Block, Spoilt, noted, note, notes}
 use Rattle.ss_review.specs.keep.Contents.{blocks, normals, contents}
+use Rattle.ss_review.specs.pinned.Pinned.{blocks_by}
 use Rattle.ss_parts.specs.Parts.{AreParts}
-use Rattle.ss_octets.proofs.Members.{has_from_contains}
+use Rattle.ss_octets.proofs.Members.{has_from_contains, contains_from_has}
 use Rattle.ss_review.proofs.of_kept_messages.NotesTold.{normal_noted, block_noted}
 use Rattle.ss_whole_parts.specs.PartCounters.{AreBlockParts}
+use Rattle.ss_whole_parts.specs.PinnedParts.{contents_by}
 use Rattle.ss_whole_parts.specs.TextsInParts.{spoilt_text, small_log, first_apart, sent_counters, given_first}
 use Rattle.ss_whole_parts.specs.WholeParts.{AreGiven, GivenOnlyIts}
+use Rattle.ss_whole_parts.proofs.PartTexts.{from_by}
 
 abbrev spoilt_value : MessageValue
 spoilt_value = record {
@@ -86,12 +89,16 @@ module _ (values : ReadingsAreOfValues) where
     sessions = λ b d h i e. block_first b h ∙ sym (block_first d i);
   }
 
-  pub cut_keeps : AreParts accepting (contents (notes small_log)) first_apart 2
-  cut_keeps = record {
-    within = λ place below. in_two place;
-    sessions = λ b d h i e. block_first b h ∙ sym (block_first d i);
-    messages = λ m k h a c has. normal_first m c ∙ sym (block_first a.message a.stored);
-  }
+  pub cut_keeps : (known : Option (List (List ℕ))) → AreParts accepting (contents_by known accepting (contents (notes small_log))) first_apart 2
+  cut_keeps known =
+      let bs = blocks (notes small_log) in
+      let kept : (b : BlockMessage) → Contains (blocks_by known accepting (blocks (notes small_log))) b → Contains (blocks (notes small_log)) b
+      = λ b h. contains_from_has bs b (from_by known accepting bs b (has_from_contains (blocks_by known accepting bs) b h)) in
+      record {
+        within = λ place below. in_two place;
+        sessions = λ b d h i e. block_first b (kept b h) ∙ sym (block_first d (kept d i));
+        messages = λ m k h a c has. normal_first m c ∙ sym (block_first a.message (kept a.message a.stored));
+      }
 
   none_given : (c : Counter) → Contains [] c → ⊥
   none_given c h = has_from_contains [] c h

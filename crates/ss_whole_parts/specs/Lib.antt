@@ -3,3 +3,4 @@ pub mod WholeParts
 pub mod CounterRows
 pub mod MissingRows
 pub mod TextsInParts
+pub mod PinnedParts

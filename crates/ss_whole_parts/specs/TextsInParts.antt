@@ -1,5 +1,5 @@
 -- A small log of texts, which is cut in two, meets the premises of the laws on logs of texts.
-use Rattle.std.specs.Prelude.{◌≡◌, ℕ, zero, suc, List, [], ◌∷◌, None}
+use Rattle.std.specs.Prelude.{◌≡◌, ℕ, zero, suc, List, [], ◌∷◌, None, Option}
 use Rattle.ss_message.specs.Message.{text}
 use Rattle.ss_origin.specs.Groups.{group_of}
 use Rattle.ss_review.specs.declared.counted.counter.Counter.{Counter}
@@ -11,6 +11,7 @@ use Rattle.ss_review.specs.keep.Notes.{notes}
 use Rattle.ss_review.specs.keep.Contents.{blocks, contents}
 use Rattle.ss_parts.specs.Parts.{AreParts, messages_of}
 use Rattle.ss_whole_parts.specs.PartCounters.{AreBlockParts, by_session, counters_of_parts}
+use Rattle.ss_whole_parts.specs.PinnedParts.{contents_by}
 use Rattle.ss_whole_parts.specs.WholeParts.{AreGiven, GivenOnlyIts, missing_together, missing_of_parts}
 
 -- a spoilt block, which has no parameter
@@ -51,7 +52,8 @@ given_first (suc k) = []
 pub record TextsMeetPremises : Type 0 where
   pub parts_are : messages_of first_apart 0 small_log ≡ bare.log
   pub blocks_keep : AreBlockParts (blocks (notes small_log)) first_apart 2
-  pub cut_keeps : AreParts accepting (contents (notes small_log)) first_apart 2
+  pub cut_keeps : (known : Option (List (List ℕ)))
+      → AreParts accepting (contents_by known accepting (contents (notes small_log))) first_apart 2
   pub given : AreGiven (blocks (notes small_log)) first_apart 2 sent_counters given_first
   pub only_its : GivenOnlyIts (blocks (notes small_log)) first_apart 2 given_first
   -- so the laws hold of them

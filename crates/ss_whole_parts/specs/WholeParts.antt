@@ -11,12 +11,12 @@ use Rattle.ss_review.specs.keep.Notes.{notes}
 use Rattle.ss_review.specs.keep.Contents.{blocks, contents}
 use Rattle.ss_review.specs.sessions.Sessions.{same_session, sessions}
 use Rattle.ss_review.specs.sessions.Verified.{Answers}
-use Rattle.ss_review.specs.report.Report.{report}
-use Rattle.ss_review.specs.counted.KeptLaws.{shortfalls_of, NothingIsMissing}
-use Rattle.ss_review.specs.pinned.Pinned.{blocks_by}
+use Rattle.ss_review.specs.counted.KeptLaws.{NothingIsMissing}
+use Rattle.ss_review.specs.pinned.Pinned.{blocks_by, report_by}
 use Rattle.ss_review.specs.pinned.Stands.{shortfalls_by}
-use Rattle.ss_parts.specs.Parts.{AreParts, together, messages_of, report_of_part}
+use Rattle.ss_parts.specs.Parts.{SessionsStayWhole, AreParts, together, messages_of}
 use Rattle.ss_whole_parts.specs.PartCounters.{AreBlockParts}
+use Rattle.ss_whole_parts.specs.PinnedParts.{contents_by, report_of_part_by}
 
 -- ---- the counters that each part is given
 
@@ -83,12 +83,14 @@ MissingAddsUp =
 -- The report of a log and what is missing of it are those of its parts put together.
 abbrev pub WholeReportsAddUp : Type 0
 WholeReportsAddUp =
-    (says : Answers) (log : List (List ℕ)) (part : ℕ → ℕ) (parts : ℕ)
-    → AreParts says (contents (notes log)) part parts
-    → (cs : List Counter) (own : ℕ → List Counter) → AreGiven (blocks (notes log)) part parts cs own
-    → (report says log ≡ together (map (λ k. report_of_part says part k log) (range_with_len 0 parts)))
-    × (shortfalls_of says log cs
-    ≡ missing_together (map (λ k. shortfalls_of says (messages_of part k log) (own k)) (range_with_len 0 parts)))
+    (known : Option (List (List ℕ))) (says : Answers) (log : List (List ℕ)) (part : ℕ → ℕ) (parts : ℕ)
+    → SessionsStayWhole part (blocks (notes log))
+    → AreParts says (contents_by known says (contents (notes log))) part parts
+    → (cs : List Counter) (own : ℕ → List Counter)
+    → AreGiven (blocks_by known says (blocks (notes log))) part parts cs own
+    → (report_by known says (contents (notes log))
+    ≡ together (map (λ k. report_of_part_by known says part k log) (range_with_len 0 parts)))
+    × (shortfalls_by known says log cs ≡ missing_together (missing_of_parts known says part parts log own))
 
 -- Nothing is missing of a log exactly where nothing is missing of each part.
 abbrev pub NothingMissingWhereOfParts : Type 0

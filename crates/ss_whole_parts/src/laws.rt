@@ -3,6 +3,7 @@
 ghost use Rattle.ss_whole_parts.specs.CounterRows.{CountersOfPartsAreThese};
 ghost use Rattle.ss_whole_parts.specs.MissingRows.{MissingOfPartsIsThis};
 ghost use Rattle.ss_whole_parts.specs.PartCounters.{CountersAddUp, CountersAreReadAlike, SessionCountersOfParts};
+ghost use Rattle.ss_whole_parts.specs.PinnedParts.{ReportsByPayloadsAddUp};
 ghost use Rattle.ss_whole_parts.specs.TextsInParts.{TextsMeetPremises};
 ghost use Rattle.ss_whole_parts.specs.WholeParts.{
   CountersMayBeGiven,
@@ -13,6 +14,7 @@ ghost use Rattle.ss_whole_parts.specs.WholeParts.{
 
 use ss_block::laws::readings::readings_are_of_values;
 use ss_parts::laws::parts_add_up;
+use ss_review::laws::pinned::pinned_reports_are_of_logs;
 
 /// The counters that a review of a log gives are those that reviews of its parts give, put together: session by session,
 /// and of each session in their order. The premises are that all blocks of a session belong to one part, and each block
@@ -45,12 +47,23 @@ pub fn missing_adds_up()
     ensures { MissingAddsUp }
 {}
 
-/// The report of a log and what is missing of it are those of its parts put together. The premises are those of
-/// `ss_parts::laws::parts_add_up`, and that each part is given the counters of its sessions.
+/// The report of a log by payloads that are known beforehand is the reports of its parts put together, by the same
+/// payloads, or without any. The premises are that all blocks of a session belong to one part, and with each verified
+/// one the messages whose hashes it announces, and that each place belongs to one of the parts.
+pub fn reports_by_payloads_add_up()
+    ensures { ReportsByPayloadsAddUp }
+{
+    parts_add_up();
+    pinned_reports_are_of_logs();
+}
+
+/// The report of a log and what is missing of it are those of its parts put together, by payloads that are known
+/// beforehand, or without any. The premises are those of `reports_by_payloads_add_up`, and that each part is given the
+/// counters of its sessions.
 pub fn whole_reports_add_up()
     ensures { WholeReportsAddUp }
 {
-    parts_add_up();
+    reports_by_payloads_add_up();
     missing_adds_up();
 }
 

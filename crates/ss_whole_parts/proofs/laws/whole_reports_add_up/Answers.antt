@@ -1,4 +1,3 @@
-use Rattle.std.specs.Prelude.{None}
 use Rattle.std.proofs.lemmas.Option.{slice_get_within}
 use Rattle.ss_review.specs.keep.Contents.{blocks}
 use Rattle.ss_review.specs.keep.Notes.{Block, notes}
@@ -7,13 +6,13 @@ use Rattle.ss_review.proofs.of_kept_messages.NotesTold.{block_noted}
 use Rattle.ss_whole_parts.proofs.laws.whole_reports_add_up.Goals as goal
 
 pub returns : goal.returns
-returns c = λ says log part parts are cs own given. (
-  c.parts_add_up.ensures says log part parts are,
-  c.missing_adds_up.ensures None says log part parts
+returns c = λ known says log part parts whole are cs own given. (
+  c.reports_by_payloads_add_up.ensures known says log part parts whole are,
+  c.missing_adds_up.ensures known says log part parts
       (record {
         within = λ b h.
             (let w = block_noted (notes log) b (has_from_contains (blocks (notes log)) b h) in
             are.within b.place (slice_get_within (notes log) b.place (Block w.0) w.1));
-        sessions = are.sessions;
+        sessions = whole;
       }) cs own given,
 )
