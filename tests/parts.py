@@ -8,13 +8,17 @@ Each message of a log belongs to one part, and a part keeps the order of its mes
   (a)  all blocks of a session belong to one part
   (b)  a message without a block, that has a hash which a verified block announces, belongs to the part of that block
 
-Where both hold, the report on the whole has to be the reports on the parts put together, place by place. Without one of
-them some logs have to have another report, or it wouldn't be needed. The last line is `parts: N passed, M failed`.
+Where both hold, the report on the whole has to be the reports on the parts put together, place by place. Where (a) holds,
+so have its counters, and what is missing of it up to counters that were kept (kept.py): each part is given all of them, or
+those of its sessions. Without a premise some logs have to differ, or it wouldn't be needed. The last line is
+`parts: N passed, M failed`.
 """
 import base64
 import collections
 import sys
 
+from counters import counters_text
+from kept import kept_text, some_counters
 from review_examples import ALL, C, M1, M2, S
 from review_logs import Maker
 from review_model import Log, review, state
@@ -27,6 +31,9 @@ SHOWN = 3
 REACHED = ["both hold, in 2 parts", "both hold, in 3 parts", "both hold, and several parts have a session",
            "both hold, and two parts have an equal message", "both hold, and the report is clean", "both hold, and it isn't",
            "without (a), and the reports differ", "without (b), and the reports differ",
+           "(a) holds, and several parts give counters", "(a) holds, and a tail is missing", "(a) holds, and blocks are missing",
+           "(a) holds, and a session is absent", "(a) holds, and a part has a session that another reports as absent",
+           "without (a), and the counters differ", "without (a), and what is missing differs",
            *("both hold, and some line says %s" % it for it in (
                "listed", "lost", "disputed", "hole", "unlisted", "refused", "spoilt", "joined", "incomplete", "malformed",
                "untrusted", "unaccepted"))]
@@ -89,6 +96,49 @@ def parts_of(messages, answers, part_of):
     """The report on each part, by its number."""
     places = {part: [place for place, it in enumerate(part_of) if it == part] for part in sorted(set(part_of))}
     return [Part(messages, own, answers) for own in places.values()]
+
+
+# ---- counters, and what is missing, put together
+
+def session_in(line):
+    """The session of a line of a report or of counters."""
+    _, host, app, procid, rsid = line.split(" ")[:5]
+    return host.encode(), app.encode(), procid.encode(), int(rsid)
+
+
+def by_session(counters):
+    """Counters by their sessions, and those of a session as they stand."""
+    return sorted(counters, key=session_in)
+
+
+class Missing:
+    """What is missing of each session of a log that has a block, and of each absent one."""
+
+    def __init__(self, text):
+        self.known, self.absent = {}, {}
+        for line in text:
+            word = line.split(" ")[0]
+            if word == "session":
+                own = self.absent if line.endswith(" absent") else self.known
+                own[session_in(line)] = []
+            elif word in ("tail", "blocks"):
+                own[session_in(line)].append(line)
+
+    def lines(self):
+        return missing_lines(self.known.items(), self.absent.items())
+
+
+def missing_lines(known, absent):
+    """A line for each of these sessions, and what is missing of it."""
+    return ["%s %s %s" % (kind, *it) for kind, sessions in (("known", known), ("absent", absent)) for it in sessions]
+
+
+def missing_together(parts):
+    """The lines of parts put together: each session once, and no absent one that some part has."""
+    known = sorted((it for part in parts for it in part.known.items()), key=lambda it: it[0])
+    there = {session for session, _ in known}
+    absent = {session: own for part in parts for session, own in part.absent.items() if session not in there}
+    return missing_lines(known, sorted(absent.items()))
 
 
 # ---- the premises
@@ -187,6 +237,41 @@ def kinds_of(whole, parts, part_of):
         yield "and some line says %s" % (words[-1] if words[0] in ("session", "gap") else words[0])
 
 
+def given_to(chance, counters, whole, part_of, parts):
+    """The counters that each part is given: all, or those of its sessions. A session without a block has any part."""
+    if chance.random() < 0.5:
+        return {part: counters for part in parts}
+    home = {block.session: part_of[block.place] for block in whole.log.blocks}
+    for it in counters:
+        home.setdefault(session_in(it), chance.choice(parts))
+    return {part: [it for it in counters if home[session_in(it)] == part] for part in parts}
+
+
+def compare_kept(seed, cutter, whole, part_of, is_whole, reached):
+    """Compares the counters, and what is missing up to some, where all blocks of a session are in one part."""
+    logs = {part: Log([text for text, own in zip(whole.messages, part_of) if own == part]) for part in sorted(set(part_of))}
+    given = [counters_text(log, *whole.answers) for log in logs.values()]
+    wanted, said = counters_text(whole.log, *whole.answers), by_session(it for own in given for it in own)
+    kept = some_counters(cutter.chance, wanted)
+    own = given_to(cutter.chance, kept if logs else [], whole, part_of, list(logs))
+    lacked = [Missing(kept_text(log, *whole.answers, own[part])) for part, log in logs.items()]
+    missing = Missing(kept_text(whole.log, *whole.answers, kept if logs else []))
+    if not is_whole:
+        reached["without (a), and the counters %s" % ("agree" if said == wanted else "differ")] += 1
+        agrees = missing_together(lacked) == missing.lines()
+        reached["without (a), and what is missing %s" % ("agrees" if agrees else "differs")] += 1
+        return
+    tell("seed %d: the counters" % seed, wanted, said)
+    tell("seed %d: what is missing" % seed, missing.lines(), missing_together(lacked))
+    words = {line.split(" ")[0] for own in (missing.known, missing.absent) for lines in own.values() for line in lines}
+    reached["(a) holds, and several parts give counters"] += sum(map(bool, given)) > 1
+    reached["(a) holds, and a tail is missing"] += "tail" in words
+    reached["(a) holds, and blocks are missing"] += "blocks" in words
+    reached["(a) holds, and a session is absent"] += bool(missing.absent)
+    reached["(a) holds, and a part has a session that another reports as absent"] += any(
+        session in missing.known for part in lacked for session in part.absent)
+
+
 def compare(seed, reached):
     """Cuts the log of a seed, and compares the reports where both premises hold."""
     cutter = Cutter("parts %d" % seed)
@@ -195,6 +280,7 @@ def compare(seed, reached):
     parts = parts_of(whole.messages, whole.answers, part_of)
     said = together(parts)
     a, b = whole.premises(part_of)
+    compare_kept(seed, cutter, whole, part_of, a, reached)
     if a and b:
         tell("seed %d" % seed, whole.report, said)
         reached.update({"both hold, %s" % it for it in kinds_of(whole, parts, part_of)})
