@@ -14,12 +14,23 @@ taken off both counts. They are
   peak     the most octets that were taken at one time, from which nothing is taken off. There are few for each octet
            that is read or written
   moved    the octets that were copied, filled or kept by a change of room
+  taken    the octets of all room that was ever taken, whether it was given back or not
   passed   the octets that were read and written
 
-of which LIBRARY, made of tests/count.c, counts all but the steps. The inputs are those of cost_logs.py. The program of
---slow, made of tests/slow.c, is one that is too slow in a way that it is told: it has to be found out. --only takes the
-shapes whose name holds a word, --show prints each ratio, and --instructions has callgrind count each instruction as a
-step, which takes some minutes. The last line is `cost: N passed, M failed`.
+Some have a bound of their own in each run. Standard input and each file that an option names are read once, by reads of a
+whole buffer, up to the first that gives nothing:
+
+  once     what passed is what these files hold and what was written
+  reads    there are at most as many reads as buffers and ends
+  late     no file is read again after its end
+  room     few octets are taken at one time for each that is read or written
+  spent    the same of all that is ever taken
+  reused   messages of which nothing is kept take no room of their own
+
+LIBRARY, made of tests/count.c, counts all but the steps. The inputs are those of cost_logs.py. The program of --slow, made
+of tests/slow.c, is one that is too slow in a way that it is told: it has to be found out. --only takes the shapes whose
+name holds a word, --show prints each ratio, and --instructions has callgrind count each instruction as a step, which takes
+some minutes. The last line is `cost: N passed, M failed`.
 """
 import argparse
 import collections
@@ -35,11 +46,18 @@ import cost_logs as logs
 
 MOST = 2.3
 # what is too little to have a ratio: a list that grows once more, a number with one digit more
-SLACK = {"steps": 3000, "calls": 40, "peak": 4096, "moved": 4096, "passed": 0}
+SLACK = {"steps": 3000, "calls": 40, "peak": 4096, "moved": 4096, "taken": 4096, "passed": 0}
 # of the C library: so an instruction that copies many octets by itself doesn't count as one step for each
 TUNED = {"GLIBC_TUNABLES": "glibc.cpu.x86_rep_movsb_threshold=1000000000:glibc.cpu.x86_rep_stosb_threshold=1000000000"}
-# the most octets that are taken at one time: this many, and so many more for each octet that is read or written
-ROOM, ROOM_FOR_EACH = 1 << 19, 32
+# the most octets that are taken at one time: two buffers and the command line, and so many more for each octet that is read
+# or written
+ROOM, ROOM_FOR_EACH = 160 << 10, 24
+# the same of all that is ever taken
+SPENT, SPENT_FOR_EACH = 512 << 10, 40
+# how much one read asks for
+BUFFER = 1 << 16
+# how often room is taken at most for messages of which nothing is kept
+FEW_CALLS = 100
 # a run that takes more seconds hangs, however busy the machine is
 PATIENCE = 300
 COMMANDS = (REVIEW, WHOLE, KEPT, NIGHT, TALLY, EXTRACT, UNLISTED, UNWRAPPED, QUESTIONS, ONCE, OBJECTS, INSPECT, ORIGINALS, PLAN,
@@ -136,9 +154,23 @@ SHAPES = [
 ]
 # those that are read as lines too
 IN_LINES = {logs.signed, logs.sent}
+# those whose messages are all let go, but for lists of hashes and places
+REUSED = {(logs.shortest, REVIEW), (logs.shortest, INSPECT)}
 # each line repeats the payload: by its format this output grows with the square, and the rest may grow as it does. With
 # `--once` it doesn't
 AS_WRITTEN = {(logs.fragments_rising, QUESTIONS), (logs.large_payload, QUESTIONS)}
+
+# logs of a few blocks, sessions or groups, over which room that is taken for each of them is more than what they hold
+FEW = [
+    (logs.signed, 10, [REVIEW, WHOLE, EXTRACT, QUESTIONS, INSPECT, COUNTERS, CARRY]),
+    (logs.sessions, 10, [REVIEW, COUNTERS, QUESTIONS, ONCE, CARRY]),
+    (logs.one_hash, 10, [REVIEW, CARRY]),
+    (logs.groups, 10, [REVIEW, COUNTERS, CARRY]),
+    (logs.kept_groups, 10, [KEPT]),
+    (logs.sent, 10, [PLAN, AHEAD, SIGN]),
+    (logs.sent_one_by_one, 10, [PLAN, SIGN]),
+    (logs.sent_in_groups, 192, [PLAN, AHEAD, SIGN]),
+]
 
 # what each slow stand-in has to be found out by, and on which shape
 SLOW = [
@@ -150,6 +182,11 @@ SLOW = [
     ("takes", logs.shortest, 3000, "calls"),
     ("reads", logs.shortest, 3000, "passed"),
     ("rooms", logs.shortest, 1500, "room"),
+    ("twice", logs.shortest, 3000, "once"),
+    ("pieces", logs.shortest, 3000, "reads"),
+    ("late", logs.shortest, 3000, "late"),
+    ("spends", logs.shortest, 3000, "spent"),
+    ("renews", logs.shortest, 3000, "reused"),
 ]
 
 passed = failed = 0
@@ -224,7 +261,8 @@ def run(words, log, library="", environment=None):
         loaded = {"LD_PRELOAD": library, "COUNTS": counts.name} if library else {}
         done = subprocess.run(words, stdin=file, capture_output=True, timeout=PATIENCE, check=False,
                               env={**(environment or os.environ), **loaded})
-        told = dict(zip(("calls", "peak", "moved", "passed"), map(int, counts.read().split())))
+        told = dict(zip(("calls", "peak", "moved", "passed", "behind", "taken", "reads", "late"), map(int, counts.read().split())))
+    told.pop("behind", None)
     return done.returncode, done.stdout, done.stderr, told
 
 
@@ -261,40 +299,43 @@ class Bench:
 
     def kinds(self):
         """What is counted, and None."""
-        by_library = ["calls", "peak", "room", "moved", "passed"] if self.library else []
-        return [None] + (["steps"] if self.counter else []) + by_library
+        by_library = ["calls", "peak", "room", "moved", "passed", "once", "reads", "late", "spent", "reused"]
+        return [None] + (["steps"] if self.counter else []) + (by_library if self.library else [])
 
     def command(self, command, made, log, of_lines, stepped):
-        """What one command takes of an input that was written to a file, and the fault of what it says."""
+        """What one command takes of an input that was written to a file, the fault of what it says, and the faults of how it
+        reads, by their kinds."""
         words = made.options + (["--lines"] if of_lines else [])
-        lines = list(made.answers)
+        lines, files = list(made.answers), [log]
         if command == SIGN:
             wants = run([self.program, PLAN] + words, log)[1].splitlines()
             lines += [b"seal " + line[5:] + b" AAAA" for line in wants]
         if command in (KEPT, NIGHT, RESUMED):
             with open(log + ".counters", "wb") as file:
                 file.writelines(line + b"\n" for line in made.counters)
-            words = [log + ".counters", *words]
+            words, files = [log + ".counters", *words], [*files, log + ".counters"]
         if command in BY_KNOWN:
             with open(log + ".known", "wb") as file:
                 file.writelines(b"trust %s\n" % it for it in made.known)
-            words = [log + ".known", *words]
+            words, files = [log + ".known", *words], [*files, log + ".known"]
         if command == NIGHT:
             with open(log + ".first", "wb") as file:
                 file.writelines(line + b"\n" for line in made.first)
-            words = [log + ".first", "--counters", *words]
+            words, files = [log + ".first", "--counters", *words], [*files, log + ".first"]
         if command in (REVIEW, WHOLE, KEPT, NIGHT, TALLY, EXTRACT, UNLISTED, UNWRAPPED, SIGN, COUNTERS, CARRY, PINNED, COUNTED,
                        CARRIED):
             with open(log + ".answers", "wb") as file:
                 file.writelines(line + b"\n" for line in lines)
-            words = words + ["--answers", log + ".answers"]
+            words, files = words + ["--answers", log + ".answers"], [*files, log + ".answers"]
         words = [self.program, *command.split(), *words]
         said = run(words, log, self.library, self.environment)
         counts = said[3]
+        faults = faults_of_files(counts, [os.path.getsize(it) for it in files], len(said[1]) + len(said[2]), said[0] == 2)
         if self.counter and stepped:
             with open(log, "rb") as file:
                 counts["steps"] = self.counter.count(words, stdin=file, env={**self.environment, **TUNED}) or 0
-        return counts, fault_of(said, made.says[command], command in (EXTRACT, UNLISTED, UNWRAPPED, SIGN, CARRY, CARRIED))
+        fault = fault_of(said, made.says[command], command in (EXTRACT, UNLISTED, UNWRAPPED, SIGN, CARRY, CARRIED))
+        return counts, fault, faults
 
     def counts(self, made, name, commands, stepped):
         """The same of each command, as frames and as lines."""
@@ -308,24 +349,32 @@ class Bench:
         return done
 
     def empty(self, command):
-        """Counts what a command takes without an input, and gives the fault of what it says."""
+        """Counts what a command takes without an input, and gives the fault of what it says, and the other faults."""
         made = logs.sending(0, 1) if command in (PLAN, AHEAD, RESUMED, SIGN) else logs.nothing()
-        counts, fault = self.counts(made, "empty." + command, [(command, False)], [command])[command, False]
+        counts, fault, faults = self.counts(made, "empty." + command, [(command, False)], [command])[command, False]
         # the most that is taken at one time may be taken at another time than with an input
         self.bases[command] = {**counts, "peak": 0}
-        return fault
+        return fault, {**faults, **faults_of_room(counts)}
 
     def less(self, command, counts):
         return {kind: max(it - self.bases.get(command, {}).get(kind, 0), 0) for kind, it in counts.items()}
 
     def twice(self, shape, n, stepped, others):
-        """Of each command, the counts of an input and of one twice as large, and the fault of what is said."""
+        """Of each command, the counts of an input and of one twice as large, the fault of what is said, and the other faults by
+        their kinds."""
         forms = (False, True) if shape in IN_LINES else (False,)
         commands = [(command, form) for command in stepped + others for form in forms]
         small, large = (self.counts(shape(size), "%s.%d" % (shape.__name__, size), commands, stepped)
                         for size in (n, 2 * n))
-        return {it: ([self.less(it[0], both[it][0]) for both in (small, large)], small[it][1] or large[it][1])
-                for it in commands}
+        done = {}
+        for it in commands:
+            counts = [self.less(it[0], both[it][0]) for both in (small, large)]
+            faults = {kind: small[it][2][kind] or fault for kind, fault in large[it][2].items()}
+            faults.update(faults_of_room(large[it][0]))
+            if (shape, it[0]) in REUSED:
+                faults.update(faults_of_reuse(counts[1]))
+            done[it] = counts, small[it][1] or large[it][1], faults
+        return done
 
 
 # ---- the checks
@@ -341,10 +390,38 @@ def over(counts, as_written=False):
         for kind in small if large[kind] > most[kind] * small[kind] + SLACK[kind]}
 
 
-def fault_of_room(counts):
-    """Whether more room is taken than for what is read: as for a length that is stated, and never comes."""
-    most = ROOM + ROOM_FOR_EACH * counts["passed"]
-    return "" if counts["peak"] <= most else "%d octets are taken, and at most %d wanted" % (counts["peak"], most)
+def faults_of_room(counts):
+    """Whether more room is taken than for what is read, as for a length that is stated, and never comes; and whether more is
+    taken in all."""
+    if "peak" not in counts:
+        return {}
+    most, in_all = (front + each * counts["passed"] for front, each in ((ROOM, ROOM_FOR_EACH), (SPENT, SPENT_FOR_EACH)))
+    return {
+        "room": "" if counts["peak"] <= most else "%d octets are taken, and at most %d wanted" % (counts["peak"], most),
+        "spent": "" if counts["taken"] <= in_all else "%d octets are taken in all, and at most %d wanted" % (
+            counts["taken"], in_all)}
+
+
+def faults_of_reuse(counts):
+    """Whether each message takes room of its own."""
+    if "calls" not in counts:
+        return {}
+    return {"reused": "" if counts["calls"] <= FEW_CALLS else "room is taken %d times, and at most %d wanted" % (
+        counts["calls"], FEW_CALLS)}
+
+
+def faults_of_files(counts, sizes, written, is_refused):
+    """Whether files of these sizes are read once, by whole buffers, and not after their ends; a run that is refused needn't
+    read all of them. Takes the counts of reads."""
+    if "reads" not in counts:
+        return {}
+    reads, late = counts.pop("reads"), counts.pop("late")
+    once, most = sum(sizes) + written, sum(-(-size // BUFFER) + 1 for size in sizes)
+    return {
+        "once": "" if counts["passed"] == once or is_refused and counts["passed"] < once else
+                "%d octets are read and written, and not %d" % (counts["passed"], once),
+        "reads": "" if reads <= most else "there are %d reads, and at most %d wanted" % (reads, most),
+        "late": "" if not late else "there are %d reads after an end" % late}
 
 
 def shown(counts):
@@ -353,20 +430,34 @@ def shown(counts):
 
 
 def check_program(bench, pool, word, show):
-    for command, fault in zip(COMMANDS, pool.map(bench.empty, COMMANDS)):
+    for command, (fault, faults) in zip(COMMANDS, pool.map(bench.empty, COMMANDS)):
         tell("%s of the empty log: what it says" % command, fault)
+        for kind, it in faults.items():
+            tell("%s of the empty log: %s" % (command, kind), it)
     shapes = [it for it in SHAPES if word in it[0].__name__]
     for (shape, *_), done in zip(shapes, [pool.submit(bench.twice, *it) for it in shapes]):
-        for (command, of_lines), (counts, fault) in done.result().items():
+        for (command, of_lines), (counts, fault, faults) in done.result().items():
             what = "%s of %s%s" % (command, shape.__name__, ", as lines" if of_lines else "")
             tell(what + ": what it says", fault)
             too_much = over(counts, (shape, command) in AS_WRITTEN)
             for kind in counts[0]:
                 tell(what + ": " + kind, too_much.get(kind, ""))
-            if "peak" in counts[0]:
-                tell(what + ": room", fault_of_room(counts[1]))
+            for kind, it in faults.items():
+                tell(what + ": " + kind, it)
             if show:
                 print("%-36s %s" % (what, shown(counts)))
+
+
+def check_few(bench, pool, word):
+    """That a log of a few blocks, sessions or groups takes no room but for what it holds."""
+    runs = [it for it in FEW if word in it[0].__name__]
+    done = [pool.submit(bench.counts, shape(n), "few.%s" % shape.__name__, [(command, False) for command in commands], [])
+            for shape, n, commands in runs]
+    for (shape, _, _), it in zip(runs, done):
+        for (command, _), (counts, fault, faults) in it.result().items():
+            tell("%s of a few %s: what it says" % (command, shape.__name__), fault)
+            for kind, fault in {**faults, **faults_of_room(counts)}.items():
+                tell("%s of a few %s: %s" % (command, shape.__name__, kind), fault)
 
 
 def check_slow(benches, pool, show):
@@ -375,10 +466,8 @@ def check_slow(benches, pool, show):
     done = [pool.submit(benches[name].twice, shape, n, *(([REVIEW], []) if kind in (None, "steps") else ([], [REVIEW])))
             for name, shape, n, kind in runs]
     for (name, shape, _, kind), it in zip(runs, done):
-        counts, fault = it.result()[REVIEW, False]
-        too_much = over(counts)
-        if "peak" in counts[1] and fault_of_room(counts[1]):
-            too_much["room"] = fault_of_room(counts[1])
+        counts, fault, faults = it.result()[REVIEW, False]
+        too_much = {**over(counts), **{kind: it for kind, it in faults.items() if it}}
         tell("the stand-in %s: what it says" % name, fault)
         if kind:
             tell("the stand-in that %s is found out" % name, "" if kind in too_much else "%s: %r" % (kind, counts))
@@ -404,7 +493,9 @@ def main():
     with tempfile.TemporaryDirectory() as folder, concurrent.futures.ThreadPoolExecutor(jobs) as pool:
         if counter and counter.tool == "valgrind":
             counter.loader = without_debug_data(given.program, folder)
-        check_program(Bench(given.program, folder, given.count, counter), pool, given.only, given.show)
+        bench = Bench(given.program, folder, given.count, counter)
+        check_program(bench, pool, given.only, given.show)
+        check_few(bench, pool, given.only)
         if given.slow:
             benches = {}
             for name, *_ in SLOW:

@@ -6,6 +6,9 @@
 //   moved   the octets that memcpy, memmove and memset wrote, and those that a realloc keeps
 //   passed  the octets that read and write passed
 //   behind  the most octets that were taken at one time since an input was read to its end
+//   taken   the octets of all room that was ever taken, whether it was given back or not
+//   reads   how often read was called
+//   late    how often it was called for an input that had been read to its end
 //
 // tests/cost.sh compiles it.
 #define _GNU_SOURCE
@@ -17,7 +20,9 @@
 #include <string.h>
 #include <unistd.h>
 
-static unsigned long calls, live, peak, moved, passed, behind;
+static unsigned long calls, live, peak, moved, passed, behind, all, reads, late;
+// which files were read to their end, by their numbers
+static char ended[1024];
 
 #define NEXT(name, ...)                  \
     static __typeof__(name) *next;       \
@@ -34,9 +39,11 @@ static void *next_memmove(void *to, const void *from, size_t size) { NEXT(memmov
 static void *next_memset(void *to, int octet, size_t size) { NEXT(memset, to, octet, size); }
 static ssize_t next_read(int file, void *to, size_t size) { NEXT(read, file, to, size); }
 static ssize_t next_write(int file, const void *from, size_t size) { NEXT(write, file, from, size); }
+static int next_close(int file) { NEXT(close, file); }
 
-static void *taken(void *block) {
+static void *taken(void *block, size_t size) {
     calls++;
+    all += size;
     live += malloc_usable_size(block);
     if (live > peak)
         peak = live;
@@ -46,11 +53,11 @@ static void *taken(void *block) {
 }
 
 void *malloc(size_t size) {
-    return taken(next_malloc(size));
+    return taken(next_malloc(size), size);
 }
 
 void *calloc(size_t count, size_t size) {
-    return taken(next_calloc(count, size));
+    return taken(next_calloc(count, size), count * size);
 }
 
 void *realloc(void *block, size_t size) {
@@ -58,7 +65,7 @@ void *realloc(void *block, size_t size) {
     void *changed = next_realloc(block, size);
     if (changed) {
         moved += old < size ? old : size;
-        taken(changed);
+        taken(changed, size);
         live -= old;
     }
     return changed;
@@ -86,10 +93,21 @@ void *memset(void *to, int octet, size_t size) {
 
 ssize_t read(int file, void *to, size_t size) {
     ssize_t count = next_read(file, to, size);
+    int known = file >= 0 && file < (int)sizeof ended;
     passed += count > 0 ? count : 0;
+    reads++;
+    late += known && ended[file];
+    if (count == 0 && known)
+        ended[file] = 1;
     if (count == 0)
         behind = live;
     return count;
+}
+
+int close(int file) {
+    if (file >= 0 && file < (int)sizeof ended)
+        ended[file] = 0;
+    return next_close(file);
 }
 
 ssize_t write(int file, const void *from, size_t size) {
@@ -103,6 +121,6 @@ __attribute__((destructor)) static void tell(void) {
     FILE *file = path ? fopen(path, "w") : NULL;
     if (!file)
         return;
-    fprintf(file, "%lu %lu %lu %lu %lu\n", calls, peak, moved, passed, behind);
+    fprintf(file, "%lu %lu %lu %lu %lu %lu %lu %lu\n", calls, peak, moved, passed, behind, all, reads, late);
     fclose(file);
 }

@@ -8,7 +8,13 @@
 //   takes    takes room and gives it back once for each message before, for each message
 //   reads    reads the log from its beginning, for each message
 //   rooms    takes the room of the longest message for each message
+//   twice    reads the log twice, once it is written about
+//   pieces   reads the log by an octet at a time
+//   late     reads once more after the end of the log
+//   spends   takes a megabyte for each message, and gives it back
+//   renews   takes room for each message, and gives it back
 #define _GNU_SOURCE
+#include <fcntl.h>
 #include <stdio.h>
 #include <stdlib.h>
 #include <string.h>
@@ -50,6 +56,20 @@ static void read_again(void) {
         sum += part[0];
 }
 
+static void spend(size_t room) {
+    void *(*volatile take)(size_t) = malloc;
+    free(take(room));
+}
+
+// reads a file to its end
+static void read_file(const char *path) {
+    char part[65536];
+    int file = open(path, O_RDONLY);
+    while (read(file, part, sizeof part) > 0)
+        sum += part[0];
+    close(file);
+}
+
 static void do_slowly(const char *what, const char *text, size_t length) {
     if (!strcmp(what, "looks"))
         look();
@@ -65,14 +85,20 @@ static void do_slowly(const char *what, const char *text, size_t length) {
         read_again();
     else if (!strcmp(what, "rooms"))
         sum += (size_t)malloc(1 << 16) & 1;
+    else if (!strcmp(what, "spends"))
+        spend(1 << 20);
+    else if (!strcmp(what, "renews"))
+        spend(length + 1);
 }
 
-int main(void) {
+int main(int argc, char **argv) {
     const char *slow = getenv("SLOW");
-    size_t most = 1 << 16;
+    size_t most = 1 << 16, least = slow && !strcmp(slow, "pieces") ? 1 : most;
     ssize_t taken;
+    // the last word names the answers file
+    read_file(argv[argc - 1]);
     log_octets = malloc(most);
-    while ((taken = read(0, log_octets + size, most - size)) > 0)
+    while ((taken = read(0, log_octets + size, least < most - size ? least : most - size)) > 0)
         if ((size += taken) == most)
             log_octets = realloc(log_octets, most *= 2);
     // a frame has three octets or more, and its line at most 16
@@ -85,6 +111,10 @@ int main(void) {
         do_slowly(slow ? slow : "", at + 1, length);
         at += 1 + length;
     }
+    if (slow && !strcmp(slow, "twice"))
+        read_again();
+    if (slow && !strcmp(slow, "late"))
+        sum += read(0, log_octets, 1);
     written += sprintf(output + written, "end %zu\n", count);
     return write(1, output, written) < 0 ? 2 : 1;
 }
