@@ -51,7 +51,7 @@ SLACK = {"steps": 3000, "calls": 40, "peak": 4096, "moved": 4096, "taken": 4096,
 TUNED = {"GLIBC_TUNABLES": "glibc.cpu.x86_rep_movsb_threshold=1000000000:glibc.cpu.x86_rep_stosb_threshold=1000000000"}
 # the most octets that are taken at one time: two buffers and the command line, and so many more for each octet that is read
 # or written
-ROOM, ROOM_FOR_EACH = 160 << 10, 24
+ROOM, ROOM_FOR_EACH = 152 << 10, 24
 # the same of all that is ever taken
 SPENT, SPENT_FOR_EACH = 512 << 10, 40
 # how much one read asks for
@@ -162,6 +162,7 @@ AS_WRITTEN = {(logs.fragments_rising, QUESTIONS), (logs.large_payload, QUESTIONS
 
 # logs of a few blocks, sessions or groups, over which room that is taken for each of them is more than what they hold
 FEW = [
+    (logs.shortest, 10, [REVIEW, INSPECT]),
     (logs.signed, 10, [REVIEW, WHOLE, EXTRACT, QUESTIONS, INSPECT, COUNTERS, CARRY]),
     (logs.sessions, 10, [REVIEW, COUNTERS, QUESTIONS, ONCE, CARRY]),
     (logs.one_hash, 10, [REVIEW, CARRY]),
