@@ -124,6 +124,7 @@ holds 'nothing is announced: the verdict' grep -q '^NOTHING IS SHOWN: no verifie
 keys verify --key two/public-key.pem --ignore-strangers both
 holds 'another key: the session is disputed' grep -qx '  state: disputed; .*' out
 holds 'another key: status 1' test "$status" = 1
+holds 'another key: why' grep -qx '  why: no whole payload was found in it that one of your keys signed' out
 
 # ---- blocks that somebody signed
 signs elsewhere one 2 --payload "2025-01-01T00:00:00Z $payload_of_one"
@@ -142,6 +143,14 @@ disputes mixed replayed <signed >log
 keys verify "${key[@]}" --ignore-strangers log
 holds 'two payloads of one key claim a session: it is disputed' grep -qx '  state: disputed; .*' out
 holds 'two payloads of one key claim a session: status 1' test "$status" = 1
+holds 'two payloads of one key claim a session: why' grep -qx "  why: the key one/public-key.pem signed two payloads for it, one of \
+2025-01-01T00:00:00Z and one of $stated: its RSID was used twice" out
+holds 'two payloads of one key claim a session: no key is named' test "$(grep -c '  key: ' out)" = 0
+keys verify "${key[@]}" --answers-out kept log
+printf 'trust %s\n' "$(printf %s "$payload" | base64 -w 0)" >right
+run review --pinned right --answers kept <log
+holds 'two payloads of one key, and the right one is known' grep -qx 'session h a"b\\]c - 1 joined' out
+holds 'two payloads of one key, and the right one is known: the numbers' test "$(grep -c '^ok ' out)" = 10
 signs before one 1 --payload "2025-01-01T00:00:00.5Z $payload_of_one"
 disputes certificates <before | disputes first >replayed
 disputes mixed replayed <signed >log
@@ -155,6 +164,7 @@ keys verify "${key[@]}" log
 holds 'blocks of another key: the numbers' test "$(listed)" = "$clean"
 keys verify "${key[@]}" --key two/public-key.pem log
 holds 'two keys, and both are trusted: it is disputed' grep -qx '  state: disputed; .*' out
+holds 'two keys, and both are trusted: why' grep -qx '  why: two of your keys signed a payload for it, .*: --session-key says which is its key' out
 keys verify "${key[@]}" --key two/public-key.pem signed
 holds 'two keys, and one signs: status 0' test "$status" = 0
 disputes octet 3 <signed >log

@@ -6,17 +6,19 @@ read again beside the report, in which the sessions stand in the same order.
 from __future__ import annotations
 
 import json
-from dataclasses import dataclass, field
-from typing import BinaryIO, Dict, Iterable, Iterator, List, Optional, Set, Tuple
+from dataclasses import dataclass, field, replace
+from typing import AbstractSet, BinaryIO, Dict, Iterable, Iterator, List, Optional, Set, Tuple
 
 from .answer import Answered
 from .blocks import Block, Session
 from .encoding import decode
 from .fragments import covers, read_fragment
-from .identity import UNKNOWN, Finding, finding_of, note_of
+from .identity import UNKNOWN, Finding, Identity, finding_of, note_of
+from .words import shown_name
 from .workplace import put
 
 GroupName = Tuple[int, int]
+UNSIGNED = Finding(None, "no whole payload was found in it that one of your keys signed")
 
 
 @dataclass
@@ -80,10 +82,29 @@ def noted(answered: Iterable[Answered], notes: BinaryIO) -> Iterator[Answered]:
 
 
 def better(kept: Optional[BlockFacts], facts: Optional[BlockFacts]) -> Optional[BlockFacts]:
-    """Which facts of a session count."""
-    if kept is None or facts is not None and facts.claims and not kept.claims:
+    """Which facts of a session count. If two payloads claim it, it is disputed, and none of their keys is its key."""
+    if kept is None:
         return facts
-    return kept
+    if facts is None or not facts.claims:
+        return kept
+    if not kept.claims:
+        return facts
+    one, other = kept.finding.identity, facts.finding.identity
+    return kept if one is None or other is None else replace(kept, finding=Finding(None, two_payloads(one, other)))
+
+
+def two_payloads(one: Identity, other: Identity) -> str:
+    """Why no key is that of a session for which two payloads are validly signed."""
+    if one.fingerprint == other.fingerprint:
+        return (f"the key {shown_name(one.file)} signed two payloads for it, {stamp_words(one.stamp)} and "
+                f"{stamp_words(other.stamp)}: its RSID was used twice")
+    return (f"two of your keys signed a payload for it, {shown_name(one.file)} and {shown_name(other.file)}: --session-key says "
+            "which is its key")
+
+
+def stamp_words(stamp: str) -> str:
+    """The time that a payload states."""
+    return "one without a time" if stamp == "-" else f"one of {stamp}"
 
 
 def put_note(notes: BinaryIO, session: Optional[Session], facts: Optional[BlockFacts]) -> None:
@@ -98,18 +119,20 @@ def put_note(notes: BinaryIO, session: Optional[Session], facts: Optional[BlockF
 class Notes:
     """Reads again what was kept, beside the sessions of a report."""
 
-    def __init__(self, notes: BinaryIO) -> None:
+    def __init__(self, notes: BinaryIO, unsigned: AbstractSet[Session] = frozenset()) -> None:
+        """Of the unsigned sessions it is known that they are disputed, and that no payload of them is validly signed."""
         notes.seek(0)
         self._notes = notes
+        self._unsigned = unsigned
         self._next = self._read()
 
     def of(self, session: Session) -> Optional[BlockFacts]:
         """What is known of this session's key and blocks, or None where nothing is. Asked for in the order of a report."""
-        if self._next is None or self._next[0] != session:
-            return None
-        facts = self._next[1]
-        self._next = self._read()
-        return facts
+        facts: Optional[BlockFacts] = None
+        if self._next is not None and self._next[0] == session:
+            facts = self._next[1]
+            self._next = self._read()
+        return replace(facts or BlockFacts(UNSIGNED), finding=UNSIGNED) if session in self._unsigned else facts
 
     def _read(self) -> Optional[Tuple[Session, BlockFacts]]:
         line = self._notes.readline()

@@ -8,7 +8,7 @@ from __future__ import annotations
 
 import base64
 import subprocess
-from typing import Callable, Dict, Iterable, Iterator, List, NamedTuple, Optional, Sequence, Set, Tuple
+from typing import Callable, Dict, FrozenSet, Iterable, Iterator, List, NamedTuple, Optional, Sequence, Set, Tuple
 
 from .answer import answers
 from .blocks import Session
@@ -36,6 +36,8 @@ class Known(NamedTuple):
     """The option of `ssign questions`, `review` and `counters`, or none."""
     sentences: List[str]
     """What is to be said of what couldn't be looked for, or be given."""
+    unsigned: FrozenSet[Session] = frozenset()
+    """The disputed sessions of which no validly signed payload was found."""
 
 
 class Search:
@@ -52,6 +54,8 @@ class Search:
         self._workplace = workplace
         self._progress = progress
         self._sentences: List[str] = []
+        # the sessions of which not all was looked at
+        self._cut: Set[Session] = set()
 
     def run(self, trust: Trust, jobs: int) -> Known:
         """What to give to ssign."""
@@ -61,15 +65,16 @@ class Search:
         keys = {session: trust.keys_for(session) for session in disputed}
         if trust.has_authorities:
             self._add_certified(keys, trust)
-        texts = self._signed_texts(keys, trust, jobs)
+        texts, signed = self._signed_texts(keys, trust, jobs)
+        unsigned = frozenset(disputed - signed - self._cut)
         if not texts:
-            return Known([], self._sentences)
+            return Known([], self._sentences, unsigned)
         with self._workplace.new_file("pinned") as file:
             for text in texts:
                 put(file, b"trust %s\n" % base64.b64encode(text))
             finish(file)
         words = [f"--pinned={self._workplace.path('pinned')}"]
-        return Known(words if self._has_option(words) else [], self._sentences)
+        return Known(words if self._has_option(words) else [], self._sentences, unsigned)
 
     def _has_option(self, words: List[str]) -> bool:
         """Whether the program knows the option. An empty log shows it."""
@@ -125,7 +130,6 @@ class Search:
         """Adds the keys of certificates that an authority issued, as fragments spell them that nobody is known to have
         signed."""
         pieces: Dict[Session, Dict[Piece, None]] = {session: {} for session in keys}
-        cut: Set[Session] = set()
         for message in self._messages():
             found = read_fragment(message)
             if found is None or found.session not in pieces or found.piece[0] > trust.longest:
@@ -134,7 +138,7 @@ class Search:
             if len(of_session) < MOST_FRAGMENTS:
                 of_session[found.piece] = None
             elif found.piece not in of_session:
-                cut.add(found.session)
+                self._cut.add(found.session)
         for session, found_pieces in pieces.items():
             joiner = Joiner(MOST_STEPS)
             for text in joiner.texts(found_pieces):
@@ -142,24 +146,29 @@ class Search:
                 if trusted is not None and all(it.numbers != trusted.key.numbers for it in keys[session]):
                     keys[session] = [*keys[session], trusted.key]
             if joiner.is_cut:
-                cut.add(session)
-        if cut:
-            self._sentences.append(f"{grouped(len(cut), 'session has', 'sessions have')} more fragments than are looked at, so a "
+                self._cut.add(session)
+        if self._cut:
+            self._sentences.append(f"{grouped(len(self._cut), 'session has', 'sessions have')} more fragments than are looked at, so a "
                                    "certificate that --ca would trust may not be found: --cert names it")
 
     # ---- payloads
 
-    def _signed_texts(self, keys: Dict[Session, List[PublicKey]], trust: Trust, jobs: int) -> List[bytes]:
-        """The payloads that validly signed fragments of these sessions spell under these keys, if they are trusted there."""
+    def _signed_texts(self, keys: Dict[Session, List[PublicKey]], trust: Trust, jobs: int) -> Tuple[List[bytes], Set[Session]]:
+        """The payloads that validly signed fragments of these sessions spell under these keys, if they are trusted there, and the
+        sessions that have one."""
         pieces = self._signed_pieces(keys, jobs)
         texts: Dict[bytes, None] = {}
+        signed: Set[Session] = set()
         for (session, _), found in pieces.items():
-            trusted = 0
-            for text in Joiner(MOST_STEPS).texts(found):
+            trusted, joiner = 0, Joiner(MOST_STEPS)
+            for text in joiner.texts(found):
                 if trusted < MOST_TEXTS and trust.judge(text, session).trusted is not None:
                     trusted += 1
                     texts[text] = None
-        return list(texts)
+                    signed.add(session)
+            if joiner.is_cut:
+                self._cut.add(session)
+        return list(texts), signed
 
     def _signed_pieces(self, keys: Dict[Session, List[PublicKey]], jobs: int) -> Dict[Tuple[Session, bytes], Dict[Piece, None]]:
         """The fragments that are validly signed, by their sessions and by the payload that stands for their key.

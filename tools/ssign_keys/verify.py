@@ -297,7 +297,7 @@ class Verifier:
         """Has ssign review the log under the answers that were kept, and sees that all that is known of it agrees."""
         status = self._review([f"--answers={self.answers_path}", *self._known.words, *self.missing.words])
         is_whole, counters, begin = bool(self.missing.words), self.missing.counters, self.missing.begin
-        survey = Survey(self._walked, Notes(self._notes), is_whole, counters, begin)
+        survey = Survey(self._walked, self._read_notes(), is_whole, counters, begin)
         Reading(survey).read(self._report, self._progress)
         survey.check(status, self._valid)
         facts = Facts(status, survey.totals, survey.states, survey.missing or 0, survey.reach.coverage(),
@@ -306,7 +306,11 @@ class Verifier:
                       strangers.count_strangers(self._log, survey.refused, survey.joined, self._progress),
                       arguments.ignore_strangers, survey.has_others)
         finder = Finder(self._log, self._progress)
-        return Reviewed(self._log, finder, Notes(self._notes), survey, facts, is_whole, counters, begin)
+        return Reviewed(self._log, finder, self._read_notes(), survey, facts, is_whole, counters, begin)
+
+    def _read_notes(self) -> Notes:
+        """What was kept of the sessions, from the first."""
+        return Notes(self._notes, self._known.unsigned)
 
     def times(self, reviewed: Reviewed) -> Times:
         """The times that the messages of the log state."""
@@ -386,7 +390,7 @@ class Verifier:
         """Makes the page, and gives the path of its passing file."""
         found = [] if listed is None else [(it.where, it.what) for it in listed.found]
         # what was read beside the report once is read again
-        page = Page(reviewed._replace(notes=Notes(self._notes)), found)
+        page = Page(reviewed._replace(notes=self._read_notes()), found)
         Reading(page).read(self._report, self._progress)
         with self._workplace.new_file("page") as file:
             page.write(file)
