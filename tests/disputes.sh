@@ -236,6 +236,26 @@ frame 'a message that nobody signed' >>nights/first.frames
 keys verify "${key[@]}" --ignore-strangers --nights manifest nights
 holds 'all nights, and an unlisted message: status 1' test "$status" = 1
 
+# ---- fragments of a stranger that spell the payloads of several sessions
+for it in 1 2 3; do
+    signs "of-$it" one "$it" --payload "2026-01-0${it}T00:00:00Z $payload_of_one"
+done
+disputes mixed of-2 of-3 <of-1 >own
+disputes certificates <own | LC_ALL=C sed -E 's/RSID="[123]"/RSID="9"/g' >spelling
+disputes octet 40 <own >disputed
+disputes mixed spelling <disputed >spelled
+cat >asking <<END
+#!/usr/bin/env bash
+[[ \$1 == questions ]] || exec "$program" "\$@"
+"$program" "\$@" | tee asked
+exit "\${PIPESTATUS[0]}"
+END
+chmod +x asking
+keys verify "${key[@]}" --ssign ./asking spelled
+holds 'a stranger spells three payloads: the numbers' test "$(grep -c '^    numbers 1 to 10: 10 listed' out)" = 3
+holds 'a stranger spells three payloads: only own blocks are asked about' test "$(grep -c '"line":"yes"' asked)" = \
+    "$("$program" inspect <own | grep -c '^certificate \|^signature ')"
+
 # ---- an archive with keys
 mkdir -p archive/gate
 cp log archive/gate/night-1

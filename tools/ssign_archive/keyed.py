@@ -39,7 +39,7 @@ def ask(settings: Settings, trust: Trust, reader: Reader, workplace: Workplace) 
     known = Search(settings.program, settings.log_words, read_again, settings.are_lines, workplace, Progress()).run(trust, 1)
     asking = Run(settings.program, ["questions", *ONCE, *known.words, *settings.log_words], workplace, Progress(), subprocess.PIPE,
                  subprocess.PIPE)
-    asking.feed(candidates(reader, settings.are_lines))
+    asking.feed(filter(known.asks, candidates(reader, settings.are_lines)))
     weak: Dict[str, None] = {}
     try:
         with workplace.new_file("answers") as file, told_answers(asking.lines(lambda: None), trust, 1) as answered:

@@ -38,6 +38,8 @@ class Known(NamedTuple):
     """What is to be said of what couldn't be looked for, or be given."""
     unsigned: FrozenSet[Session] = frozenset()
     """The disputed sessions of which no validly signed payload was found."""
+    asks: Callable[[bytes], bool] = lambda stored: True
+    """Whether ssign has to ask about a message, which is given with its frame or LF."""
 
 
 class Search:
@@ -56,10 +58,13 @@ class Search:
         self._sentences: List[str] = []
         # the sessions of which not all was looked at
         self._cut: Set[Session] = set()
+        # the disputed sessions, and what was signed of their certificate blocks, as hashes of octets and signature in base64
+        self._disputed: Set[Session] = set()
+        self._signed: Set[int] = set()
 
     def run(self, trust: Trust, jobs: int) -> Known:
         """What to give to ssign."""
-        disputed = self._disputed()
+        disputed = self._disputed = self._find_disputed()
         if not disputed:
             return Known([], [])
         keys = {session: trust.keys_for(session) for session in disputed}
@@ -74,7 +79,20 @@ class Search:
                 put(file, b"trust %s\n" % base64.b64encode(text))
             finish(file)
         words = [f"--pinned={self._workplace.path('pinned')}"]
-        return Known(words if self._has_option(words) else [], self._sentences, unsigned)
+        if not self._has_option(words):
+            return Known([], self._sentences, unsigned)
+        return Known(words, self._sentences, unsigned, self._asks)
+
+    def _asks(self, stored: bytes) -> bool:
+        """Whether a message isn't a certificate block of a disputed session that none of its keys signed.
+
+        Such a block speaks for no payload. Strangers may have written many that hold the octets of each payload that is offered,
+        and ssign would ask about each of them, and each other block of their session, once for each of these payloads.
+        """
+        found = read_fragment(self._message(stored)) if MARK in stored else None
+        if found is None or found.session not in self._disputed or found.session in self._cut:
+            return True
+        return hash((base64.b64encode(found.octets), found.signature)) in self._signed
 
     def _has_option(self, words: List[str]) -> bool:
         """Whether the program knows the option. An empty log shows it."""
@@ -91,7 +109,7 @@ class Search:
 
     # ---- sessions
 
-    def _disputed(self) -> Set[Session]:
+    def _find_disputed(self) -> Set[Session]:
         """The sessions whose certificate blocks contradict each other, by a review of these blocks alone."""
         report = self._workplace.new_file("disputed")
         reviewing = Run(self._program, ["review", *self._words], self._workplace, self._progress, subprocess.PIPE, report)
@@ -121,8 +139,10 @@ class Search:
 
     def _messages(self) -> Iterator[bytes]:
         """The same without frame or LF."""
-        for stored in self._certificates():
-            yield stored[:-1] if self._are_lines else stored[stored.index(b" ") + 1:]
+        yield from map(self._message, self._certificates())
+
+    def _message(self, stored: bytes) -> bytes:
+        return stored[:-1] if self._are_lines else stored[stored.index(b" ") + 1:]
 
     # ---- keys
 
@@ -181,7 +201,8 @@ class Search:
         pieces: Dict[Tuple[Session, bytes], Dict[Piece, None]] = {}
         with answers(self._asked(keys, stated), trust, jobs) as answered:
             for it in answered:
-                _, payload, octets, _ = it.line.split(b" ")
+                _, payload, octets, signature = it.line.rstrip(b"\n").split(b" ")
+                self._signed.add(hash((octets, signature)))
                 found = read_fragment(decode(octets) or b"")
                 if found is not None:
                     pieces.setdefault((found.session, payload), {})[found.piece] = None

@@ -236,7 +236,7 @@ class Verifier:
         self._known = self._find_known(trust, jobs)
         words = ["questions", *ONCE, *self._known.words, *self._words]
         asking = Run(self._program, words, self._workplace, self._progress, subprocess.PIPE, subprocess.PIPE)
-        asking.feed(self._candidates())
+        asking.feed(filter(self._known.asks, self._candidates()))
         try:
             self._keep(asking, trust, jobs)
         except Refused as refused:
