@@ -5,6 +5,7 @@
     disputes.py certificates <LOG      its certificate blocks alone
     disputes.py others <LOG            its other messages alone
     disputes.py first <LOG             its first message alone
+    disputes.py times COUNT <LOG       certificate blocks of so many other sessions that spell its payload with many times
     disputes.py mixed OTHER.. <LOG     the log with the messages of other logs among its own
 """
 import re
@@ -111,6 +112,17 @@ def attacked(messages, kind, count):
     yield from strangers
 
 
+def times(messages, count):
+    """Certificate blocks that spell the payload of a log with each of three digits in the places of its time's digits."""
+    front, *others = (it for it in messages if b"[ssign-cert " in it)
+    length, _, fragment, sign = parts(front)
+    stamp, rest = fragment[:20], fragment[20:]
+    for number in range(count):
+        octets = [(at, it) for at, octet in enumerate(stamp, 1) for it in (b"012" if 48 <= octet < 58 else [octet])]
+        for block in [put(front, length, 21, rest, sign), *others, *(put(front, length, at, b"%c" % it, sign) for at, it in octets)]:
+            yield re.sub(rb'RSID="\d+"', b'RSID="%d"' % (1000 + number), block)
+
+
 def mixed(*logs):
     """The messages of several logs, in turn."""
     waiting = [list(it) for it in logs]
@@ -130,6 +142,8 @@ def main():
         made = [it for it in messages if (b"[ssign-cert " in it) == (word == "certificates")]
     elif word == "first":
         made = messages[:1]
+    elif word == "times":
+        made = times(messages, int(words[0]))
     elif word == "mixed":
         made = mixed(messages, *(frames(open(it, "rb").read()) for it in words))
     else:

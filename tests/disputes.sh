@@ -197,9 +197,24 @@ if command -v openssl >/dev/null && python3 -B "$root/tests/asked_once.py" autho
     holds 'a certificate among many fragments: status 0' test "$status" = 0
     keys verify --ca ca.pem --ignore-strangers log
     holds 'an authority, and many fragments: it is said' grep -q '^ssign-keys: 1 session has more fragments than are looked at' err
+    disputes times 12 <certified >other-times
+    disputes octet 2 <certified >log
+    disputes mixed other-times <log >many
+    (ulimit -t 30 && exec timeout "$patience" "$keys_program" verify --ca ca.pem many >out 2>err)
+    holds 'an authority, and many times: all sessions are looked at in less than 30 seconds' test "$(grep -c '^  state: ' out)" -ge 11
+    holds 'an authority, and many times: the numbers' grep -qx '    numbers 1 to 10: 10 listed' out
 else
     echo "$name: no openssl here, or no certificates can be made, so none is tried"
 fi
+
+holds 'a payload in fragments of an octet takes few steps' python3 -B - "$root/tools" <<'END'
+import sys
+sys.path.insert(0, sys.argv[1])
+from ssign_keys.fragments import Joiner
+joiner = Joiner(20000)
+found = list(joiner.texts((4000, at + 1, b"%d" % (at % 10)) for at in range(4000)))
+sys.exit(found != [b"0123456789" * 400] or joiner.is_cut)
+END
 
 # ---- counters, one night and lines
 disputes total 7 <signed >log

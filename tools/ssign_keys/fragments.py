@@ -5,6 +5,7 @@ Which messages are such blocks, ssign says. What is read here is no more than wh
 from __future__ import annotations
 
 import re
+from bisect import bisect_right
 from typing import Dict, Iterable, Iterator, List, NamedTuple, Optional, Tuple
 
 from .blocks import HEADER, LONGEST_HEADER, Session
@@ -65,13 +66,18 @@ class Joiner:
     """Joins fragments of one session to the texts that they spell. Not all are tried where there are many."""
 
     def __init__(self, most: int) -> None:
-        """So many steps are taken at most."""
-        self._left = most
+        """So many steps are taken at most: one for each fragment that is tried, and more where the text before it is long."""
+        self._most = self._left = most
 
     @property
     def is_cut(self) -> bool:
         """Whether there may be more texts."""
         return self._left <= 0
+
+    @property
+    def steps(self) -> int:
+        """How many steps were taken."""
+        return self._most - self._left
 
     def texts(self, pieces: Iterable[Piece]) -> Iterator[bytes]:
         """Each text once that some of these fragments spell."""
@@ -83,17 +89,19 @@ class Joiner:
 
     def _of_total(self, total: int, by_index: List[Tuple[int, List[bytes]]]) -> Iterator[bytes]:
         """The texts of so many octets."""
+        indexes = [index for index, _ in by_index]
+        longest = max(len(text) for _, texts in by_index for text in texts)
         waiting, seen = [b""], {hash(b"")}
         while waiting and self._left > 0:
             front = waiting.pop()
             if len(front) == total:
                 yield front
                 continue
-            for index, texts in by_index:
-                if index > len(front) + 1:
-                    break
+            end, cost = len(front) + 1, 1 + len(front) // 1024
+            # what begins before these ends within the front
+            for index, texts in by_index[bisect_right(indexes, end - longest):bisect_right(indexes, end)]:
                 for text in texts:
-                    self._left -= 1
+                    self._left -= cost
                     longer = front[:index - 1] + text
                     if len(front) < len(longer) <= total and longer.startswith(front) and hash(longer) not in seen:
                         seen.add(hash(longer))

@@ -22,9 +22,12 @@ from .trust import Trust, Trusted
 from .words import grouped, shown_name
 from .workplace import Workplace, finish, put
 
-# Of one session, so many different fragments are kept that nobody is known to have signed, and so many steps are taken to
-# join fragments. More can be there only if strangers, or the holder of a key, wrote them.
-MOST_FRAGMENTS, MOST_STEPS = 2000, 1000000
+# Of one session, so many different fragments are kept that nobody is known to have signed. More can be there only if strangers,
+# or the holder of a key, wrote them.
+MOST_FRAGMENTS = 2000
+# So many steps are taken to join the signed fragments of a session, and all those together that nobody is known to have signed.
+# Of these, each session has so many steps at least.
+MOST_STEPS, FEWEST_STEPS = 300000, 2000
 # so many payloads are offered for one session
 MOST_TEXTS = 16
 
@@ -159,12 +162,15 @@ class Search:
                 of_session[found.piece] = None
             elif found.piece not in of_session:
                 self._cut.add(found.session)
-        for session, found_pieces in pieces.items():
-            joiner = Joiner(MOST_STEPS)
+        left = MOST_STEPS
+        # those with many fragments come last, so that they take no steps from others
+        for session, found_pieces in sorted(pieces.items(), key=lambda it: (len(it[1]), it[0])):
+            joiner = Joiner(max(left, FEWEST_STEPS))
             for text in joiner.texts(found_pieces):
                 trusted = trust.judge(text, session).trusted
                 if trusted is not None and all(it.numbers != trusted.key.numbers for it in keys[session]):
                     keys[session] = [*keys[session], trusted.key]
+            left -= joiner.steps
             if joiner.is_cut:
                 self._cut.add(session)
         if self._cut:
