@@ -103,7 +103,8 @@ class Survey(ReportVisitor):
     def _name(self, places: Sequence[int]) -> None:
         seen = self._seen
         if max(places) >= len(seen):
-            raise wrong(f"it has the place {max(places)}, and the log has {len(seen)} messages")
+            place = next(it for it in places if it >= len(seen))
+            raise wrong(f"it has the place {place}, and the log has {len(seen)} messages")
         for place in places:
             seen[place] = 1
 

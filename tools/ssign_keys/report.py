@@ -17,8 +17,10 @@ from .kept import Counters
 from .progress import Progress
 from .words import shown
 
-# lines are read by so many octets, so that a long stretch of `ok` lines is taken at once
+# lines are read by so many octets, so that a long stretch of `ok` lines is taken at once; fewer than the least are taken
+# line by line
 PIECE = 1 << 16
+LEAST = 1 << 10
 # the words of a report, with how many fields follow each, and where they stand among the others
 FIELDS = {b"session": 5, b"ok": 8, b"gap": 8, b"hole": 8, b"early": 8, b"beyond": 8, b"tail": 8, b"blocks": 6, b"unlisted": 1,
           b"refused": 1, b"spoilt": 2, b"torn": 1, b"end": 1}
@@ -69,10 +71,8 @@ class Group:
             self.beyond += max(0, last + 1 - max(first, self.end))
 
     def list(self, numbers: Sequence[int], places: Sequence[int]) -> None:
-        """Takes listed messages into account."""
+        """Takes listed messages into account, whose numbers follow one another."""
         self.reach(numbers[0], numbers[-1])
-        if len(numbers) > 1 and list(numbers) != list(range(numbers[0], numbers[0] + len(numbers))):
-            raise wrong(f"the numbers from {numbers[0]} to {numbers[-1]} aren't all there")
         self.listed += len(numbers)
         self.announce(numbers[0], numbers[-1])
         before = [self.place, *places[:-1]]
@@ -216,14 +216,28 @@ class Reading:
         report.seek(0)
         for lines in stretches(report):
             progress.show("reading the report", report.tell(), size, "octets")
-            if not self._take_listed(lines):
-                for line in lines.split(b"\n")[:-1]:
-                    self._take(line)
+            self._take_stretch(lines)
         if self._order != ORDER[b"end"]:
             raise wrong("it has no end")
 
+    def _take_stretch(self, lines: bytes) -> None:
+        """Takes a stretch of whole lines. If they can't be taken at once, each half may be, and a short one is taken line by
+        line: so the few lines of another kind don't slow down the many."""
+        if self._take_listed(lines):
+            return
+        half = lines.find(b"\n", len(lines) // 2) + 1
+        if LEAST < half < len(lines):
+            self._take_stretch(lines[:half])
+            self._take_stretch(lines[half:])
+            return
+        for line in lines.split(b"\n")[:-1]:
+            self._take(line)
+
     def _take_listed(self, lines: bytes) -> bool:
-        """Takes a stretch of lines at once, if all are `ok` lines of the present group. This is most of most reports."""
+        """Takes a stretch of lines at once, if all are `ok` lines of the present group. This is most of most reports.
+
+        If a number is wrong, none is taken here: line by line, the first wrong one is the one that is reported.
+        """
         if self._group is None or not lines.startswith(self._front):
             return False
         if lines.count(b"\n" + self._front) != lines.count(b"\n") - 1:
@@ -232,7 +246,10 @@ class Reading:
         if ROWS.fullmatch(text) is None:
             return False
         rest = list(map(int, text.split()))
-        self._list(self._group, rest[0::2], rest[1::2])
+        numbers = rest[0::2]
+        if numbers != list(range(numbers[0], numbers[0] + len(numbers))):
+            return False
+        self._list(self._group, numbers, rest[1::2])
         return True
 
     def _list(self, group: Group, numbers: List[int], places: List[int]) -> None:
