@@ -104,13 +104,10 @@ class Run:
 
     def end(self, tick: Callable[[], None]) -> int:
         """Waits for the end, and gives the status, 0 or 1. Raises Refused or Fault where the run didn't succeed."""
-        while True:
-            try:
-                status = self.child.wait(PAUSE)
-                break
-            except subprocess.TimeoutExpired:
-                self._pass_on()
-                tick()
+        for _ in pauses(self.child):
+            self._pass_on()
+            tick()
+        status = self.child.wait()
         self._pass_on(is_end=True)
         if status == 2 and not self._passed:
             # whether it had no room for its words
@@ -162,6 +159,36 @@ class Run:
             return
         self._progress.clear()
         notify(line)
+
+
+def pauses(child: subprocess.Popen[bytes]) -> Iterator[None]:
+    """Comes once for each moment that a child goes on, and ends when it does.
+
+    `wait` of a Popen with a timeout only looks now and then, so it would notice the end late.
+    """
+    try:
+        descriptor = os.pidfd_open(child.pid)
+    except (AttributeError, OSError):
+        # an older Linux, or as many files are open as may be
+        while not has_ended(child):
+            yield
+        return
+    try:
+        watched = select.poll()
+        watched.register(descriptor, select.POLLIN)
+        while not watched.poll(PAUSE * 1000):
+            yield
+    finally:
+        os.close(descriptor)
+
+
+def has_ended(child: subprocess.Popen[bytes]) -> bool:
+    """Whether a child ends within a moment."""
+    try:
+        child.wait(PAUSE)
+    except subprocess.TimeoutExpired:
+        return False
+    return True
 
 
 HINTS: Dict[int, str] = {
