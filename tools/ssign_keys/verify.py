@@ -15,11 +15,12 @@ from . import sha1
 from . import stamped as stamp_options
 from . import strangers
 from . import trust as trust_options
-from .agreement import Survey, Walked
+from .agreement import Survey
 from .answer import told_answers
 from .asking import ONCE, refuse_older
 from .blocks import Session
 from .broken_blocks import Broken, Search
+from .candidates import Candidates
 from .checked import checked_logs, make_checked
 from .details import Details
 from .digests import Digest, digest_of
@@ -50,7 +51,6 @@ from .times import Owners, Times
 from .trust import Trust
 from .verdict import NOTHING, Facts
 from .block_facts import Notes, noted
-from .walk import Walk
 from .words import shown_name
 from .workplace import Workplace, finish, put, notify
 
@@ -224,8 +224,7 @@ class Verifier:
         self.answers_path = workplace.path("answers")
         self._report = workplace.new_file("report")
         self._notes = workplace.new_file("notes")
-        # what was seen of the log; nothing, where ssign didn't read all of it
-        self._walked = Walked(0, 0, 0, 0)
+        self._candidates = Candidates(log, workplace, progress)
         # how many blocks have a valid signature
         self._valid = 0
         # the payloads that are known beforehand
@@ -235,8 +234,8 @@ class Verifier:
         """Has ssign ask, and keeps what holds as the answers file, and what valid blocks vouch for as notes."""
         self._known = self._find_known(trust, jobs)
         words = ["questions", *ONCE, *self._known.words, *self._words]
-        asking = Run(self._program, words, self._workplace, self._progress, subprocess.PIPE, subprocess.PIPE)
-        asking.feed(filter(self._known.asks, self._candidates()))
+        asks = self._known.asks if self._known.words else None
+        asking = self._candidates.run(self._program, words, subprocess.PIPE, asks)
         try:
             self._keep(asking, trust, jobs)
         except Refused as refused:
@@ -249,10 +248,7 @@ class Verifier:
     def _find_known(self, trust: Trust, jobs: int) -> Known:
         """The payloads that are known beforehand, by what the reviewer trusts."""
         def candidates() -> Iterator[bytes]:
-            walk = Walk(self._log.file, self._log.are_lines)
-            for it in walk.candidates():
-                yield it
-                self._progress.show("looking for certificate blocks", walk.offset, self._log.size, "octets")
+            return self._candidates.each("looking for certificate blocks")
 
         search = KnownSearch(self._program, self._words, candidates, self._log.are_lines, self._workplace, self._progress)
         known = search.run(trust, jobs)
@@ -282,22 +278,11 @@ class Verifier:
         if (refused.code or "").startswith("F"):
             self._review([])
 
-    def _candidates(self) -> Iterator[bytes]:
-        """The messages that may be blocks, because nothing is asked about the others. This takes a tenth of the time.
-
-        Which of them are blocks, and what is asked, ssign says; the log is refused, where it has to be, by the review.
-        """
-        walk, marked = Walk(self._log.file, self._log.are_lines), 0
-        for marked, it in enumerate(walk.candidates(), 1):
-            yield it
-            self._progress.show("looking for blocks", walk.offset, self._log.size, "octets")
-        self._walked = Walked(walk.place, walk.offset, self._log.size, marked)
-
     def review(self, listed: Optional[Listed], arguments: argparse.Namespace, stamps: Stamps) -> Reviewed:
         """Has ssign review the log under the answers that were kept, and sees that all that is known of it agrees."""
         status = self._review([f"--answers={self.answers_path}", *self._known.words, *self.missing.words])
         is_whole, counters, begin = bool(self.missing.words), self.missing.counters, self.missing.begin
-        survey = Survey(self._walked, self._read_notes(), is_whole, counters, begin)
+        survey = Survey(self._candidates.walked, self._read_notes(), is_whole, counters, begin)
         Reading(survey).read(self._report, self._progress)
         survey.check(status, self._valid)
         facts = Facts(status, survey.totals, survey.states, survey.missing or 0, survey.reach.coverage(),
@@ -320,7 +305,7 @@ class Verifier:
 
     def _broken_blocks(self, survey: Survey) -> Broken:
         """What holds the mark of a block and is none. In most logs there is nothing more to look for."""
-        if self._walked.marked == survey.verified + survey.totals.refused + survey.totals.spoilt:
+        if self._candidates.walked.marked == survey.verified + survey.totals.refused + survey.totals.spoilt:
             return Broken()
         return Search(self._log, survey.unlisted, self._progress).run(self._program, self._words, self._workplace)
 
@@ -328,9 +313,7 @@ class Verifier:
         """Has ssign count how far each session went, which its blocks alone say. Gives the path of the counters file."""
         with self._workplace.new_file("counted") as file:
             words = ["counters", f"--answers={self.answers_path}", *self._known.words, *self._words]
-            counting = Run(self._program, words, self._workplace, self._progress, subprocess.PIPE, file)
-            counting.feed(self._candidates())
-            counting.end(lambda: None)
+            self._candidates.run(self._program, words, file).end(lambda: None)
         return self._workplace.path("counted")
 
     def _review(self, words: List[str]) -> int:

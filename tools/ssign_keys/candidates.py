@@ -1,0 +1,96 @@
+"""The messages of a log that may be blocks: found in one walk over the log, and kept for each run that is about blocks."""
+from __future__ import annotations
+
+import contextlib
+import os
+import subprocess
+from typing import BinaryIO, Callable, Iterator, List, Optional, Union
+
+from .agreement import Walked
+from .logs import Log
+from .programs import Run
+from .progress import Progress
+from .walk import Walk
+from .workplace import Workplace
+
+# So many octets are kept in a passing file. If a log has more, or there is no room, each run has a walk of its own.
+MOST_KEPT = 64 * 1024 * 1024
+
+
+class Candidates:
+    """Nothing is asked about other messages, so that the questions take a tenth of the time.
+
+    Which of them are blocks, and what is asked, ssign says. A log that has to be refused is refused by its review.
+    """
+
+    def __init__(self, log: Log, workplace: Workplace, progress: Progress) -> None:
+        """No walk yet."""
+        self._log = log
+        self._workplace = workplace
+        self._progress = progress
+        self._kept: Optional[BinaryIO] = None
+        self.walked = Walked(0, 0, 0, 0)
+        """What was seen of the log; nothing if no walk came to its end, because ssign didn't read so far."""
+
+    def each(self, phase: str) -> Iterator[bytes]:
+        """Each of them as it is stored, with its frame or LF. The phase is for a person at a terminal."""
+        if self._kept is not None:
+            yield from Walk(self._kept, self._log.are_lines).candidates()
+            return
+        walk, keeper, marked = Walk(self._log.file, self._log.are_lines), Keeper(self._workplace), 0
+        for marked, it in enumerate(walk.candidates(), 1):
+            keeper.add(it)
+            yield it
+            self._progress.show(phase, walk.offset, self._log.size, "octets")
+        self.walked = Walked(walk.place, walk.offset, self._log.size, marked)
+        self._kept = keeper.finish()
+
+    def run(self, program: str, words: List[str], out: Union[BinaryIO, int], wants: Optional[Callable[[bytes], bool]] = None) -> Run:
+        """A run of ssign that was handed all of them, or those that it wants."""
+        if self._kept is not None and wants is None:
+            # where the run before it has moved the position, the file object doesn't know it
+            os.lseek(self._kept.fileno(), 0, os.SEEK_SET)
+            return Run(program, words, self._workplace, self._progress, self._kept, out)
+        run = Run(program, words, self._workplace, self._progress, subprocess.PIPE, out)
+        run.feed(filter(wants, self.each("looking for blocks")))
+        return run
+
+
+class Keeper:
+    """A passing file that is given up if there is no room for it."""
+
+    def __init__(self, workplace: Workplace) -> None:
+        """Nothing is kept yet."""
+        self._file: Optional[BinaryIO] = workplace.new_file("candidates")
+        self._left = MOST_KEPT
+
+    def add(self, octets: bytes) -> None:
+        """Keeps more octets."""
+        if self._file is None:
+            return
+        self._left -= len(octets)
+        if self._left < 0:
+            self._give_up()
+            return
+        try:
+            self._file.write(octets)
+        except OSError:
+            self._give_up()
+
+    def finish(self) -> Optional[BinaryIO]:
+        """The file with all that was added, or None if it was given up."""
+        try:
+            if self._file is not None:
+                self._file.flush()
+        except OSError:
+            self._give_up()
+        return self._file
+
+    def _give_up(self) -> None:
+        file, self._file = self._file, None
+        if file is not None:
+            # what is still to be written fails once more where the file is closed
+            with contextlib.suppress(OSError):
+                os.truncate(file.fileno(), 0)
+            with contextlib.suppress(OSError):
+                file.close()
