@@ -8,7 +8,7 @@ from typing import Generator, Iterable, Iterator, List, NamedTuple, Optional, Ty
 
 from . import trust as trusts
 from .asked import Form, Told
-from .blocks import Block, Session
+from .blocks import Block, Counters, Session
 from .checking import Held
 from .commands import PROCESSES, SECONDS
 from .faults import Fault
@@ -33,6 +33,8 @@ class Answered(NamedTuple):
     """Whose key it is, or why none is trusted."""
     block: Optional[Block]
     """What the octets of a `yes` line say, where ssign said it."""
+    counters: Optional[Counters]
+    """The same of a signature block."""
 
     @property
     def is_payload(self) -> bool:
@@ -136,7 +138,7 @@ class Answers(Iterator[Answered]):
         is_so = held is not None and held.is_so
         self.counts.add(line, is_so)
         if held:
-            yield Answered(line.text if is_so else b"", held.session, held.finding, line.asked.block)
+            yield Answered(line.text if is_so else b"", held.session, held.finding, line.asked.block, line.asked.counters)
 
 
 def answers(lines: Iterable[bytes], trust: Trust, jobs: int = 1) -> Answers:

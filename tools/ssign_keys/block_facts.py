@@ -10,7 +10,7 @@ from dataclasses import dataclass, field, replace
 from typing import AbstractSet, BinaryIO, Dict, Iterable, Iterator, List, Optional, Set, Tuple
 
 from .answer import Answered
-from .blocks import Block, Session
+from .blocks import Block, Counters, Session
 from .encoding import decode
 from .fragments import covers, read_fragment
 from .identity import UNKNOWN, Finding, Identity, finding_of, note_of
@@ -42,10 +42,10 @@ class BlockFacts:
         """Whether validly signed fragments have all of the payload."""
         return self.length > 0 and covers(self.extents, self.length)
 
-    def add(self, line: bytes, block: Block) -> None:
+    def add(self, line: bytes, block: Block, counters: Optional[Counters]) -> None:
         """Takes a `yes` line into account. A certificate block that doesn't agree with the payload vouches for nothing."""
-        if block.counters is not None:
-            sg, spri, gbc = block.counters
+        if counters is not None:
+            sg, spri, gbc = counters
             self.versions.add(block.version.decode("ascii"))
             self.greatest[sg, spri] = max(gbc, self.greatest.get((sg, spri), 0))
             self.valid += 1
@@ -76,7 +76,7 @@ def noted(answered: Iterable[Answered], notes: BinaryIO) -> Iterator[Answered]:
         if not it.is_payload:
             facts = facts or BlockFacts(it.finding)
             if it.line and it.block is not None:
-                facts.add(it.line, it.block)
+                facts.add(it.line, it.block, it.counters)
         yield it
     put_note(notes, session, better(kept, facts))
 

@@ -46,8 +46,6 @@ class Block(NamedTuple):
 
     version: bytes
     session: Session
-    counters: Optional[Counters] = None
-    """Of a signature block that ssign has read."""
 
 
 def read_block(octets: bytes) -> Optional[Block]:

@@ -2,7 +2,7 @@
 from __future__ import annotations
 
 from dataclasses import dataclass, field
-from typing import List, NamedTuple, Optional, Sequence, Tuple
+from typing import List, NamedTuple, Optional, Sequence
 
 from .asked import no_question
 from .blocks import Block, Session, read_block
@@ -83,13 +83,12 @@ def is_block_part(rest: bytes) -> bool:
     return bool(space) and is_base64(octets) and is_base64(signature)
 
 
-def block_of(question: Question) -> Tuple[bytes, Block]:
-    """The octets of the block that a `yes` line asks about, and what they say."""
-    octets = decode(question.rest.partition(b" ")[0])
-    block = question.block or (read_block(octets) if octets else None)
-    if not octets or not block:
+def block_of(question: Question, octets: bytes) -> Block:
+    """What the octets of the block say that a `yes` line asks about."""
+    block = question.block or read_block(octets)
+    if not block:
         raise Fault(f"line {question.line_number}: the octets are no block of VER {VERSIONS}")
-    return octets, block
+    return block
 
 
 class Checker:
@@ -100,6 +99,7 @@ class Checker:
         self._trust = trust
         self._number = 0
         self._payload: Optional[bytes] = None
+        self._held: Optional[Held] = None
 
     def check(self, chunk: Chunk) -> Checked:
         """Checks each question of a chunk."""
@@ -110,12 +110,20 @@ class Checker:
             for place, question in enumerate(chunk.questions):
                 payload = payloads[question.payload]
                 if question.is_block:
-                    held.append(check_block(self._trust, question, payload))
+                    held.append(self._shared(check_block(self._trust, question, payload)))
                 else:
                     held.append(check_payload(self._trust, question, payload, chunk.questions[place + 1:place + 2]))
         except Fault as fault:
             return Checked(held, str(fault), BUDGET.refused - unasked)
         return Checked(held, chunk.fault, BUDGET.refused - unasked)
+
+    def _shared(self, held: Optional[Held]) -> Optional[Held]:
+        """The object before it if that is equal, because many refer to one object in less than many objects take."""
+        last = self._held
+        if held is None or last is not None and held.finding is last.finding and held.session == last.session:
+            return held and last
+        self._held = held
+        return held
 
     def _octets(self, payload: ChunkPayload) -> Optional[bytes]:
         """The octets of a payload. Those of the last one are there, and are the same object."""
@@ -126,13 +134,15 @@ class Checker:
 
 def check_block(trust: Trust, question: Question, payload: Optional[bytes]) -> Optional[Held]:
     """Whether a `yes` line holds. Raises Fault where it is no question."""
-    if not is_block_part(question.rest):
+    text, _, spelled = question.rest.partition(b" ")
+    # each text is decoded once, but one that isn't looked at, or is too long, isn't held
+    octets = decode(text) if payload else None
+    signature = decode(spelled) if payload and len(spelled) <= LONGEST_SIGNATURE else None
+    if not (octets or is_base64(text)) or not (signature or is_base64(spelled)):
         raise Fault(no_question(question.line_number))
-    if not payload:
+    if not payload or not octets:
         return None
-    octets, block = block_of(question)
-    spelled = question.rest.partition(b" ")[2]
-    signature = decode(spelled) if len(spelled) <= LONGEST_SIGNATURE else None
+    block = block_of(question, octets)
     try:
         signer = trust.signer_of(payload, block, octets, signature) if signature else None
     except Fault as fault:
@@ -149,7 +159,7 @@ def check_payload(trust: Trust, question: Question, payload: Optional[bytes],
     if session is None and following and following[0].is_block and following[0].payload == question.payload:
         if not is_block_part(following[0].rest):
             raise Fault(no_question(following[0].line_number))
-        session = block_of(following[0])[1].session
+        session = block_of(following[0], decode(following[0].rest.partition(b" ")[0]) or b"").session
     try:
         return Held(session, trust.judge(payload, session).finding)
     except Fault as fault:

@@ -1,7 +1,6 @@
 """How octets and numbers are spelled in a log: strict base64, and OpenPGP's numbers."""
 from __future__ import annotations
 
-import base64
 import binascii
 from typing import List, Optional, Sequence
 
@@ -12,11 +11,12 @@ PIECE = 4 * 16384
 def decode(text: bytes) -> Optional[bytes]:
     """The octets that strict base64 spells (RFC 4648, section 4), or None where the text is none or is empty."""
     try:
-        octets = base64.b64decode(text, validate=True)
+        octets = binascii.a2b_base64(text)
     except (binascii.Error, ValueError):
         return None
-    # Padding that is missing or too much, and bits left over that aren't zeros, make another text.
-    return octets if octets and base64.b64encode(octets) == text else None
+    # What is no letter of base64 and was passed over, padding that is missing or too much, and bits left over that aren't
+    # zeros make another text.
+    return octets if octets and binascii.b2a_base64(octets, newline=False) == text else None
 
 
 def is_base64(text: bytes) -> bool:

@@ -1,19 +1,20 @@
 """Shares chunks of questions among processes, where there is more than one chunk."""
 from __future__ import annotations
 
-import multiprocessing
 import signal
 from collections import deque
 from dataclasses import dataclass
-from multiprocessing.connection import Connection
-from multiprocessing.process import BaseProcess
 from types import FrameType
-from typing import Deque, Iterable, Iterator, List, Optional, Sequence, Tuple, TypeVar
+from typing import TYPE_CHECKING, Deque, Iterable, Iterator, List, Optional, Sequence, Tuple, TypeVar
 
 from .checking import Checked, Checker, Chunk
 from .commands import BUDGET
 from .faults import Fault
 from .trust import Trust
+
+if TYPE_CHECKING:
+    from multiprocessing.connection import Connection
+    from multiprocessing.process import BaseProcess
 
 Kept = TypeVar("Kept")
 
@@ -79,6 +80,8 @@ class Workers:
 
     def _start(self) -> Worker:
         """One process more."""
+        # the module is loaded where it is needed: one process needs none of it
+        import multiprocessing
         ours, theirs = multiprocessing.Pipe()
         foreign = [*(it.connection for it in self._workers), ours]
         process = multiprocessing.Process(target=work, args=(self._trust, self._jobs, theirs, foreign), daemon=True)
