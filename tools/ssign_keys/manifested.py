@@ -17,18 +17,6 @@ from .words import counted, shown_name
 from .workplace import put, notify
 
 
-def add_arguments(parser: argparse.ArgumentParser) -> None:
-    """Says how a manifest is given."""
-    parser.add_argument("--manifest", metavar="FILE", help="also compare the logs with their entries in this manifest, and "
-                        "use the counters of these as those of --counters; each difference is a finding")
-    parser.add_argument("--from-manifest", action="store_true", help="judge nights of a session that goes on: begin at the "
-                        "counters of the entries of the session that stand before those of the logs, as --from does")
-    parser.add_argument("--manifest-last", metavar="N:SHA256", help="the last entry of the manifest, which was kept apart; "
-                        "that it isn't there is a finding")
-    parser.add_argument("--manifest-seen", metavar="N:SHA256", help="the last entry of the manifest when it was checked before, as "
-                        "`manifest check` prints it: what entries up to it say a stopped run left out is no finding again")
-
-
 def read_marks(arguments: argparse.Namespace) -> Tuple[Optional[Mark], Optional[Mark]]:
     """The entry that was kept apart, and the one that was seen, where the options name them."""
     kept, seen = arguments.manifest_last, arguments.manifest_seen

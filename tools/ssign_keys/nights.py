@@ -11,7 +11,7 @@ import os
 from dataclasses import dataclass, field
 from typing import BinaryIO, Dict, Iterator, List, NamedTuple, Optional, Sequence, Tuple
 
-from . import strangers
+from . import checked, details, json_verdict, program_facts, strangers, times
 from .blocks import Session
 from .cli import main
 from .commands import BUDGET
@@ -37,17 +37,12 @@ from .workplace import Workplace, finish, put
 OF_ONE_LOG = {"whole": "whole", "counters": "counters", "from": "begin", "manifest": "manifest",
               "from-manifest": "from_manifest", "raw": "raw", "details": "details", "hostname": "hostname", "findings": "findings",
               "html": "html", "answers-out": "answers_out", "counters-out": "counters_out"}
+# what a check of a night loads where it comes to it: loaded here, before the nights are forked, it is loaded once
+LOADED = (checked, details, json_verdict, program_facts, times)
 # a longer line of what is said of one night is cut
 MOST_SAID = 2000
 
 Group = Tuple[int, int]
-
-
-def add_arguments(parser: argparse.ArgumentParser) -> None:
-    """Says how the nights of a manifest are given."""
-    parser.add_argument("--nights", metavar="MANIFEST", help="verify every night of this manifest between its own counters, each "
-                        "by itself, as many at once as --jobs says, and give one verdict; a LOG may be a folder, of which "
-                        "the logs count that the manifest names")
 
 
 class Night(NamedTuple):

@@ -12,7 +12,6 @@ from typing import Optional, Sequence, Tuple, Type
 from .faults import Fault
 from .files import reason
 from .kept_file import NO_LINKS
-from .rotation_state import sync_folder
 from .words import shown_name
 
 OPTION = "--html"
@@ -101,6 +100,8 @@ class PageFile:
             else:
                 name_new(self._part, self._wanted)
             self._remove_part()
+            # with the rest of its module it is loaded where a page is written
+            from .rotation_state import sync_folder
             sync_folder(os.path.dirname(self._wanted) or ".")
         except FileExistsError as fault:
             raise Fault(f"the file {shown_name(self._wanted)} is there already, and isn't overwritten") from fault

@@ -1,15 +1,17 @@
 """What there is to show of a review: the log, what was surveyed of its report, and what the verdict rests on."""
 from __future__ import annotations
 
-from typing import NamedTuple, Optional
+from typing import TYPE_CHECKING, NamedTuple, Optional
 
 from .agreement import Survey
 from .kept import Counters
-from .details import Details
 from .logs import Log
 from .finder import Finder
 from .verdict import Facts
 from .block_facts import Notes
+
+if TYPE_CHECKING:
+    from .details import Details
 
 
 class Reviewed(NamedTuple):

@@ -5,12 +5,11 @@ import argparse
 import os
 import subprocess
 from itertools import chain
-from typing import Callable, Iterator, List, NamedTuple, Optional, Tuple, Union
+from typing import TYPE_CHECKING, BinaryIO, Callable, Iterator, List, NamedTuple, Optional, Tuple, Union
 
 from . import expand as expand_options
 from . import form as forms
-from . import manifested
-from . import nights
+from . import manifest_options
 from . import sha1
 from . import stamped as stamp_options
 from . import strangers
@@ -21,24 +20,18 @@ from .asking import ONCE, refuse_older
 from .blocks import Session
 from .broken_blocks import Broken, Search
 from .candidates import Candidates
-from .checked import checked_logs, make_checked
-from .details import Details
 from .digests import Digest, digest_of
 from .faults import Fault
 from .kept import Counters, copy_begin, copy_counters, is_standard_pipe, read_counters
 from .kept_file import KeptFile
 from .logs import Log, open_log
-from .json_verdict import JsonVerdict
-from .manifested import Listed
 from .numbers import add_jobs
 from .options_given import given_files
 from .output import file_pieces, write_out
-from .page import FRONT, Page
 from .page_file import PageFile
 from .payloads import present_stamp
 from .pinned import Known
 from .pinned import Search as KnownSearch
-from .program_facts import ssign_facts, tool_facts
 from .text_verdict import TextVerdict
 from .programs import Refused, Run, add_limit_arguments, add_program_argument, find_program, log_words
 from .progress import Progress
@@ -47,13 +40,19 @@ from .report import Reading
 from .reviewed import Reviewed
 from .finder import Finder
 from .stamped import NONE, Stamps, check_stamps
-from .times import Owners, Times
 from .trust import Trust
 from .verdict import NOTHING, Facts
 from .block_facts import Notes, noted
 from .words import shown_name
 from .workplace import Workplace, finish, put, notify
 
+if TYPE_CHECKING:
+    from .details import Details
+    from .json_verdict import JsonVerdict
+    from .manifested import Listed
+    from .times import Times
+
+# A form that isn't asked for, and what is shown in it, is loaded where it is made: all of them take a fifth of a start.
 TOOL = "ssign-keys"
 
 
@@ -76,8 +75,7 @@ def add_arguments(parser: argparse.ArgumentParser) -> None:
                         "on, which begins at the counters of FILE, as `ssign counters` wrote them of the night before: "
                         "nothing below them is missing; also does what --whole does")
     add_jobs(parser)
-    manifested.add_arguments(parser)
-    nights.add_arguments(parser)
+    manifest_options.add_arguments(parser)
     stamp_options.add_arguments(parser)
     form = parser.add_mutually_exclusive_group()
     form.add_argument("--raw", action="store_true", help="print the report of `ssign review` as it stands; the status is "
@@ -103,6 +101,7 @@ def add_arguments(parser: argparse.ArgumentParser) -> None:
 def run(arguments: argparse.Namespace) -> int:
     """Prints the verdict, and gives its status: that of `ssign review`, or 1 where nothing is listed."""
     if arguments.nights is not None:
+        from . import nights
         return nights.run(arguments)
     verification = Verification(arguments)
     try:
@@ -134,7 +133,7 @@ class Verification:
         arguments = self._arguments
         with Workplace() as workplace, KeptFile("--answers-out", "the answers", arguments.answers_out) as answers_out, \
                 KeptFile("--counters-out", "the counters", arguments.counters_out) as counters_out, \
-                PageFile(arguments.html, FRONT.encode("ascii")) as page_file:
+                PageFile(arguments.html, page_front(arguments)) as page_file:
             page_file.check(given_files(arguments, self._program))
             answers_out.check()
             counters_out.check()
@@ -145,7 +144,7 @@ class Verification:
             refuse_two_begins(arguments)
             refuse_one_pipe(arguments.begin, arguments.counters, arguments.logs)
             trust = Trust.from_arguments(arguments)
-            listed = Listed.from_arguments(arguments)
+            listed = manifest_options.read_listed(arguments)
             log, verifier = self._open(listed, workplace)
             verifier.answer(trust, arguments.jobs)
             reviewed = verifier.review(listed, arguments, self._stamps)
@@ -181,6 +180,9 @@ class Verification:
 
     def _details(self, verifier: Verifier, reviewed: Reviewed, trust: Trust, listed: Optional[Listed]) -> Details:
         """What was checked, and the times of the log."""
+        from .checked import checked_logs, make_checked
+        from .details import Details
+        from .program_facts import ssign_facts, tool_facts
         programs = tool_facts(TOOL), ssign_facts(self._program)
         logs = checked_logs(reviewed.log, reviewed.survey.totals.messages)
         files = verifier.missing.digest, None if listed is None else listed.digest, verifier.missing.begin_digest
@@ -299,6 +301,7 @@ class Verifier:
 
     def times(self, reviewed: Reviewed) -> Times:
         """The times that the messages of the log state."""
+        from .times import Owners, Times
         owners = Owners(reviewed.survey)
         Reading(owners).read(self._report, self._progress)
         return Times(self._log, owners, self._progress)
@@ -362,8 +365,7 @@ class Verifier:
         out = self._workplace.new_file("out")
         if listed is not None:
             listed.put(out, arguments.json)
-        form: Union[JsonVerdict, TextVerdict] = JsonVerdict(out, reviewed, arguments.findings) if arguments.json else \
-            TextVerdict(out, reviewed, arguments.findings, arguments.details)
+        form = make_form(out, reviewed, arguments)
         Reading(form).read(self._report, self._progress)
         front = form.verdict()
         finish(out)
@@ -371,6 +373,7 @@ class Verifier:
 
     def page(self, reviewed: Reviewed, listed: Optional[Listed]) -> str:
         """Makes the page, and gives the path of its passing file."""
+        from .page import Page
         found = [] if listed is None else [(it.where, it.what) for it in listed.found]
         # what was read beside the report once is read again
         page = Page(reviewed._replace(notes=self._read_notes()), found)
@@ -382,6 +385,22 @@ class Verifier:
 
     def _reading(self, phase: str) -> Callable[[], None]:
         return lambda: self._progress.show(phase, self._log.position(), self._log.size, "octets")
+
+
+def make_form(out: BinaryIO, reviewed: Reviewed, arguments: argparse.Namespace) -> Union[JsonVerdict, TextVerdict]:
+    """What writes the report and its verdict into a passing file, in the form that was asked for."""
+    if arguments.json:
+        from . import json_verdict
+        return json_verdict.JsonVerdict(out, reviewed, arguments.findings)
+    return TextVerdict(out, reviewed, arguments.findings, arguments.details)
+
+
+def page_front(arguments: argparse.Namespace) -> bytes:
+    """What each page begins with; nothing if none is wanted."""
+    if arguments.html is None:
+        return b""
+    from .page import FRONT
+    return FRONT.encode("ascii")
 
 
 def without_listed(pieces: Iterator[bytes]) -> Iterator[bytes]:
