@@ -13,7 +13,7 @@ from .answer import Answered
 from .blocks import Block, Counters, Session
 from .encoding import decode
 from .fragments import covers, read_fragment
-from .identity import UNKNOWN, Finding, Identity, finding_of, note_of
+from .identity import Finding, Identity, finding_of, note_of
 from .words import shown_name
 from .workplace import put
 
