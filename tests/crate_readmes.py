@@ -39,6 +39,7 @@ LAW_CRATES = {
     "ss_counters",
     "ss_keeper",
     "ss_nights",
+    "ss_once",
     "ss_parts",
     "ss_pending",
     "ss_plans",

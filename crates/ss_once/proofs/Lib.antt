@@ -1,0 +1,2 @@
+pub mod SignedOnce
+pub mod OnceAhead
