@@ -1,2 +1,3 @@
 pub mod SignedOnce
 pub mod OnceAhead
+pub mod SmallRun

@@ -1,9 +1,11 @@
 //! Laws on what a run asks its sealer to sign, whatever came of it (RFC 5848, sections 4.2.4 and 4.2.5).
 ghost use Rattle.ss_once.specs.OnceAhead.{RunsAheadSignOnce};
 ghost use Rattle.ss_once.specs.SignedOnce.{RunsSignOnce};
+ghost use Rattle.ss_once.specs.SmallRun.{SmallRunIsThis};
 
 use ss_message::laws::faults_are_of_no_message;
 use ss_origin::Seals;
+use ss_review::laws::cases::premises_ahead_are_met;
 
 /// A run has no number of a group and no GBC signed twice, whether it succeeds or not. No two of the blocks whose octets its
 /// sealer was asked to sign have a hash for one number of a group, or one GBC. Those that were signed and never sent are
@@ -20,4 +22,12 @@ pub fn runs_ahead_sign_once<J: Seals>()
     ensures { RunsAheadSignOnce J.answers J.asked }
 {
     faults_are_of_no_message();
+}
+
+/// A small run that fails after its sealer signed three blocks, computed.
+pub fn small_run_is_this()
+    ensures { SmallRunIsThis }
+{
+    faults_are_of_no_message();
+    premises_ahead_are_met();
 }
