@@ -38,7 +38,7 @@ fi
 [[ $jobs =~ ^[1-9][0-9]{0,2}$ ]] || usage
 names=("$@")
 for it in "${names[@]}"; do
-    [[ $it =~ ^[a-z_-]+$ && -f tests/$it.sh ]] || usage
+    [[ $it =~ ^[a-z0-9_-]+$ && -f tests/$it.sh ]] || usage
 done
 if ! find_program; then
     echo '0 passed, 1 failed'

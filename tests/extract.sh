@@ -87,6 +87,21 @@ gives 'listed messages that are no wraps' 0 "$both" --answers "$answers" --unwra
 gives 'originals as lines' 0 $'abc\nx\n' --place 0 --place 5 --unwrap --lines-out <"$wraps"
 gives 'originals from lines' 0 $'abc\nx\n' --lines --place 0 --place 1 --unwrap --lines-out < <(printf '%sabc\nx\n' "$wrap")
 
+# Of a log of 40 MB only the messages at the places are held: the kernel gives the program no address space past 16 MiB.
+long_log() {
+    python3 -c '
+import sys
+for i in range(200_000):
+    sys.stdout.write("197 " + f"{i:197d}")'
+}
+# shellcheck disable=SC2016 # for the inner shell
+long_log | timeout "$patience" sh -c 'ulimit -v 16384 && exec "$@"' - "$program" extract --place 199999 --place 7 \
+    >"$scratch/out" 2>"$scratch/err"
+status=${PIPESTATUS[1]}
+holds 'two places of a long log, in 16 MiB: status 0' test "$status" = 0
+holds 'two places of a long log, in 16 MiB: the frames' cmp -- "$scratch/out" <(printf '197 %197d197 %197d' 7 199999)
+holds 'two places of a long log, in 16 MiB: nothing on standard error' test ! -s "$scratch/err"
+
 holds 'logs by a seed' python3 -B "$root/tests/extracts.py" "$program"
 holds 'wraps by a seed' python3 -B "$root/tests/unwraps.py" "$program"
 

@@ -1,3 +1,5 @@
 pub mod LogSoFar
 pub mod FedSoFar
+pub mod PickedSoFar
+pub mod PickedAt
 pub mod Answered

@@ -1,6 +1,10 @@
 //! What keeps messages from being written.
-ghost use Rattle.std.specs.Prelude.{◌≡◌, ◌==◌, None, Some, nat_le, find, MatchResult};
+ghost use Rattle.std.specs.Prelude.{◌≡◌, ◌==◌, ℕ, List, None, Some, nat_le, find, slice_get, MatchResult};
+ghost use Rattle.std.specs.List.{list_any, position};
+ghost use Rattle.ss_octets.specs.Ascii.{lf};
+ghost use Rattle.ss_report.specs.log.Picked.{AreAt};
 ghost use Rattle.ss_report.specs.runs.Extraction.{absent, holds_lf, no_line};
+ghost use Rattle.ss_report.specs.declared.runs.extraction.Selection.TheVariants.{At};
 
 use crate::runs::extraction::{ExtractFault, Selection};
 use ss_frame::Form;
@@ -11,10 +15,18 @@ pub(crate) fn refuse_absent(selection: &Selection, count: usize) -> Result<(), E
     ensures { MatchResult result (λ _. absent selection.now count ≡ None) (λ fault.
         absent selection.now count ≡ Some fault) }
 {
-    let Selection::At(places) = selection else {
-        return Ok(());
-    };
-    match first_past(places.as_slice(), count) {
+    match selection {
+        Selection::At(places) => refuse_past(places.as_slice(), count),
+        _ => Ok(()),
+    }
+}
+
+/// Refuses the first of the places that a log of so many messages hasn't (E1).
+pub(crate) fn refuse_past(places: &[u32], count: usize) -> Result<(), ExtractFault>
+    ensures { MatchResult result (λ _. absent (At places.now) count ≡ None) (λ fault.
+        absent (At places.now) count ≡ Some fault) }
+{
+    match first_past(places, count) {
         Some(place) => Err(ExtractFault::Absent { place }),
         None => Ok(()),
     }
@@ -56,6 +68,54 @@ fn first_with_lf(messages: &[Bytes], places: &[u32]) -> Option<u32>
         .iter()
         .copied()
         .find(|place| holds_lf(messages, *place))
+}
+
+/// Refuses the first of the messages, which are those at these places, that isn't one of the form (E2).
+pub(crate) fn refuse_no_line_picked(
+    form: Form,
+    picked: &[Bytes],
+    places: &[u32],
+) -> Result<(), ExtractFault>
+    ensures { (messages : List (List ℕ))
+        → AreAt messages places.now picked.now
+        → MatchResult result (λ _. no_line form messages places.now ≡ None)
+        (λ fault. no_line form messages places.now ≡ Some fault) }
+{
+    match form {
+        Form::Frames => Ok(()),
+        Form::Lines => match place_with_lf(picked, places) {
+            Some(place) => Err(ExtractFault::HoldsLf { place }),
+            None => Ok(()),
+        },
+    }
+}
+
+/// The place of the first of the messages that holds LF.
+fn place_with_lf(picked: &[Bytes], places: &[u32]) -> Option<u32>
+    ensures { (messages : List (List ℕ))
+        → AreAt messages places.now picked.now
+        → result ≡ find (holds_lf messages) places.now }
+{
+    match index_with_lf(picked) {
+        Some(index) => place_at(places, index),
+        None => None,
+    }
+}
+
+/// The place at the index, if one is there.
+fn place_at(places: &[u32], index: usize) -> Option<u32>
+    ensures { result ≡ slice_get places.now index }
+{
+    places.get(index).copied()
+}
+
+/// The first of the messages that holds LF.
+fn index_with_lf(picked: &[Bytes]) -> Option<usize>
+    ensures { result ≡ position (list_any (λ octet. octet == lf)) picked.now }
+{
+    picked
+        .iter()
+        .position(|message| message.as_slice().contains(&b'\n'))
 }
 
 /// Whether the message at the place holds LF.

@@ -1,5 +1,5 @@
 //! The messages of an extract out of their wraps.
-ghost use Rattle.std.specs.Prelude.{◌≡◌, map, OnOk};
+ghost use Rattle.std.specs.Prelude.{◌≡◌, map, IfOk, OnOk};
 ghost use Rattle.ss_report.specs.runs.Extraction.{out_of_wrap, shown};
 
 use ss_octets::{Bytes, NoMemory};
@@ -17,6 +17,21 @@ pub(crate) fn show(alloc: Global, messages: &mut [Bytes], unwrap: bool) -> Resul
     } else {
         Ok(())
     }
+}
+
+/// The messages, each out of its wrap, if that is asked for.
+///
+/// Errs only if it runs out of memory.
+pub(crate) fn shown(
+    alloc: Global,
+    messages: Vec<Bytes>,
+    unwrap: bool,
+) -> Result<Vec<Bytes>, NoMemory>
+    ensures { IfOk result (λ v. v.items ≡ shown unwrap messages.items) }
+{
+    let mut messages = messages;
+    show(alloc, messages.as_mut_slice(), unwrap)?;
+    Ok(messages)
 }
 
 /// Takes each message out of its wrap, if it has the form of one.
