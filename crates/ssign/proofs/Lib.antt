@@ -1,3 +1,7 @@
+mod FileCounters
+mod GivenPaths
+mod Limits
+mod FailedWrites
 mod CountedMessages
 mod FoundCommands
 mod OptionValues

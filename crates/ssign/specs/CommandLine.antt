@@ -45,8 +45,6 @@ use Rattle.ssign.specs.declared.options.unwrap.TheConstants as unwrap
 use Rattle.ssign.specs.declared.options.whole.TheConstants as whole
 use Rattle.ssign.specs.declared.options.wrap.TheConstants as wrap
 use Rattle.ssign.specs.LogOptions.{code_rule, flag_rule, limit_rules, place_rule}
-use Rattle.ss_signing.specs.declared.fault.SignFault.{SignFault}
-use Rattle.ss_report.specs.declared.fault.RunFault.{RunFault}
 use Rattle.ss_report.specs.declared.forms.report_form.ReportForm.{ReportForm}
 use Rattle.ss_report.specs.declared.forms.report_form.ReportForm.TheVariants as forms
 use Rattle.ss_report.specs.declared.lines.detail.Detail.{Detail}
@@ -222,13 +220,8 @@ IsUsageFault kinds = (kinds ≢ []) × ¬ (IsAmong DisplayHelp kinds) × ¬ (IsA
 abbrev pub AreMistaken : List (List ℕ) → Type 0
 AreMistaken words = (versions : Kept) → AreVersions versions → IsUsageFault (fault_of (ssign_app versions) words)
 
--- 0 for a clean log, 1 for findings, 2 for a run that gave no verdict
-abbrev pub status_of : Result Verdict RunFault → ℕ
+-- 0 for a clean log, a plan, a signed log or an explanation, 1 for findings, 2 for a refusal
+abbrev pub status_of : {E : Type 0} → Result Verdict E → ℕ
 status_of (Ok Clean) = 0
 status_of (Ok Findings) = 1
-status_of (Err fault) = 2
-
--- 0 for a plan or a signed log, 2 for none
-abbrev pub signing_status : Result Unit SignFault → ℕ
-signing_status (Ok done) = 0
-signing_status (Err fault) = 2
+status_of (Err refusal) = 2

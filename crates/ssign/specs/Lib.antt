@@ -1,4 +1,9 @@
 pub mod SigningOptions
+pub mod GivenFiles
+pub mod LogOrder
+pub mod SigningOrder
+pub mod Orders
+pub mod Refusal
 pub mod LogOptions
 pub mod CommandLine
 pub mod GroupsText

@@ -39,7 +39,7 @@ use crate::{commands, options};
 use clap::error::ErrorKind;
 use clap::{ArgMatches, Command, Error};
 use ss_block::versions;
-use ss_frame::Limits;
+use ss_frame::{Form, Limits};
 use ss_report::{Detail, Payloads, ReportForm};
 use std::alloc::{AllocError, Global};
 
@@ -484,6 +484,17 @@ pub fn reporting_of(matches: &ArgMatches<'_>) -> Reporting
         detail: detail_of_report(matches),
         payloads: payloads_of_questions(matches),
         unwrap: matches.get_flag(options::unwrap::NAME),
+    }
+}
+
+/// The form in which a log is stored, by `--lines`.
+pub fn form_in(matches: &ArgMatches<'_>) -> Form
+    ensures { (lines_given : Bool) → FlagIs matches.now lines.NAME.now lines_given → result ≡ form_of lines_given }
+{
+    if matches.get_flag(options::lines::NAME) {
+        Form::Lines
+    } else {
+        Form::Frames
     }
 }
 

@@ -1,16 +1,19 @@
 //! Saying why there is no output: in one line for programs, and in words where a person looks.
 ghost use Rattle.std.specs.Prelude.{◌≡◌};
-ghost use Rattle.ssign.specs.Remark.{cause_remark, SaysOfSettings};
+ghost use Rattle.ssign.specs.Remark.{IsRemark, cause_remark, SaysOfSettings};
 
 use crate::asked::asked_word;
+use crate::command_line::{answers_file, counters_file, from_file, pinned_file, resume_file};
 use crate::explain::explanation_of;
 use crate::explanations::{Tables, all_tables};
-use crate::likely_cause::LikelyCause;
+use crate::likely_cause::{LikelyCause, run_cause, signing_cause};
 use crate::options::{answers, counters, from, pinned, resume};
+use crate::refusal::Refusal;
 use crate::settings::SettingsFault;
 use crate::text_option::TextOption;
 use arrayvec::ArrayString;
 use clap::ArgMatches;
+use ss_frame::Form;
 use ss_octets::Code;
 use std::fmt;
 use std::fmt::{Display, Write};
@@ -107,6 +110,44 @@ pub fn cause_remark<'a>(cause: Option<LikelyCause>) -> Remark<'a>
     match cause {
         Some(cause) => Remark::Cause(cause),
         None => Remark::Nothing,
+    }
+}
+
+/// The remark on a refusal: the file that it is about, the option whose text is out of its form, or the likely cause, of
+/// a log of this form that begins with these octets.
+pub fn remark_on<'a>(
+    refusal: Refusal,
+    options: &ArgMatches<'a>,
+    form: Form,
+    octets: &[u8],
+) -> Remark<'a>
+    ensures { IsRemark refusal options.now form octets.now result }
+{
+    match refusal {
+        Refusal::From(_) => match from_file(options) {
+            Some(file) => Remark::FromFile(file),
+            None => Remark::Nothing,
+        },
+        Refusal::Counters(_) => match counters_file(options) {
+            Some(file) => Remark::CountersFile(file),
+            None => Remark::Nothing,
+        },
+        Refusal::Pinned(_) => match pinned_file(options) {
+            Some(file) => Remark::PinnedFile(file),
+            None => Remark::Nothing,
+        },
+        Refusal::Answers(_) => match answers_file(options) {
+            Some(file) => Remark::AnswersFile(file),
+            None => Remark::Nothing,
+        },
+        Refusal::Resume(_) | Refusal::Start(_) => match resume_file(options) {
+            Some(file) => Remark::ResumeFile(file),
+            None => Remark::Nothing,
+        },
+        Refusal::Settings(fault) => settings_remark(fault, options),
+        Refusal::Run(fault) => cause_remark(run_cause(&fault, form, octets)),
+        Refusal::Signing(fault) => cause_remark(signing_cause(&fault, form, octets)),
+        Refusal::NoOption | Refusal::Extraction(_) | Refusal::NoEntry => Remark::Nothing,
     }
 }
 

@@ -1,44 +1,41 @@
 //! Where an originator goes on, by a counters file.
-ghost use Rattle.std.specs.Prelude.{◌≡◌, List, true, IfOk};
-ghost use Rattle.ss_block.specs.Writing.{head_session};
-ghost use Rattle.ss_origin.specs.Counting.{are_counters};
-ghost use Rattle.ss_review.specs.declared.counted.counter.Counter.{Counter};
-ghost use Rattle.ss_answers.specs.CounterInput.{AreCountersOfFile};
-ghost use Rattle.ss_answers.specs.Start.{start_of};
+ghost use Rattle.std.specs.Prelude.{option_map};
+ghost use Rattle.ssign.specs.SigningOrder.{GivesStart};
 
-use ss_answers::{StartFault, open_counters, start_of};
+use crate::given_files::{GivenFiles, counters_in};
+use ss_answers::{CounterFault, StartFault, start_of};
 use ss_block::Session;
-use ss_octets::Code;
 use ss_origin::{Config, Counters};
-use std::rt::Files;
+use std::alloc::Global;
 
-/// The counters at which an originator of this configuration goes on, by a counters file.
-///
-/// # Errors
-///
-/// The code of why there are none: C1 to C4 where the file isn't read, C5 and C6 where its counters are of no such
-/// originator.
-pub fn start_from<R: Files + AllocGlobal>(
-    rt: &R,
-    file: &str,
+/// Why a counters file doesn't say where an originator goes on.
+#[derive(Clone, Copy, Debug, PartialEq, Eq)]
+pub enum StartRefusal {
+    /// The file gives no counters.
+    File(CounterFault),
+    /// No originator of the configuration goes on at its counters.
+    Counters(StartFault),
+}
+
+/// The counters at which an originator of this configuration goes on, by a counters file. None, if no file is named.
+pub fn start_in<F: GivenFiles>(
+    alloc: Global,
+    files: &F,
+    path: Option<&str>,
     config: &Config,
-) -> Result<Counters, Code>
-    // They are those of some file.
-    ensures ok { IfOk result (λ start. (counters : List Counter)
-        × AreCountersOfFile counters
-        × (start ≡ start_of (head_session config.now.head config.now.rsid) config.now.grouping counters)) }
-    // An originator of the configuration goes on there.
-    ensures fit { IfOk result (λ start. are_counters config.now.grouping start ≡ true) }
+) -> Result<Option<Counters>, StartRefusal>
+    ensures { GivesStart (F.contents files.now) (option_map (λ s. s.now) path.entry) config.now result }
 {
-    let counters = match open_counters(rt, file) {
-        Ok(counters) => counters,
-        Err(fault) => return Err(fault.code()),
+    let counters = match counters_in(files, path) {
+        Ok(Some(counters)) => counters,
+        Ok(None) => return Ok(None),
+        Err(fault) => return Err(StartRefusal::File(fault)),
     };
-    let Ok(session) = Session::of_head(rt.alloc(), &config.head, config.rsid) else {
-        return Err(StartFault::Memory.code());
+    let Ok(session) = Session::of_head(alloc, &config.head, config.rsid) else {
+        return Err(StartRefusal::Counters(StartFault::Memory));
     };
-    match start_of(rt.alloc(), &session, &config.grouping, counters.as_slice()) {
-        Ok(start) => Ok(start),
-        Err(fault) => Err(fault.code()),
+    match start_of(alloc, &session, &config.grouping, counters.as_slice()) {
+        Ok(start) => Ok(Some(start)),
+        Err(fault) => Err(StartRefusal::Counters(fault)),
     }
 }

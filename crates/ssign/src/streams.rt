@@ -1,70 +1,59 @@
 //! Runs from standard input to standard output.
-ghost use Rattle.std.specs.Prelude.{◌≡◌, ◌≢◌, [], false, IfOk, IfErr, MatchResult};
+ghost use Rattle.std.specs.Prelude.{◌≡◌, [], false, IfOk, MatchResult};
 ghost use Rattle.ss_frame.specs.Buffered.{behind, has_failed_behind, waiting};
 ghost use Rattle.ss_frame.specs.Watched.{has_failed, inner_of};
 ghost use Rattle.std.specs.Io.Buffered.{writer_buffer};
-ghost use Rattle.ss_review.specs.declared.questions.question.Question.{Question};
 
-use crate::explain::write_explanation;
-use crate::explanations::Explanation;
-use crate::signing::{SigningRequest, run_signing};
-use crate::task::{TaskRequest, run_task};
+use crate::command_line::Order;
+use crate::explanations::all_tables;
+use crate::given_files::SystemFiles;
+use crate::orders::run_order;
+use crate::refusal::Refusal;
+use clap::ArgMatches;
 use ss_frame::{Buffered, Watched};
 use ss_report::{RunFault, Verdict};
-use ss_review::Judge;
-use ss_signing::SignFault;
 use std::alloc::Global;
 use std::io;
 use std::io::{BufWriter, Printer, Read};
+use std::rt::Files;
 
 /// How much is written at once, in octets.
 const BUFFER_SIZE: usize = 65_536;
 
-/// Makes a run from the input to standard output.
-pub fn run_streams<R: Print + AllocGlobal, I: Read + Drop, J: Judge + Drop>(
+/// Carries out what a command asks for, from the input to standard output, by the files of the system.
+pub fn run_streams<R: Print + Files + AllocGlobal, I: Read + Drop>(
     rt: &R,
     input: I,
-    request: TaskRequest<'_>,
-    judge: J,
-) -> Result<Verdict, RunFault>
-    requires sound { J.sound judge }
-    requires askable { (q : Question) → J.askable judge q }
-{
-    let mut reader = buffered(rt.alloc(), input)?;
-    let mut writer = standard_output(rt)?;
-    run_task(rt.alloc(), &mut reader, &mut writer, request, judge)
-}
-
-/// Makes a run that signs from the input to standard output.
-pub fn sign_streams<R: Print + AllocGlobal, I: Read + Drop>(
-    rt: &R,
-    input: I,
-    request: SigningRequest,
-) -> Result<(), SignFault> {
-    let mut reader = buffered(rt.alloc(), input)?;
-    let mut writer = standard_output(rt)?;
-    run_signing(rt.alloc(), &mut reader, &mut writer, request)
-}
-
-/// Writes an explanation to standard output.
-pub fn explain_on_output<R: Print + AllocGlobal>(
-    rt: &R,
-    explanation: &Explanation,
-) -> Result<(), RunFault>
-    // A failed write, or else out of memory.
-    ensures { IfErr result (λ fault. fault ≢ RunFault.Write → fault ≡ RunFault.Memory) }
-{
-    let mut writer = standard_output(rt)?;
-    write_explanation(rt.alloc(), &mut writer, explanation)
+    order: Order,
+    options: &ArgMatches<'_>,
+) -> Result<Verdict, Refusal> {
+    let mut reader = match buffered(rt.alloc(), input) {
+        Ok(reader) => reader,
+        Err(fault) => return Err(Refusal::Run(fault)),
+    };
+    let mut writer = match standard_output(rt) {
+        Ok(writer) => writer,
+        Err(fault) => return Err(Refusal::Run(fault)),
+    };
+    let files = SystemFiles::new(rt);
+    run_order(
+        rt.alloc(),
+        &files,
+        &mut reader,
+        &mut writer,
+        all_tables(),
+        order,
+        options,
+    )
 }
 
 /// The input, through a buffer.
 fn buffered<I: Drop>(alloc: Global, input: I) -> Result<Watched<Buffered<I>>, RunFault>
-    // No read has failed, of the buffer or behind it.
+    // No read has failed, of the buffer or of what it reads from.
     ensures opened { MatchResult result
         (λ reader. (has_failed reader ≡ false) × (has_failed_behind (inner_of reader) ≡ false))
         (λ fault. fault ≡ RunFault.Memory) }
-    // Nothing was read: behind the buffer is the input, and no octet waits in it.
+    // Nothing was read: the buffer reads from the input, and no octet waits in it.
     ensures given { IfOk result (λ reader. (behind (inner_of reader) ≡ input) × (waiting (inner_of reader) ≡ [])) }
 {
     let Ok(input) = Buffered::new(alloc, input) else {

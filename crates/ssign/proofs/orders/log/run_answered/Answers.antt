@@ -1,0 +1,7 @@
+use Rattle.ssign.proofs.orders.log.run_answered.Goals as goal
+
+pub returns-in-Some-clause-done : goal.returns-in-Some-clause-done
+returns-in-Some-clause-done g c = rw c.in-Some.is c.run_task.ensures.done
+
+pub returns-in-Some-clause-stopped : goal.returns-in-Some-clause-stopped
+returns-in-Some-clause-stopped g c = rw c.in-Some.is c.run_task.ensures.stopped

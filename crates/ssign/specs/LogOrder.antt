@@ -1,0 +1,139 @@
+-- What a command over a log does, by its options and by the files that they name.
+use Rattle.std.specs.Prelude.{◌≡◌, ℕ, Bool, false, ◌||◌, List, Option, Some, None, Result, Ok, Err}
+use Rattle.std.specs.Option.{is_some}
+use Rattle.clap.specs.Words.{first_value, found_of}
+use Rattle.clap.specs.declared.parser.matches.ArgMatches.{ArgMatches}
+use Rattle.ss_frame.specs.Limits.{Allowance, InRange}
+use Rattle.ss_frame.specs.Watched.{Source, Sink}
+use Rattle.ss_review.specs.declared.counted.counter.Counter.{Counter}
+use Rattle.ss_review.specs.sessions.Verified as verified
+use Rattle.ss_report.specs.declared.runs.extraction.Extraction.{Extraction}
+use Rattle.ss_report.specs.declared.verdict.verdict.Verdict.{Verdict}
+use Rattle.ss_report.specs.runs.Run.{Job, Runs, Stops}
+use Rattle.ss_answers.specs.Answers.{Answer, trusted, valid}
+use Rattle.ssign.specs.CommandLine.{FlagIs, HasNumber, form_of, reporting}
+use Rattle.ssign.specs.Extraction.{GivesExtraction, texts_given}
+use Rattle.ssign.specs.GivenFiles.{Contents, Gives}
+use Rattle.ssign.specs.Task.{job_of}
+use Rattle.ssign.specs.declared.extraction.ExtractionFault.{ExtractionFault}
+use Rattle.ssign.specs.declared.refusal.Refusal.{Refusal}
+use Rattle.ssign.specs.declared.refusal.Refusal.TheVariants as refusals
+use Rattle.ssign.specs.declared.task.Reporting.{Reporting}
+use Rattle.ssign.specs.declared.task.Task.{Task}
+use Rattle.ssign.specs.declared.options.answers.TheConstants as answers
+use Rattle.ssign.specs.declared.options.counters.TheConstants as counters
+use Rattle.ssign.specs.declared.options.findings.TheConstants as findings
+use Rattle.ssign.specs.declared.options.from.TheConstants as from
+use Rattle.ssign.specs.declared.options.json.TheConstants as json
+use Rattle.ssign.specs.declared.options.lines.TheConstants as lines
+use Rattle.ssign.specs.declared.options.lines_out.TheConstants as lines_out
+use Rattle.ssign.specs.declared.options.max_len.TheConstants as max_len
+use Rattle.ssign.specs.declared.options.max_messages.TheConstants as max_messages
+use Rattle.ssign.specs.declared.options.once.TheConstants as once
+use Rattle.ssign.specs.declared.options.pinned.TheConstants as pinned
+use Rattle.ssign.specs.declared.options.place.TheConstants as place
+use Rattle.ssign.specs.declared.options.tally.TheConstants as tally
+use Rattle.ssign.specs.declared.options.unlisted.TheConstants as unlisted
+use Rattle.ssign.specs.declared.options.unwrap.TheConstants as unwrap
+use Rattle.ssign.specs.declared.options.whole.TheConstants as whole
+
+-- ---- what the options say
+
+-- the path that an option of a file has, if it is given
+abbrev pub path_in : ArgMatches → List ℕ → Option (List ℕ)
+path_in m option = first_value (found_of m) option
+
+-- the limits: the numbers that two options spell, in their ranges, and the form by `--lines`; or there are none
+abbrev pub GivesLimits : ArgMatches → Option Allowance → Type 0
+GivesLimits m (Some l) =
+    HasNumber m max_len.NAME.now l.max_len × HasNumber m max_messages.NAME.now l.max_messages
+    × ((lines_given : Bool) → FlagIs m lines.NAME.now lines_given
+    → InRange l.max_len l.max_messages × (l.form ≡ form_of lines_given))
+GivesLimits m None = (a b : ℕ) (lines_given : Bool) → HasNumber m max_len.NAME.now a
+    → HasNumber m max_messages.NAME.now b → FlagIs m lines.NAME.now lines_given → ¬ InRange a b
+
+-- what is to be extracted, or why the options don't name it
+abbrev pub IsExtraction : ArgMatches → Result Extraction ExtractionFault → Type 0
+IsExtraction m result = (unlisted_given lines_given unwrap_given : Bool)
+    → FlagIs m unlisted.NAME.now unlisted_given → FlagIs m lines_out.NAME.now lines_given
+    → FlagIs m unwrap.NAME.now unwrap_given
+    → GivesExtraction unlisted_given (texts_given m place.NAME.now) lines_given unwrap_given result
+
+-- how a log is reported
+abbrev pub IsReporting : ArgMatches → Reporting → Type 0
+IsReporting m r = (findings_given json_given whole_given tally_given once_given unwrap_given : Bool)
+    → FlagIs m findings.NAME.now findings_given → FlagIs m json.NAME.now json_given
+    → FlagIs m whole.NAME.now whole_given → FlagIs m tally.NAME.now tally_given
+    → FlagIs m once.NAME.now once_given → FlagIs m unwrap.NAME.now unwrap_given
+    → r ≡ reporting findings_given json_given (whole_given || is_some (path_in m counters.NAME.now)
+    || is_some (path_in m from.NAME.now)) tally_given once_given unwrap_given
+
+-- ---- what is asked
+
+-- what is asked of a log beside the task
+pub record Asked : Type 0 where
+  pub limits : Allowance
+  pub extraction : Extraction
+  pub reporting : Reporting
+  pub first : Option (List Counter)
+  pub counters : Option (List Counter)
+  pub known : Option (List (List ℕ))
+  pub answers : Option (List Answer)
+
+-- the options say it, and the files that they name give it
+pub record IsAsked (files : Contents) (m : ArgMatches) (a : Asked) : Type 0 where
+  pub limits : GivesLimits m (Some a.limits)
+  pub extraction : IsExtraction m (Ok a.extraction)
+  pub reporting : IsReporting m a.reporting
+  pub first : Gives files.counters (path_in m from.NAME.now) (Ok a.first)
+  pub counters : Gives files.counters (path_in m counters.NAME.now) (Ok a.counters)
+  pub known : Gives files.payloads (path_in m pinned.NAME.now) (Ok a.known)
+  pub answers : Gives files.answers (path_in m answers.NAME.now) (Ok a.answers)
+
+-- who answers for signatures: an answers file, or nobody
+abbrev pub said_by : Option (List Answer) → verified.Answers
+said_by (Some given) = record { trusted = trusted given; valid = valid given }
+said_by None = record { trusted = λ payload. false; valid = λ payload octets signature. false }
+
+abbrev pub asked_job : Task → Asked → Job
+asked_job task a = job_of (said_by a.answers) a.reporting a.known a.first a.counters a.extraction task
+
+-- ---- how it ends
+
+abbrev pub HasLimits : ArgMatches → Type 0
+HasLimits m = (l : Allowance) × GivesLimits m (Some l)
+
+abbrev pub HasExtraction : ArgMatches → Type 0
+HasExtraction m = (e : Extraction) × IsExtraction m (Ok e)
+
+-- the option isn't given, or its file gives something
+abbrev pub IsTaken : {T E : Type 0} → (List ℕ → Result T E → Type 0) → Option (List ℕ) → Type 0
+IsTaken {T} contents path = (value : Option T) × Gives contents path (Ok value)
+
+-- Why there is no run. Options are read first, and then the files of `--from`, `--counters`, `--pinned` and `--answers`,
+-- in this order: the first that gives nothing is the refusal.
+abbrev pub IsFirstRefusal : Contents → ArgMatches → Refusal → Type 0
+IsFirstRefusal files m refusals.NoOption = GivesLimits m None
+IsFirstRefusal files m (refusals.Extraction fault) = HasLimits m × IsExtraction m (Err fault)
+IsFirstRefusal files m (refusals.From fault) =
+    HasLimits m × HasExtraction m × Gives files.counters (path_in m from.NAME.now) (Err fault)
+IsFirstRefusal files m (refusals.Counters fault) =
+    HasLimits m × HasExtraction m × IsTaken files.counters (path_in m from.NAME.now)
+    × Gives files.counters (path_in m counters.NAME.now) (Err fault)
+IsFirstRefusal files m (refusals.Pinned fault) =
+    HasLimits m × HasExtraction m × IsTaken files.counters (path_in m from.NAME.now)
+    × IsTaken files.counters (path_in m counters.NAME.now) × Gives files.payloads (path_in m pinned.NAME.now) (Err fault)
+IsFirstRefusal files m (refusals.Answers fault) =
+    HasLimits m × HasExtraction m × IsTaken files.counters (path_in m from.NAME.now)
+    × IsTaken files.counters (path_in m counters.NAME.now) × IsTaken files.payloads (path_in m pinned.NAME.now)
+    × Gives files.answers (path_in m answers.NAME.now) (Err fault)
+IsFirstRefusal files m _ = ⊥
+
+-- A run over a log, with its verdict or the fault that stopped it, or the first refusal before it.
+abbrev pub EndsLog : Contents → ArgMatches → Task → (before after : Source) → (was is : Sink)
+    → Result Verdict Refusal → Type 0
+EndsLog files m task before after was is (Ok verdict) =
+    (a : Asked) × IsAsked files m a × Runs (asked_job task a) a.limits before after was is verdict
+EndsLog files m task before after was is (Err (refusals.Run fault)) =
+    (a : Asked) × IsAsked files m a × Stops (asked_job task a) a.limits before after was is fault
+EndsLog files m task before after was is (Err refusal) = IsFirstRefusal files m refusal

@@ -1,0 +1,56 @@
+-- Why a command gives no verdict: its code, and the exit status.
+use Rattle.std.specs.Prelude.{ℕ, Bool, true, false, List, Option, Some, None, option_map}
+use Rattle.ss_octets.specs.declared.code.Code.{Code}
+use Rattle.ss_report.specs.FaultText.{run_fault_code}
+use Rattle.ss_report.specs.declared.fault.RunFault.{RunFault}
+use Rattle.ss_report.specs.declared.fault.RunFault.TheVariants as run
+use Rattle.ss_signing.specs.declared.fault.SignFault.{SignFault}
+use Rattle.ss_signing.specs.declared.fault.SignFault.TheVariants as signing
+use Rattle.ss_signing.specs.FaultText.{sign_fault_code}
+use Rattle.ss_answers.specs.FaultText.{answer_fault_code, counter_fault_code, start_fault_code}
+use Rattle.ssign.specs.FaultText.{settings_fault_code}
+use Rattle.ssign.specs.declared.extraction.ExtractionFault.TheVariants as extraction
+use Rattle.ssign.specs.declared.refusal.Refusal.{Refusal}
+use Rattle.ssign.specs.declared.refusal.Refusal.TheVariants.{NoOption, Extraction, From, Counters, Pinned, Answers}
+use Rattle.ssign.specs.declared.refusal.Refusal.TheVariants.{Settings, Resume, Start, Run, Signing, NoEntry}
+
+-- what is seen of a code
+abbrev pub code_seen : Option Code → Option (List ℕ × Option ℕ)
+code_seen code = option_map (λ c. (c.name.now, c.place)) code
+
+-- Its code, if it has one. A mistake of the command line has none, and nor has an unknown code.
+abbrev pub refusal_code : Refusal → Option (List ℕ × Option ℕ)
+refusal_code NoOption = None
+refusal_code (Extraction extraction.Both) = None
+refusal_code (Extraction extraction.NoNumber) = None
+refusal_code (Extraction extraction.Memory) = Some (run_fault_code run.Memory)
+refusal_code (From fault) = Some (counter_fault_code fault)
+refusal_code (Counters fault) = Some (counter_fault_code fault)
+refusal_code (Pinned fault) = Some (answer_fault_code fault)
+refusal_code (Answers fault) = Some (answer_fault_code fault)
+refusal_code (Settings fault) = Some (settings_fault_code fault)
+refusal_code (Resume fault) = Some (counter_fault_code fault)
+refusal_code (Start fault) = Some (start_fault_code fault)
+refusal_code (Run fault) = Some (run_fault_code fault)
+refusal_code (Signing fault) = Some (sign_fault_code fault)
+refusal_code NoEntry = None
+
+-- it comes before a run over a log
+abbrev pub is_before_run : Refusal → Bool
+is_before_run (Run fault) = false
+is_before_run (Signing fault) = false
+is_before_run _ = true
+
+-- a call of the writer failed
+abbrev pub is_write : RunFault → Bool
+is_write run.Write = true
+is_write _ = false
+
+abbrev pub is_write_of_signing : SignFault → Bool
+is_write_of_signing (signing.Run fault) = is_write fault
+is_write_of_signing _ = false
+
+abbrev pub is_failed_write : Refusal → Bool
+is_failed_write (Run fault) = is_write fault
+is_failed_write (Signing fault) = is_write_of_signing fault
+is_failed_write _ = false

@@ -1,0 +1,53 @@
+//! What the commands do, over any files, reader and writer.
+ghost use Rattle.std.specs.Prelude.{◌≡◌, false, true, IfErr};
+ghost use Rattle.ss_frame.specs.Watched.{has_failed, source_of, sink_of};
+ghost use Rattle.ssign.specs.Explanation.{entries_of};
+ghost use Rattle.ssign.specs.Orders.{Ends};
+ghost use Rattle.ssign.specs.Refusal.{is_before_run, is_failed_write};
+
+mod explanation;
+mod log;
+mod signing;
+
+use crate::command_line::Order;
+use crate::explanations::Tables;
+use crate::given_files::GivenFiles;
+use crate::refusal::Refusal;
+use clap::ArgMatches;
+pub use explanation::run_explain;
+pub use log::run_log;
+pub use signing::run_sent;
+use ss_frame::Watched;
+use ss_report::Verdict;
+use std::alloc::Global;
+use std::io::{Read, Write};
+
+/// Carries out what a command asks for, by its options and by the files that they name: from the reader to the writer.
+///
+/// # Errors
+///
+/// As `run_log`, `run_sent` and `run_explain`. Nothing was read if no run had begun. But for a failed write, nothing was
+/// written.
+pub fn run_order<F: GivenFiles, R: Read, W: Write>(
+    alloc: Global,
+    files: &F,
+    reader: &mut Watched<R>,
+    writer: &mut Watched<W>,
+    tables: Tables<'_>,
+    order: Order,
+    options: &ArgMatches<'_>,
+) -> Result<Verdict, Refusal>
+    requires reader { has_failed reader.old ≡ false }
+    requires writer { has_failed writer.old ≡ false }
+    ensures ends { Ends (F.contents files.now) (entries_of tables.entry) options.now order
+        (source_of R.remaining reader.old) (source_of R.remaining reader.new)
+        (sink_of W.contents writer.old) (sink_of W.contents writer.new) result }
+    ensures unread { IfErr result (λ refusal. is_before_run refusal ≡ true → reader.new ≡ reader.old) }
+    ensures untouched { IfErr result (λ refusal. is_failed_write refusal ≡ false → writer.new ≡ writer.old) }
+{
+    match order {
+        Order::Log(task) => run_log(alloc, files, reader, writer, task, options),
+        Order::Sent(signing) => run_sent(alloc, files, reader, writer, signing, options),
+        Order::Explain => run_explain(alloc, writer, tables, options),
+    }
+}

@@ -1,0 +1,60 @@
+//! Why a command gives no verdict.
+ghost use Rattle.std.specs.Prelude.{◌≡◌};
+ghost use Rattle.ssign.specs.Refusal.{code_seen, refusal_code};
+
+use crate::extraction::ExtractionFault;
+use crate::settings::SettingsFault;
+use ss_answers::{AnswerFault, CounterFault, StartFault};
+use ss_octets::Code;
+use ss_report::RunFault;
+use ss_signing::SignFault;
+
+/// Why a command gives no verdict. But for a failed write, nothing was written then.
+#[derive(Clone, Copy, Debug, PartialEq, Eq)]
+pub enum Refusal {
+    /// An option isn't there, or has no number in its range, which a parse by `command` doesn't let through.
+    NoOption,
+    /// The options don't name what is to be extracted.
+    Extraction(ExtractionFault),
+    /// The file of `--from` gives no counters.
+    From(CounterFault),
+    /// The file of `--counters` gives no counters.
+    Counters(CounterFault),
+    /// The file of `--pinned` gives no payloads.
+    Pinned(AnswerFault),
+    /// The file of `--answers` gives no answers.
+    Answers(AnswerFault),
+    /// The options don't say how a log is to be signed.
+    Settings(SettingsFault),
+    /// The file of `--resume` gives no counters.
+    Resume(CounterFault),
+    /// No originator goes on at the counters of that file.
+    Start(StartFault),
+    /// The run over a log failed.
+    Run(RunFault),
+    /// The run that signs a log failed.
+    Signing(SignFault),
+    /// No entry has the code that is asked about.
+    NoEntry,
+}
+
+impl Refusal {
+    /// Its code, for programs, if it has one.
+    pub fn code(self) -> Option<Code>
+        ensures { code_seen result ≡ refusal_code self }
+    {
+        match self {
+            Refusal::NoOption | Refusal::NoEntry => None,
+            Refusal::Extraction(ExtractionFault::Both) => None,
+            Refusal::Extraction(ExtractionFault::NoNumber) => None,
+            Refusal::Extraction(ExtractionFault::Memory) => Some(RunFault::Memory.code()),
+            Refusal::From(fault) | Refusal::Counters(fault) => Some(fault.code()),
+            Refusal::Pinned(fault) | Refusal::Answers(fault) => Some(fault.code()),
+            Refusal::Settings(fault) => Some(fault.code()),
+            Refusal::Resume(fault) => Some(fault.code()),
+            Refusal::Start(fault) => Some(fault.code()),
+            Refusal::Run(fault) => Some(fault.code()),
+            Refusal::Signing(fault) => Some(fault.code()),
+        }
+    }
+}
