@@ -63,6 +63,7 @@ for folder, name in ((signed, "signed"), (unsigned, "not signed")):
     tell("review without answers", log, ["review"])
     tell("review with answers", log, ["review", "--answers", answers])
     tell("extract", log, ["extract", "--answers", answers])
+    tell("extract of a place", log, ["extract", "--place", "7"])
     tell("questions", log, ["questions"])
     tell("inspect", log, ["inspect"])
 log, wants, seals = f"{unsigned}/log", f"{work}/wants", f"{work}/seals"
