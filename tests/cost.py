@@ -49,9 +49,9 @@ MOST = 2.3
 SLACK = {"steps": 3000, "calls": 40, "peak": 4096, "moved": 4096, "taken": 4096, "passed": 0}
 # of the C library: so an instruction that copies many octets by itself doesn't count as one step for each
 TUNED = {"GLIBC_TUNABLES": "glibc.cpu.x86_rep_movsb_threshold=1000000000:glibc.cpu.x86_rep_stosb_threshold=1000000000"}
-# the most octets that are taken at one time: two buffers and the command line, and so many more for each octet that is read
-# or written
-ROOM, ROOM_FOR_EACH = 152 << 10, 24
+# the most octets that are taken at one time: two buffers and the command line, one buffer more for a file that an option
+# names, and so many more for each octet that is read or written
+ROOM, ROOM_OF_FILE, ROOM_FOR_EACH = 152 << 10, 1 << 16, 24
 # the same of all that is ever taken
 SPENT, SPENT_FOR_EACH = 512 << 10, 40
 # how much one read asks for
@@ -67,6 +67,7 @@ COMMANDS = (REVIEW, WHOLE, KEPT, NIGHT, TALLY, EXTRACT, UNLISTED, UNWRAPPED, QUE
     "plan", "plan --ahead", "plan --ahead --resume", "sign", "counters", "carry", "review --pinned", "questions --once --pinned",
     "counters --pinned", "carry --pinned")
 BY_KNOWN = (PINNED, ASKED, COUNTED, CARRIED)
+WITHOUT_FILES = (QUESTIONS, ONCE, OBJECTS, INSPECT, ORIGINALS, PLAN, AHEAD)
 
 # each shape, how large its smaller input is, the commands whose steps are counted, and those of which the rest is
 SHAPES = [
@@ -355,7 +356,7 @@ class Bench:
         counts, fault, faults = self.counts(made, "empty." + command, [(command, False)], [command])[command, False]
         # the most that is taken at one time may be taken at another time than with an input
         self.bases[command] = {**counts, "peak": 0}
-        return fault, {**faults, **faults_of_room(counts)}
+        return fault, {**faults, **faults_of_room(command, counts)}
 
     def less(self, command, counts):
         return {kind: max(it - self.bases.get(command, {}).get(kind, 0), 0) for kind, it in counts.items()}
@@ -371,7 +372,7 @@ class Bench:
         for it in commands:
             counts = [self.less(it[0], both[it][0]) for both in (small, large)]
             faults = {kind: small[it][2][kind] or fault for kind, fault in large[it][2].items()}
-            faults.update(faults_of_room(large[it][0]))
+            faults.update(faults_of_room(it[0], large[it][0]))
             if (shape, it[0]) in REUSED:
                 faults.update(faults_of_reuse(counts[1]))
             done[it] = counts, small[it][1] or large[it][1], faults
@@ -391,12 +392,13 @@ def over(counts, as_written=False):
         for kind in small if large[kind] > most[kind] * small[kind] + SLACK[kind]}
 
 
-def faults_of_room(counts):
+def faults_of_room(command, counts):
     """Whether more room is taken than for what is read, as for a length that is stated, and never comes; and whether more is
     taken in all."""
     if "peak" not in counts:
         return {}
-    most, in_all = (front + each * counts["passed"] for front, each in ((ROOM, ROOM_FOR_EACH), (SPENT, SPENT_FOR_EACH)))
+    room = ROOM if command in WITHOUT_FILES else ROOM + ROOM_OF_FILE
+    most, in_all = (front + each * counts["passed"] for front, each in ((room, ROOM_FOR_EACH), (SPENT, SPENT_FOR_EACH)))
     return {
         "room": "" if counts["peak"] <= most else "%d octets are taken, and at most %d wanted" % (counts["peak"], most),
         "spent": "" if counts["taken"] <= in_all else "%d octets are taken in all, and at most %d wanted" % (
@@ -457,7 +459,7 @@ def check_few(bench, pool, word):
     for (shape, _, _), it in zip(runs, done):
         for (command, _), (counts, fault, faults) in it.result().items():
             tell("%s of a few %s: what it says" % (command, shape.__name__), fault)
-            for kind, fault in {**faults, **faults_of_room(counts)}.items():
+            for kind, fault in {**faults, **faults_of_room(command, counts)}.items():
                 tell("%s of a few %s: %s" % (command, shape.__name__, kind), fault)
 
 
