@@ -120,7 +120,7 @@ def counted(path):
             found = re.match(r"(c?)fn=\((\d+)\)(?: (.*))?", line)
             if found:
                 if found[3]:
-                    # what stands behind a name says for which types, and how deep it is called by itself
+                    # the end of a name says for which types, and how deep it is called by itself
                     names[found[2]] = re.sub(r"(::<.*|'\d+)$", "", found[3])
                 called = found[2] if found[1] else called
             elif line.startswith("calls="):

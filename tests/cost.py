@@ -28,7 +28,7 @@ whole buffer, up to the first that gives nothing:
   reused   messages of which nothing is kept take no room of their own
 
 LIBRARY, made of tests/count.c, counts all but the steps. The inputs are those of cost_logs.py. The program of --slow, made
-of tests/slow.c, is one that is too slow in a way that it is told: it has to be found out. --only takes the shapes whose
+of tests/slow.c, is one that is too slow in a way that is chosen: it has to be found out. --only takes the shapes whose
 name holds a word, --show prints each ratio, and --instructions has callgrind count each instruction as a step, which takes
 some minutes. The last line is `cost: N passed, M failed`.
 """
