@@ -24,7 +24,7 @@ returns-clause-told g c =
     let end = c.in_ok-end.end in
     let text = counters_text end.session end.sg end.counters in
     run_writes job c.args.request.limits (source_of g.R.Read.remaining c.args.reader.now) (source_of g.R.Read.remaining c.read_prepared.new.reader) c.in_ok-messages.messages.items
-    was is text text c.in_ok-messages.ensures.read c.in_ok-end.ensures.made refl (c.in_ok-end_text.ensures was text c.write_counters.ensures)
+    was is text text c.in_ok-messages.ensures.read c.in_ok-end.ensures.made refl (c.in_ok-end_text.ensures.output was text c.write_counters.ensures)
 
 pub returns-in_err-end_text-clause-stopped : goal.returns-in_err-end_text-clause-stopped
 returns-in_err-end_text-clause-stopped g c =
@@ -34,7 +34,7 @@ returns-in_err-end_text-clause-stopped g c =
     let is = sink_of g.W.Write.contents c.end_text.new.writer in
     let end = c.in_ok-end.end in
     let text = counters_text end.session end.sg end.counters in
-    let fails = c.in_err-end_text.ensures was text c.write_counters.ensures in
+    let fails = c.in_err-end_text.ensures.output was text c.write_counters.ensures in
     rw (p.1, p.2, fails.0)
     (run_fails_to_write job c.args.request.limits (source_of g.R.Read.remaining c.args.reader.now) (source_of g.R.Read.remaining c.read_prepared.new.reader) c.in_ok-messages.messages.items
     was is text text c.in_ok-messages.ensures.read c.in_ok-end.ensures.made refl fails.1)
@@ -44,5 +44,5 @@ returns-in_err-end_text-clause-untouched g c =
     let p = err_from_is_err_and c.from_residual-in_err-end_text.result c.from_residual-in_err-end_text.ensures.1 in
     let was = sink_of g.W.Write.contents c.args.writer.now in
     let end = c.in_ok-end.end in
-    let fails = c.in_err-end_text.ensures was (counters_text end.session end.sg end.counters) c.write_counters.ensures in
+    let fails = c.in_err-end_text.ensures.output was (counters_text end.session end.sg end.counters) c.write_counters.ensures in
     rw (p.1, p.2, fails.0) (λ other. absurd (other refl))
