@@ -99,7 +99,7 @@ complete -c ssign-keys -n '__ssign_keys_command verify' -l ca -r -F -d 'trust a 
 complete -c ssign-keys -n '__ssign_keys_command verify' -l cert -r -F -d 'trust a payload with this certificate'
 complete -c ssign-keys -n '__ssign_keys_command verify' -l at-signing-time -d 'judge whether a certificate has expired at the payload\'s time, which its signer states, and not now'
 complete -c ssign-keys -n '__ssign_keys_command verify' -l allow-sha1 -d 'let the status be 0 though a session rests on SHA-1 (VER 0111), for which two texts with one hash can be made'
-complete -c ssign-keys -n '__ssign_keys_command verify' -l ignore-strangers -d 'let the status be 0 though unverified blocks have the names and the RSID of a joined session, if nothing else is found'
+complete -c ssign-keys -n '__ssign_keys_command verify' -l ignore-strangers -d 'let the status be 0 though blocks claim a joined session and aren\'t validly signed, if nothing else is found'
 complete -c ssign-keys -n '__ssign_keys_command verify' -l tsa-ca -r -F -d 'the authority that vouches for the service of a time stamp'
 complete -c ssign-keys -n '__ssign_keys_command verify' -l lines -d 'the log is one message a line (default where it begins with <)'
 complete -c ssign-keys -n '__ssign_keys_command verify' -l frames -d 'the log is octet-counted frames (default where it doesn\'t)'

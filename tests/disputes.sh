@@ -60,12 +60,12 @@ while read -r kind; do
     holds "$kind: nothing on standard error" test ! -s err
     holds "$kind: all numbers are there" test "$(listed)" = "$clean"
     [[ $kind != spoilt ]] || continue
-    holds "$kind: they are counted" grep -qx "  12 unverified blocks have the names and the RSID of this session; they were left out, and nothing rests on them" out
+    holds "$kind: they are counted" grep -qx "  12 blocks claim this session and aren't validly signed; they were left out and change nothing" out
     holds "$kind: the verdict" test "$(verdict)" = 'FINDINGS: of 10 announced messages 10 are present and unchanged; 12 blocks are unverified.'
     keys verify "${key[@]}" --ignore-strangers log
     holds "$kind, ignored: status 0" test "$status" = 0
-    holds "$kind, ignored: the verdict" test "$(verdict)" = "$sentence. 12 unverified blocks were ignored: they have the names and \
-the RSID of joined sessions, and nothing rests on them. Each other stored message is a verified block."
+    holds "$kind, ignored: the verdict" test "$(verdict)" = "$sentence. 12 unverified blocks were ignored: they claim joined \
+sessions, aren't validly signed, and change nothing. Each other stored message is a verified block."
 done < <(disputes kinds)
 disputes spoilt 12 <signed >log
 keys verify "${key[@]}" --ignore-strangers log
@@ -74,11 +74,11 @@ holds 'a spoilt block is no such block' test "$status" = 1
 # ---- one, as text, JSON, page and report
 disputes octet 1 <signed >log
 keys verify "${key[@]}" --ignore-strangers --html page.html log
-holds 'one: it is counted' grep -qx "  1 unverified block has the names and the RSID of this session; it was left out, and nothing rests on it" out
-said="$sentence. 1 unverified block was ignored: it has the names and the RSID of a joined session, and nothing rests on it. Each other \
+holds 'one: it is counted' grep -qx "  1 block claims this session and isn't validly signed; it was left out and changes nothing" out
+said="$sentence. 1 unverified block was ignored: it claims a joined session, isn't validly signed, and changes nothing. Each other \
 stored message is a verified block."
 holds 'one, ignored: the verdict' test "$(verdict)" = "$said"
-holds 'one: the page' python3 - page.html "$said" "1 unverified block has the names and the RSID of this session; it was left out, and nothing rests on it" <<'END'
+holds 'one: the page' python3 - page.html "$said" "1 block claims this session and isn't validly signed; it was left out and changes nothing" <<'END'
 import html, re, sys
 text = html.unescape(re.sub("<[^>]*>", "", open(sys.argv[1], encoding="utf-8").read()))
 sys.exit(not all(it in text for it in sys.argv[2:]) or "✓ Clean" not in text)
@@ -102,11 +102,11 @@ keys verify "${key[@]}" --raw log
 holds 'one: the report' grep -q '^refused ' out
 holds 'one: nothing is said beside it' test "$status.$(wc -c <err)" = 1.0
 keys verify "${key[@]}" --raw --ignore-strangers log
-holds 'one, ignored: it is said beside the report' test "$status.$(<err)" = "0.ssign-keys: 1 unverified block was ignored: it has the \
-names and the RSID of a joined session, and nothing rests on it"
+holds 'one, ignored: it is said beside the report' test "$status.$(<err)" = "0.ssign-keys: 1 unverified block was ignored: it claims a \
+joined session, isn't validly signed, and changes nothing"
 keys verify "${key[@]}" --findings log
 holds 'one, findings alone: it is shown with its session' test "$(sed -n 5p out)" = \
-    "  1 unverified block has the names and the RSID of this session; it was left out, and nothing rests on it"
+    "  1 block claims this session and isn't validly signed; it was left out and changes nothing"
 
 # ---- what is found besides is never softened
 frame 'a message that nobody signed' >unlisted
@@ -156,8 +156,7 @@ disputes certificates <before | disputes first >replayed
 disputes mixed replayed <signed >log
 keys verify "${key[@]}" log
 holds 'one old block of the key: the numbers' test "$(listed)" = "$clean"
-holds 'one old block of the key: it was left out' grep -qx '  1 unverified block has the names .*' out
-holds 'one old block of the key: nothing is said of its signature, which is valid' test "$(grep -c 'signed' out)" = 1
+holds 'one old block of the key: it was left out' grep -qx "  1 block claims this session and isn't validly signed; it was left out and changes nothing" out
 signs other two 1 --payload "$stated $(cut -d ' ' -f 2- two/payload)"
 disputes mixed other <signed >log
 keys verify "${key[@]}" log
@@ -246,7 +245,7 @@ present and unchanged; 7 blocks are unverified. Nothing is missing between the c
 keys verify "${key[@]}" --ignore-strangers --nights manifest nights
 holds 'all nights, ignored: status 0' test "$status" = 0
 holds 'all nights, ignored: the verdict' test "$(verdict)" = "Night 1: clean; numbers 1 to 10 are there, each once, and nothing else \
-is. 7 unverified blocks were ignored: they have the names and the RSID of joined sessions, and nothing rests on them."
+is. 7 unverified blocks were ignored: they claim joined sessions, aren't validly signed, and change nothing."
 frame 'a message that nobody signed' >>nights/first.frames
 keys verify "${key[@]}" --ignore-strangers --nights manifest nights
 holds 'all nights, and an unlisted message: status 1' test "$status" = 1
@@ -299,7 +298,7 @@ disputes octet 10000 <signed >log
 (ulimit -v 1500000 && exec timeout "$patience" "$keys_program" verify "${key[@]}" --ignore-strangers log >out 2>err)
 status=$?
 holds 'many blocks: status 0' test "$status" = 0
-holds 'many blocks: they are counted' grep -qx "  10,000 unverified blocks have the names .*" out
+holds 'many blocks: they are counted' grep -qx "  10,000 blocks claim this session .*" out
 holds 'no passing file is left' test -z "$(ls -A -- "$TMPDIR")"
 
 finish

@@ -286,9 +286,9 @@ def check_findings(objects: List[Dict[str, Any]], page: Node) -> None:
             if it["weakness"]:
                 found.append(("SHA-1", whose(it, False), "", it["weakness"]))
             if it["strangers"]:
-                words = "1 unverified block has the names and the RSID of this session; it was left out, and nothing rests on it" \
-                    if it["strangers"] == 1 else f"{it['strangers']:,} unverified blocks have the names and the RSID of this session; " \
-                    "they were left out, and nothing rests on them"
+                words = "1 block claims this session and isn't validly signed; it was left out and changes nothing" \
+                    if it["strangers"] == 1 else f"{it['strangers']:,} blocks claim this session and aren't validly signed; " \
+                    "they were left out and change nothing"
                 found.append(("strangers", whose(it, False), "", words))
             if it["state"] != "joined":
                 found.append(("session", whose(it, False), "", None))

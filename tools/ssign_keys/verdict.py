@@ -46,14 +46,14 @@ class Facts:
     stamps: List[str] = field(default_factory=list)
     """What time stamps show, each in a sentence."""
     strangers: Dict[Session, int] = field(default_factory=dict)
-    """How many unverified blocks have the names and the RSID of each joined session that has some."""
+    """How many unverified blocks claim each joined session that has some."""
     are_strangers_ignored: bool = False
     has_others: bool = True
     """Whether the review found something else than unverified blocks."""
 
     @property
     def of_strangers(self) -> int:
-        """How many unverified blocks have the names and the RSID of joined sessions."""
+        """How many unverified blocks claim joined sessions."""
         return sum(self.strangers.values())
 
     @property
