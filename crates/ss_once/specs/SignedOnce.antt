@@ -42,7 +42,7 @@ ShareNoGbc u v = (gbc : ℕ) → HasGbc u gbc → ¬ HasGbc v gbc
 -- ---- what is signed
 
 -- These octets are, in order, what is signed of some blocks. No two places have blocks with a hash for one number of a
--- group, or with one GBC. So neither do two different blocks, and no block stands there twice.
+-- group, or with one GBC. So neither do two different blocks, and no signature block stands there twice.
 pub record AreSignedOnce (h : HeadValue) (stamp : Option Moment) (octets : List (List ℕ)) : Type 0 where
   pub blocks : List Unsigned
   pub octets_are : octets ≡ map (unsigned_text h stamp) blocks

@@ -7,9 +7,9 @@ use ss_message::laws::faults_are_of_no_message;
 use ss_origin::Seals;
 use ss_review::laws::cases::premises_ahead_are_met;
 
-/// A run has no number of a group and no GBC signed twice, whether it succeeds or not. No two of the blocks whose octets its
-/// sealer was asked to sign have a hash for one number of a group, or one GBC. Those that were signed and never sent are
-/// among them.
+/// A run that made its originator has no number of a group and no GBC signed twice, whether it succeeds or not. No two of
+/// the blocks whose octets its sealer was asked to sign have a hash for one number of a group, or one GBC. Those that were
+/// signed and never sent are among them.
 pub fn runs_sign_once<J: Seals>()
     ensures { RunsSignOnce J.answers J.asked }
 {

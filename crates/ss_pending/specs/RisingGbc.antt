@@ -14,7 +14,7 @@ use Rattle.ss_review.specs.deliveries.AheadDelivery.{turns_in}
 
 -- The signature blocks among what an originator sent, in order: some messages, each `copies` times in a row. The first
 -- of them has the GBC with which the originator began, and each next one a GBC that is one greater. The next GBC with
--- which it ended is one greater than that of the last.
+-- which it ended is one greater than that of the last, or the one with which it began if there is none.
 pub record AreCountedFrom (c : Config) (l : Life) : Type 0 where
   pub messages : List (List ℕ)
   pub sent : filter (λ m. is_signature (reading m)) (sent_in_turns l.turns) ≡ flat_map (λ m.

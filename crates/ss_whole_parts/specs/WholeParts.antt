@@ -31,7 +31,7 @@ pub record AreGiven (bs : List BlockMessage) (part : ℕ → ℕ) (parts : ℕ) 
   -- a counter of a session without a block is given to some part
   pub some : (c : Counter) → Contains cs c → ¬ Contains (sessions bs) c.session
       → (k : ℕ) × (k < parts) × Contains (own k) c
-  -- and that part is given all counters of the session
+  -- and each part that is given one of them is given all counters of its session
   pub all : (k : ℕ) (c d : Counter) → k < parts → ¬ Contains (sessions bs) c.session → Contains (own k) c
       → Contains cs d → d.session ≡ c.session → Contains (own k) d
 

@@ -41,8 +41,9 @@ pub fn counters_of_parts_are_these()
 {}
 
 /// What is missing of a log up to counters, of messages, blocks and sessions, is what is missing of its parts put
-/// together. The premises are those of `counters_add_up`, and that each part is given the counters of its sessions. It may
-/// be given counters of other sessions too.
+/// together. The premises are those of `counters_add_up`, and `AreGiven`: each part is given the counters of its sessions,
+/// and counters of a session without a block are given to a part, all of them to each part that has one. A part may be
+/// given counters of other sessions too.
 pub fn missing_adds_up()
     ensures { MissingAddsUp }
 {}
@@ -58,8 +59,8 @@ pub fn reports_by_payloads_add_up()
 }
 
 /// The report of a log and what is missing of it are those of its parts put together, by payloads that are known
-/// beforehand, or without any. The premises are those of `reports_by_payloads_add_up`, and that each part is given the
-/// counters of its sessions.
+/// beforehand, or without any. The premises are those of `reports_by_payloads_add_up`, and `AreGiven`, as in
+/// `missing_adds_up`.
 pub fn whole_reports_add_up()
     ensures { WholeReportsAddUp }
 {
@@ -73,8 +74,8 @@ pub fn nothing_missing_where_of_parts()
     ensures { NothingMissingWhereOfParts }
 {}
 
-/// Two ways to give counters to parts that meet these premises: all of them to each part, and those of each session to
-/// the part that has its blocks.
+/// Two ways to give counters to parts that meet these premises, where there is a part: all of them to each part, and those
+/// of each session to the part that has its blocks, and those of a session without a block to one part.
 pub fn counters_may_be_given()
     ensures { CountersMayBeGiven }
 {}
