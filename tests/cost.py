@@ -27,6 +27,9 @@ whole buffer, up to the first that gives nothing:
   spent    the same of all that is ever taken
   reused   messages of which nothing is kept take no room of their own
 
+A run by known payloads (`--pinned`) takes at most twice the steps and the room of the same run without the option, over logs
+into which strangers wrote as many certificate blocks as there are messages.
+
 LIBRARY, made of tests/count.c, counts all but the steps. The inputs are those of cost_logs.py. The program of --slow, made
 of tests/slow.c, is one that is too slow in a way that is chosen: it has to be found out. --only takes the shapes whose
 name holds a word, --show prints each ratio, and --instructions has callgrind count each instruction as a step, which takes
@@ -173,6 +176,13 @@ FEW = [
     (logs.sent_one_by_one, 10, [PLAN, SIGN]),
     (logs.sent_in_groups, 192, [PLAN, AHEAD, SIGN]),
 ]
+
+# logs into which strangers wrote as many certificate blocks as there are messages, and the commands that are run by known
+# payloads and without any
+BESIDE = [logs.strangers_disagree, logs.strangers_agree]
+WITHOUT = {PINNED: REVIEW, ASKED: ONCE, COUNTED: COUNTERS, CARRIED: CARRY}
+# how many times the steps and the room of a run without known payloads one by them may take
+MOST_BY_KNOWN = 2
 
 # what each slow stand-in has to be found out by, and on which shape
 SLOW = [
@@ -463,6 +473,23 @@ def check_few(bench, pool, word):
                 tell("%s of a few %s: %s" % (command, shape.__name__, kind), fault)
 
 
+def check_known(bench, pool, word):
+    """That a run by known payloads costs at most twice as much as one without, whatever strangers wrote."""
+    commands = [*WITHOUT, *WITHOUT.values()]
+    shapes = [it for it in BESIDE if word in it.__name__]
+    done = [pool.submit(bench.counts, shape(900), "known.%s" % shape.__name__, [(it, False) for it in commands], commands)
+            for shape in shapes]
+    for shape, it in zip(shapes, done):
+        counts = {command: found for (command, _), found in it.result().items()}
+        for known, without in WITHOUT.items():
+            what = "%s of %s" % (known, shape.__name__)
+            tell("%s: what it says without known payloads" % what, counts[without][1])
+            for kind in {"steps", "peak"} & counts[known][0].keys():
+                most = MOST_BY_KNOWN * counts[without][0][kind]
+                tell("%s: %s beside those without known payloads" % (what, kind), "" if 0 < counts[known][0][kind] <= most else
+                     "%d, and at most %d wanted" % (counts[known][0][kind], most))
+
+
 def check_slow(benches, pool, show):
     """That a program which is too slow is found out, and that one which isn't passes."""
     runs = [it for it in SLOW if it[3] in benches[it[0]].kinds()]
@@ -499,6 +526,7 @@ def main():
         bench = Bench(given.program, folder, given.count, counter)
         check_program(bench, pool, given.only, given.show)
         check_few(bench, pool, given.only)
+        check_known(bench, pool, given.only)
         if given.slow:
             benches = {}
             for name, *_ in SLOW:

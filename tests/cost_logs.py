@@ -526,13 +526,22 @@ def attacked(n, strange, payloads=(PAYLOAD,), joined=True):
 
 
 def strangers_disagree(n):
-    """Each stranger's block states another octet of the payload."""
-    return attacked(n, lambda i: certificate(i % len(PAYLOAD) + 1, b"AB"[i % 2:i % 2 + 1], len(PAYLOAD)))
+    """Each stranger's block states another octet of the payload. Without known payloads they dispute the session."""
+    made = attacked(n, lambda i: certificate(i % len(PAYLOAD) + 1, b"AB"[i % 2:i % 2 + 1], len(PAYLOAD)))
+    blocks = 1 + n // 10 + n
+    made.review(1, session=1, unlisted=n, refused=blocks)
+    made.say("counters", 0, {})
+    made.say("questions --once", 0, {})
+    return made.say("carry", 0, blocks + n)
 
 
 def strangers_agree(n):
-    """Each stranger's block states what the payload has, and isn't valid."""
-    return attacked(n, lambda i: certificate(i % len(PAYLOAD) + 1, PAYLOAD[i % len(PAYLOAD):]))
+    """Each stranger's block states what the payload has, and isn't valid. So the session is joined without known payloads."""
+    made = attacked(n, lambda i: certificate(i % len(PAYLOAD) + 1, PAYLOAD[i % len(PAYLOAD):]))
+    made.review(1, session=1, ok=n, refused=n)
+    made.say("counters", 0, {"count": 2})
+    made.say("questions --once", 0, {"payload": 1, "trust": 1, "yes": 1 + n // 10 + n})
+    return made.say("carry", 0, 1)
 
 
 def strangers_apart(n):
