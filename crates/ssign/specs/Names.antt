@@ -29,6 +29,7 @@ use Rattle.ssign.specs.declared.options.max_messages.TheConstants as max_message
 use Rattle.ssign.specs.declared.options.msgid.TheConstants as msgid
 use Rattle.ssign.specs.declared.options.once.TheConstants as once
 use Rattle.ssign.specs.declared.options.payload.TheConstants as payload
+use Rattle.ssign.specs.declared.options.pinned.TheConstants as pinned
 use Rattle.ssign.specs.declared.options.place.TheConstants as place
 use Rattle.ssign.specs.declared.options.pri.TheConstants as pri
 use Rattle.ssign.specs.declared.options.procid.TheConstants as procid
@@ -74,6 +75,7 @@ pub record OptionsHaveTheirNames : Type 0 where
   pub msgid : msgid.NAME.now ≡ codes "msgid"
   pub once : once.NAME.now ≡ codes "once"
   pub payload : payload.NAME.now ≡ codes "payload"
+  pub pinned : pinned.NAME.now ≡ codes "pinned"
   pub place : place.NAME.now ≡ codes "place"
   pub pri : pri.NAME.now ≡ codes "pri"
   pub procid : procid.NAME.now ≡ codes "procid"
