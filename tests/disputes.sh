@@ -14,6 +14,8 @@ fi
 mkdir -- "$scratch/passing"
 export TMPDIR=$scratch/passing
 cd -- "$scratch" || exit 1
+# the largest log takes half a minute where nothing else runs
+patience=$((5 * patience))
 
 # keys ARG..: runs ssign-keys as `run` does the program.
 keys() {
