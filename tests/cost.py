@@ -70,7 +70,8 @@ COMMANDS = (REVIEW, WHOLE, KEPT, NIGHT, TALLY, EXTRACT, UNLISTED, UNWRAPPED, QUE
     "plan", "plan --ahead", "plan --ahead --resume", "sign", "counters", "carry", "review --pinned", "questions --once --pinned",
     "counters --pinned", "carry --pinned")
 BY_KNOWN = (PINNED, ASKED, COUNTED, CARRIED)
-WITHOUT_FILES = (QUESTIONS, ONCE, OBJECTS, INSPECT, ORIGINALS, PLAN, AHEAD)
+# those that make a review, and need no file but the log
+REVIEWS = [REVIEW, WHOLE, TALLY, EXTRACT, UNLISTED, UNWRAPPED, COUNTERS, CARRY]
 
 # each shape, how large its smaller input is, the commands whose steps are counted, and those of which the rest is
 SHAPES = [
@@ -176,6 +177,8 @@ FEW = [
     (logs.sent_one_by_one, 10, [PLAN, SIGN]),
     (logs.sent_in_groups, 192, [PLAN, AHEAD, SIGN]),
 ]
+# those that are reviewed without an answers file, so that no room is allowed for the buffer of one
+UNANSWERED = [(logs.nothing, 0, REVIEWS), (logs.shortest, 10, REVIEWS), (logs.unanswered, 10, REVIEWS)]
 
 # logs into which strangers wrote as many certificate blocks as there are messages, and the commands that are run by known
 # payloads and without any
@@ -334,8 +337,7 @@ class Bench:
             with open(log + ".first", "wb") as file:
                 file.writelines(line + b"\n" for line in made.first)
             words, files = [log + ".first", "--counters", *words], [*files, log + ".first"]
-        if command in (REVIEW, WHOLE, KEPT, NIGHT, TALLY, EXTRACT, UNLISTED, UNWRAPPED, SIGN, COUNTERS, CARRY, PINNED, COUNTED,
-                       CARRIED):
+        if made.has_answers_file and command in (*REVIEWS, KEPT, NIGHT, SIGN, PINNED, COUNTED, CARRIED):
             with open(log + ".answers", "wb") as file:
                 file.writelines(line + b"\n" for line in lines)
             words, files = words + ["--answers", log + ".answers"], [*files, log + ".answers"]
@@ -343,6 +345,7 @@ class Bench:
         said = run(words, log, self.library, self.environment)
         counts = said[3]
         faults = faults_of_files(counts, [os.path.getsize(it) for it in files], len(said[1]) + len(said[2]), said[0] == 2)
+        faults.update(faults_of_room(counts, len(files) > 1))
         if self.counter and stepped:
             with open(log, "rb") as file:
                 counts["steps"] = self.counter.count(words, stdin=file, env={**self.environment, **TUNED}) or 0
@@ -366,7 +369,7 @@ class Bench:
         counts, fault, faults = self.counts(made, "empty." + command, [(command, False)], [command])[command, False]
         # the most that is taken at one time may be taken at another time than with an input
         self.bases[command] = {**counts, "peak": 0}
-        return fault, {**faults, **faults_of_room(command, counts)}
+        return fault, faults
 
     def less(self, command, counts):
         return {kind: max(it - self.bases.get(command, {}).get(kind, 0), 0) for kind, it in counts.items()}
@@ -382,7 +385,6 @@ class Bench:
         for it in commands:
             counts = [self.less(it[0], both[it][0]) for both in (small, large)]
             faults = {kind: small[it][2][kind] or fault for kind, fault in large[it][2].items()}
-            faults.update(faults_of_room(it[0], large[it][0]))
             if (shape, it[0]) in REUSED:
                 faults.update(faults_of_reuse(counts[1]))
             done[it] = counts, small[it][1] or large[it][1], faults
@@ -402,12 +404,12 @@ def over(counts, as_written=False):
         for kind in small if large[kind] > most[kind] * small[kind] + SLACK[kind]}
 
 
-def faults_of_room(command, counts):
+def faults_of_room(counts, names_file):
     """Whether more room is taken than for what is read, as for a length that is stated, and never comes; and whether more is
-    taken in all."""
+    taken in all. If an option names a file, there is room for one buffer more."""
     if "peak" not in counts:
         return {}
-    room = ROOM if command in WITHOUT_FILES else ROOM + ROOM_OF_FILE
+    room = ROOM + ROOM_OF_FILE if names_file else ROOM
     most, in_all = (front + each * counts["passed"] for front, each in ((room, ROOM_FOR_EACH), (SPENT, SPENT_FOR_EACH)))
     return {
         "room": "" if counts["peak"] <= most else "%d octets are taken, and at most %d wanted" % (counts["peak"], most),
@@ -462,15 +464,18 @@ def check_program(bench, pool, word, show):
 
 
 def check_few(bench, pool, word):
-    """That a log of a few blocks, sessions or groups takes no room but for what it holds."""
-    runs = [it for it in FEW if word in it[0].__name__]
-    done = [pool.submit(bench.counts, shape(n), "few.%s" % shape.__name__, [(command, False) for command in commands], [])
-            for shape, n, commands in runs]
-    for (shape, _, _), it in zip(runs, done):
-        for (command, _), (counts, fault, faults) in it.result().items():
-            tell("%s of a few %s: what it says" % (command, shape.__name__), fault)
-            for kind, fault in {**faults, **faults_of_room(command, counts)}.items():
-                tell("%s of a few %s: %s" % (command, shape.__name__, kind), fault)
+    """That a log of a few blocks, sessions or groups takes no room but for what it holds, with an answers file and
+    without."""
+    few = [("a few " + shape.__name__, shape(n), commands) for shape, n, commands in FEW if word in shape.__name__]
+    few += [("%s, without an answers file" % shape.__name__, shape(n).without_answers(), commands)
+            for shape, n, commands in UNANSWERED if word in shape.__name__]
+    done = [pool.submit(bench.counts, made, "few.%d" % number, [(command, False) for command in commands], [])
+            for number, (_, made, commands) in enumerate(few)]
+    for (name, _, _), it in zip(few, done):
+        for (command, _), (_, fault, faults) in it.result().items():
+            tell("%s of %s: what it says" % (command, name), fault)
+            for kind, fault in faults.items():
+                tell("%s of %s: %s" % (command, name, kind), fault)
 
 
 def check_known(bench, pool, word):

@@ -28,6 +28,7 @@ class Input:
         self.payload = b64(payload)
         self.answers = [b"trust " + self.payload] if answered else []
         self.counters, self.first, self.known = [], [], []
+        self.has_answers_file = True
 
     def put(self, *texts):
         self.messages += texts
@@ -37,6 +38,11 @@ class Input:
         self.messages.append(front + b' SIGN="' + sign + b'"' + back)
         if valid:
             self.answers.append(b"yes %s %s %s" % (self.payload, b64(front + back), sign))
+
+    def without_answers(self):
+        """The same, and no option names an answers file. What is said is the same as with an empty one."""
+        self.has_answers_file = False
+        return self
 
     def keep(self, number, rsid=7, group=None, names=NAMES):
         """A counter of a session, or of a group."""
@@ -138,9 +144,11 @@ def unanswered(n):
     made.answers = []
     made.say("extract", 1, 0)
     made.say("extract --unlisted", 1, n)
+    made.say("extract --unlisted --unwrap", 1, n)
     made.say("carry", 0, 1 + n // 10 + n)
     made.say("counters", 0, {})
     made.whole(1, session=1, unlisted=n, refused=1 + n // 10)
+    made.tally(1, session=1)
     return made.review(1, session=1, unlisted=n, refused=1 + n // 10)
 
 
@@ -579,6 +587,13 @@ def shortest(n):
     made = Input()
     made.put(*[b"a", b"b"] * (n // 2))
     made.say("inspect", 0, {"unparsed": n, "end": 1})
+    made.say("extract", 1, 0)
+    made.say("extract --unlisted", 1, n)
+    made.say("extract --unlisted --unwrap", 1, n)
+    made.say("carry", 0, n)
+    made.say("counters", 0, {})
+    made.whole(1, unlisted=n)
+    made.tally(1)
     return made.review(1, unlisted=n)
 
 
