@@ -12,7 +12,7 @@ name fails too. What is counted:
   asked          look-ups in the answers
   reviews        reviews that are made
   files          files that are read
-  compared       comparisons that put the lines of an answers file in order
+  compared       comparisons that put the lines of an answers file in order: of lines in order, at most one and a half each
 
 A review takes both hashes of each message without a block, once. A text without `[ssign` holds no block, so only an
 inspection parses it, and whoever signs it. A block is parsed as it comes, and again when the review is made, because its
