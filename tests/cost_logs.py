@@ -78,8 +78,8 @@ class Input:
 
     def tally(self, status, **words):
         """The lines of a tally."""
-        return self.say("review --tally", status, {**words, **{"%s-count" % it: 1 for it in ("unlisted", "refused", "spoilt")}, "end": 1})
-
+        counts = {"%s-count" % it: 1 for it in ("unlisted", "refused", "spoilt")}
+        return self.say("review --tally", status, {**words, **counts, "end": 1})
 
     def asked(self, trust, yes, payload):
         """The lines of questions, and of those with each payload once."""
