@@ -1,3 +1,4 @@
 pub mod SignedOnce
 pub mod OnceAhead
 pub mod SmallRun
+pub mod SmallRunsAhead

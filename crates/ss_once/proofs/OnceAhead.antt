@@ -68,7 +68,9 @@ runs_ahead_sign_once answers asked read list lists s runs go =
     let all = asked_all read s answers asked list lists runs go in
     let blocks : List Unsigned = together all.blocks in (
       all.blocks,
-      all.listed,
-      (λ i j d less below. (all_pairs ShareNothing blocks all.parts i j d less below).0),
-      (λ i j d less below. (all_pairs ShareNothing blocks all.parts i j d less below).1),
+      (
+        all.listed,
+        (λ i j d less below. (all_pairs ShareNothing blocks all.parts i j d less below).0),
+        (λ i j d less below. (all_pairs ShareNothing blocks all.parts i j d less below).1),
+      ),
     )

@@ -1,13 +1,15 @@
 -- The small run: what its originator accepted, and what its sealer was asked.
-use Rattle.std.proofs.Common.{◌≡◌, inl, inr, ℕ, ◌+◌, List, [], ◌∷◌, ◌++◌, length, refl, sym, ap, ◌∙◌, arith, append-nil}
+use Rattle.std.proofs.Common.{◌≡◌, inl, inr, ℕ, ◌+◌, ◌≤◌, List, [], ◌∷◌, ◌++◌, length, refl, sym, ap, ◌∙◌, arith, append-nil}
 use Rattle.std.specs.Prelude.{false, None, Some, Ok}
 use Rattle.std.specs.Fmt.{digits}
-use Rattle.std.specs.List.{AllPairs}
+use Rattle.std.specs.List.{AllByRecursion, AllPairs}
 use Rattle.ss_message.specs.Message.{text}
 use Rattle.ss_payload.specs.declared.cuts.Cut.{Cut}
 use Rattle.ss_payload.specs.Cuts.{AreCuts, octet_count}
 use Rattle.ss_payload.specs.Payload.{payload_text}
+use Rattle.ss_frame.specs.End.{Clean}
 use Rattle.ss_frame.specs.Frame.{units_in, IsAllowed}
+use Rattle.ss_frame.specs.Stream.{reads}
 use Rattle.ss_frame.specs.declared.limits.Form.TheVariants.{Frames}
 use Rattle.ss_origin.specs.declared.fault.OriginFault.TheVariants.{Memory}
 use Rattle.ss_origin.specs.declared.unsigned.Unsigned.{Unsigned}
@@ -22,6 +24,7 @@ use Rattle.ss_review.specs.deliveries.SmallChains.{mark, small, message, begun, 
 use Rattle.ss_review.specs.deliveries.SmallChains as chains
 use Rattle.ss_signing.specs.Asked.{AskedAlong, StopsCalls}
 use Rattle.ss_signing.specs.AskedRun.{AskedRun, SealsInPart}
+use Rattle.ss_signing.specs.Run.{ReadsWhole}
 use Rattle.ss_once.specs.SignedOnce.{ShareNoGbc, ShareNoNumber, RunsSignOnce}
 use Rattle.ss_once.specs.SmallRun.{Marker, gives_mark, lists_mark, as_listed, small_job, small_log, small_limits, whole_log, no_log, nothing_written, out_of_memory, block_of, first_block, last_block, certificate_due, small_octets, SmallRunIsThis}
 
@@ -149,28 +152,33 @@ calls_asked is turns = record {
 
 -- ---- the run
 
-allowed : (octet : ℕ) → IsAllowed small_limits (message octet)
+pub allowed : (octet : ℕ) → IsAllowed small_limits (message octet)
 unfolding text digits
 allowed octet = record { some_octet = omega arith; not_too_long = omega arith; fits = tt }
+
+-- frames of allowed messages, and of no more than three, are read as these messages
+pub frames_read : (log : List (List ℕ)) → AllByRecursion (IsAllowed small_limits) log → length log ≤ 3 → reads small_limits (units_in Frames log) log Clean
+frames_read log all few = record { rest = []; is = sym (append-nil (units_in Frames log)); allowed = all; few = omega (arith, few); ends = refl }
+
+pub read_whole : (log : List (List ℕ)) → AllByRecursion (IsAllowed small_limits) log → length log ≤ 3
+    → ReadsWhole small_limits (record { left = Some (units_in Frames log); failed = false }) no_log log
+read_whole log all few = record {
+  reading = record {
+    stream = units_in Frames log;
+    consumes = sym (append-nil (units_in Frames log));
+    at_end = refl;
+    reading = frames_read log all few;
+  };
+  no_read_failed = refl;
+}
+
+pub all_allowed : AllByRecursion (IsAllowed small_limits) small_log
+all_allowed = (allowed 49, (allowed 50, (allowed 51, tt)))
 
 in_part : IsSetting small → AreTurns small anew first_turns → SealsInPart small_job lists_mark small_limits whole_log no_log [] small_octets
 in_part is turns = record {
   messages = small_log;
-  read = record {
-    reading = record {
-      stream = units_in Frames small_log;
-      consumes = sym (append-nil (units_in Frames small_log));
-      at_end = refl;
-      reading = record {
-        rest = [];
-        is = sym (append-nil (units_in Frames small_log));
-        allowed = (allowed 49, (allowed 50, (allowed 51, tt)));
-        few = omega arith;
-        ends = refl;
-      };
-    };
-    no_read_failed = refl;
-  };
+  read = read_whole small_log all_allowed (omega arith);
   fit = refl;
   stops = calls_asked is turns;
 }
@@ -185,7 +193,7 @@ number_twice pairs =
 gbc_twice : ¬ AllPairs ShareNoGbc (Signature first_block ∷ Signature (block_of 0 3 (message 51 ∷ [])) ∷ [])
 gbc_twice pairs = pairs 0 1 (Signature first_block) (omega arith) (omega arith) 0 refl refl
 
-run_asked : IsChainAhead small ahead_lives → AskedRun small_job lists_mark small_limits whole_log no_log nothing_written nothing_written [] (Some small_octets) out_of_memory
+pub run_asked : IsChainAhead small ahead_lives → AskedRun small_job lists_mark small_limits whole_log no_log nothing_written nothing_written [] (Some small_octets) out_of_memory
 run_asked chain = inr (in_part chain.setting chain.chained.0.2)
 
 pub small_run_is : IsChainAhead small ahead_lives → RunsSignOnce gives_mark lists_mark → SmallRunIsThis

@@ -69,14 +69,19 @@ GoOnPast (r ∷ before) = GoOnPast before × BeginsPast before r.start
 abbrev pub together : List (List Unsigned) → List Unsigned
 together blocks = flat_map (λ (own : List Unsigned). own) blocks
 
--- Each run of the chain has, in order, what is signed of some blocks asked for. Of the blocks of all runs, no two places
--- have a hash for one number of a group, or one GBC.
-abbrev pub RunsAheadSignOnce : {J : Type 0} → (J → Answers) → Asking J → Type 0
-RunsAheadSignOnce {J} answers asked = (list : J → List (List ℕ)) → Lists asked list
-    → (s : Setting) (runs : List (Ran s answers asked)) → GoOnPast runs
-    → (blocks : List (List Unsigned))
-    × AllZip
+-- Each run has, in order, what is signed of its blocks asked for. Of the blocks of all runs, no two places have a hash for
+-- one number of a group, or one GBC.
+abbrev pub AreAskedOnce : {J : Type 0} {s : Setting} {answers : J → Answers} {asked : Asking J} → (J → List (List ℕ))
+    → List (Ran s answers asked) → List (List Unsigned) → Type 0
+AreAskedOnce {s = s} {answers = answers} {asked = asked} list runs blocks =
+    AllZip
     (λ (r : Ran s answers asked) (own : List Unsigned). list r.last
     ≡ list r.first ++ map (unsigned_text s.config.head r.stamp) own)
     runs blocks
     × AllPairs ShareNoNumber (together blocks) × AllPairs ShareNoGbc (together blocks)
+
+-- of the runs of a chain, with some blocks for each
+abbrev pub RunsAheadSignOnce : {J : Type 0} → (J → Answers) → Asking J → Type 0
+RunsAheadSignOnce {J} answers asked = (list : J → List (List ℕ)) → Lists asked list
+    → (s : Setting) (runs : List (Ran s answers asked)) → GoOnPast runs
+    → (blocks : List (List Unsigned)) × AreAskedOnce list runs blocks
