@@ -19,3 +19,6 @@ pub mod NewestCounters
 pub mod PinnedAnswers
 pub mod PinnedListings
 pub mod SmallListing
+pub mod SmallLogs
+pub mod SmallHashes
+pub mod SmallUnforged

@@ -13,8 +13,6 @@ use Rattle.ss_block.specs.Block as block
 use Rattle.ss_block.specs.Hashes.{hash_of}
 use Rattle.ss_block.specs.Joining.{IsDisputed}
 use Rattle.ss_block.specs.Reading.{reading}
-use Rattle.ss_block.specs.Session.{session}
-use Rattle.ss_block.specs.Signed.{signed}
 use Rattle.ss_block.specs.Writing.{certificate_text}
 use Rattle.ss_block.specs.WritingLaws.{IsHash, SignaturesAreRead, CertificatesAreRead}
 use Rattle.ss_origin.specs.Chain.{emitted_by}
@@ -33,9 +31,8 @@ use Rattle.ss_review.specs.deliveries.DeliveryLaws.{IsCase, says, AcceptsSent, H
 use Rattle.ss_review.specs.deliveries.AheadDelivery.{CasesGoOnAhead}
 use Rattle.ss_review.specs.deliveries.SmallChains.{mark, small, message, certificate, begun, whole_turns, bare, PremisesAreMet}
 use Rattle.ss_review.specs.deliveries.SmallChains as chains
-use Rattle.ss_review.specs.keep.Contents.{said_in, block_with, block_in, blocks}
+use Rattle.ss_review.specs.keep.Contents.{said_in, block_in, blocks}
 use Rattle.ss_review.specs.keep.Notes.{Note, Block, note, notes}
-use Rattle.ss_review.specs.questions.Shortened.{hash_count}
 use Rattle.ss_review.specs.report.Meaning.{IsGap, IsTold}
 use Rattle.ss_review.specs.sessions.Payloads.{certificates}
 use Rattle.ss_review.specs.sessions.Sessions.{same_session, of_session}
@@ -43,7 +40,7 @@ use Rattle.ss_review.specs.sessions.Verified.{signature_of, joined}
 use Rattle.ss_octets.proofs.Members.{Has, has_from_contains, contains_from_has, has-filter}
 use Rattle.ss_review.proofs.of_deliveries.DigestOctets.{AreOctets, hash_is_hash}
 use Rattle.ss_review.proofs.of_deliveries.SmallChains.{is_setting}
-use Rattle.ss_review.proofs.of_deliveries.StoredBlocks.{noted_block, block_not_normal}
+use Rattle.ss_review.proofs.of_deliveries.StoredBlocks.{block_not_normal}
 use Rattle.ss_review.proofs.of_kept_messages.NotesTold.{block_read, has-block}
 use Rattle.ss_review.proofs.of_lists.Keyed.{has-slice_get, slice_get-has}
 use Rattle.ss_review.proofs.of_reports.Witnesses.{stored_block}
@@ -58,10 +55,11 @@ use Rattle.ss_strangers.specs.UnforgedLaws.{OnlyClaimantsJoin, ArrivedPayloadsCl
 use Rattle.ss_strangers.specs.Untrusted as untrusted
 use Rattle.ss_review.proofs.of_pinned.Claims.{joined_disputed}
 use Rattle.ss_review.proofs.of_pinned.KeptOfSessions.{is_session}
+use Rattle.ss_strangers.proofs.SmallLogs.{Says, stored_as, at, note_of}
 
 -- ---- texts
 
-octets_of : (n : ℕ) → n < 256 → AreOctets (n ∷ [])
+pub octets_of : (n : ℕ) → n < 256 → AreOctets (n ∷ [])
 octets_of n small_one zero = omega (arith, small_one)
 octets_of n small_one (suc i) = omega arith
 
@@ -72,7 +70,7 @@ ascii last small_one (suc (suc zero)) = omega (arith, small_one)
 ascii last small_one (suc (suc (suc i))) = omega arith
 
 -- a certificate block of the session with this last octet and signature
-abbrev stating : ℕ → ℕ → block.Certificate
+abbrev pub stating : ℕ → ℕ → block.Certificate
 stating last signature = record {
   alg = algs.Sha256;
   rsid = 1;
@@ -91,13 +89,6 @@ own_block = record (signature_in small.config 0 0 1 (hash_of algs.Sha256 (messag
 
 abbrev block_text : List ℕ
 block_text = chains.block 0 1 (message 49 ∷ [])
-
--- a text that says this for the session
-pub record Says (t : List ℕ) (said : BlockContent) : Type 0 where
-  pub octets : List ℕ
-  pub read : said_in (reading t) ≡ Some said
-  pub signed_is : signed t ≡ Some octets
-  pub session_is : session t ≡ Some (own_session small)
 
 module _ (signatures : SignaturesAreRead) (certificates_read : CertificatesAreRead) where
   stating_says : (last signature : ℕ) → last < 128 → signature < 256 → Says (stating_text last signature) (Fragment (stating last signature))
@@ -151,18 +142,10 @@ module _ (signatures : SignaturesAreRead) (certificates_read : CertificatesAreRe
   abbrev own : List BlockMessage
   own = of_session bs (own_session small)
 
-  at : (t : List ℕ) (said : BlockContent) (s : Says t said) (place : ℕ) → block_in place t ≡ Some (record { place = place; count = hash_count said; session = own_session small; said = said; signed = s.octets })
-  unfolding block_in
-  at t said s place = λ i. block_with place (s.read i) (s.session_is i) (s.signed_is i)
-
-  note_of : (t : List ℕ) (said : BlockContent) → Says t said → note t ≡ Block t
-  unfolding note
-  note_of t said s = noted_block t (reading t) said s.read
-
   stored : (t : List ℕ) (said : BlockContent) → Has attacked.log t → Says t said → (b : BlockMessage) × Has own b × (b.said ≡ said)
   stored t said h s =
       let w = slice_get-has attacked.log t h in
-      let b : BlockMessage = record { place = w.0; count = hash_count said; session = own_session small; said = said; signed = s.octets } in
+      let b : BlockMessage = stored_as t said s w.0 in
       let noted_so : slice_get (notes attacked.log) w.0 ≡ Some (Block t)
       = slice_get-map note attacked.log w.0 ∙ ap (λ (o : Option (List ℕ)). option_map note o) w.1 ∙ ap (λ (p : Note). Some p) (note_of t said s) in
       (b, has-filter (λ (d : BlockMessage). same_session d.session (own_session small)) bs b (has-block (notes attacked.log) w.0 t b noted_so (at t said s w.0)) (is_session (own_session small) (own_session small) refl), refl)

@@ -11,3 +11,4 @@ pub mod NewestCounters
 pub mod PinnedAnswers
 pub mod PinnedListings
 pub mod SmallListing
+pub mod SmallUnforged

@@ -1,11 +1,14 @@
 //! Small logs that a stranger attacks: the premises of laws are met.
 ghost use Rattle.ss_strangers.specs.SmallAttack.{SmallAttackIsThis};
 ghost use Rattle.ss_strangers.specs.SmallListing.{SmallListingIsThis};
+ghost use Rattle.ss_strangers.specs.SmallUnforged.{SmallUnforgedIsThis};
 
 use crate::laws::reports::pinned_reports_list_what_is_announced;
 use crate::laws::states::{logs_are_within, reports_agree};
 use crate::laws::strangers::{added_anywhere, strangers_take_nothing};
 use crate::laws::{unforged, untrusted};
+use ss_ahead::laws::lost_log_is_this;
+use ss_block::laws::readings::readings_are_of_values;
 use ss_block::laws::writing::{certificates_are_read, signatures_are_read};
 use ss_review::laws::ahead::cases_go_on_ahead;
 use ss_review::laws::cases::{premises_are_met, whole_is_reported};
@@ -44,4 +47,17 @@ pub fn small_listing_is_this()
     added_anywhere();
     strangers_take_nothing();
     pinned_reports_list_what_is_announced();
+}
+
+/// A small log of two originators meets all premises of the laws of `unforged` at once, and a stranger wrote into it. A
+/// message is listed, and a signature block of the originators stands behind it. The last message is lost, and is in a
+/// tail up to the counters with which the newest originator ended.
+pub fn small_unforged_is_this()
+    ensures { SmallUnforgedIsThis }
+{
+    readings_are_of_values();
+    signatures_are_read();
+    certificates_are_read();
+    premises_are_met();
+    lost_log_is_this();
 }
