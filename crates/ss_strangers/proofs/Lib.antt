@@ -22,3 +22,4 @@ pub mod SmallListing
 pub mod SmallLogs
 pub mod SmallHashes
 pub mod SmallUnforged
+pub mod SmallUntrusted

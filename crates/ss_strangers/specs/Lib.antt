@@ -12,3 +12,4 @@ pub mod PinnedAnswers
 pub mod PinnedListings
 pub mod SmallListing
 pub mod SmallUnforged
+pub mod SmallUntrusted

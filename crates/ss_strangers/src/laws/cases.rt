@@ -2,6 +2,7 @@
 ghost use Rattle.ss_strangers.specs.SmallAttack.{SmallAttackIsThis};
 ghost use Rattle.ss_strangers.specs.SmallListing.{SmallListingIsThis};
 ghost use Rattle.ss_strangers.specs.SmallUnforged.{SmallUnforgedIsThis};
+ghost use Rattle.ss_strangers.specs.SmallUntrusted.{SmallUntrustedIsThis};
 
 use crate::laws::reports::pinned_reports_list_what_is_announced;
 use crate::laws::states::{logs_are_within, reports_agree};
@@ -54,6 +55,18 @@ pub fn small_listing_is_this()
 /// tail up to the counters with which the newest originator ended.
 pub fn small_unforged_is_this()
     ensures { SmallUnforgedIsThis }
+{
+    readings_are_of_values();
+    signatures_are_read();
+    certificates_are_read();
+    premises_are_met();
+    lost_log_is_this();
+}
+
+/// The same log without the stranger's blocks meets all premises of the laws of `untrusted` at once. A message is listed,
+/// and the last one is in a tail.
+pub fn small_untrusted_is_this()
+    ensures { SmallUntrustedIsThis }
 {
     readings_are_of_values();
     signatures_are_read();
