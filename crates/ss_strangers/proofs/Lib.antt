@@ -23,3 +23,4 @@ pub mod SmallLogs
 pub mod SmallHashes
 pub mod SmallUnforged
 pub mod SmallUntrusted
+pub mod SmallForged

@@ -25,6 +25,10 @@ begins_50 : first_octet (of_message 50) ≡ 240
 unfolding pair text digits sha256 hash_after compress rounds first_words schedule digest_bytes
 begins_50 = refl
 
+begins_51 : first_octet (of_message 51) ≡ 145
+unfolding pair text digits sha256 hash_after compress rounds first_words schedule digest_bytes
+begins_51 = refl
+
 begins_52 : first_octet (of_message 52) ≡ 143
 unfolding pair text digits sha256 hash_after compress rounds first_words schedule digest_bytes
 begins_52 = refl
@@ -47,3 +51,9 @@ apart_57_49 = apart (of_message 57) (of_message 49) 220 241 begins_57 begins_49 
 
 pub apart_57_52 : of_message 57 ≡ of_message 52 → ⊥
 apart_57_52 = apart (of_message 57) (of_message 52) 220 143 begins_57 begins_52 (λ e. omega (arith, e))
+
+pub apart_57_50 : of_message 57 ≡ of_message 50 → ⊥
+apart_57_50 = apart (of_message 57) (of_message 50) 220 240 begins_57 begins_50 (λ e. omega (arith, e))
+
+pub apart_57_51 : of_message 57 ≡ of_message 51 → ⊥
+apart_57_51 = apart (of_message 57) (of_message 51) 220 145 begins_57 begins_51 (λ e. omega (arith, e))

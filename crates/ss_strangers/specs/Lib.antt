@@ -13,3 +13,4 @@ pub mod PinnedListings
 pub mod SmallListing
 pub mod SmallUnforged
 pub mod SmallUntrusted
+pub mod SmallForged

@@ -1,5 +1,6 @@
 //! Small logs that a stranger attacks: the premises of laws are met.
 ghost use Rattle.ss_strangers.specs.SmallAttack.{SmallAttackIsThis};
+ghost use Rattle.ss_strangers.specs.SmallForged.{SmallForgedIsThis};
 ghost use Rattle.ss_strangers.specs.SmallListing.{SmallListingIsThis};
 ghost use Rattle.ss_strangers.specs.SmallUnforged.{SmallUnforgedIsThis};
 ghost use Rattle.ss_strangers.specs.SmallUntrusted.{SmallUntrustedIsThis};
@@ -73,4 +74,15 @@ pub fn small_untrusted_is_this()
     certificates_are_read();
     premises_are_met();
     lost_log_is_this();
+}
+
+/// Without each premise of `IsUnforged` a message is listed that the originators weren't given under its number. Somebody
+/// who has their key announces it, or a stranger who has the key of another payload that is given.
+pub fn small_forged_is_this()
+    ensures { SmallForgedIsThis }
+{
+    readings_are_of_values();
+    signatures_are_read();
+    certificates_are_read();
+    premises_are_met();
 }
