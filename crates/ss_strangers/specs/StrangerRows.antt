@@ -14,6 +14,7 @@ use Rattle.ss_review.specs.declared.report.report.Report.{Report}
 use Rattle.ss_review.specs.declared.report.session_report.SessionReport.{SessionReport}
 use Rattle.ss_review.specs.declared.report.session_report.SessionState.{SessionState}
 use Rattle.ss_review.specs.declared.report.session_report.SessionState.TheVariants as states
+use Rattle.ss_review.specs.announced.Announced.{Key}
 use Rattle.ss_review.specs.keep.Contents.{Contents}
 use Rattle.ss_review.specs.report.Report.{report_of}
 use Rattle.ss_review.specs.report.Rows.{first, second, third, message, sent_by, certificate, hashes_of, group_told, whole_log, whole_report}
@@ -21,8 +22,9 @@ use Rattle.ss_review.specs.sessions.Sessions.{of_session}
 use Rattle.ss_review.specs.sessions.Verified.{Answers}
 use Rattle.ss_review.specs.pinned.Pinned.{claims, pinned_report}
 use Rattle.ss_strangers.specs.StateLaws.{pinned_joined, IsUndisputedOrUnclaimed}
-use Rattle.ss_review.specs.pinned.Claimants.{IsOnlyClaimant, AreClaimants}
-use Rattle.ss_strangers.specs.Strangers.{IsAddedTo, JoinedAreClaimed}
+use Rattle.ss_review.specs.pinned.Claimants.{AreWithin, IsUnclaimed, IsOnlyClaimant, AreClaimants}
+use Rattle.ss_review.specs.report.Meaning.{IsListed, IsGap}
+use Rattle.ss_strangers.specs.Strangers.{IsAddedTo, JoinedAreClaimed, HasMoreOf}
 
 -- ---- what the logs are made of
 
@@ -96,6 +98,29 @@ strangers_report = record {
   spoilt = [];
   count = 9;
 }
+
+-- ---- a log to which a stranger adds the missing message
+
+-- the message number 2 is missing
+abbrev pub robbed_log : Contents
+robbed_log = record {
+  normal = message 0 first ∷ [];
+  blocks = stated 1 here payload ∷ two_announced 2 ∷ [];
+  spoilt = [];
+  count = 3;
+}
+
+abbrev pub robbed_report : Report
+robbed_report = record {
+  sessions = told_of here states.Joined (entry.Listed 1 0 ∷ entry.Gap 2 whys.Lost ∷ []) ∷ [];
+  unlisted = [];
+  refused = [];
+  spoilt = [];
+  count = 3;
+}
+
+abbrev pub second_number : Key
+second_number = record { session = here; group = record { sg = 0; spri = 0 }; number = 2 }
 
 -- ---- what goes wrong without the premises
 
@@ -179,16 +204,29 @@ disputed_session_report = record {
 -- the premises are met
 pub record PremisesAreMet : Type 0 where
   pub only_claimant : IsOnlyClaimant wary (payload ∷ []) (of_session strangers_log.blocks here) payload
+  pub only_before : IsOnlyClaimant wary (payload ∷ []) (of_session whole_log.blocks here) payload
+  pub two_within : AreWithin two_claimants_blocks
   pub claimants : AreClaimants wary (payload ∷ other_payload ∷ []) (of_session two_claimants_blocks here) payload other_payload
+  pub unclaimed_within : AreWithin two_sessions_log.blocks
+  pub unclaimed : IsUnclaimed wary (payload ∷ []) (of_session two_sessions_log.blocks elsewhere)
   pub undisputed : (s : Session) → IsUndisputedOrUnclaimed wary (payload ∷ []) whole_log.blocks s
   pub added : IsAddedTo wary (payload ∷ []) whole_log strangers_log
   pub claimed : JoinedAreClaimed wary (payload ∷ []) whole_log.blocks
+  -- the message number 2 is missing from the robbed log, and strangers added it
+  pub added_again : IsAddedTo wary (payload ∷ []) robbed_log strangers_log
+  pub claimed_again : JoinedAreClaimed wary (payload ∷ []) robbed_log.blocks
+  pub missing : IsGap (pinned_report wary (payload ∷ []) robbed_log) second_number whys.Lost
+  pub listed_again : IsListed (pinned_report wary (payload ∷ []) strangers_log) second_number 4
 
 pub record StrangersAreThese : Type 0 where
   pub premises : PremisesAreMet
   -- a stranger disputes a session, and a given payload ends this
   pub disputed : report_of wary strangers_log ≡ disputed_report
   pub ended : pinned_report wary (payload ∷ []) strangers_log ≡ strangers_report
+  pub joined_under : pinned_joined wary (payload ∷ []) strangers_log.blocks here ≡ Ok payload
+  -- a missing message is listed after strangers added it
+  pub robbed : pinned_report wary (payload ∷ []) robbed_log ≡ robbed_report
+  pub given_back : HasMoreOf robbed_log strangers_log 4
   -- without strangers' blocks nothing changes
   pub same : pinned_report wary (payload ∷ []) whole_log ≡ whole_report
   -- two claimants dispute a session, and one joins it if it is given alone
