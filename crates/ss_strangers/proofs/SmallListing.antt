@@ -164,6 +164,8 @@ module _ (laws : Laws) where
   pub small_listing : SmallListingIsThis
   small_listing = record {
     added = added;
+    added_to = added_to;
+    claimant_before = claimant;
     claimant = laws.claim attacked_whole given laws.met.whole_is_case.chain arrived accepts_attacked refl (contains_from_has given own_payload (inl refl));
     listed = listed;
     witnessed = (listed.0, (laws.lists accepting given attacked_whole.log).1.witnessed (own_number whole 0 1) listed.0 listed.1);
