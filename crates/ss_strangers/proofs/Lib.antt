@@ -24,3 +24,4 @@ pub mod SmallHashes
 pub mod SmallUnforged
 pub mod SmallUntrusted
 pub mod SmallForged
+pub mod SmallAnswers

@@ -14,3 +14,4 @@ pub mod SmallListing
 pub mod SmallUnforged
 pub mod SmallUntrusted
 pub mod SmallForged
+pub mod SmallAnswers

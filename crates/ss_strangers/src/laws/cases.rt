@@ -1,11 +1,14 @@
 //! Small logs that a stranger attacks: the premises of laws are met.
+ghost use Rattle.ss_strangers.specs.SmallAnswers.{SmallAnswersAreThese};
 ghost use Rattle.ss_strangers.specs.SmallAttack.{SmallAttackIsThis};
 ghost use Rattle.ss_strangers.specs.SmallForged.{SmallForgedIsThis};
 ghost use Rattle.ss_strangers.specs.SmallListing.{SmallListingIsThis};
 ghost use Rattle.ss_strangers.specs.SmallUnforged.{SmallUnforgedIsThis};
 ghost use Rattle.ss_strangers.specs.SmallUntrusted.{SmallUntrustedIsThis};
 
-use crate::laws::reports::pinned_reports_list_what_is_announced;
+use crate::laws::reports::{
+    agreeing_schemes_give_one_pinned_report, pinned_reports_list_what_is_announced,
+};
 use crate::laws::states::{logs_are_within, reports_agree};
 use crate::laws::strangers::{added_anywhere, strangers_take_nothing};
 use crate::laws::{unforged, untrusted};
@@ -85,4 +88,16 @@ pub fn small_forged_is_this()
     signatures_are_read();
     certificates_are_read();
     premises_are_met();
+}
+
+/// Two schemes that differ answer alike all that is asked about the small log into which a stranger wrote. So both give
+/// it the report that lists its message.
+pub fn small_answers_are_these()
+    ensures { SmallAnswersAreThese }
+{
+    readings_are_of_values();
+    signatures_are_read();
+    certificates_are_read();
+    agreeing_schemes_give_one_pinned_report();
+    small_unforged_is_this();
 }
