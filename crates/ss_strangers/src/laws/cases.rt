@@ -55,8 +55,8 @@ pub fn small_listing_is_this()
 }
 
 /// A small log of two originators meets all premises of the laws of `unforged` at once, and a stranger wrote into it. A
-/// message is listed, and a signature block of the originators stands behind it. The last message is lost, and is in a
-/// tail up to the counters with which the newest originator ended.
+/// message is listed, which a signature block of the originators announces. The last message is lost, and is in a tail
+/// up to the counters with which the newest originator ended.
 pub fn small_unforged_is_this()
     ensures { SmallUnforgedIsThis }
 {
