@@ -1,3 +1,4 @@
+pub mod CutPieces
 pub mod Filled
 pub mod HashTexts
 pub mod Meanings

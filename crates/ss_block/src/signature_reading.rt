@@ -75,10 +75,11 @@ fn hashes(
 {
     let text = text_of(alloc, source, element, BlockParameter::Hb)?;
     let text = text.as_slice();
-    if count_pieces(text) as u64 != count {
+    let pieces = count_pieces(text);
+    if pieces as u64 != count {
         return Err(Refusal::Spoilt(Spoil::HashCount));
     }
-    Ok(hashes_of(alloc, alg, text)?.ok_or(Spoil::Hash)?)
+    Ok(hashes_of(alloc, alg, text, pieces)?.ok_or(Spoil::Hash)?)
 }
 
 /// The signature block of an element that has the parameters of `ssign`, or the first cause why it holds none.

@@ -1,6 +1,9 @@
-use Rattle.std.proofs.Common.{◌≡◌, ◌==◌, ◌+◌, take}
-use Rattle.std.specs.List.{count_by}
+use Rattle.std.proofs.Common.{◌≡◌, ◌≤◌, ◌+◌, length}
+use Rattle.ss_block.specs.Reading.{pieces}
 use Rattle.ss_block.proofs.hash_text.count_pieces.Given as goal
 
-abbrev pub invariant-loop-octet : goal.invariant-loop-octet
-invariant-loop-octet l = l.count ≡ count_by (λ b. b == 32) (take l.octet-index l.text) + 1
+abbrev pub invariant-loop-after : goal.invariant-loop-after
+invariant-loop-after l = (l.count + length (pieces l.rest) ≡ length (pieces l.text) + 1) × (l.count + length l.rest ≤ length l.text + 1)
+
+abbrev pub decreases-loop-after : goal.decreases-loop-after
+decreases-loop-after l = length l.rest
