@@ -1,4 +1,3 @@
-pub mod CutPieces
 pub mod Filled
 pub mod HashTexts
 pub mod Meanings

@@ -1,5 +1,5 @@
 //! The hashes of a signature block, as HB spells them (RFC 5848, section 4.2.7).
-ghost use Rattle.std.specs.Prelude.{◌≡◌, ◌≤◌, ◌<◌, List, [], ◌∷◌, ℕ, length, Some, None, IfOk, IfSome, IsTrue, MatchOption, is_some, if◌then◌else◌};
+ghost use Rattle.std.specs.Prelude.{◌≡◌, ◌≤◌, List, ℕ, length, Some, None, IfOk, IsTrue, is_some, if◌then◌else◌};
 ghost use Rattle.std.specs.List.{list_all};
 ghost use Rattle.ss_octets.specs.StrictBase64.{octets_in};
 ghost use Rattle.ss_block.specs.Reading.{hash_in, hashes_in, pieces};
@@ -8,8 +8,7 @@ use crate::hash::{Alg, Hash};
 use crate::hashes::Hashes;
 use crate::version::{SHA1_OCTETS, SHA256_OCTETS};
 use base64::engine::general_purpose::STANDARD;
-use memchr::memchr;
-use ss_octets::NoMemory;
+use ss_octets::{NoMemory, cut_first};
 use std::alloc::Global;
 
 /// Whether `text` spells as many octets as `octets` has room for, which then holds them.
@@ -45,25 +44,13 @@ fn hash_in(alg: Alg, text: &[u8]) -> Option<Hash>
     None
 }
 
-/// The first piece of HB, and what stands after its SP; `None` where no SP is left, so that all is one piece.
-fn cut_piece(text: &[u8]) -> Option<(&[u8], &[u8])>
-    ensures pieces { MatchOption result (pieces text.now ≡ text.now ∷ [])
-        (λ x. pieces text.now ≡ x.0.now ∷ pieces x.1.now) }
-    ensures shorter { IfSome result (λ x. length x.1.now < length text.now) }
-{
-    let Some(place) = memchr(b' ', text) else {
-        return None;
-    };
-    Some((&text[..place], &text[place + 1..]))
-}
-
 /// How many pieces HB is cut into: one more than it has SPs.
 pub fn count_pieces(text: &[u8]) -> usize
     ensures { result ≡ length (pieces text.now) }
 {
     let mut count = 1;
     let mut rest = text;
-    while let Some((_, after)) = cut_piece(rest) {
+    while let Some((_, after)) = cut_first(rest, b' ') {
         count += 1;
         rest = after;
     }
@@ -85,7 +72,7 @@ pub fn hashes_of(
 {
     let mut hashes = Vec::with_capacity(alloc, count)?;
     let mut rest = text;
-    while let Some((piece, after)) = cut_piece(rest) {
+    while let Some((piece, after)) = cut_first(rest, b' ') {
         let Some(hash) = hash_in(alg, piece) else {
             return Ok(None);
         };
