@@ -2,7 +2,7 @@
 use Rattle.std.proofs.Common.{◌≡◌, ℕ, Bool, true, false, ◌&&◌, cond, List, [], ◌∷◌, ◌++◌, length, ◌==◌, Option, Some, None, refl, sym, ap, ◌∙◌, append_assoc, arith, length-append}
 use Rattle.std.specs.Prelude.{flat_map, is_some, if◌then◌else◌}
 use Rattle.std.specs.List.{list_all}
-use Rattle.std.proofs.lemmas.Bool.{and_parts, and_from}
+use Rattle.std.proofs.lemmas.Bool.{and_parts, and_from, eqb-true}
 use Rattle.std.proofs.lemmas.List.{append-nil}
 use Rattle.std.proofs.lemmas.List.Folds.{list_all-append}
 use Rattle.ss_block.specs.declared.hash.Alg.{Alg}
@@ -11,7 +11,8 @@ use Rattle.ss_block.specs.declared.hash.Hash.{Hash}
 use Rattle.ss_block.specs.declared.hash.Hash.TheVariants as hashes
 use Rattle.ss_block.specs.Block.{is_of}
 use Rattle.ss_octets.specs.StrictBase64.{octets_in}
-use Rattle.ss_block.specs.Reading.{hash_list, hash_in, hash_from, hash_decoded, hashes_in}
+use Rattle.ss_block.specs.Reading.{hash_list, hash_in, hash_from, hash_decoded, hash_with, hashes_in}
+use Rattle.ss_block.specs.Versions.{hash_length}
 
 -- the hashes of the texts that have one, and whether all have
 abbrev pub hashes_by : (List ℕ → Option Hash) → List (List ℕ) → List Hash
@@ -90,3 +91,14 @@ all_of alg [] = refl
 all_of alg (text ∷ texts) =
     list_all-append (is_of alg) (hash_list (hash_in alg text)) (hashes_in alg texts)
     ∙ and_from _ _ (one_fits alg (octets_in text)) (all_of alg texts)
+
+-- ---- a text that spells none
+
+-- where octets of the algorithm's length aren't spelled, no hash is
+pub spells_none : (alg : Alg) (octets : Option (List ℕ)) → ((b : List ℕ) → length b ≡ hash_length alg → octets ≡ Some b → ⊥) → None ≡ hash_decoded alg octets
+spells_none alg None h = refl
+spells_none alg (Some b) h = by_length (length b == hash_length alg) refl
+  where
+    by_length : (t : Bool) → (length b == hash_length alg) ≡ t → None ≡ cond t (Some (hash_with alg b)) None
+    by_length true e = absurd (h b (eqb-true (length b) (hash_length alg) e) refl)
+    by_length false e = refl

@@ -3,6 +3,7 @@ pub mod Block
 pub mod Versions
 pub mod Parameters
 pub mod Hashes
+pub mod Engines
 pub mod Reading
 pub mod Mark
 pub mod Signed
