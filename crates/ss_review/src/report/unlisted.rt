@@ -2,6 +2,7 @@
 ghost use Rattle.std.specs.Prelude.{◌≡◌, ◌==◌, ℕ, not, List, map, filter, IfOk};
 ghost use Rattle.std.specs.List.{list_any, filter_map};
 ghost use Rattle.std.specs.List.Sorted.{IsNonDecreasing};
+ghost use Rattle.std.specs.Result.{is_ok};
 ghost use Rattle.ss_review.specs.declared.keep.message.NormalMessage.{NormalMessage};
 ghost use Rattle.ss_review.specs.announced.Announced.{Row, keys};
 ghost use Rattle.ss_review.specs.assign.Assigned.{is_place, assigned};
@@ -29,12 +30,16 @@ fn taken(alloc: Global, places: &[Option<u32>]) -> Result<Vec<u32>, NoMemory>
     Ok(taken)
 }
 
-/// Whether the place is one of these, which rise.
-fn is_among(place: u32, places: &[u32]) -> bool
+/// Where the place stands among these, which rise, or else where it would. The index `next` is tried first: places that
+/// are looked for in their order mostly stand one after the other.
+fn search(places: &[u32], next: usize, place: u32) -> Result<usize, usize>
     requires { IsNonDecreasing places.now }
-    ensures { result ≡ list_any (λ p. p == place) places.now }
+    ensures { is_ok result ≡ list_any (λ p. p == place) places.now }
 {
-    places.binary_search(&place).is_ok()
+    if next < places.len() && places[next] == place {
+        return Ok(next);
+    }
+    places.binary_search(&place)
 }
 
 /// Those of the places that aren't among others, which rise.
@@ -42,13 +47,18 @@ fn outside(alloc: Global, places: &[u32], others: &[u32]) -> Result<Vec<u32>, No
     requires { IsNonDecreasing others.now }
     ensures { IfOk result (λ v. v.items ≡ filter (λ place. not (list_any (λ p. p == place) others.now)) places.now) }
 {
-    Ok(
-        places
-            .iter()
-            .copied()
-            .filter(|place| !is_among(*place, others))
-            .collect(alloc)?,
-    )
+    let mut outside = Vec::new(alloc);
+    let mut next: usize = 0;
+    for place in places {
+        match search(others, next, *place) {
+            Ok(index) => next = index.saturating_add(1),
+            Err(index) => {
+                next = index;
+                outside.push(*place)?;
+            }
+        }
+    }
+    Ok(outside)
 }
 
 /// The places of `all` that no announced key is assigned. `places` has the place that each key is assigned, if any.
