@@ -22,7 +22,7 @@ pub(crate) struct Announced<'a> {
 fn same_number(row: &AnnouncedHash<'_>, other: &AnnouncedHash<'_>) -> bool
     ensures { result ≡ same_key (row_of row.now).key (row_of other.now).key }
 {
-    row.number.cmp(&other.number).is_eq()
+    row.number == other.number
 }
 
 /// Whether the row is of the number of this one, if there is one.
