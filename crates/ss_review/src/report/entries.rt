@@ -24,11 +24,12 @@ fn add_entry(entries: &mut Vec<Entry>, last: u64, number: &NumberEntry<'_>) -> R
     Ok(())
 }
 
-/// The entries of the numbers of a group, each after the hole between the number before it and its own.
+/// The entries of the numbers of a group, each after the hole between the number before it and its own. There is at least
+/// one for each number, so room for these is taken at once.
 pub(crate) fn entries(alloc: Global, numbers: &[NumberEntry<'_>]) -> Result<Entries, NoMemory>
     ensures { IfOk result (λ e. e ≡ entries_after 0 (map with_entry numbers.now)) }
 {
-    let mut entries = Vec::new(alloc);
+    let mut entries = Vec::with_capacity(alloc, numbers.len())?;
     let mut last = 0;
     for number in numbers {
         add_entry(&mut entries, last, number)?;
