@@ -2,6 +2,7 @@ pub mod BearersWanted
 pub mod Bearings
 pub mod StoredRuns
 pub mod NeededHashes
+pub mod HashStarts
 pub mod ListedHashes
 pub mod AssignedPlaces
 pub mod Wanting

@@ -3,6 +3,7 @@ pub(crate) mod bearers;
 pub(crate) mod counters;
 pub(crate) mod hash_entry;
 pub(crate) mod hash_list;
+pub(crate) mod hash_start;
 pub(crate) mod index;
 pub(crate) mod places;
 pub(crate) mod search;

@@ -16,14 +16,15 @@ use Rattle.std.proofs.lemmas.List.Sorted.{Contains-permutation, IsPermutation-sy
 use Rattle.ss_block.specs.declared.hash.Alg.{Alg}
 use Rattle.ss_block.specs.declared.hash.Alg.TheVariants as algs
 use Rattle.ss_block.specs.declared.hash.Hash.{Hash}
+use Rattle.ss_block.specs.declared.hash.Hash.TheVariants as hashes
 use Rattle.ss_block.specs.declared.hash.HashPair.{HashPair}
-use Rattle.ss_block.specs.Order.{octets_cmp}
+use Rattle.ss_block.specs.Order.{octets_cmp, hash_cmp}
 use Rattle.ss_review.specs.declared.assign.hash_entry.HashEntry.{HashEntry}
 use Rattle.ss_review.specs.declared.assign.stored_hash.StoredHash.{StoredHash}
 use Rattle.ss_review.specs.declared.keep.message.NormalMessage.{NormalMessage}
 use Rattle.ss_review.specs.declared.keep.stored_message.StoredMessage.{StoredMessage}
 use Rattle.ss_review.specs.keep.Stored.{no_pair, message_in, Tells}
-use Rattle.ss_review.specs.assign.StoredHashes.{first_octets, start_of, BeginsAsItsHash, alg_place, start_cmp, entry_cmp, stored_hash, hash_of, listed, entry_of, is_by, needed_hashes, needed_entries, no_hashes, stored_cmp}
+use Rattle.ss_review.specs.assign.StoredHashes.{first_octets, start_by, start_of, BeginsAsItsHash, alg_place, start_cmp, entry_cmp, stored_hash, hash_of, listed, entry_of, is_by, needed_hashes, needed_entries, no_hashes, stored_cmp}
 use Rattle.ss_review.proofs.of_lists.Keyed.{less}
 use Rattle.ss_review.proofs.of_assignment.NeededHashes.{stored_cmp_exact}
 use Rattle.ss_review.proofs.of_lists.Rising.{all_below}
@@ -123,6 +124,13 @@ first_then Less c p e n = e
 first_then Equal c p e n = absurd (n (sym e))
 first_then Greater c p e n = e
 
+-- where what two hashes begin with differs, it tells
+pub hash_start_tells : (g h : Hash) (c : Ordering) → start_cmp (start_of g) (start_of h) ≡ c → c ≢ Equal → hash_cmp g h ≡ c
+hash_start_tells (hashes.Sha1 a) (hashes.Sha1 b) c e n = first_tell a b c e n
+hash_start_tells (hashes.Sha1 a) (hashes.Sha256 b) c e n = e
+hash_start_tells (hashes.Sha256 a) (hashes.Sha1 b) c e n = e
+hash_start_tells (hashes.Sha256 a) (hashes.Sha256 b) c e n = first_tell a b c e n
+
 -- ---- entries in order
 
 module _ (pairs : List HashPair) where
@@ -133,21 +141,22 @@ module _ (pairs : List HashPair) where
   abbrev pub by_hash : HashEntry → HashEntry → Ordering
   by_hash a b = stored_cmp (hash_of pairs a) (hash_of pairs b)
 
-  start_tells : (a b : HashEntry) → BeginsAsItsHash pairs a → BeginsAsItsHash pairs b → (c : Ordering) → start_cmp a b ≡ c → c ≢ Equal → by_hash a b ≡ c
-  start_tells a b s t c e n = by a.alg b.alg (sym (λ i. ordering_then (nat_cmp (alg_place a.alg) (alg_place b.alg)) (octets_cmp (s i) (t i))) ∙ e)
+  as_begun : (e : HashEntry) → BeginsAsItsHash pairs e → e.start ≡ start_of (hash_of pairs e).hash
+  as_begun e begins = begins ∙ by e.start.alg
     where
-      by : (f g : Alg)
-          → ordering_then (nat_cmp (alg_place f) (alg_place g)) (octets_cmp (start_of f (get_or pairs a.pair no_hashes)) (start_of g (get_or pairs b.pair no_hashes))) ≡ c
-          → stored_cmp (stored_hash f (record { place = a.place; pair = get_or pairs a.pair no_hashes })) (stored_hash g (record { place = b.place; pair = get_or pairs b.pair no_hashes })) ≡ c
-      by algs.Sha1 algs.Sha1 u = first_then _ c _ (first_tell (get_or pairs a.pair no_hashes).sha1 (get_or pairs b.pair no_hashes).sha1 c u n) n
-      by algs.Sha1 algs.Sha256 u = u
-      by algs.Sha256 algs.Sha1 u = u
-      by algs.Sha256 algs.Sha256 u = first_then _ c _ (first_tell (get_or pairs a.pair no_hashes).sha256 (get_or pairs b.pair no_hashes).sha256 c u n) n
+      by : (a : Alg) → start_by a (get_or pairs e.pair no_hashes) ≡ start_of (stored_hash a (record { place = e.place; pair = get_or pairs e.pair no_hashes })).hash
+      by algs.Sha1 = refl
+      by algs.Sha256 = refl
+
+  start_tells : (a b : HashEntry) → BeginsAsItsHash pairs a → BeginsAsItsHash pairs b → (c : Ordering) → start_cmp a.start b.start ≡ c → c ≢ Equal → by_hash a b ≡ c
+  start_tells a b s t c e n =
+      first_then (hash_cmp (hash_of pairs a).hash (hash_of pairs b).hash) c _
+      (hash_start_tells (hash_of pairs a).hash (hash_of pairs b).hash c (sym (λ i. start_cmp (as_begun a s i) (as_begun b t i)) ∙ e) n) n
 
   as_hashes : (a b : HashEntry) → BeginsAsItsHash pairs a → BeginsAsItsHash pairs b → entry_cmp pairs a b ≡ by_hash a b
-  as_hashes a b s t = by (start_cmp a b) refl
+  as_hashes a b s t = by (start_cmp a.start b.start) refl
     where
-      by : (c : Ordering) → start_cmp a b ≡ c → ordering_then c (by_hash a b) ≡ by_hash a b
+      by : (c : Ordering) → start_cmp a.start b.start ≡ c → ordering_then c (by_hash a b) ≡ by_hash a b
       by Less e = sym (start_tells a b s t Less e (λ z. cc))
       by Equal e = refl
       by Greater e = sym (start_tells a b s t Greater e (λ z. cc))
@@ -163,7 +172,7 @@ module _ (pairs : List HashPair) where
   pub entry_cmp_total : IsTotalOrder (entry_cmp pairs)
   entry_cmp_total =
       then_total
-      (then_total (on_total (λ (e : HashEntry). alg_place e.alg) nat_cmp_total) (on_total (λ (e : HashEntry). e.start) nat_list_cmp_total))
+      (then_total (on_total (λ (e : HashEntry). alg_place e.start.alg) nat_cmp_total) (on_total (λ (e : HashEntry). e.start.octets) nat_list_cmp_total))
       (on_total (hash_of pairs) stored_cmp_total)
 
   module _ (old sorted : List HashEntry) (moved : IsPermutation old sorted) (up : IsSorted (entry_cmp pairs) sorted) where
@@ -181,7 +190,7 @@ module _ (pairs : List HashPair) where
     left_keep e here =
         let w = from_has-map (hash_of pairs) old e (has_from_contains (listed pairs old) e here) in
         let k = Any-dedup (eq_by_cmp_equiv entry_cmp_total) sorted w.0 (Contains-permutation old sorted w.0 moved (contains_from_has old w.0 w.1)) in
-        let tie = both_tie (start_cmp w.0 k.1) (by_hash w.0 k.1) ((Equal-is (entry_cmp pairs w.0 k.1)).0 k.4) in
+        let tie = both_tie (start_cmp w.0.start k.1.start) (by_hash w.0 k.1) ((Equal-is (entry_cmp pairs w.0 k.1)).0 k.4) in
         let same = stored_cmp_exact (hash_of pairs w.0) (hash_of pairs k.1) tie.1 in
         contains_from_has (listed pairs left) e
         (subst (Has (listed pairs left)) (sym same ∙ w.2) (has-map (hash_of pairs) left k.1 (has_from_contains left k.1 (k.0, k.2, k.3))))

@@ -1,7 +1,9 @@
 -- The hashes of stored messages in order, so that the bearers of announced hashes are found in one pass.
-use Rattle.std.specs.Prelude.{◌≡◌, ◌≢◌, ◌⊎◌, ℕ, ◌≤◌, Bool, true, false, List, [], ◌∷◌, map, take, Contains, slice_get}
+use Rattle.std.specs.Prelude.{◌≡◌, ◌≢◌, ◌⊎◌, ℕ, ◌<◌, ◌≤◌, Bool, true, false, List, [], ◌∷◌, length, map, take, Contains}
+use Rattle.std.specs.Prelude.{slice_get}
 use Rattle.std.specs.Prelude.{slice_index, slice_index_or, replicate, get_or, count_by, nat_lt, Option, Some, None}
 use Rattle.std.specs.Prelude.{if◌then◌else◌}
+use Rattle.std.specs.Int.{w32, from_be_bytes}
 use Rattle.std.specs.List.{list_any}
 use Rattle.std.specs.List.Sorted.{IsStrictlySortedBy}
 use Rattle.std.specs.declared.cmp.Ordering.{Ordering}
@@ -16,6 +18,7 @@ use Rattle.ss_block.specs.Order.{octets_cmp, hash_cmp}
 use Rattle.ss_review.specs.declared.keep.message.NormalMessage.{NormalMessage}
 use Rattle.ss_review.specs.declared.assign.hash_entry.HashEntry.{HashEntry}
 use Rattle.ss_review.specs.declared.assign.hash_list.HashList.{HashList}
+use Rattle.ss_review.specs.declared.assign.hash_start.HashStart.{HashStart}
 use Rattle.ss_review.specs.declared.assign.stored_hash.StoredHash.{StoredHash}
 use Rattle.ss_review.specs.declared.keep.stored_message.StoredMessage.{StoredMessage}
 use Rattle.ss_review.specs.declared.assign.wanted_hash.WantedHash.{WantedHash}
@@ -38,7 +41,7 @@ no_hashes = record { sha1 = replicate 20 0; sha256 = replicate 32 0 }
 
 -- the hash that an entry stands for, among these pairs of hashes
 abbrev pub hash_of : List HashPair → HashEntry → StoredHash
-hash_of pairs e = stored_hash e.alg (record { place = e.place; pair = slice_index_or pairs e.pair no_hashes })
+hash_of pairs e = stored_hash e.start.alg (record { place = e.place; pair = slice_index_or pairs e.pair no_hashes })
 
 abbrev pub listed : List HashPair → List HashEntry → List StoredHash
 listed pairs entries = map (hash_of pairs) entries
@@ -50,26 +53,43 @@ hashes_in list = listed list.pairs.now list.entries.now
 abbrev pub first_octets : List ℕ → List ℕ
 first_octets octets = slice_index octets 0 ∷ slice_index octets 1 ∷ slice_index octets 2 ∷ []
 
-abbrev pub start_of : Alg → HashPair → List ℕ
-start_of algs.Sha1 p = first_octets p.sha1
-start_of algs.Sha256 p = first_octets p.sha256
+abbrev pub first_octets_by : Alg → HashPair → List ℕ
+first_octets_by algs.Sha1 p = first_octets p.sha1
+first_octets_by algs.Sha256 p = first_octets p.sha256
+
+-- what the hash by an algorithm begins with
+abbrev pub start_by : Alg → HashPair → HashStart
+start_by a p = record { alg = a; octets = first_octets_by a p }
+
+-- what a hash begins with
+abbrev pub start_of : Hash → HashStart
+start_of (hashes.Sha1 octets) = record { alg = algs.Sha1; octets = first_octets octets }
+start_of (hashes.Sha256 octets) = record { alg = algs.Sha256; octets = first_octets octets }
 
 -- the entry of a message that is stored so, by an algorithm
 abbrev pub entry_of : List HashPair → Alg → StoredMessage → HashEntry
 entry_of pairs a s =
-    record { pair = s.pair; place = s.place; start = start_of a (slice_index_or pairs s.pair no_hashes); alg = a }
+    record { pair = s.pair; place = s.place; start = start_by a (slice_index_or pairs s.pair no_hashes) }
 
 -- the entry begins as the hash that it stands for
 abbrev pub BeginsAsItsHash : List HashPair → HashEntry → Type 0
-BeginsAsItsHash pairs e = e.start ≡ start_of e.alg (slice_index_or pairs e.pair no_hashes)
+BeginsAsItsHash pairs e = e.start ≡ start_by e.start.alg (slice_index_or pairs e.pair no_hashes)
 
 abbrev pub alg_place : Alg → ℕ
 alg_place algs.Sha1 = 0
 alg_place algs.Sha256 = 1
 
 -- by the algorithms, then the first octets
-abbrev pub start_cmp : HashEntry → HashEntry → Ordering
-start_cmp a b = ordering_then (nat_cmp (alg_place a.alg) (alg_place b.alg)) (octets_cmp a.start b.start)
+abbrev pub start_cmp : HashStart → HashStart → Ordering
+start_cmp a b = ordering_then (nat_cmp (alg_place a.alg) (alg_place b.alg)) (octets_cmp a.octets b.octets)
+
+-- The number has the place of the algorithm and the first octets as its four octets, the greatest first.
+pub record IsNumberOf (s : HashStart) (n : ℕ) : Type 0 where
+  pub value : n ≡ from_be_bytes w32 (alg_place s.alg ∷ s.octets)
+  pub three : length s.octets ≡ 3
+  pub first : slice_index s.octets 0 < 256
+  pub second : slice_index s.octets 1 < 256
+  pub third : slice_index s.octets 2 < 256
 
 abbrev pub alg_of : Hash → Alg
 alg_of (hashes.Sha1 octets) = algs.Sha1
@@ -99,7 +119,7 @@ stored_cmp a b =
 
 -- where the first octets are equal, by the whole hashes
 abbrev pub entry_cmp : List HashPair → HashEntry → HashEntry → Ordering
-entry_cmp pairs a b = ordering_then (start_cmp a b) (stored_cmp (hash_of pairs a) (hash_of pairs b))
+entry_cmp pairs a b = ordering_then (start_cmp a.start b.start) (stored_cmp (hash_of pairs a) (hash_of pairs b))
 
 -- the hashes of these messages, in order, as far as they are needed to find what is announced
 pub record Lists (list : List StoredHash) (ms : List NormalMessage) (announced : List (Option Hash)) : Type 0 where
