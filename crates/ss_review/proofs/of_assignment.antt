@@ -3,6 +3,8 @@ pub mod Bearings
 pub mod StoredRuns
 pub mod NeededHashes
 pub mod HashStarts
+pub mod ByStarts
+pub mod WantedHashes
 pub mod ListedHashes
 pub mod AssignedPlaces
 pub mod Wanting

@@ -2,7 +2,7 @@
 use Rattle.std.proofs.Common.{◌≡◌, ◌≢◌, ◌⊎◌, inl, inr, ℕ, zero, suc, ◌+◌, ◌<◌, ◌≤◌, Bool, true, false, cond, List, [], ◌∷◌, ◌++◌, length, take, drop, get_or, slice_set, refl, sym, ap, ◌∙◌, subst, arith}
 use Rattle.std.proofs.Math.Seq.{take-add}
 use Rattle.std.specs.Prelude.{Option, Some, None, slice_get, Contains, option_and_then}
-use Rattle.std.specs.List.{take_while, Any}
+use Rattle.std.specs.List.{take_while}
 use Rattle.std.specs.declared.cmp.Ordering.{Ordering}
 use Rattle.std.specs.declared.cmp.Ordering.TheVariants.{Less, Equal, Greater}
 use Rattle.std.specs.Ordering.{nat_cmp, ordering_then, ordering_reverse, is_eq, is_lt}
@@ -11,16 +11,13 @@ use Rattle.std.proofs.lemmas.List.Sums.{take_while-cons}
 use Rattle.std.proofs.lemmas.Bool.{cases_eq, ltb-true, ltb-false}
 use Rattle.std.proofs.lemmas.Option.{slice_get_within, slice_get-get_or}
 use Rattle.std.proofs.lemmas.List.{take_all}
-use Rattle.std.proofs.lemmas.Map.Lookups.{exact_unsigned}
 use Rattle.ss_block.specs.declared.hash.Hash.{Hash}
 use Rattle.ss_block.specs.Order.{hash_cmp}
 use Rattle.ss_block.specs.OrderLaws.{hash_cmp_total, hash_cmp_exact}
 use Rattle.ss_review.specs.declared.assign.stored_hash.StoredHash.{StoredHash}
-use Rattle.ss_review.specs.declared.assign.wanted_hash.WantedHash.{WantedHash}
-use Rattle.ss_review.specs.assign.StoredHashes.{stored_cmp, is_earlier, has_this, has_hash_at, IsBearerAt, FoundLast, IsNotBelow, IsFoundFor, Wanted, wanted_cmp}
+use Rattle.ss_review.specs.assign.StoredHashes.{stored_cmp, is_earlier, has_this, has_hash_at, IsBearerAt, FoundLast, IsNotBelow, IsFoundFor, KeyedHash, Wanted, keyed_cmp}
 use Rattle.ss_review.proofs.of_lists.Keyed.{has-slice_get}
 use Rattle.ss_review.proofs.of_lists.Rising.{not_less_itself, reversed}
-use Rattle.ss_review.proofs.of_lists.TotalOrders.{both_tie}
 use Rattle.ss_octets.proofs.Members.{Has, has_from_contains, contains_from_has, has-append_left, has-append_right, has-append_cases, all-has}
 
 -- ---- the first elements of a list
@@ -271,25 +268,25 @@ module _ (h : Hash) where
 -- ---- the hashes that are wanted
 
 -- those so far are hashes of the list with their numbers, and each hash so far is among them
-abbrev pub WantedSoFar : List (Option Hash) → List WantedHash → ℕ → Type 0
-WantedSoFar hs ws n = ((w : WantedHash) → Has ws w → slice_get hs w.key ≡ Some (Some w.hash)) × ((i : ℕ) (h : Hash) → slice_get hs i ≡ Some (Some h) → i < n → Has ws (record { hash = h; key = i }))
+abbrev pub WantedSoFar : List (Option Hash) → List KeyedHash → ℕ → Type 0
+WantedSoFar hs ws n = ((w : KeyedHash) → Has ws w → slice_get hs w.key ≡ Some (Some w.hash)) × ((i : ℕ) (h : Hash) → slice_get hs i ≡ Some (Some h) → i < n → Has ws (record { hash = h; key = i }))
 
-module _ (hs : List (Option Hash)) (ws : List WantedHash) (n : ℕ) (so_far : WantedSoFar hs ws n) where
+module _ (hs : List (Option Hash)) (ws : List KeyedHash) (n : ℕ) (so_far : WantedSoFar hs ws n) where
   module _ (within : n < length hs) where
     pub wanted_one : (h : Hash) → get_or hs n None ≡ Some h → WantedSoFar hs (ws ++ record { hash = h; key = n } ∷ []) (n + 1)
     wanted_one h is = (sound, complete)
       where
-        one : WantedHash
+        one : KeyedHash
         one = record { hash = h; key = n }
 
         here : slice_get hs n ≡ Some (Some h)
         here = slice_get-get_or hs n None within ∙ ap Some is
 
-        sound : (w : WantedHash) → Has (ws ++ record { hash = h; key = n } ∷ []) w → slice_get hs w.key ≡ Some (Some w.hash)
+        sound : (w : KeyedHash) → Has (ws ++ record { hash = h; key = n } ∷ []) w → slice_get hs w.key ≡ Some (Some w.hash)
         sound w i =
             elim (has-append_cases ws (record { hash = h; key = n } ∷ []) w i) [
               | inl l ↦ so_far.0 w l
-              | inr (inl e) ↦ subst (λ (v : WantedHash). slice_get hs v.key ≡ Some (Some v.hash)) e here
+              | inr (inl e) ↦ subst (λ (v : KeyedHash). slice_get hs v.key ≡ Some (Some v.hash)) e here
               | inr (inr none) ↦ absurd none
             ]
 
@@ -313,19 +310,16 @@ module _ (hs : List (Option Hash)) (ws : List WantedHash) (n : ℕ) (so_far : Wa
               | inr apart ↦ so_far.1 i g at (omega (arith, apart))
             ]
 
-  -- R is the order as the code has it
-  pub wanted_all : (R : WantedHash → WantedHash → Ordering) → ((a b : WantedHash) → R a b ≡ wanted_cmp a b) → length hs ≤ n → (vs : List WantedHash) → IsStrictlySortedBy R vs
-      → ((w : WantedHash) → Contains ws w → Any (λ v. R w v ≡ Equal) vs)
-      → ((w : WantedHash) → Contains vs w → Contains ws w)
+  pub wanted_all : length hs ≤ n → (vs : List KeyedHash) → IsStrictlySortedBy keyed_cmp vs
+      → ((w : KeyedHash) → Contains ws w → Contains vs w)
+      → ((w : KeyedHash) → Contains vs w → Contains ws w)
       → Wanted vs hs
-  wanted_all R same all vs up keeps adds_none = record {
-    rises = subst (λ (S : WantedHash → WantedHash → Ordering). IsStrictlySortedBy S vs) (λ i a b. same a b i) up;
+  wanted_all all vs up keeps adds_none = record {
+    rises = up;
     sound = λ w i. so_far.0 w (has_from_contains ws w (adds_none w i));
     complete = λ i h at.
-        let one : WantedHash = record { hash = h; key = i } in
-        let k = keeps one (contains_from_has ws one (so_far.1 i h at (omega (arith, slice_get_within hs i (Some h) at)))) in
-        let tie = both_tie (hash_cmp h k.1.hash) (nat_cmp i k.1.key) (sym (same one k.1) ∙ k.4) in
-        (k.1, (k.0, k.2, k.3), sym (exact_unsigned i k.1.key tie.1), sym (hash_cmp_exact h k.1.hash tie.0));
+        let one : KeyedHash = record { hash = h; key = i } in
+        (one, keeps one (contains_from_has ws one (so_far.1 i h at (omega (arith, slice_get_within hs i (Some h) at)))), refl, refl);
   }
 
 -- ---- where the bearers of all of them stand
@@ -346,30 +340,30 @@ has-drop [] i x e = absurd (cc)
 has-drop (y ∷ ys) zero x e = inl (cc)
 has-drop (y ∷ ys) (suc i) x e = has-drop ys i x e
 
-behind_is : (ws : List WantedHash) (n : ℕ) (w v : WantedHash) → IsStrictlySortedBy wanted_cmp ws → slice_get ws n ≡ Some w → Has (drop (suc n) ws) v → wanted_cmp w v ≡ Less
+behind_is : (ws : List KeyedHash) (n : ℕ) (w v : KeyedHash) → IsStrictlySortedBy keyed_cmp ws → slice_get ws n ≡ Some w → Has (drop (suc n) ws) v → keyed_cmp w v ≡ Less
 unfolding IsStrictlySortedBy
 behind_is [] n w v up at i = absurd (cc)
-behind_is (u ∷ us) zero w v up at i = let same : u ≡ w = cc in subst (λ k. wanted_cmp k v ≡ Less) same (all-has (λ k. wanted_cmp u k ≡ Less) us v up.0 i)
+behind_is (u ∷ us) zero w v up at i = let same : u ≡ w = cc in subst (λ k. keyed_cmp k v ≡ Less) same (all-has (λ k. keyed_cmp u k ≡ Less) us v up.0 i)
 behind_is (u ∷ us) (suc n) w v up at i = behind_is us n w v up.1 at i
 
-wanted_not_below : (w v : WantedHash) (c : Ordering) → hash_cmp w.hash v.hash ≡ c → ordering_then c (nat_cmp w.key v.key) ≡ Less → IsNotBelow v.hash (Some w.hash)
+wanted_not_below : (w v : KeyedHash) (c : Ordering) → hash_cmp w.hash v.hash ≡ c → ordering_then c (nat_cmp w.key v.key) ≡ Less → IsNotBelow v.hash (Some w.hash)
 wanted_not_below w v Less t l = inl t
 wanted_not_below w v Equal t l = inr (hash_cmp_exact w.hash v.hash t)
 wanted_not_below w v Greater t l = absurd (cc)
 
 -- the bearers of the first of them stand there, and what isn't announced has none
-abbrev pub BearingsSoFar : List StoredHash → List (Option Hash) → List WantedHash → ℕ → List (Option ℕ) → Type 0
-BearingsSoFar list hs ws n found = ((w : WantedHash) (at : Option ℕ) → Has (take n ws) w → slice_get found w.key ≡ Some at → IsBearerAt list w.hash at) × ((i : ℕ) (at : Option ℕ) → slice_get hs i ≡ Some None → slice_get found i ≡ Some at → at ≡ None)
+abbrev pub BearingsSoFar : List StoredHash → List (Option Hash) → List KeyedHash → ℕ → List (Option ℕ) → Type 0
+BearingsSoFar list hs ws n found = ((w : KeyedHash) (at : Option ℕ) → Has (take n ws) w → slice_get found w.key ≡ Some at → IsBearerAt list w.hash at) × ((i : ℕ) (at : Option ℕ) → slice_get hs i ≡ Some None → slice_get found i ≡ Some at → at ≡ None)
 
 -- none of the others is below the hash that was asked for last
-abbrev pub NoneIsBelow : List WantedHash → ℕ → Option Hash → Type 0
-NoneIsBelow ws n last = (w : WantedHash) → Has (drop n ws) w → IsNotBelow w.hash last
+abbrev pub NoneIsBelow : List KeyedHash → ℕ → Option Hash → Type 0
+NoneIsBelow ws n last = (w : KeyedHash) → Has (drop n ws) w → IsNotBelow w.hash last
 
-module _ (hs : List (Option Hash)) (ws : List WantedHash) (is : Wanted ws hs) where
+module _ (hs : List (Option Hash)) (ws : List KeyedHash) (is : Wanted ws hs) where
   pub none_is_below : (last : Option Hash) → last ≡ None → NoneIsBelow ws 0 last
   none_is_below last e w i = subst (IsNotBelow w.hash) (sym e) refl
 
-  module _ (n : ℕ) (w : WantedHash) (at : slice_get ws n ≡ Some w) where
+  module _ (n : ℕ) (w : KeyedHash) (at : slice_get ws n ≡ Some w) where
     pub next_not_below : (last : Option Hash) → NoneIsBelow ws n last → IsNotBelow w.hash last
     next_not_below last rest = rest w (has-drop ws n w at)
 
@@ -380,9 +374,9 @@ module _ (hs : List (Option Hash)) (ws : List WantedHash) (is : Wanted ws hs) wh
     its_hash = is.sound w (contains_from_has ws w (has-slice_get ws n w at))
 
     -- another element with its number is that one
-    same_hash : (v : WantedHash) → Has (take (suc n) ws) v → v.key ≡ w.key → v.hash ≡ w.hash
+    same_hash : (v : KeyedHash) → Has (take (suc n) ws) v → v.key ≡ w.key → v.hash ≡ w.hash
     same_hash v i e =
-        let b : slice_get hs v.key ≡ Some (Some v.hash) = elim (has-take_more ws n w v at i) [ inl l ↦ is.sound v (contains_from_has ws v (has-taken n ws v l)) | inr r ↦ subst (λ (k : WantedHash). slice_get hs k.key ≡ Some (Some k.hash)) r its_hash ] in
+        let b : slice_get hs v.key ≡ Some (Some v.hash) = elim (has-take_more ws n w v at i) [ inl l ↦ is.sound v (contains_from_has ws v (has-taken n ws v l)) | inr r ↦ subst (λ (k : KeyedHash). slice_get hs k.key ≡ Some (Some k.hash)) r its_hash ] in
         let c = its_hash in
         cc
 
@@ -392,13 +386,13 @@ module _ (hs : List (Option Hash)) (ws : List WantedHash) (is : Wanted ws hs) wh
       bearings_more : BearingsSoFar list hs ws (suc n) next
       bearings_more = (bears, bears_none)
         where
-          bears : (v : WantedHash) (o : Option ℕ) → Has (take (suc n) ws) v → slice_get next v.key ≡ Some o → IsBearerAt list v.hash o
+          bears : (v : KeyedHash) (o : Option ℕ) → Has (take (suc n) ws) v → slice_get next v.key ≡ Some o → IsBearerAt list v.hash o
           bears v o i e =
               elim (told v.key o e) [
                 | inl l ↦ subst (IsBearerAt list v.hash) l.1 (subst (λ h. IsBearerAt list h bearer) (sym (same_hash v i l.0)) b)
                 | inr r ↦ (elim (has-take_more ws n w v at i) [
                   | inl before ↦ so_far.0 v o before r.1
-                  | inr same ↦ absurd (r.0 (ap (λ (k : WantedHash). k.key) (sym same)))
+                  | inr same ↦ absurd (r.0 (ap (λ (k : KeyedHash). k.key) (sym same)))
                 ])
               ]
 

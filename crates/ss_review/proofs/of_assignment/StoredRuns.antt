@@ -190,6 +190,9 @@ pair_told algs.Sha256 algs.Sha256 m n e f =
     let t : m.pair.sha256 ≡ n.pair.sha256 = cc in
     λ i. record { sha1 = s i; sha256 = t i }
 
+pub beside_itself : (e : StoredHash) → Some e.place ≡ place_beside e (Some e)
+beside_itself e = ap (λ b. cond b (Some e.place) None) (sym (ap is_eq (tied_itself hashes_cmp_total e)))
+
 same_of : (a : Alg) (m n : NormalMessage) → m.pair ≡ n.pair → same_hashes (stored_hash a m) (stored_hash a n) ≡ true
 same_of algs.Sha1 m n p =
     ap is_eq

@@ -129,6 +129,19 @@ pub record Lists (list : List StoredHash) (ms : List NormalMessage) (announced :
   pub complete : (h : Hash) (m : NormalMessage) → Contains announced (Some h) → Contains ms m → has_hash h m.pair ≡ true
       → Contains list (stored_hash (alg_of h) m)
 
+-- ---- the order of a list
+
+-- each entry begins as its hash
+abbrev pub AllBegin : HashList → Type 0
+AllBegin list = (e : HashEntry) → Contains list.entries.now e → BeginsAsItsHash list.pairs.now e
+
+abbrev pub IsInOrder : HashList → Type 0
+IsInOrder list = AllBegin list × IsStrictlySortedBy stored_cmp (hashes_in list)
+
+-- how the hash of an entry stands to another: where what they begin with is equal, by the whole hashes
+abbrev pub begun_cmp : List HashPair → HashEntry → Hash → Ordering
+begun_cmp pairs e h = ordering_then (start_cmp e.start (start_of h)) (hash_cmp (hash_of pairs e).hash h)
+
 -- ---- the first message that has a hash
 
 -- where the first message that has the hash stands in the list, if there is one
@@ -163,16 +176,32 @@ abbrev pub IsNotBelow : Hash → Option Hash → Type 0
 IsNotBelow h None = h ≡ h
 IsNotBelow h (Some g) = (hash_cmp g h ≡ Less) ⊎ (g ≡ h)
 
+-- a hash that a key is announced with, and the number of the key
+pub record KeyedHash : Type 0 where
+  pub hash : Hash
+  pub key : ℕ
+
+abbrev pub keyed : WantedHash → KeyedHash
+keyed w = record { hash = w.hash.now; key = w.key }
+
+-- it begins as its hash
+abbrev pub BeginsAsWanted : WantedHash → Type 0
+BeginsAsWanted w = w.start ≡ start_of w.hash.now
+
 -- by the hashes, then the numbers of the keys
+abbrev pub keyed_cmp : KeyedHash → KeyedHash → Ordering
+keyed_cmp a b = ordering_then (hash_cmp a.hash b.hash) (nat_cmp a.key b.key)
+
+-- where what they begin with is equal, by the whole hashes
 abbrev pub wanted_cmp : WantedHash → WantedHash → Ordering
-wanted_cmp a b = ordering_then (hash_cmp a.hash b.hash) (nat_cmp a.key b.key)
+wanted_cmp a b = ordering_then (start_cmp a.start b.start) (keyed_cmp (keyed a) (keyed b))
 
 -- the hashes that are there, in order, each with its number, from 0
-pub record Wanted (ws : List WantedHash) (hs : List (Option Hash)) : Type 0 where
-  pub rises : IsStrictlySortedBy wanted_cmp ws
-  pub sound : (w : WantedHash) → Contains ws w → slice_get hs w.key ≡ Some (Some w.hash)
+pub record Wanted (ws : List KeyedHash) (hs : List (Option Hash)) : Type 0 where
+  pub rises : IsStrictlySortedBy keyed_cmp ws
+  pub sound : (w : KeyedHash) → Contains ws w → slice_get hs w.key ≡ Some (Some w.hash)
   pub complete : (i : ℕ) (h : Hash) → slice_get hs i ≡ Some (Some h)
-      → (w : WantedHash) × Contains ws w × (w.key ≡ i) × (w.hash ≡ h)
+      → (w : KeyedHash) × Contains ws w × (w.key ≡ i) × (w.hash ≡ h)
 
 -- what is found for a hash that may be there
 abbrev pub IsFoundFor : List StoredHash → Option Hash → Option ℕ → Type 0

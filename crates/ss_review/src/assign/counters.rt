@@ -9,10 +9,11 @@ use crate::keep::stored_message::StoredMessage;
 use ss_octets::NoMemory;
 use std::alloc::Global;
 
-/// For each place of a log, how often the message there was wanted.
+/// For each place of a log, how often the message there was wanted. Each announced number wants one at most, and these
+/// are counted by 32 bits.
 #[derive(Drop)]
 pub(crate) struct Counters {
-    counts: Vec<u64>,
+    counts: Vec<u32>,
 }
 
 /// How many counts there have to be for these messages, whose places rise.
@@ -45,10 +46,10 @@ impl Counters {
     }
 
     /// How often the message at the place was wanted before. It is wanted once more now.
-    pub(crate) fn count(&mut self, place: u32) -> u64
+    pub(crate) fn count(&mut self, place: u32) -> u32
         ensures before { result ≡ counted_at self.old place }
         ensures after { place < length self.old.counts.items
-            → result + 1 < 2 ^ 64
+            → result + 1 < 2 ^ 32
             → (q : ℕ) → counted_at self.new q ≡ (if q == place then result + 1 else counted_at self.old q) }
         ensures length { length self.new.counts.items ≡ length self.old.counts.items }
     {

@@ -1,6 +1,8 @@
 //! Hashes of stored messages, each by where it is stored.
 ghost use Rattle.std.specs.Prelude.{◌≡◌, slice_index_or};
-ghost use Rattle.ss_review.specs.assign.StoredHashes.{start_by, entry_of, no_hashes, hash_of, stored_cmp, entry_cmp};
+ghost use Rattle.std.specs.Ordering.{is_eq};
+ghost use Rattle.ss_review.specs.assign.StoredHashes.{start_by, entry_of, no_hashes, hash_of, stored_cmp, entry_cmp, begun_cmp};
+ghost use Rattle.ss_review.specs.assign.Assigned.{has_hash};
 
 use crate::assign::hash_start::HashStart;
 use crate::assign::stored_hash::StoredHash;
@@ -95,4 +97,36 @@ pub(crate) fn entry_cmp(pairs: &[HashPair], entry: &HashEntry, other: &HashEntry
         return by_start;
     }
     whole_cmp(pairs, entry, other)
+}
+
+/// How the hash of an entry stands to this one: by what they begin with, and where that is equal by the whole hashes.
+pub(crate) fn begun_cmp(pairs: &[HashPair], entry: &HashEntry, hash: &Hash) -> Ordering
+    ensures { result ≡ begun_cmp pairs.now entry.now hash.now }
+{
+    let by_start = entry.start.compare(&HashStart::of(hash));
+    if by_start.is_ne() {
+        return by_start;
+    }
+    hashes_rise_by_algorithm();
+    hash_of(pairs, entry).hash.cmp(hash)
+}
+
+/// Whether one of the two hashes is this one.
+fn pair_has(pair: &HashPair, hash: &Hash) -> bool
+    ensures { result ≡ has_hash hash.now pair.now }
+{
+    match hash {
+        Hash::Sha1(octets) => pair.sha1 == *octets,
+        Hash::Sha256(octets) => pair.sha256 == *octets,
+    }
+}
+
+/// Whether an entry has this hash. It is looked up only if they begin alike.
+pub(crate) fn entry_has(pairs: &[HashPair], entry: &HashEntry, hash: &Hash) -> bool
+    ensures { result ≡ is_eq (begun_cmp pairs.now entry.now hash.now) }
+{
+    match entry.start.compare(&HashStart::of(hash)) {
+        Ordering::Equal => pair_has(pair_at(pairs, entry.pair as usize), hash),
+        _ => false,
+    }
 }

@@ -1,5 +1,6 @@
 //! The hashes of stored messages, as they are read.
-ghost use Rattle.std.specs.Prelude.{◌≡◌, ◌+◌, ◌^◌, ◌<◌, ◌≤◌, length, drop, slice_get};
+ghost use Rattle.std.specs.Prelude.{◌≡◌, ◌+◌, ◌^◌, ◌<◌, ◌≤◌, length, drop, slice_get, Some};
+ghost use Rattle.ss_review.specs.declared.assign.stored_hash.StoredHash.{StoredHash};
 ghost use Rattle.ss_review.specs.assign.StoredHashes.{hashes_in};
 
 use crate::assign::hash_entry::{HashEntry, hash_of};
@@ -22,9 +23,21 @@ impl<'a> HashList<'a> {
         Some(hash_of(self.pairs, entry))
     }
 
+    /// The place of the message whose hash stands there.
+    pub(crate) fn place(&self, index: usize) -> u32
+        requires { index < length self.now.entries.now }
+        ensures { (stored : StoredHash)
+            → slice_get (hashes_in self.now) index ≡ Some stored
+            → result ≡ stored.place }
+    {
+        self.entries[index].place
+    }
+
     /// The hashes from there on.
     pub(crate) fn behind(&self, start: usize) -> HashList<'a>
         requires { start ≤ length self.now.entries.now }
+        ensures pairs { result.pairs.now ≡ self.now.pairs.now }
+        ensures entries { result.entries.now ≡ drop start self.now.entries.now }
         ensures hashes { hashes_in result ≡ drop start (hashes_in self.now) }
         ensures fits { length self.now.entries.now < 2 ^ 64 }
         ensures len { length result.entries.now + start ≡ length self.now.entries.now }

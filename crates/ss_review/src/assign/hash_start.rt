@@ -1,8 +1,8 @@
 //! What hashes begin with.
 ghost use Rattle.std.specs.Prelude.{◌≡◌};
-ghost use Rattle.ss_review.specs.assign.StoredHashes.{alg_place, start_cmp, IsNumberOf};
+ghost use Rattle.ss_review.specs.assign.StoredHashes.{start_of, alg_place, start_cmp, IsNumberOf};
 
-use ss_block::Alg;
+use ss_block::{Alg, Hash};
 use std::cmp::Ordering;
 
 /// The algorithm of a hash and its first octets. They differ for most hashes, so that few whole ones are compared.
@@ -20,6 +20,22 @@ fn place_of(alg: Alg) -> u8
 }
 
 impl HashStart {
+    /// What the hash begins with.
+    pub(crate) fn of(hash: &Hash) -> HashStart
+        ensures { result ≡ start_of hash.now }
+    {
+        match hash {
+            Hash::Sha1(octets) => HashStart {
+                alg: Alg::Sha1,
+                octets: [octets[0], octets[1], octets[2]],
+            },
+            Hash::Sha256(octets) => HashStart {
+                alg: Alg::Sha256,
+                octets: [octets[0], octets[1], octets[2]],
+            },
+        }
+    }
+
     /// The algorithm and the octets as one number.
     fn number(&self) -> u32
         ensures { IsNumberOf self.now result }

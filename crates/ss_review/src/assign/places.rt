@@ -35,7 +35,7 @@ fn same_hashes(stored: &StoredHash, other: &StoredHash) -> bool
 }
 
 /// The place of a message with the hashes of the one that stands there in the list: with this number, from 0.
-fn place_from(list: &HashList, at: usize, first: &StoredHash, number: u64) -> Option<u32>
+fn place_behind(list: &HashList, at: usize, first: &StoredHash, number: u32) -> Option<u32>
     requires { at ≤ length list.now.entries.now }
     ensures { result ≡ place_beside first.now (slice_get (hashes_in list.now) (at + number)) }
 {
@@ -45,8 +45,22 @@ fn place_from(list: &HashList, at: usize, first: &StoredHash, number: u64) -> Op
     }
 }
 
+/// The same of the hash that stands there. Most numbers are 0, and then no hash is looked up.
+fn place_from(list: &HashList, at: usize, number: u32) -> Option<u32>
+    requires { at < length list.now.entries.now }
+    ensures { (first : StoredHash)
+        → slice_get (hashes_in list.now) at ≡ Some first
+        → result ≡ place_beside first (slice_get (hashes_in list.now) (at + number)) }
+{
+    if number == 0 {
+        return Some(list.place(at));
+    }
+    let first = hash_of(list.pairs, &list.entries[at]);
+    place_behind(list, at, &first, number)
+}
+
 /// The place of the next key, whose bearer stands there in the list, or none. It is counted as wanted once more.
-fn next_place(list: &HashList, counters: &mut Counters, at: Option<usize>) -> Option<u32>
+fn next_place(list: &HashList, counters: &mut Counters, at: Option<u32>) -> Option<u32>
     ensures place { (ms : List NormalMessage) (announced before : List (Option Hash)) (hash : Option Hash)
         → Lists (hashes_in list.now) ms announced
         → Contains announced hash
@@ -61,19 +75,19 @@ fn next_place(list: &HashList, counters: &mut Counters, at: Option<usize>) -> Op
         → IsFoundFor (hashes_in list.now) hash at
         → Tallies counters.old (bearers_wanted ms before)
         → ((m : NormalMessage) → Contains ms m → m.place < length counters.old.counts.items)
-        → length before + 1 < 2 ^ 64
+        → length before + 1 < 2 ^ 32
         → Tallies counters.new (bearers_wanted ms before ++ bearer_wanted ms hash ∷ []) }
     ensures length { length counters.new.counts.items ≡ length counters.old.counts.items }
 {
     let Some(at) = at else {
         return None;
     };
+    let at = at as usize;
     if at >= list.entries.len() {
         return None;
     }
-    let first = hash_of(list.pairs, &list.entries[at]);
-    let number = counters.count(first.place);
-    place_from(list, at, &first, number)
+    let number = counters.count(list.place(at));
+    place_from(list, at, number)
 }
 
 /// The places that the announced keys are assigned, in their order, from the hash that each is announced with, or none

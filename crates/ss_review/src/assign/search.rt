@@ -1,16 +1,16 @@
 //! The search for hashes, one after the other, in the hashes of stored messages.
-ghost use Rattle.std.specs.Prelude.{◌≡◌, ◌≤◌, ◌≢◌, length, take, slice_get, Contains, Some, None, option_and_then};
+ghost use Rattle.std.specs.Prelude.{◌≡◌, ◌<◌, ◌≤◌, ◌≢◌, length, take, slice_get, Contains, Some, None, option_and_then};
 ghost use Rattle.std.specs.Prelude.{IsTrue};
 ghost use Rattle.std.specs.List.{take_while};
-ghost use Rattle.std.specs.List.Sorted.{IsStrictlySortedBy};
 ghost use Rattle.std.specs.Ordering.{is_lt};
 ghost use Rattle.std.specs.declared.cmp.Ordering.TheVariants.{Less};
 ghost use Rattle.ss_block.specs.Order.{hash_cmp};
 ghost use Rattle.ss_review.specs.declared.assign.stored_hash.StoredHash.{StoredHash};
-ghost use Rattle.ss_review.specs.assign.StoredHashes.{hash_of, hashes_in, stored_cmp, is_earlier, has_hash_at};
+ghost use Rattle.ss_review.specs.assign.StoredHashes.{hashes_in, begun_cmp, AllBegin, IsInOrder};
+ghost use Rattle.ss_review.specs.assign.StoredHashes.{is_earlier, has_hash_at};
 ghost use Rattle.ss_review.specs.assign.StoredHashes.{IsBearerAt, FoundLast, IsNotBelow};
 
-use crate::assign::hash_entry::hash_of;
+use crate::assign::hash_entry::{begun_cmp, entry_has};
 use crate::assign::hash_list::HashList;
 use ss_block::Hash;
 use ss_block::laws::orders::hashes_rise_by_algorithm;
@@ -29,14 +29,12 @@ pub(crate) struct Search<'a> {
 /// How many of the list, from its first on, are below the hash.
 fn count_below(list: &HashList, hash: &Hash) -> usize
     ensures count { result
-        ≡ length (take_while (λ e.
-        is_lt (hash_cmp (hash_of list.now.pairs.now e).hash hash.now)) list.now.entries.now) }
+        ≡ length (take_while (λ e. is_lt (begun_cmp list.now.pairs.now e hash.now)) list.now.entries.now) }
     ensures bound { result ≤ length list.now.entries.now }
 {
-    hashes_rise_by_algorithm();
     list.entries
         .iter()
-        .take_while(|entry| hash_of(list.pairs, entry).hash.cmp(hash).is_lt())
+        .take_while(|entry| begun_cmp(list.pairs, entry, hash).is_lt())
         .count()
 }
 
@@ -56,18 +54,18 @@ fn is_earlier(list: &HashList, index: usize, other: Option<usize>) -> bool
 
 /// Whether what stands at the index has the hash.
 fn has_hash_at(list: &HashList, index: usize, hash: &Hash) -> bool
-    ensures { result ≡ has_hash_at (hashes_in list.now) index hash.now }
+    ensures within { IsTrue result → index < length list.now.entries.now }
+    ensures has { AllBegin list.now → result ≡ has_hash_at (hashes_in list.now) index hash.now }
 {
-    hashes_rise_by_algorithm();
-    match list.get(index) {
-        Some(stored) => stored.hash.cmp(hash).is_eq(),
-        None => false,
+    if index >= list.entries.len() {
+        return false;
     }
+    entry_has(list.pairs, &list.entries[index], hash)
 }
 
 /// Of those with the hash, which stand from `start` on, the one that is stored first.
 fn first_stored(list: &HashList, start: usize, hash: &Hash) -> Option<usize>
-    ensures { IsStrictlySortedBy stored_cmp (hashes_in list.now)
+    ensures { IsInOrder list.now
         → ((e : StoredHash) → Contains (take start (hashes_in list.now)) e → hash_cmp e.hash hash.now ≡ Less)
         → ((e : StoredHash) → slice_get (hashes_in list.now) start ≡ Some e → hash_cmp e.hash hash.now ≢ Less)
         → IsBearerAt (hashes_in list.now) hash.now result }
@@ -112,11 +110,11 @@ impl<'a> Search<'a> {
 
     /// Where the first message that has the hash stands in the list. No hash below one that was asked for is found.
     pub(crate) fn find(&mut self, hash: &Hash) -> Option<usize>
-        ensures found { IsStrictlySortedBy stored_cmp (hashes_in self.old.list)
+        ensures found { IsInOrder self.old.list
             → FoundLast (hashes_in self.old.list) self.old.start self.old.found self.old.last
             → IsNotBelow hash.now self.old.last
             → IsBearerAt (hashes_in self.old.list) hash.now result }
-        ensures next { IsStrictlySortedBy stored_cmp (hashes_in self.old.list)
+        ensures next { IsInOrder self.old.list
             → FoundLast (hashes_in self.old.list) self.old.start self.old.found self.old.last
             → IsNotBelow hash.now self.old.last
             → FoundLast (hashes_in self.new.list) self.new.start self.new.found (Some hash.now) }

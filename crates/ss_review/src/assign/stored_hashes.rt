@@ -67,6 +67,8 @@ fn add_needed(
 
 /// Brings the entries in the order of what they stand for, and keeps of equal ones the first alone.
 fn put_in_order(list: &mut Vec<HashEntry>, pairs: &[HashPair])
+    ensures begin { ((e : HashEntry) → Contains list.old.items e → BeginsAsItsHash pairs.now e)
+        → (e : HashEntry) → Contains list.new.items e → BeginsAsItsHash pairs.now e }
     ensures rises { ((e : HashEntry) → Contains list.old.items e → BeginsAsItsHash pairs.now e)
         → IsStrictlySortedBy stored_cmp (listed pairs.now list.new.items) }
     ensures keeps { (e : StoredHash)
@@ -87,7 +89,8 @@ pub(crate) fn stored_hashes(
     messages: &[StoredMessage],
     announced: &[Option<Hash>],
 ) -> Result<Vec<HashEntry>, NoMemory>
-    ensures { (ms : List NormalMessage)
+    ensures begin { IfOk result (λ v. (e : HashEntry) → Contains v.items e → BeginsAsItsHash pairs.now e) }
+    ensures lists { (ms : List NormalMessage)
         → Tells pairs.now messages.now ms
         → IfOk result (λ v. Lists (listed pairs.now v.items) ms announced.now) }
 {

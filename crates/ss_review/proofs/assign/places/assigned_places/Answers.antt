@@ -1,12 +1,13 @@
 use Rattle.std.proofs.Common.{◌+◌, ◌<◌, ◌^◌, ◌∷◌, [], ◌++◌, get_or, length, take, drop, sym, ap, ◌∙◌, subst, arith}
-use Rattle.std.specs.Prelude.{None, count_by, slice_get}
+use Rattle.std.specs.Prelude.{None, Contains, count_by, slice_get}
 use Rattle.std.proofs.lemmas.List.{append_assoc, append-nil, drop_all, length-take-le, map_more}
 use Rattle.std.proofs.lemmas.Option.{slice_get-get_or}
 use Rattle.ss_review.specs.assign.Assigning as assigning
-use Rattle.ss_review.specs.assign.Assigning.{pairs_wanted, bearer_wanted, bearers_wanted, assigned_after, assigned_all}
+use Rattle.ss_review.specs.assign.Assigning.{pairs_wanted, bearer_wanted, assigned_after, assigned_all}
 use Rattle.std.specs.Ordering.{nat_cmp}
 use Rattle.std.specs.List.Sorted.{IsStrictlySortedBy}
-use Rattle.ss_review.specs.assign.StoredHashes.{listed, Lists}
+use Rattle.ss_review.specs.declared.assign.hash_entry.HashEntry.{HashEntry}
+use Rattle.ss_review.specs.assign.StoredHashes.{listed, BeginsAsItsHash, Lists}
 use Rattle.ss_review.proofs.of_lists.Counting.{assigned_at}
 use Rattle.ss_review.proofs.of_lists.Searching.{has_at}
 use Rattle.ss_review.proofs.of_kept_messages.StoredTold.{places_told, room_told}
@@ -30,12 +31,12 @@ loop-at-preserved c = λ ms t up.
     let below : i < length hs = omega (arith, c.loop-at-test.true, ap length same, c.in_ok-found.ensures.length) in
     let hash = get_or hs i None in
     let here = contains_from_has hs hash (has_at hs i None below) in
-    let in_order = subst (λ es. Lists (listed c.args.pairs.now es) ms hs) (sym c.as_slice.ensures.value) (c.in_ok-entries.ensures ms t) in
+    let in_order = subst (λ es. Lists (listed c.args.pairs.now es) ms hs) (sym c.as_slice.ensures.value) (c.in_ok-entries.ensures.lists ms t) in
+    let begin = subst (λ es. (e : HashEntry) → Contains es e → BeginsAsItsHash c.args.pairs.now e) (sym c.as_slice.ensures.value) c.in_ok-entries.ensures.begin in
     let at = ap (λ xs. slice_get xs i) (sym same) ∙ slice_get-get_or items i None c.loop-at-test.true in
-    let found = c.in_ok-found.ensures.found in_order.rises i hash (get_or items i None) (slice_get-get_or hs i None below) at in
+    let found = c.in_ok-found.ensures.found (begin, in_order.rises) i hash (get_or items i None) (slice_get-get_or hs i None below) at in
     let place = c.next_place.ensures.place ms hs (take i hs) hash in_order here up found so_far.1 in
-    let few : length (take i hs) + 1 < 2 ^ 64
-    = omega (arith, length-take-le i hs (omega (arith, below)), below, c.as_slice-at-items.ensures.len, ap length same, c.in_ok-found.ensures.length) in
+    let few : length (take i hs) + 1 < 2 ^ 32 = omega (arith, length-take-le i hs (omega (arith, below)), below, c.in_ok-found.ensures.few) in
     let rest = assigned_after ms (pairs_wanted ms (take (i + 1) hs)) (pairs_wanted ms (drop (i + 1) hs)) in (
       ap (λ places. places ++ rest) c.in_ok-push.ensures.items
           ∙ append_assoc c.loop-at.places.items (c.next_place.result ∷ []) rest

@@ -4,9 +4,8 @@ use Rattle.std.proofs.lemmas.List.{length-map}
 use Rattle.std.proofs.lemmas.List.Sums.{count_by-le-length}
 use Rattle.ss_review.specs.assign.Assigned.{places_with}
 use Rattle.ss_review.specs.assign.Assigning.{is_at, bearers_wanted, bearer_wanted}
-use Rattle.ss_review.specs.assign.StoredHashes.{listed, IsFoundFor, place_beside, counted_at}
+use Rattle.ss_review.specs.assign.StoredHashes.{listed, IsFoundFor, counted_at}
 use Rattle.ss_review.proofs.of_assignment.AssignedPlaces.{nothing_found, something_found, tallied, untallied}
-use Rattle.ss_review.proofs.of_assignment.ListedHashes.{stands_at}
 use Rattle.ss_review.proofs.of_assignment.BearersWanted.{place_by_bearer, no_place}
 use Rattle.ss_review.proofs.assign.places.next_place.Goals as goal
 
@@ -22,20 +21,22 @@ returns-in_default-clause-tallies c = λ ms announced before hash l here up f t 
 -- what the call found, from what stands there in the list
 pub returns-clause-place : goal.returns-clause-place
 returns-clause-place c = λ ms announced before hash l here up f t.
-    let w = something_found (listed c.args.list.now.pairs.now c.args.list.now.entries.now) ms announced l up hash c.in-Some.at here (subst (IsFoundFor (listed c.args.list.now.pairs.now c.args.list.now.entries.now) hash) c.in-Some.is f) in
-    let first = c.hash_of-first.ensures ∙ stands_at c.args.list.now.pairs.now c.args.list.now.entries.now c.in-Some.at _ w.stored w.at in
-    let number = c.count-number.ensures.before ∙ ap (counted_at c.args.counters.now) (ap (λ s. s.place) first ∙ w.place) ∙ t w.message.place in
-    c.place_from.ensures
-    ∙ ap (λ s. place_beside s (slice_get (listed c.args.list.now.pairs.now c.args.list.now.entries.now) (c.in-Some.at + c.count-number.result))) first
+    let pairs = c.args.list.now.pairs.now in
+    let entries = c.args.list.now.entries.now in
+    let w = something_found (listed pairs entries) ms announced l up hash c.in-Some.at here (subst (IsFoundFor (listed pairs entries) hash) c.in-Some.is f) in
+    let place = c.place.ensures w.stored w.at ∙ w.place in
+    let number = c.count-number.ensures.before ∙ ap (counted_at c.args.counters.now) place ∙ t w.message.place in
+    c.place_from.ensures w.stored w.at
     ∙ w.places c.count-number.result
     ∙ ap (slice_get (places_with ms w.message.pair)) number
     ∙ place_by_bearer ms up before hash w.message w.wanted
 
 pub returns-clause-tallies : goal.returns-clause-tallies
 returns-clause-tallies c = λ ms announced before hash l here up f t room few q.
-    let w = something_found (listed c.args.list.now.pairs.now c.args.list.now.entries.now) ms announced l up hash c.in-Some.at here (subst (IsFoundFor (listed c.args.list.now.pairs.now c.args.list.now.entries.now) hash) c.in-Some.is f) in
-    let first = c.hash_of-first.ensures ∙ stands_at c.args.list.now.pairs.now c.args.list.now.entries.now c.in-Some.at _ w.stored w.at in
-    let place = ap (λ s. s.place) first ∙ w.place in
+    let pairs = c.args.list.now.pairs.now in
+    let entries = c.args.list.now.entries.now in
+    let w = something_found (listed pairs entries) ms announced l up hash c.in-Some.at here (subst (IsFoundFor (listed pairs entries) hash) c.in-Some.is f) in
+    let place = c.place.ensures w.stored w.at ∙ w.place in
     let number = c.count-number.ensures.before ∙ ap (counted_at c.args.counters.now) place ∙ t w.message.place in
     let bound = count_by-le-length (is_at w.message.place) (bearers_wanted ms before) in
     tallied c.args.counters.now c.count-number.new.self (bearers_wanted ms before) w.message _ c.count-number.result place t c.count-number.ensures.before

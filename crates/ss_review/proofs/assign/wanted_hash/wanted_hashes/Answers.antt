@@ -1,8 +1,12 @@
-use Rattle.std.proofs.Common.{◌+◌, sym, ap, ◌∙◌, subst}
-use Rattle.std.specs.Ordering.{nat_cmp, ordering_then}
-use Rattle.ss_review.proofs.of_assignment.Searches.{WantedSoFar, wanted_one, wanted_none, wanted_all}
+use Rattle.std.proofs.Common.{◌+◌, map, refl, sym, ap, ◌∙◌, subst, arith}
+use Rattle.ss_review.specs.assign.StoredHashes.{keyed}
+use Rattle.ss_review.proofs.of_assignment.Searches.{wanted_all}
+use Rattle.ss_review.proofs.of_assignment.WantedHashes.{WantedThere, wanted_start, wanted_push, wanted_pass}
 use Rattle.ss_review.proofs.assign.wanted_hash.wanted_hashes.Goals.{in-Some+in_ok-push, in_default}
 use Rattle.ss_review.proofs.assign.wanted_hash.wanted_hashes.Goals as goal
+
+pub loop-key-init : goal.loop-key-init
+loop-key-init c = wanted_start c.args.hashes.now c.in_ok-wanted.wanted.items c.in_ok-wanted.ensures.items
 
 pub loop-key-preserved : goal.loop-key-preserved
 loop-key-preserved c =
@@ -10,10 +14,13 @@ loop-key-preserved c =
     let key = c.loop-key.key in
     let so_far = c.loop-key.wanted.items in
     elim c.match-hash.branch [
-      | in-Some+in_ok-push w ↦ subst (λ ws. WantedSoFar hashes ws (key + 1)) (sym (ap (λ v. v.items) w.wanted-is ∙ w.in_ok-push.ensures.items)) (wanted_one hashes so_far key c.loop-key.invariant c.loop-key-test.true w.in-Some.hash w.in-Some.is)
-      | in_default w ↦ subst (λ ws. WantedSoFar hashes ws (key + 1)) (sym (ap (λ v. v.items) w.wanted-is)) (wanted_none hashes so_far key c.loop-key.invariant c.loop-key-test.true w.in_default.is)
+      | in-Some+in_ok-push w ↦ wanted_push hashes so_far key c.loop-key.invariant c.loop-key-test.true c.match-hash.wanted.items _ (ap (λ v. v.items) w.wanted-is ∙ w.in_ok-push.ensures.items) w.in-Some.is refl w.of.ensures
+      | in_default w ↦ subst (λ ws. WantedThere hashes ws (key + 1)) (sym (ap (λ v. v.items) w.wanted-is)) (wanted_pass hashes so_far key c.loop-key.invariant c.loop-key-test.true w.in_default.is)
     ]
 
-pub returns : goal.returns
-returns c =
-    wanted_all c.args.hashes.now c.loop-key.wanted.items c.loop-key.key c.loop-key.invariant _ (λ a b. ap (λ o. ordering_then o (nat_cmp a.key b.key)) (c.hashes_rise_by_algorithm.ensures a.hash b.hash)) c.loop-key-test.false c.put_in_order.new.items.items c.put_in_order.ensures.rises c.put_in_order.ensures.keeps c.put_in_order.ensures.adds_none
+pub returns-clause-few : goal.returns-clause-few
+returns-clause-few c = omega arith
+
+pub returns-clause-wanted : goal.returns-clause-wanted
+returns-clause-wanted c =
+    wanted_all c.args.hashes.now (map keyed c.loop-key.wanted.items) c.loop-key.key c.loop-key.invariant.0 c.loop-key-test.false (map keyed c.put_in_order.new.wanted.items) (c.put_in_order.ensures.rises c.loop-key.invariant.1) c.put_in_order.ensures.keeps c.put_in_order.ensures.adds_none
