@@ -5,6 +5,7 @@ mod CounterLaws
 pub mod CounterWords
 pub mod Cuts
 mod Decoded
+mod FirstOctets
 mod KeptLines
 mod LineLaws
 mod OrderedLines

@@ -1,6 +1,8 @@
 -- The order in which the lines of an answers file are kept.
-use Rattle.std.specs.Prelude.{ℕ, List, []}
+use Rattle.std.specs.Prelude.{◌≡◌, ℕ, ◌≤◌, List, [], length, take}
+use Rattle.base64.specs.GeneralPurpose.{IsBytes}
 use Rattle.std.specs.Cmp.Lexicographic.{slice_cmp}
+use Rattle.std.specs.Int.{w64, from_be_bytes}
 use Rattle.std.specs.Ordering.{nat_cmp, on, then_cmp}
 use Rattle.std.specs.declared.cmp.Ordering.{Ordering}
 use Rattle.ss_answers.specs.declared.key.Key.{Key}
@@ -37,3 +39,11 @@ key_of (Seal octets signature) = seal_key octets
 abbrev pub key_cmp : SortKey → SortKey → Ordering
 key_cmp = then_cmp (then_cmp (then_cmp (on (λ k. k.kind) nat_cmp) (on (λ k. k.first) (slice_cmp nat_cmp)))
     (on (λ k. k.second) (slice_cmp nat_cmp))) (on (λ k. k.third) (slice_cmp nat_cmp))
+
+-- ---- a step of the comparing
+
+-- the first eight octets are this number, the greatest first
+pub record IsFirstNumber (octets : List ℕ) (number : ℕ) : Type 0 where
+  pub enough : 8 ≤ length octets
+  pub bytes : IsBytes octets
+  pub value : number ≡ from_be_bytes w64 (take 8 octets)

@@ -1,7 +1,8 @@
 //! The keys by which the lines of an answers file are kept in order and looked up.
-ghost use Rattle.std.specs.Prelude.{◌≡◌};
+ghost use Rattle.std.specs.Prelude.{◌≡◌, IfSome};
 ghost use Rattle.std.specs.Cmp.Lexicographic.{slice_cmp};
 ghost use Rattle.std.specs.Ordering.{nat_cmp, ordering_then};
+ghost use Rattle.ss_answers.specs.AnswerKey.{IsFirstNumber};
 
 use std::cmp::Ordering;
 
@@ -72,8 +73,31 @@ fn then_by(order: Ordering, mine: &[u8], other: &[u8]) -> Ordering
     ensures { result ≡ ordering_then order (slice_cmp nat_cmp mine.now other.now) }
 {
     if order.is_eq() {
-        mine.cmp(&other)
+        compare_octets(mine, other)
     } else {
         order
     }
+}
+
+/// The order of octets. Signatures differ in their first octets, so these are compared as one number, which mostly
+/// decides.
+fn compare_octets(mine: &[u8], other: &[u8]) -> Ordering
+    ensures { result ≡ slice_cmp nat_cmp mine.now other.now }
+{
+    if let Some(my_number) = first_number(mine)
+        && let Some(other_number) = first_number(other)
+        && my_number != other_number
+    {
+        my_number.cmp(&other_number)
+    } else {
+        mine.cmp(&other)
+    }
+}
+
+/// The first eight octets as a number, the greatest first. Shorter ones have none.
+fn first_number(octets: &[u8]) -> Option<u64>
+    ensures { IfSome result (IsFirstNumber octets.now) }
+{
+    let first = octets.first_chunk::<8>()?;
+    Some(u64::from_be_bytes(*first))
 }
