@@ -1,4 +1,5 @@
 pub mod Announcements
 pub mod RowsTold
+pub mod IndexedRows
 pub mod ByNumber
 pub mod SessionRange

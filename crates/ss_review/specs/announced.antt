@@ -1,3 +1,4 @@
 pub mod Announced
 pub mod Announcing
 pub mod Numbered
+pub mod Indexed

@@ -44,6 +44,17 @@ rise_from key R (x ∷ xs) up = (keys_all key (λ k. R (key x) k ≡ Less) xs up
 pub keys_rise : {X K : Type 0} (key : X → K) (R : K → K → Ordering) (Q : X → X → Ordering) → ((x y : X) → Q x y ≡ R (key x) (key y)) → (xs : List X) → IsStrictlySortedBy Q xs → IsStrictlySortedBy R (map key xs)
 keys_rise {X} key R Q by xs up = rise_by key R xs (subst (λ (S : X → X → Ordering). IsStrictlySortedBy S xs) (λ i x y. by x y i) up)
 
+-- and so do those of a list whose members stand as their keys
+pub keys_rise_among : {X K : Type 0} (key : X → K) (R : K → K → Ordering) (Q : X → X → Ordering) (xs : List X) → ((x y : X) → Has xs x → Has xs y → Q x y ≡ R (key x) (key y)) → IsStrictlySortedBy Q xs → IsStrictlySortedBy R (map key xs)
+unfolding IsStrictlySortedBy
+keys_rise_among key R Q [] by up = tt
+keys_rise_among {X} key R Q (x ∷ xs) by up = (
+  all_below (λ k. R (key x) k ≡ Less) (map key xs) (λ k h.
+      (let w : (y : X) × Has xs y × (key y ≡ k) = from_has-map key xs k h in
+      subst (λ z. R (key x) z ≡ Less) w.2 (sym (by x w.0 (inl refl) (inr w.1)) ∙ all-has (λ y. Q x y ≡ Less) xs w.0 up.0 w.1))),
+  keys_rise_among key R Q xs (λ y z g h. by y z (inr g) (inr h)) up.1,
+)
+
 module _ {K : Type 0} {R : K → K → Ordering} (o : IsTotalOrder R) where
   pub not_less_itself : (k : K) → R k k ≡ Less → ⊥
   not_less_itself k e = let t : R k k ≡ Equal = tied_itself o k in absurd (cc)
@@ -157,25 +168,38 @@ module _ {K : Type 0} {R : K → K → Ordering} (o : IsTotalOrder R) (exact : C
   in_order_is xs ks up f g =
       same_members o xs (in_order R ks) up (rises-in_order ks) (λ q h. has-in_order q ks (f q h)) (λ q h. g q (from_has-in_order q ks h))
 
+  -- A list that rises and has the members of another has their keys in order, where the keys stand as those members.
+  pub in_order_among : {X : Type 0} (key : X → K) (Q : X → X → Ordering) (xs ys : List X)
+      → ((x y : X) → Has xs x → Has xs y → Q x y ≡ R (key x) (key y))
+      → IsStrictlySortedBy Q ys
+      → ((x : X) → Contains xs x → Any (λ y. Q x y ≡ Equal) ys)
+      → ((x : X) → Contains ys x → Contains xs x)
+      → map key ys ≡ in_order R (map key xs)
+  in_order_among {X} key Q xs ys by up keeps adds_none =
+      in_order_is (map key ys) (map key xs) (keys_rise_among key R Q ys (λ x y g h. by x y (member x g) (member y h)) up) there back
+    where
+      member : (x : X) → Has ys x → Has xs x
+      member x h = has_from_contains xs x (adds_none x (contains_from_has ys x h))
+
+      there : (q : K) → Has (map key ys) q → Has (map key xs) q
+      there q h =
+          let w : (y : X) × Has ys y × (key y ≡ q) = from_has-map key ys q h in
+          subst (Has (map key xs)) w.2 (has-map key xs w.0 (member w.0 w.1))
+
+      back : (q : K) → Has (map key xs) q → Has (map key ys) q
+      back q h =
+          let w : (x : X) × Has xs x × (key x ≡ q) = from_has-map key xs q h in
+          let k = keeps w.0 (contains_from_has xs w.0 w.1) in
+          let at : Has ys k.1 = has_from_contains ys k.1 (k.0, k.2, k.3) in
+          subst (Has (map key ys)) (sym (exact (key w.0) (key k.1) (sym (by w.0 k.1 w.1 (member k.1 at)) ∙ k.4)) ∙ w.2) (has-map key ys k.1 at)
+
   -- a list that rises by its keys and has the keys of another has those in order
   pub in_order_by : {X : Type 0} (key : X → K) (Q : X → X → Ordering) → ((x y : X) → Q x y ≡ R (key x) (key y)) → (xs ys : List X)
       → IsStrictlySortedBy Q ys
       → ((x : X) → Contains xs x → Any (λ y. Q x y ≡ Equal) ys)
       → ((x : X) → Contains ys x → Contains xs x)
       → map key ys ≡ in_order R (map key xs)
-  in_order_by {X} key Q by xs ys up keeps adds_none =
-      in_order_is (map key ys) (map key xs) (keys_rise key R Q by ys up) there back
-    where
-      there : (q : K) → Has (map key ys) q → Has (map key xs) q
-      there q h =
-          let w : (y : X) × Has ys y × (key y ≡ q) = from_has-map key ys q h in
-          subst (Has (map key xs)) w.2 (has-map key xs w.0 (has_from_contains xs w.0 (adds_none w.0 (contains_from_has ys w.0 w.1))))
-
-      back : (q : K) → Has (map key xs) q → Has (map key ys) q
-      back q h =
-          let w : (x : X) × Has xs x × (key x ≡ q) = from_has-map key xs q h in
-          let k = keeps w.0 (contains_from_has xs w.0 w.1) in
-          subst (Has (map key ys)) (sym (exact (key w.0) (key k.1) (sym (by w.0 k.1) ∙ k.4)) ∙ w.2) (has-map key ys k.1 (has_from_contains ys k.1 (k.0, k.2, k.3)))
+  in_order_by key Q by xs ys up keeps adds_none = in_order_among key Q xs ys (λ x y g h. by x y) up keeps adds_none
 
   -- lists with the same members are equal in order
   pub in_order_same : (ks js : List K) → ((q : K) → Has ks q → Has js q) → ((q : K) → Has js q → Has ks q) → in_order R ks ≡ in_order R js

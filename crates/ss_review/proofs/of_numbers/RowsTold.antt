@@ -6,15 +6,16 @@ use Rattle.std.proofs.lemmas.List.{map-append, append_assoc}
 use Rattle.std.proofs.lemmas.List.Sorted.{Contains-permutation, IsPermutation-sym}
 use Rattle.ss_review.specs.declared.announced.announced_hash.AnnouncedHash as row
 use Rattle.ss_review.specs.announced.Announced.{Row, row_cmp}
-use Rattle.ss_review.specs.announced.Numbered.{row_of}
+use Rattle.ss_review.specs.declared.sessions.joined_session.JoinedSession.{JoinedSession}
+use Rattle.ss_review.specs.announced.Indexed.{row_at}
 use Rattle.ss_review.specs.Ordered.{in_order}
 use Rattle.ss_octets.proofs.Members.{Has, has_from_contains, contains_from_has, has-flat_map, from_has-flat_map}
 use Rattle.ss_review.proofs.of_lists.Rising.{in_order_same}
 use Rattle.ss_review.proofs.of_lists.TotalOrders.{row_cmp_total, row_cmp_exact}
 
 -- one more row before others
-pub row_more : (rs : List row.AnnouncedHash) (r : row.AnnouncedHash) (others : List Row) → map row_of (rs ++ r ∷ []) ++ others ≡ map row_of rs ++ row_of r ∷ others
-row_more rs r others = ap (λ qs. qs ++ others) (map-append row_of rs (r ∷ [])) ∙ append_assoc (map row_of rs) (row_of r ∷ []) others
+pub row_more : (js : List JoinedSession) (rs : List row.AnnouncedHash) (r : row.AnnouncedHash) (others : List Row) → map (row_at js) (rs ++ r ∷ []) ++ others ≡ map (row_at js) rs ++ row_at js r ∷ others
+row_more js rs r others = ap (λ qs. qs ++ others) (map-append (row_at js) rs (r ∷ [])) ∙ append_assoc (map (row_at js) rs) (row_at js r ∷ []) others
 
 -- the rows of blocks in another order are the same in order
 moved : {X : Type 0} (f : X → List Row) (xs ys : List X) → IsPermutation xs ys → (q : Row) → Has (flat_map f xs) q → Has (flat_map f ys) q

@@ -61,7 +61,7 @@ pub unstated : (says : Answers) → joined says [] ≡ Err states.Incomplete
 unfolding joined stated_payload is_disputed
 unstated says = refl
 
-module _ (says : Answers) (bs : List BlockMessage) (b : BlockMessage) (xs : List JoinedSession) (told : map session_with_joined xs ≡ sessions_joined says bs) where
+module _ (says : Answers) (bs : List BlockMessage) (xs : List JoinedSession) (told : map session_with_joined xs ≡ sessions_joined says bs) where
   keys_are : map (λ (x : JoinedSession). x.session) xs ≡ sessions bs
   keys_are =
       sym (map-map (λ (p : Session × Result (List ℕ) SessionState). p.0) session_with_joined xs)
@@ -69,13 +69,18 @@ module _ (says : Answers) (bs : List BlockMessage) (b : BlockMessage) (xs : List
       ∙ map-map (λ (p : Session × Result (List ℕ) SessionState). p.0) (λ s. (s, joined says (of_session bs s))) (sessions bs)
       ∙ map-id (sessions bs)
 
+  pub sessions_rise : IsStrictlySortedBy session_cmp (map (λ (x : JoinedSession). x.session) xs)
+  sessions_rise =
+      subst (IsStrictlySortedBy session_cmp) (sym keys_are) (rises-in_order session_cmp_total session_cmp_exact (map (λ (m : BlockMessage). m.session) bs))
+
+module _ (says : Answers) (bs : List BlockMessage) (b : BlockMessage) (xs : List JoinedSession) (told : map session_with_joined xs ≡ sessions_joined says bs) where
   abbrev order : JoinedSession → Ordering
   order x = session_cmp x.session b.session
 
   other : (i : ℕ) → IsPartitionPoint (λ x. order x ≡ Less) (λ x. order x ≡ Greater) xs i → (c : BlockMessage) → Has bs c → same_session c.session b.session ≡ false
   other i apart c h =
       let w : (x : JoinedSession) × Has xs x × (x.session ≡ c.session)
-      = from_has-map (λ x. x.session) xs c.session (subst (λ ks. Has ks c.session) (sym keys_are) (has-in_order session_cmp_total session_cmp_exact c.session (map (λ (m : BlockMessage). m.session) bs) (has-map (λ (m : BlockMessage). m.session) bs c h))) in
+      = from_has-map (λ x. x.session) xs c.session (subst (λ ks. Has ks c.session) (sym (keys_are says bs xs told)) (has-in_order session_cmp_total session_cmp_exact c.session (map (λ (m : BlockMessage). m.session) bs) (has-map (λ (m : BlockMessage). m.session) bs c h))) in
       let at : Contains xs w.0 = contains_from_has xs w.0 w.1 in
       let same : order (get_or xs at.0 w.0) ≡ session_cmp c.session b.session = ap order at.2 ∙ ap (λ s. session_cmp s b.session) w.2 in
       ap is_eq (sym same)
@@ -87,10 +92,8 @@ module _ (says : Answers) (bs : List BlockMessage) (b : BlockMessage) (xs : List
   pub not_found : (i : ℕ) → (IsNonDecreasingBy (λ x. ordering_index (order x)) xs → IsPartitionPoint (λ x. order x ≡ Less) (λ x. order x ≡ Greater) xs i) → false ≡ is_verified says bs b
   unfolding is_verified
   not_found i parted =
-      let up : IsStrictlySortedBy session_cmp (map (λ (x : JoinedSession). x.session) xs)
-      = subst (IsStrictlySortedBy session_cmp) (sym keys_are) (rises-in_order session_cmp_total session_cmp_exact (map (λ (m : BlockMessage). m.session) bs)) in
       let none : of_session bs b.session ≡ []
-      = keeps_none (λ c. same_session c.session b.session) bs (all_below (λ c. same_session c.session b.session ≡ false) bs (other i (parted (searchable (λ (x : JoinedSession). x.session) xs b.session up)))) in
+      = keeps_none (λ c. same_session c.session b.session) bs (all_below (λ c. same_session c.session b.session ≡ false) bs (other i (parted (searchable (λ (x : JoinedSession). x.session) xs b.session (sessions_rise says bs xs told))))) in
       sym (ap (λ ys. is_valid_in says (joined says ys) b) none ∙ ap (λ j. is_valid_in says j b) (unstated says))
 
 -- ---- one block more

@@ -1,30 +1,17 @@
 -- Announced numbers and sessions, as a review keeps them on its way to a report.
-use Rattle.std.specs.Prelude.{ℕ, Bool, false, List, [], ◌∷◌, map, Option, Some, None, Result, if◌then◌else◌}
+use Rattle.std.specs.Prelude.{ℕ, List, [], ◌∷◌, map, Option, Some, None, Result}
 use Rattle.ss_block.specs.declared.hash.Hash.{Hash}
 use Rattle.ss_block.specs.declared.session.Session.{Session}
 use Rattle.ss_review.specs.declared.report.session_report.SessionState.{SessionState}
 use Rattle.ss_review.specs.declared.keep.message.BlockMessage.{BlockMessage}
 use Rattle.ss_review.specs.declared.announced.message_number.MessageNumber.{MessageNumber}
-use Rattle.ss_review.specs.declared.announced.announced_hash.AnnouncedHash as row
-use Rattle.ss_review.specs.declared.announced.announced_block.AnnouncedBlock.{AnnouncedBlock}
-use Rattle.ss_review.specs.declared.keep.message.BlockContent.TheVariants.{Hashes}
 use Rattle.ss_review.specs.declared.sessions.joined_session.JoinedSession.{JoinedSession}
 use Rattle.ss_review.specs.sessions.Sessions.{sessions, of_session}
 use Rattle.ss_review.specs.sessions.Verified.{Answers, joined}
-use Rattle.ss_review.specs.announced.Announced.{Key, Row, same_key, rows_said, keys, hashes_for}
+use Rattle.ss_review.specs.announced.Announced.{Key, Row, keys, hashes_for}
 
 abbrev pub key_of : MessageNumber → Key
 key_of n = record { session = n.session.now; group = n.group; number = n.number }
-
-abbrev pub row_of : row.AnnouncedHash → Row
-row_of r = record { key = key_of r.number; hash = r.hash }
-
--- the key of a block's first hash
-abbrev pub first_key : AnnouncedBlock → Key
-first_key b = record { session = b.session.now; group = b.block.group; number = b.block.first }
-
-abbrev pub rows_by : AnnouncedBlock → List Row
-rows_by b = rows_said b.session.now (Hashes b.block)
 
 -- the one hash of a list that has no other
 abbrev pub only_hash : List Hash → Option Hash
@@ -35,16 +22,6 @@ only_hash (h ∷ g ∷ hs) = None
 -- what each key is announced with, or none where it is disputed
 abbrev pub only_hashes : List Row → List (Option Hash)
 only_hashes rs = map (λ k. only_hash (hashes_for rs k)) (keys rs)
-
--- the row is of the key of this one, if there is one
-abbrev pub is_more_of : Option Row → Row → Bool
-is_more_of None r = false
-is_more_of (Some first) r = same_key r.key first.key
-
--- a row's hash, unless the row after it is of its key too
-abbrev pub hash_before : Row → Option Row → Option Hash
-hash_before r None = Some r.hash
-hash_before r (Some next) = if same_key next.key r.key then None else Some r.hash
 
 abbrev pub session_with_joined : JoinedSession → Session × Result (List ℕ) SessionState
 session_with_joined s = (s.session, s.joined)

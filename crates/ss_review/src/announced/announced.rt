@@ -1,40 +1,44 @@
 //! Which hashes the verified signature blocks announce, and for which message numbers.
-ghost use Rattle.std.specs.Prelude.{◌≡◌, ◌<◌, ◌^◌, ◌++◌, map, flat_map, length, sum_by, IfOk, OnOk};
+ghost use Rattle.std.specs.Prelude.{◌≡◌, ◌<◌, ◌^◌, ◌++◌, ℕ, List, All, map, flat_map, length, sum_by, IfOk, OnOk};
 ghost use Rattle.std.specs.List.Sorted.{IsStrictlySortedBy};
+ghost use Rattle.ss_block.specs.Order.{session_cmp};
 ghost use Rattle.ss_review.specs.declared.keep.message.BlockContent.TheVariants.{Hashes};
+ghost use Rattle.ss_review.specs.declared.sessions.joined_session.JoinedSession.{JoinedSession};
 ghost use Rattle.ss_review.specs.sessions.Verified.{Answers, is_verified};
 ghost use Rattle.ss_review.specs.announced.Announced.{row_cmp, rows_said, rows, keys};
-ghost use Rattle.ss_review.specs.announced.Numbered.{key_of, row_of, rows_by, only_hashes, session_with_joined};
-ghost use Rattle.ss_review.specs.announced.Numbered.{sessions_joined};
+ghost use Rattle.ss_review.specs.announced.Numbered.{key_of, only_hashes, session_with_joined, sessions_joined};
+ghost use Rattle.ss_review.specs.announced.Indexed.{session_at, row_at, rows_by};
 
 use crate::announced::announced_block::{AnnouncedBlock, first_number};
 use crate::announced::announced_hash::AnnouncedHash;
-use crate::announced::message_number::MessageNumber;
+use crate::announced::indexed_number::IndexedNumber;
 use crate::announced::only_hashes::{Announced, by_number};
 use crate::announced::signature_blocks::signature_blocks;
 use crate::keep::message::BlockMessage;
 use crate::lists::ordered::put_in_order;
 use crate::sessions::joined_session::JoinedSession;
-use ss_block::{Session, SigBlock};
+use ss_block::SigBlock;
 use ss_octets::NoMemory;
 use std::alloc::Global;
 use std::mem::drop;
 
-/// Adds the hashes of a signature block, the first under its first number, each other under the next.
-fn add_hashes<'s>(
-    rows: &mut Vec<AnnouncedHash<'s>>,
-    session: &'s Session,
-    block: &SigBlock,
-) -> Result<(), NoMemory>
-    ensures { OnOk result (map row_of rows.new.items
-        ≡ map row_of rows.old.items ++ rows_said session.now (Hashes block.now)) }
+/// Adds the hashes of a signature block, the first under its first number, each other under the next. `session` is the
+/// index of its session.
+fn add_hashes(rows: &mut Vec<AnnouncedHash>, session: u32, block: &SigBlock) -> Result<(), NoMemory>
+    ensures known { (n : ℕ)
+        → session < n
+        → All (λ r. r.number.session < n) rows.old.items
+        → All (λ r. r.number.session < n) rows.new.items }
+    ensures rows { (js : List JoinedSession)
+        → OnOk result (map (row_at js) rows.new.items
+        ≡ map (row_at js) rows.old.items ++ rows_said (session_at js session) (Hashes block.now)) }
 {
     block.assure_in_range();
     let group = block.group();
     let mut number = block.first();
     for hash in block.hashes().as_slice() {
         rows.push(AnnouncedHash {
-            number: MessageNumber {
+            number: IndexedNumber {
                 session,
                 group,
                 number,
@@ -47,7 +51,7 @@ fn add_hashes<'s>(
 }
 
 /// How many hashes the blocks have.
-fn hash_count(blocks: &[AnnouncedBlock<'_>]) -> usize
+fn hash_count(blocks: &[AnnouncedBlock]) -> usize
     ensures { let count = sum_by (λ b. length b.block.hashes) blocks.now in count < 2 ^ 64 → result ≡ count }
 {
     let mut count: usize = 0;
@@ -59,11 +63,12 @@ fn hash_count(blocks: &[AnnouncedBlock<'_>]) -> usize
 }
 
 /// The rows of the blocks, in their order. Each block is let go once its rows are there.
-fn rows_of<'s>(
-    alloc: Global,
-    blocks: Vec<AnnouncedBlock<'s>>,
-) -> Result<Vec<AnnouncedHash<'s>>, NoMemory>
-    ensures { IfOk result (λ v. map row_of v.items ≡ flat_map rows_by blocks.entry.items) }
+fn rows_of(alloc: Global, blocks: Vec<AnnouncedBlock>) -> Result<Vec<AnnouncedHash>, NoMemory>
+    ensures known { (n : ℕ)
+        → All (λ b. b.session < n) blocks.items
+        → IfOk result (λ v. All (λ r. r.number.session < n) v.items) }
+    ensures rows { (js : List JoinedSession)
+        → IfOk result (λ v. map (row_at js) v.items ≡ flat_map (rows_by js) blocks.items) }
 {
     let mut rows = Vec::with_capacity(alloc, hash_count(blocks.as_slice()))?;
     for announced in blocks {
@@ -75,17 +80,19 @@ fn rows_of<'s>(
 /// All that is announced, each row once, in order. The blocks are put in order first, so their rows mostly stand in
 /// theirs. Of each message, what isn't needed any more is let go on the way. The marks are let go before the blocks: an
 /// allocator that gives memory back from its end alone keeps what was taken before them as long as them.
-fn rows<'s>(
+fn rows(
     alloc: Global,
-    sessions: &'s [JoinedSession],
+    sessions: &[JoinedSession],
     blocks: Vec<BlockMessage>,
     verified: Vec<bool>,
-) -> Result<Vec<AnnouncedHash<'s>>, NoMemory>
-    ensures rise { IfOk result (λ v. IsStrictlySortedBy row_cmp (map row_of v.items)) }
+) -> Result<Vec<AnnouncedHash>, NoMemory>
+    requires { IsStrictlySortedBy session_cmp (map (λ s. s.session) sessions.now) }
+    ensures known { IfOk result (λ v. All (λ r. r.number.session < length sessions.now) v.items) }
+    ensures rise { IfOk result (λ v. IsStrictlySortedBy row_cmp (map (row_at sessions.now) v.items)) }
     ensures rows { (says : Answers)
         → map session_with_joined sessions.now ≡ sessions_joined says blocks.items
         → verified.items ≡ map (is_verified says blocks.items) blocks.items
-        → IfOk result (λ v. map row_of v.items ≡ rows says blocks.items) }
+        → IfOk result (λ v. map (row_at sessions.now) v.items ≡ rows says blocks.items) }
 {
     let mut announced = signature_blocks(alloc, sessions, blocks, verified.as_slice())?;
     drop(verified);
@@ -103,6 +110,7 @@ pub(crate) fn announced<'s>(
     blocks: Vec<BlockMessage>,
     verified: Vec<bool>,
 ) -> Result<Announced<'s>, NoMemory>
+    requires { IsStrictlySortedBy session_cmp (map (λ s. s.session) sessions.now) }
     ensures numbers { (says : Answers)
         → map session_with_joined sessions.now ≡ sessions_joined says blocks.items
         → verified.items ≡ map (is_verified says blocks.items) blocks.items
@@ -113,5 +121,5 @@ pub(crate) fn announced<'s>(
         → IfOk result (λ a. a.hashes.items ≡ only_hashes (rows says blocks.items)) }
 {
     let rows = rows(alloc, sessions, blocks, verified)?;
-    by_number(alloc, rows.as_slice())
+    by_number(alloc, sessions, rows.as_slice())
 }

@@ -1,11 +1,14 @@
 //! What is announced, number by number.
-ghost use Rattle.std.specs.Prelude.{◌≡◌, map, option_map, IfOk};
+ghost use Rattle.std.specs.Prelude.{◌≡◌, ◌<◌, All, Some, None, length, map, option_map, IfOk, if◌then◌else◌};
 ghost use Rattle.std.specs.List.Sorted.{IsStrictlySortedBy};
-ghost use Rattle.ss_review.specs.announced.Announced.{row_cmp, same_key, keys};
-ghost use Rattle.ss_review.specs.announced.Numbered.{key_of, row_of, only_hashes, is_more_of, hash_before};
+ghost use Rattle.ss_block.specs.Order.{session_cmp};
+ghost use Rattle.ss_review.specs.announced.Announced.{row_cmp, keys};
+ghost use Rattle.ss_review.specs.announced.Numbered.{key_of, only_hashes};
+ghost use Rattle.ss_review.specs.announced.Indexed.{row_at, goes_on};
 
 use crate::announced::announced_hash::AnnouncedHash;
-use crate::announced::message_number::MessageNumber;
+use crate::announced::message_number::{MessageNumber, with_session};
+use crate::sessions::joined_session::JoinedSession;
 use ss_block::Hash;
 use ss_octets::NoMemory;
 use std::alloc::Global;
@@ -18,51 +21,49 @@ pub(crate) struct Announced<'a> {
     pub(crate) hashes: Vec<Option<Hash>>,
 }
 
-/// Whether both rows are of one number.
-fn same_number(row: &AnnouncedHash<'_>, other: &AnnouncedHash<'_>) -> bool
-    ensures { result ≡ same_key (row_of row.now).key (row_of other.now).key }
+/// Whether the row after this one, if there is one, is of its number too.
+fn goes_on(row: &AnnouncedHash, next: Option<&AnnouncedHash>) -> bool
+    ensures { result ≡ goes_on row.now (option_map (λ r. r.now) next.entry) }
 {
-    row.number == other.number
-}
-
-/// Whether the row is of the number of this one, if there is one.
-fn is_more_of(first: Option<&AnnouncedHash<'_>>, row: &AnnouncedHash<'_>) -> bool
-    ensures { result ≡ is_more_of (option_map (λ r. row_of r.now) first.entry) (row_of row.now) }
-{
-    match first {
-        Some(first) => same_number(row, first),
+    match next {
+        Some(next) => next.number == row.number,
         None => false,
     }
 }
 
 /// The hash of the first row of a number, unless the row after it is of that number too.
-fn only_hash(row: &AnnouncedHash<'_>, next: Option<&AnnouncedHash<'_>>) -> Option<Hash>
-    ensures { result ≡ hash_before (row_of row.now) (option_map (λ r. row_of r.now) next.entry) }
+fn only_hash(row: &AnnouncedHash, goes_on: bool) -> Option<Hash>
+    ensures { result ≡ (if goes_on then None else Some row.now.hash) }
 {
-    match next {
-        Some(next) if same_number(next, row) => None,
-        _ => Some(row.hash),
+    if goes_on {
+        return None;
     }
+    Some(row.hash)
 }
 
-/// The numbers of these rows, which are in order, and the only hash of each.
+/// The numbers of these rows, which are in order, and the only hash of each. `sessions` are those of the log, in their
+/// order.
 pub(crate) fn by_number<'a>(
     alloc: Global,
-    rows: &[AnnouncedHash<'a>],
+    sessions: &'a [JoinedSession],
+    rows: &[AnnouncedHash],
 ) -> Result<Announced<'a>, NoMemory>
-    requires { IsStrictlySortedBy row_cmp (map row_of rows.now) }
-    ensures numbers { IfOk result (λ a. map key_of a.numbers.items ≡ keys (map row_of rows.now)) }
-    ensures hashes { IfOk result (λ a. a.hashes.items ≡ only_hashes (map row_of rows.now)) }
+    requires sessions { IsStrictlySortedBy session_cmp (map (λ s. s.session) sessions.now) }
+    requires known { All (λ r. r.number.session < length sessions.now) rows.now }
+    requires rise { IsStrictlySortedBy row_cmp (map (row_at sessions.now) rows.now) }
+    ensures numbers { IfOk result (λ a. map key_of a.numbers.items ≡ keys (map (row_at sessions.now) rows.now)) }
+    ensures hashes { IfOk result (λ a. a.hashes.items ≡ only_hashes (map (row_at sessions.now) rows.now)) }
 {
     let mut numbers = Vec::with_capacity(alloc, rows.len())?;
     let mut hashes = Vec::with_capacity(alloc, rows.len())?;
-    let mut first = None;
+    let mut is_first = true;
     for (i, row) in rows.iter().enumerate() {
-        if !is_more_of(first, row) {
-            numbers.push(row.number)?;
-            hashes.push(only_hash(row, rows.get(i + 1)))?;
-            first = Some(row);
+        let goes_on = goes_on(row, rows.get(i + 1));
+        if is_first {
+            numbers.push(with_session(sessions, row.number))?;
+            hashes.push(only_hash(row, goes_on))?;
         }
+        is_first = !goes_on;
     }
     Ok(Announced { numbers, hashes })
 }

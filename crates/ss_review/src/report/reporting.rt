@@ -1,5 +1,7 @@
 //! The report of a log whose blocks were judged.
 ghost use Rattle.std.specs.Prelude.{◌≡◌, map, IfOk};
+ghost use Rattle.std.specs.List.Sorted.{IsStrictlySortedBy};
+ghost use Rattle.ss_block.specs.Order.{session_cmp};
 ghost use Rattle.ss_review.specs.keep.Contents.{Contents};
 ghost use Rattle.ss_review.specs.sessions.Verified.{Answers, is_verified};
 ghost use Rattle.ss_review.specs.announced.Numbered.{session_with_joined, sessions_joined};
@@ -18,14 +20,15 @@ use ss_octets::NoMemory;
 use std::alloc::Global;
 use std::mem::drop;
 
-/// What a review reports about a log whose blocks were judged: `sessions` are theirs, and `verified` says which of them
-/// are verified. The blocks are freed before the index is asked, and the index before the report is made.
+/// What a review reports about a log whose blocks were judged: `sessions` are theirs, in their order, and `verified` says
+/// which of them are verified. The blocks are freed before the index is asked, and the index before the report is made.
 pub(crate) fn reported<I: Index + Drop>(
     alloc: Global,
     held: ReviewInput<'_, I>,
     sessions: &[JoinedSession],
     verified: Vec<bool>,
 ) -> Result<Report, NoMemory>
+    requires { IsStrictlySortedBy session_cmp (map (λ s. s.session) sessions.now) }
     ensures { (says : Answers) (log : Contents)
         → I.has held.entry.index log.normal
         → held.entry.blocks.items ≡ log.blocks

@@ -4,6 +4,7 @@ use Rattle.ss_review.specs.questions.Questions.{questions, AreAskable}
 use Rattle.ss_review.proofs.of_questions.AskableBlocks.{askable_in}
 use Rattle.ss_review.specs.announced.Numbered.{session_with_joined, sessions_joined}
 use Rattle.ss_review.specs.counted.Counted.{counted_sessions}
+use Rattle.ss_review.proofs.of_sessions.Verifying.{sessions_rise}
 use Rattle.ss_review.proofs.counted.reviewing.review_counted.Goals as goal
 
 pub joined_sessions-requires-clause-askable : goal.joined_sessions-requires-clause-askable
@@ -17,6 +18,11 @@ verified-requires-clause-askable g c =
     askable_in g.J.Judge.askable c.args.judge says c.as_slice-blocks.result.now c.as_slice.result.now
     (ap (map session_with_joined) c.as_slice.ensures.value ∙ told ∙ ap (sessions_joined says) (sym c.as_slice-blocks.ensures.value))
     (subst (λ bs. AreAskable g.J.Judge.askable c.args.judge (questions bs)) (sym c.as_slice-blocks.ensures.value) c.requires.askable)
+
+pub reported-requires : goal.reported-requires
+reported-requires g c =
+    sessions_rise (answers g.J.Judge.trusted g.J.Judge.valid c.args.judge) c.args.held.blocks.items c.as_slice-4.result.now
+    (ap (map session_with_joined) c.as_slice-4.ensures.value ∙ c.in_ok-sessions.ensures ∙ ap (sessions_joined (answers g.J.Judge.trusted g.J.Judge.valid c.args.judge)) c.as_slice-blocks.ensures.value)
 
 pub returns : goal.returns
 returns g c =
