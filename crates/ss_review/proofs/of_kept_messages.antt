@@ -2,6 +2,7 @@ pub mod Ends
 pub mod Keeping
 pub mod Bounds
 pub mod TextsTold
+pub mod CountedBlocks
 pub mod NotedBlocks
 pub mod StoredTold
 pub mod NotesTold
