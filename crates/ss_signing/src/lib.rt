@@ -15,6 +15,7 @@ mod request;
 mod send;
 mod sign;
 mod sign_run;
+mod text;
 mod want_writer;
 
 pub use ahead::run_ahead;

@@ -3,8 +3,9 @@ ghost use Rattle.std.specs.Prelude.{◌≡◌, ◌++◌, OnOk};
 ghost use Rattle.ss_signing.specs.Wants.{want_line};
 
 use crate::blank::Blank;
+use crate::text::Text;
+use base64::engine::general_purpose::STANDARD;
 use ss_block::Payload;
-use ss_octets::strict_base64::put_base64;
 use ss_origin::{SealFault, Seals};
 use std::alloc::{AllocError, Global};
 
@@ -14,7 +15,7 @@ use std::alloc::{AllocError, Global};
 pub(crate) struct WantWriter {
     pub(crate) blank: Blank,
     /// The lines, each ended by LF.
-    pub(crate) lines: Vec<u8>,
+    pub(crate) lines: Text,
 }
 
 impl Seals for WantWriter {
@@ -30,7 +31,7 @@ impl Seals for WantWriter {
     ghost answers = { λ _ octets answer. gives_0 octets answer };
 
     // When it gave a signature, the line of the octets stands after its lines.
-    ghost asked = { writes_want (λ s. s.lines.items) };
+    ghost asked = { writes_want (λ s. s.lines) };
 
     fn payload_block(&self) -> &Payload {
         self.blank.payload_block()
@@ -46,10 +47,12 @@ impl Seals for WantWriter {
 }
 
 /// want OCTETS, with the octets in strict base64.
-fn put_want_line(alloc: Global, text: &mut Vec<u8>, octets: &[u8]) -> Result<(), AllocError>
-    ensures { OnOk result (text.new.items ≡ text.old.items ++ want_line octets.now) }
+#[tactic(auto, unfolding(ss_octets::specs::StrictBase64::base64))]
+fn put_want_line(alloc: Global, text: &mut Text, octets: &[u8]) -> Result<(), AllocError>
+    ensures { OnOk result (text.new ≡ text.old ++ want_line octets.now) }
 {
-    text.extend_from_slice(b"want ")?;
-    put_base64(alloc, text, octets)?;
-    text.extend_from_slice(b"\n")
+    let encoded = STANDARD.encode(alloc, octets)?;
+    text.put(b"want ")?;
+    text.put(encoded.as_bytes())?;
+    text.put(b"\n")
 }

@@ -1,4 +1,4 @@
-use Rattle.std.proofs.Common.{ℕ, List, ap, ◌∙◌}
+use Rattle.std.proofs.Common.{ℕ, List, ap}
 use Rattle.std.proofs.lemmas.Result.{err_from_is_err_and}
 use Rattle.ss_frame.specs.Watched.{source_of, sink_of}
 use Rattle.ss_signing.specs.declared.output.OutputForm.TheVariants.{Nothing}
@@ -13,7 +13,7 @@ use Rattle.ss_signing.proofs.Writing.{run_writes, run_fails_to_write, run_stops}
 use Rattle.ss_signing.proofs.plan.run_plan_from.Goals as goal
 
 abbrev lines : WantWriter → List ℕ
-lines sealer = sealer.lines.items
+lines sealer = sealer.lines
 
 pub returns-in_err-sent-clause-stopped : goal.returns-in_err-sent-clause-stopped
 returns-in_err-sent-clause-stopped g c =
@@ -34,12 +34,12 @@ returns-in_err-write_whole-clause-stopped g c =
     let start = started request.start in
     let messages = c.in_ok-messages.messages.items in
     let o = c.in_ok-sent.sent.originator in
-    let made = plan_made lines request.config c.args.payload start request.stamp Nothing messages c.in_ok-sent.ensures.asked c.new.ensures.items in
+    let made = plan_made lines request.config c.args.payload start request.stamp Nothing messages c.in_ok-sent.ensures.asked c.new.ensures in
     let p = err_from_is_err_and c.from_residual-in_err-write_whole.result c.from_residual-in_err-write_whole.ensures.1 in
     rw (p.1, p.2, c.in_err-write_whole.ensures.0)
     (run_fails_to_write (planning_from start request.config c.args.payload request.stamp request.wrap) request.limits (source_of g.R.Read.remaining c.args.reader.now) (source_of g.R.Read.remaining c.read_prepared.new.reader) messages
     (sink_of g.W.Write.contents c.args.writer.now) (sink_of g.W.Write.contents c.write_whole.new.writer)
-    (lines o.sealer) c.as_slice.result.now c.in_ok-messages.ensures.read made (c.as_slice.ensures.value ∙ ap lines c.into_sealer-sealer.ensures) c.in_err-write_whole.ensures.1)
+    (lines o.sealer) (lines c.into_sealer-sealer.result) c.in_ok-messages.ensures.read made (ap lines c.into_sealer-sealer.ensures) c.in_err-write_whole.ensures.1)
 
 pub returns-clause-planned : goal.returns-clause-planned
 returns-clause-planned g c =
@@ -47,7 +47,7 @@ returns-clause-planned g c =
     let start = started request.start in
     let messages = c.in_ok-messages.messages.items in
     let o = c.in_ok-sent.sent.originator in
-    let made = plan_made lines request.config c.args.payload start request.stamp Nothing messages c.in_ok-sent.ensures.asked c.new.ensures.items in
+    let made = plan_made lines request.config c.args.payload start request.stamp Nothing messages c.in_ok-sent.ensures.asked c.new.ensures in
     run_writes (planning_from start request.config c.args.payload request.stamp request.wrap) request.limits (source_of g.R.Read.remaining c.args.reader.now) (source_of g.R.Read.remaining c.read_prepared.new.reader) messages
     (sink_of g.W.Write.contents c.args.writer.now) (sink_of g.W.Write.contents c.write_whole.new.writer)
-    (lines o.sealer) c.as_slice.result.now c.in_ok-messages.ensures.read made (c.as_slice.ensures.value ∙ ap lines c.into_sealer-sealer.ensures) c.in_ok-write_whole.ensures
+    (lines o.sealer) (lines c.into_sealer-sealer.result) c.in_ok-messages.ensures.read made (ap lines c.into_sealer-sealer.ensures) c.in_ok-write_whole.ensures
