@@ -1,7 +1,7 @@
 //! The keys by which the lines of an answers file are kept in order and looked up.
 ghost use Rattle.std.specs.Prelude.{◌≡◌, IfSome};
 ghost use Rattle.std.specs.Cmp.Lexicographic.{slice_cmp};
-ghost use Rattle.std.specs.Ordering.{nat_cmp, ordering_then};
+ghost use Rattle.std.specs.Ordering.{nat_cmp};
 ghost use Rattle.ss_answers.specs.AnswerKey.{IsFirstNumber};
 
 use std::cmp::Ordering;
@@ -61,21 +61,11 @@ impl<'a> Key<'a> {
     pub fn compare(&self, other: &Key<'_>) -> Ordering
         ensures { result ≡ key_cmp (sort_key self.now) (sort_key other.now) }
     {
-        let kinds = self.kind.cmp(&other.kind);
-        let firsts = then_by(kinds, self.first, other.first);
-        let seconds = then_by(firsts, self.second, other.second);
-        then_by(seconds, self.third, other.third)
-    }
-}
-
-/// An order, and where it leaves two equal, that of their octets.
-fn then_by(order: Ordering, mine: &[u8], other: &[u8]) -> Ordering
-    ensures { result ≡ ordering_then order (slice_cmp nat_cmp mine.now other.now) }
-{
-    if order.is_eq() {
-        compare_octets(mine, other)
-    } else {
-        order
+        self.kind
+            .cmp(&other.kind)
+            .then_with(|| compare_octets(self.first, other.first))
+            .then_with(|| compare_octets(self.second, other.second))
+            .then_with(|| compare_octets(self.third, other.third))
     }
 }
 
