@@ -15,14 +15,14 @@ if [ ! -x "$program" ]; then
     exit 2
 fi
 
-PYTHONPATH=$here/tests python3 -B - "$work" "$program" "${1:-1000000}" "$here/tests/signed_log.py" <<'P'
+PYTHONPATH=$here/tests:$here/bench python3 -B - "$work" "$program" "${1:-1000000}" "$here/tests/signed_log.py" <<'P'
 """Runs each command once, and tells what /usr/bin/time says of it."""
-import base64
 import os
 import subprocess
 import sys
 from typing import List
 
+from measured import Command, once, put_seals
 from signed_log import PAYLOAD
 
 work, program, count, maker = sys.argv[1:]
@@ -39,21 +39,8 @@ def make(folder: str, blocks: str) -> str:
 
 def tell(name: str, log: str, words: List[str], output: str = os.devnull) -> None:
     """Runs one command over a log, and prints what it took."""
-    with open(log, "rb") as source, open(output, "wb") as sink:
-        done = subprocess.run(["/usr/bin/time", "-f", "%U %S %M", program, *words], stdin=source, stdout=sink,
-                              stderr=subprocess.PIPE, check=False)
-    if done.returncode not in (0, 1):
-        sys.exit(f"{name} ended with status {done.returncode}: {done.stderr.decode()}")
-    user, system, peak = done.stderr.split()[-3:]
-    print(f"{name:32} {int(peak) * 1024 / 1e6:7.0f} MB {float(user) + float(system):6.2f} s", flush=True)
-
-
-def seal(wants: str, seals: str) -> None:
-    """Writes a `seal` line for each `want` line, with 46 octets as of a DSA signature with a q of 160 bits."""
-    sign = base64.b64encode(bytes(46))
-    with open(wants, "rb") as source, open(seals, "wb") as sink:
-        for line in source:
-            sink.write(b"seal " + line.split()[1] + b" " + sign + b"\n")
+    took = once(Command([program, *words], log, output))
+    print(f"{name:32} {took.peak / 1e6:7.0f} MB {took.seconds:6.2f} s", flush=True)
 
 
 signed, unsigned = make("signed", "yes"), make("unsigned", "no")
@@ -68,6 +55,6 @@ for folder, name in ((signed, "signed"), (unsigned, "not signed")):
     tell("inspect", log, ["inspect"])
 log, wants, seals = f"{unsigned}/log", f"{work}/wants", f"{work}/seals"
 tell("plan", log, ["plan", *OPTIONS], wants)
-seal(wants, seals)
+put_seals(wants, seals)
 tell("sign", log, ["sign", *OPTIONS, "--answers", seals])
 P

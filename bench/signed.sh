@@ -24,48 +24,26 @@ if [ $# -gt 0 ]; then
     shift
 fi
 
-python3 -B - "$work" "$program" "$count" "$here/tests/signed_log.py" "$@" <<'P'
+PYTHONPATH=$here/bench python3 -B - "$work" "$program" "$count" "$here/tests/signed_log.py" "$@" <<'P'
 """Runs each command three times, and tells the best run."""
+import filecmp
 import os
 import subprocess
 import sys
-from typing import List, Tuple
+
+from measured import Command, best_by_turns
 
 work, program, count, maker, *yardstick = sys.argv[1:]
 subprocess.run([sys.executable, "-B", maker, count, work], check=True)
 log, answers = f"{work}/log", f"{work}/answers"
-
-
-def once(words: List[str], stdin: str, output: str) -> Tuple[float, int]:
-    """Seconds of a processor, and the most octets of memory."""
-    with open(stdin, "rb") as source, open(output, "wb") as target:
-        process = subprocess.Popen(words, stdin=source, stdout=target)
-        _, status, usage = os.wait4(process.pid, 0)
-    if os.waitstatus_to_exitcode(status) not in (0, 1):
-        sys.exit(f"{words[0]} ended with {os.waitstatus_to_exitcode(status)}")
-    return usage.ru_utime + usage.ru_stime, usage.ru_maxrss * 1024
-
-
-def best(words: List[str], stdin: str, output: str) -> Tuple[float, int]:
-    runs = [once(words, stdin, output) for _ in range(3)]
-    return min(seconds for seconds, _ in runs), min(peak for _, peak in runs)
-
-
-def tell(name: str, run: Tuple[float, int], base: float) -> None:
-    print(f"{name:10} {run[0]:7.2f} s {run[1] / 1e6:8.0f} MB {run[0] / base:6.2f}")
-
-
-anchor = None
-if yardstick:
-    anchor = best([*yardstick, "--answers", answers, log], os.devnull, f"{work}/yardstick")
-review = best([program, "review", "--answers", answers], log, f"{work}/review")
-base = anchor[0] if anchor else review[0]
-if anchor:
-    tell("yardstick", anchor, base)
-    with open(f"{work}/yardstick", "rb") as one, open(f"{work}/review", "rb") as other:
-        if one.read() != other.read():
-            sys.exit("the yardstick and ssign review print different reports")
-tell("review", review, base)
-tell("extract", best([program, "extract", "--answers", answers], log, f"{work}/extract"), base)
-tell("questions", best([program, "questions"], log, f"{work}/questions"), base)
+commands = {"yardstick": Command([*yardstick, "--answers", answers, log], os.devnull, f"{work}/yardstick")} if yardstick else {}
+commands["review"] = Command([program, "review", "--answers", answers], log, f"{work}/review")
+commands["extract"] = Command([program, "extract", "--answers", answers], log, f"{work}/extract")
+commands["questions"] = Command([program, "questions"], log, f"{work}/questions")
+took = best_by_turns(commands)
+if yardstick and not filecmp.cmp(f"{work}/yardstick", f"{work}/review", shallow=False):
+    sys.exit("the yardstick and ssign review print different reports")
+base = took["yardstick" if yardstick else "review"]
+for name, run in took.items():
+    print(f"{name:10} {run.seconds:7.2f} s {run.peak / 1e6:8.0f} MB {run.seconds / base.seconds:6.2f}")
 P
