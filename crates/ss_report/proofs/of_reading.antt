@@ -3,3 +3,8 @@ pub mod FedSoFar
 pub mod PickedSoFar
 pub mod PickedAt
 pub mod Answered
+pub mod HeldTexts
+pub mod HeldSoFar
+pub mod HeldPlaces
+pub mod Selected
+pub mod LastOctets

@@ -1,5 +1,6 @@
 pub mod Carrying
 pub mod Extraction
+pub mod Selecting
 pub mod Counters
 pub mod Run
 pub mod Jobs

@@ -13,10 +13,11 @@ ghost use Rattle.ss_report.specs.runs.Carrying.{carried_by, is_verified_in};
 ghost use Rattle.ss_report.specs.runs.CarriedSoFar.{KnowsExtents, carried_at, carried_numbers, carried_verified};
 ghost use Rattle.ss_report.specs.runs.CarriedSoFar.{carried_with, extent_cmp};
 
+use crate::log::held::Held;
 use crate::runs::lookups::{entries_under, has_gap, is_refused, joined_session};
 use crate::runs::places::{add_of_entries, put_in_order};
 use ss_block::{CertBlock, FullReading, Reading, Session, SigBlock, may_hold_block, read_fully};
-use ss_octets::{Bytes, NoMemory};
+use ss_octets::NoMemory;
 use ss_review::{Entry, Places, Report};
 use std::alloc::Global;
 use std::collections::BTreeSet;
@@ -41,7 +42,7 @@ struct Carried<'a> {
 pub(crate) fn carried_places(
     alloc: Global,
     report: &Report,
-    messages: &[Bytes],
+    messages: &Held,
 ) -> Result<Places, NoMemory>
     requires rising { IsInOrder report.now }
     requires few { length messages.now ≤ most_messages }
@@ -51,8 +52,8 @@ pub(crate) fn carried_places(
     let known = BTreeSet::new(alloc);
     let mut carried = Carried { places, known };
     let mut place = 0;
-    for message in messages {
-        carry_message(alloc, &mut carried, report, place, message.as_slice())?;
+    while let Some(text) = messages.get(place as usize) {
+        carry_message(alloc, &mut carried, report, place, text)?;
         place += 1;
     }
     let mut places = carried.places;

@@ -6,20 +6,10 @@ ghost use Rattle.ss_report.specs.log.Picked.{AreAt};
 ghost use Rattle.ss_report.specs.runs.Extraction.{absent, holds_lf, no_line};
 ghost use Rattle.ss_report.specs.declared.runs.extraction.Selection.TheVariants.{At};
 
-use crate::runs::extraction::{ExtractFault, Selection};
+use crate::log::held::Held;
+use crate::runs::extraction::ExtractFault;
 use ss_frame::Form;
 use ss_octets::Bytes;
-
-/// Refuses the first of the given places that a log of so many messages hasn't (E1).
-pub(crate) fn refuse_absent(selection: &Selection, count: usize) -> Result<(), ExtractFault>
-    ensures { MatchResult result (λ _. absent selection.now count ≡ None) (λ fault.
-        absent selection.now count ≡ Some fault) }
-{
-    match selection {
-        Selection::At(places) => refuse_past(places.as_slice(), count),
-        _ => Ok(()),
-    }
-}
 
 /// Refuses the first of the places that a log of so many messages hasn't (E1).
 pub(crate) fn refuse_past(places: &[u32], count: usize) -> Result<(), ExtractFault>
@@ -45,7 +35,7 @@ fn first_past(places: &[u32], count: usize) -> Option<u32>
 /// Refuses the first of the messages at these places that isn't one of the form (E2).
 pub(crate) fn refuse_no_line(
     form: Form,
-    messages: &[Bytes],
+    messages: &Held,
     places: &[u32],
 ) -> Result<(), ExtractFault>
     ensures { MatchResult result (λ _. no_line form messages.now places.now ≡ None)
@@ -61,7 +51,7 @@ pub(crate) fn refuse_no_line(
 }
 
 /// The first of the places whose message holds LF.
-fn first_with_lf(messages: &[Bytes], places: &[u32]) -> Option<u32>
+fn first_with_lf(messages: &Held, places: &[u32]) -> Option<u32>
     ensures { result ≡ find (holds_lf messages.now) places.now }
 {
     places
@@ -119,11 +109,11 @@ fn index_with_lf(picked: &[Bytes]) -> Option<usize>
 }
 
 /// Whether the message at the place holds LF.
-fn holds_lf(messages: &[Bytes], place: u32) -> bool
+fn holds_lf(messages: &Held, place: u32) -> bool
     ensures { result ≡ holds_lf messages.now place }
 {
     match messages.get(place as usize) {
-        Some(message) => message.as_slice().contains(&b'\n'),
+        Some(message) => message.contains(&b'\n'),
         None => false,
     }
 }

@@ -1,7 +1,8 @@
 //! The messages of an extract out of their wraps.
-ghost use Rattle.std.specs.Prelude.{◌≡◌, map, IfOk, OnOk};
+ghost use Rattle.std.specs.Prelude.{◌≡◌, ◌<◌, [], length, get_or, map, slice_set, IfOk, OnOk};
 ghost use Rattle.ss_report.specs.runs.Extraction.{out_of_wrap, shown};
 
+use crate::log::held::Held;
 use ss_octets::{Bytes, NoMemory};
 use ss_wrap::original;
 use std::alloc::Global;
@@ -58,5 +59,47 @@ fn unwrap(alloc: Global, message: &mut Bytes) -> Result<(), NoMemory>
     }
     let octets = Vec::from_slice(alloc, octets)?;
     *message = Bytes::from_vec(octets);
+    Ok(())
+}
+
+/// Takes each held message out of its wrap, if that is asked for. It takes no memory for what is in a wrap.
+///
+/// Errs only if it runs out of memory.
+pub(crate) fn show_held(alloc: Global, messages: &mut Held, unwrap: bool) -> Result<(), NoMemory>
+    ensures { OnOk result (messages.new ≡ shown unwrap messages.old) }
+{
+    if !unwrap {
+        return Ok(());
+    }
+    unwrap_held(alloc, messages)
+}
+
+/// Takes each held message out of its wrap, if it has the form of one.
+fn unwrap_held(alloc: Global, messages: &mut Held) -> Result<(), NoMemory>
+    ensures { OnOk result (messages.new ≡ map out_of_wrap messages.old) }
+{
+    for place in 0..messages.len() {
+        unwrap_at(alloc, messages, place)?;
+    }
+    Ok(())
+}
+
+/// Takes the message at this place out of its wrap, if it has the form of one: the octets in it are its last.
+fn unwrap_at(alloc: Global, messages: &mut Held, place: usize) -> Result<(), NoMemory>
+    requires { place < length messages.old }
+    ensures { OnOk result (messages.new
+        ≡ slice_set messages.old place (out_of_wrap (get_or messages.old place []))) }
+{
+    let Some(message) = messages.get(place) else {
+        return Ok(());
+    };
+    let Some(inner) = original(alloc, message)? else {
+        return Ok(());
+    };
+    if inner.is_empty() {
+        return Ok(());
+    }
+    let count = inner.len();
+    messages.keep_last(place, count);
     Ok(())
 }
