@@ -1,7 +1,5 @@
-use Rattle.std.proofs.Common.{◌≡◌, ◌<◌, [], length, get_or, Some, sym, ◌∙◌, arith}
-use Rattle.std.specs.Prelude.{slice_get}
+use Rattle.std.proofs.Common.{length, sym, ◌∙◌, arith}
 use Rattle.std.proofs.lemmas.Bool.{eqb-false, eqb-true}
-use Rattle.ss_wrap.specs.Wrap.{original}
 use Rattle.ss_report.proofs.of_reading.LastOctets.{cut_wrap, empty_wrap, few_last, no_wrap, stays_wrapped}
 use Rattle.ss_report.proofs.runs.unwrapping.unwrap_at.Goals as goal
 

@@ -1,5 +1,5 @@
-use Rattle.std.proofs.Common.{◌≡◌, ◌<◌, get_or, [], set, length, refl, sym, ap, ◌∙◌, arith}
-use Rattle.std.proofs.lemmas.List.{length-set, take_all}
+use Rattle.std.proofs.Common.{◌<◌, get_or, [], length, refl, ap, ◌∙◌, arith}
+use Rattle.std.proofs.lemmas.List.{length-set}
 use Rattle.ss_report.specs.runs.Extraction.{out_of_wrap}
 use Rattle.ss_report.proofs.of_reading.HeldTexts.{same_item}
 use Rattle.ss_report.proofs.of_writing.Unwrapping.{unwrap_more}
