@@ -33,14 +33,15 @@ class Workplace:
     """A folder for passing files, and the children that were started; both go when the block of `with` ends.
 
     A signal that asks the process to end is raised as `Ended` within the block. After it the process dies by that same
-    signal, so that a shell that waits for it learns of it.
+    signal, so that a shell that waits for it learns of it. While the folder is made or removed, a signal is put off: else
+    some of it would be left.
     """
 
     SIGNALS = (signal.SIGINT, signal.SIGTERM, signal.SIGHUP)
 
     def __init__(self) -> None:
         self._children: List[Union[subprocess.Popen[bytes], Forked]] = []
-        self._is_starting = False
+        self._puts_off = False
         self._put_off: Optional[int] = None
 
     def __enter__(self) -> Workplace:
@@ -52,11 +53,12 @@ class Workplace:
                 os._exit(128 + number)
             for it in self.SIGNALS:
                 signal.signal(it, signal.SIG_IGN)
-            if self._is_starting:
+            if self._puts_off or is_leaving(frame):
                 self._put_off = number
                 return
             raise Ended(number)
 
+        self._puts_off = True
         # what whoever started this process had ignored, as nohup does, stays ignored
         self._before = {it: signal.getsignal(it) for it in self.SIGNALS}
         for it, before in self._before.items():
@@ -65,25 +67,41 @@ class Workplace:
         try:
             self._folder = tempfile.TemporaryDirectory(prefix="ssign-keys-")
         except OSError as error:
+            self._let_go(self._put_off)
             raise Fault(f"no folder for passing files can be made: {error.strerror}; look at TMPDIR") from error
-        return self
+        try:
+            self._puts_off = False
+            if self._put_off is not None:
+                raise Ended(self._put_off)
+            return self
+        except Ended as ended:
+            # whoever raises here doesn't come to the end of the block
+            self._puts_off = True
+            self._folder.cleanup()
+            self._let_go(ended.number)
+            raise
 
     def __exit__(
         self, kind: Optional[Type[BaseException]], error: Optional[BaseException], trace: Optional[TracebackType]
     ) -> None:
+        self._puts_off = True
         for child in self._children:
             if child.poll() is None:
                 child.kill()
                 child.wait()
         self._folder.cleanup()
-        for it, before in self._before.items():
-            signal.signal(it, before)
+        self._let_go(error.number if isinstance(error, Ended) else self._put_off)
         if isinstance(error, OSError) and error.errno in NO_ROOM:
             # a file that couldn't be written fails once more where it is closed
             raise no_room(error) from error
-        if isinstance(error, Ended):
-            signal.signal(error.number, signal.SIG_DFL)
-            os.kill(os.getpid(), error.number)
+
+    def _let_go(self, number: Optional[int]) -> None:
+        """Signals do what they did before. If this one came meanwhile, the process dies by it."""
+        for it, before in self._before.items():
+            signal.signal(it, before)
+        if number is not None:
+            signal.signal(number, signal.SIG_DFL)
+            os.kill(os.getpid(), number)
 
     def path(self, name: str) -> str:
         """The path of a passing file of this name."""
@@ -123,13 +141,22 @@ class Workplace:
     @contextlib.contextmanager
     def _starting(self) -> Iterator[None]:
         """Puts a signal off that comes while a child starts."""
-        self._is_starting = True
+        self._puts_off = True
         try:
             yield
         finally:
-            self._is_starting = False
+            self._puts_off = False
             if self._put_off is not None:
                 raise Ended(self._put_off)
+
+
+def is_leaving(frame: Optional[FrameType]) -> bool:
+    """Whether the block of a workplace is being left here: a signal may come before the first line of that is run."""
+    while frame is not None:
+        if frame.f_code is Workplace.__exit__.__code__:
+            return True
+        frame = frame.f_back
+    return False
 
 
 def no_room(error: OSError) -> Fault:
