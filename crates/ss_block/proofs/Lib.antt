@@ -17,6 +17,9 @@ pub mod Placing
 pub mod Blocks
 pub mod Layouts
 pub mod SignPlaces
+pub mod Lengths
+pub mod ContentPlaces
+pub mod SenderPlaces
 pub mod Marks
 pub mod Parses
 pub mod WrittenValues

@@ -47,19 +47,19 @@ around v before id ps after is =
 
 -- ---- SIGN
 
-abbrev sign_of : List ℕ → ParameterValue
+abbrev pub sign_of : List ℕ → ParameterValue
 sign_of raw = record { name = codes "SIGN"; raw = raw }
 
 -- the eight parameters and SIGN
-nine_text : (ps : List ParameterValue) (p : ParameterValue) → flat_map parameter_text (ps ++ p ∷ []) ≡ flat_map parameter_text ps ++ parameter_text p
+pub nine_text : (ps : List ParameterValue) (p : ParameterValue) → flat_map parameter_text (ps ++ p ∷ []) ≡ flat_map parameter_text ps ++ parameter_text p
 nine_text ps p = flat_map-append parameter_text ps (p ∷ []) ∙ ap (λ (x : List ℕ). flat_map parameter_text ps ++ x) (append-nil (parameter_text p))
 
 -- the text of a block is a front, SIGN and a back, and front and back are what is signed
-record Rounds (v : MessageValue) (id : List ℕ) (b : BlockElement v.elements id) : Type 0 where
-  whole : text v ≡ front_of v b.before id b.parameters ++ (parameter_text (sign_of b.raw) ++ back_of v b.after)
-  left : text (unsigned_value v) ≡ front_of v b.before id b.parameters ++ back_of v b.after
+pub record Rounds (v : MessageValue) (id : List ℕ) (b : BlockElement v.elements id) : Type 0 where
+  pub whole : text v ≡ front_of v b.before id b.parameters ++ (parameter_text (sign_of b.raw) ++ back_of v b.after)
+  pub left : text (unsigned_value v) ≡ front_of v b.before id b.parameters ++ back_of v b.after
 
-rounds : (v : MessageValue) (id : List ℕ) (b : BlockElement v.elements id) → Rounds v id b
+pub rounds : (v : MessageValue) (id : List ℕ) (b : BlockElement v.elements id) → Rounds v id b
 rounds v id b = record {
   whole =
       around v b.before id (b.parameters ++ sign_of b.raw ∷ []) b.after b.is
@@ -103,12 +103,12 @@ record SignPlaced (t : List ℕ) (l : Layout) (id : List ℕ) : Type 0 where
   left : text (unsigned_value (value_at t l)) ≡ front ++ back
   split : IsWithoutSign t (front ++ back)
 
-elements_some : (t : List ℕ) (es : List Element) (before : List ElementValue) (e : ElementValue) (after : List ElementValue) → element_values t es ≡ before ++ e ∷ after → 0 < length es
+pub elements_some : (t : List ℕ) (es : List Element) (before : List ElementValue) (e : ElementValue) (after : List ElementValue) → element_values t es ≡ before ++ e ∷ after → 0 < length es
 elements_some t [] [] e after is = absurd cc
 elements_some t [] (b ∷ before) e after is = absurd cc
 elements_some t (x ∷ es) before e after is = omega arith
 
-same_long : (p q : ParameterValue) → p ≡ q → length (parameter_text p) ≡ length (parameter_text q)
+pub same_long : (p q : ParameterValue) → p ≡ q → length (parameter_text p) ≡ length (parameter_text q)
 same_long p q same = ap (λ (x : ParameterValue). length (parameter_text x)) same
 
 sign_placed : (t : List ℕ) (l : Layout) (id : List ℕ) → PartsLie t l → IsMessage (value_at t l) → t ≡ text (value_at t l) → block_id (value_reading (value_at t l)) ≡ Some id → SignPlaced t l id

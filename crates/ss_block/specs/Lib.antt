@@ -7,7 +7,9 @@ pub mod Engines
 pub mod Reading
 pub mod Mark
 pub mod Signed
+pub mod PlacedReading
 pub mod Session
+pub mod SessionPlaces
 pub mod Order
 pub mod OrderLaws
 pub mod Meanings

@@ -1,4 +1,4 @@
--- Which parameter of a message is the SIGN of its block.
+-- Which parameters of a message are the SIGN and the content of its block.
 use Rattle.std.specs.Prelude.{ℕ, List, codes, Option, Some, None, option_and_then}
 use Rattle.std.specs.List.{slice_get}
 use Rattle.ss_message.specs.declared.message.Parameter.{Parameter}
@@ -21,4 +21,10 @@ block_id (Spoilt cause) = None
 abbrev pub sign_parameter : List ℕ → List ℕ → List Element → Option Parameter
 sign_parameter source id es =
     option_and_then (λ e. slice_get e.parameters (place_of kinds.Sign))
+    (option_and_then (slice_get es) (element_from 0 source id es))
+
+-- the HB or FRAG, which have one place, of the element with this SD-ID, if it is that of a block
+abbrev pub content_parameter : List ℕ → List ℕ → List Element → Option Parameter
+content_parameter source id es =
+    option_and_then (λ e. slice_get e.parameters (place_of kinds.Hb))
     (option_and_then (slice_get es) (element_from 0 source id es))

@@ -55,7 +55,7 @@ impl Session {
 }
 
 /// The field of the header that these octets spell; `-` is the absent one.
-fn field(alloc: Global, octets: &[u8]) -> Result<Field, NoMemory>
+pub(crate) fn field(alloc: Global, octets: &[u8]) -> Result<Field, NoMemory>
     ensures { IfOk result (λ f. f ≡ field_from (field_of octets.now)) }
 {
     if octets == b"-".as_slice() {

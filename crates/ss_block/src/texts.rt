@@ -17,17 +17,17 @@ use ss_message::{Element, Parameter, value};
 use ss_octets::{Bytes, NoMemory};
 use std::alloc::Global;
 
-/// What a value stands for.
-#[derive(Drop)]
+/// What the value of a parameter stands for (RFC 5424, section 6.3.3).
+#[derive(Debug, Drop)]
 pub enum Meant<'a> {
-    /// The value as it stands, without escapes.
+    /// The value as it stands, where no `\` stands in it.
     Raw(&'a [u8]),
-    /// The value without its escapes.
+    /// The octets of a value with its escapes taken off.
     Unescaped(Bytes),
 }
 
 impl<'a> Meant<'a> {
-    /// The octets.
+    /// The octets that the value stands for.
     pub fn as_slice(&self) -> &[u8]
         ensures { result.now ≡ octets_of self.now }
     {
@@ -37,7 +37,9 @@ impl<'a> Meant<'a> {
         }
     }
 
-    /// The octets, in memory of their own.
+    /// The same octets, in memory of their own.
+    ///
+    /// Errs only where memory runs out, which is taken only where they are borrowed.
     pub fn into_bytes(self, alloc: Global) -> Result<Bytes, NoMemory>
         ensures { IfOk result (λ b. b ≡ octets_of self.entry) }
     {
@@ -48,7 +50,10 @@ impl<'a> Meant<'a> {
     }
 }
 
-/// What a value of a parameter stands for; it takes memory only where a `\` stands there.
+/// What the value of a parameter stands for, as `raw` stands in a message. Where no `\` stands there, the answer borrows
+/// `raw`.
+///
+/// Errs only where memory runs out, which is taken only where a `\` stands there.
 pub fn meaning<'a>(alloc: Global, raw: &'a [u8]) -> Result<Meant<'a>, NoMemory>
     ensures { IfOk result (λ m. octets_of m ≡ meant raw.now) }
 {

@@ -1,5 +1,8 @@
-//! What one parse finds of a message: what it is, its session, and what is signed of it.
-use ss_block::{FullReading, Reading, Session, read_fully};
+//! What one parse finds of a message: what it is, its session, what is signed of it, and where session and content stand
+//! there.
+use ss_block::{
+    Alg, Hash, PlacedReading, Reading, Session, hashes_in, meaning, read_fully, read_placed,
+};
 use ss_message::{Field, Part};
 use ss_octets::{Bytes, NoMemory};
 use std::process::Abort;
@@ -12,6 +15,11 @@ const CERTIFICATE: &[u8] =
 const SIGNATURE: &[u8] =
     b"<110>1 - h s 7 - [ssign VER=\"0111\" RSID=\"9\" SG=\"0\" SPRI=\"0\" GBC=\"0\" FMN=\"1\" CNT=\"1\" \
         HB=\"qZk+NkcGgWq6PiVxeFDCbJzQ2J0=\" SIGN=\"AAAA\"] hello SIGN=\"AAAA\"";
+
+/// A certificate block whose fragment has three escapes and a `\` that escapes nothing.
+const ESCAPED: &[u8] =
+    b"<110>1 - h s - - [ssign-cert VER=\"0111\" RSID=\"1\" SG=\"0\" SPRI=\"0\" TPBL=\"27\" INDEX=\"1\" FLEN=\"5\" \
+        FRAG=\"\\\"\\]\\\\\\n\" SIGN=\"AAAA\"][x]";
 
 /// The octets of a field; none where it is absent.
 fn octets(field: &Field) -> Option<&[u8]> {
@@ -54,28 +62,75 @@ fn sees_kind(rt: &impl Abort, reading: &Reading, certificate: bool) {
     }
 }
 
-/// A text, whether it is a certificate block, the end of its session, and what is signed of it.
+/// The session that is spelled at its places in what is signed.
+fn session_of_placed(
+    rt: &(impl Abort + AllocGlobal),
+    told: &PlacedReading,
+) -> Result<Option<Session>, NoMemory> {
+    let (Some(signed), Some(sender)) = (&told.signed, told.sender) else {
+        assert!(rt; told.signed.is_none() && told.sender.is_none(), "{told:?}");
+        return Ok(None);
+    };
+    let octets = signed.as_slice();
+    assert!(rt; sender.host.start <= sender.host.end && sender.host.end <= octets.len());
+    assert!(rt; sender.app.start <= sender.app.end && sender.app.end <= octets.len());
+    assert!(rt; sender.procid.start <= sender.procid.end && sender.procid.end <= octets.len());
+    Ok(Some(sender.session(rt.alloc(), octets)?))
+}
+
+/// The octets of HB or FRAG, as they stand in what is signed.
+fn sees_content(rt: &impl Abort, told: &PlacedReading, content: &[u8]) {
+    let (Some(signed), Some(span)) = (&told.signed, told.content) else {
+        panic!(rt; "no content");
+    };
+    assert_eq!(rt; signed.as_slice().get(span.start..span.end), Some(content));
+}
+
+/// A text, whether it is a certificate block, the end of its session, what is signed of it, and the value of HB or FRAG.
 type Row = (
     &'static [u8],
     bool,
     (Option<&'static [u8]>, u64),
     (usize, usize),
+    &'static [u8],
 );
 
-const ROWS: [Row; 2] = [
-    (CERTIFICATE, true, (None, 1), (129, 141)),
-    (SIGNATURE, false, (Some(b"7"), 9), (117, 129)),
+const ROWS: [Row; 3] = [
+    (
+        CERTIFICATE,
+        true,
+        (None, 1),
+        (129, 141),
+        b"2009-05-03T14:00:39Z K S0VZ",
+    ),
+    (
+        SIGNATURE,
+        false,
+        (Some(b"7"), 9),
+        (117, 129),
+        b"qZk+NkcGgWq6PiVxeFDCbJzQ2J0=",
+    ),
+    (ESCAPED, true, (None, 1), (109, 121), b"\\\"\\]\\\\\\n"),
 ];
 
-fn sees_told(rt: &impl Abort, told: &FullReading, row: &Row) {
-    let (text, certificate, (procid, rsid), (until, from)) = *row;
-    sees_kind(rt, &told.reading, certificate);
-    sees_session(rt, &told.session, procid, rsid);
-    sees_signed(rt, &told.signed, text, until, from);
+/// What a text is found to be, its session, and what is signed of it.
+type Told<'a> = (&'a Reading, &'a Option<Session>, &'a Option<Bytes>);
+
+fn sees_told(rt: &impl Abort, told: Told<'_>, row: &Row) {
+    let (reading, session, signed) = told;
+    let (text, certificate, (procid, rsid), (until, from), _) = *row;
+    sees_kind(rt, reading, certificate);
+    sees_session(rt, session, procid, rsid);
+    sees_signed(rt, signed, text, until, from);
 }
 
 fn sees_block(rt: &(impl Abort + AllocGlobal), row: &Row) -> Result<(), NoMemory> {
-    sees_told(rt, &read_fully(rt.alloc(), row.0)?, row);
+    let full = read_fully(rt.alloc(), row.0)?;
+    sees_told(rt, (&full.reading, &full.session, &full.signed), row);
+    let placed = read_placed(rt.alloc(), row.0)?;
+    let session = session_of_placed(rt, &placed)?;
+    sees_told(rt, (&placed.reading, &session, &placed.signed), row);
+    sees_content(rt, &placed, row.4);
     Ok(())
 }
 
@@ -88,11 +143,12 @@ fn fault_of(reading: &Reading) -> Option<(Part, usize)> {
 }
 
 /// Whether a text is reported to be no block, for this fault or else plain.
-fn is_no_block(told: &FullReading, fault: Option<(Part, usize)>) -> bool {
-    fault_of(&told.reading) == fault
-        && matches!(&told.reading, Reading::Plain) == fault.is_none()
-        && told.session.is_none()
-        && told.signed.is_none()
+fn is_no_block(told: Told<'_>, fault: Option<(Part, usize)>) -> bool {
+    let (reading, session, signed) = told;
+    fault_of(reading) == fault
+        && matches!(reading, Reading::Plain) == fault.is_none()
+        && session.is_none()
+        && signed.is_none()
 }
 
 fn sees_no_block(
@@ -100,8 +156,14 @@ fn sees_no_block(
     text: &[u8],
     fault: Option<(Part, usize)>,
 ) -> Result<(), NoMemory> {
-    let told = read_fully(rt.alloc(), text)?;
-    assert!(rt; is_no_block(&told, fault), "{text:?}");
+    let full = read_fully(rt.alloc(), text)?;
+    let told = (&full.reading, &full.session, &full.signed);
+    assert!(rt; is_no_block(told, fault), "{text:?}");
+    let placed = read_placed(rt.alloc(), text)?;
+    let session = session_of_placed(rt, &placed)?;
+    let told = (&placed.reading, &session, &placed.signed);
+    assert!(rt; is_no_block(told, fault), "{text:?}");
+    assert!(rt; placed.content.is_none(), "{text:?}");
     Ok(())
 }
 
@@ -112,4 +174,23 @@ fn read_once(rt: HostRuntime) -> Result<(), NoMemory> {
     }
     sees_no_block(&rt, b"<13>1 - - - - - -", None)?;
     sees_no_block(&rt, b"abc", Some((Part::Pri, 0)))
+}
+
+/// SHA-1 of `abc` (FIPS 180-2, appendix A.1), which the value of HB spells above.
+const ABC: Hash = Hash::Sha1([
+    0xa9, 0x99, 0x3e, 0x36, 0x47, 0x06, 0x81, 0x6a, 0xba, 0x3e, 0x25, 0x71, 0x78, 0x50, 0xc2, 0x6c,
+    0x9c, 0xd0, 0xd8, 0x9d,
+]);
+
+#[test]
+fn read_from_content(rt: HostRuntime) -> Result<(), NoMemory> {
+    let fragment = meaning(rt.alloc(), ROWS[2].4)?;
+    assert_eq!(rt; fragment.as_slice(), b"\"]\\\\n".as_slice());
+    let plain = meaning(rt.alloc(), ROWS[0].4)?;
+    assert_eq!(rt; plain.as_slice(), ROWS[0].4);
+    let Some(hashes) = hashes_in(rt.alloc(), Alg::Sha1, b"qZk+NkcGgWq6PiVxeFDCbJzQ2J0=", 1)? else {
+        panic!(rt; "no hashes");
+    };
+    assert_eq!(rt; hashes.as_slice(), [ABC].as_slice());
+    Ok(())
 }
