@@ -11,7 +11,7 @@ use Rattle.std.proofs.lemmas.List.{length-map, map-append}
 use Rattle.std.proofs.lemmas.Map.Lookups.{exact_unsigned}
 use Rattle.std.proofs.lemmas.Option.{slice_get_within, slice_get-get_or, slice_get-map}
 use Rattle.ss_review.specs.declared.keep.message.NormalMessage.{NormalMessage}
-use Rattle.ss_review.specs.declared.keep.message.BlockMessage.{BlockMessage}
+use Rattle.ss_review.specs.keep.BlockMessage.{BlockMessage}
 use Rattle.ss_review.specs.keep.Notes.{Normal, Block, note, notes}
 use Rattle.ss_review.specs.keep.Contents.{Contents, normals, blocks, contents}
 use Rattle.ss_parts.specs.Parts.{placed_of, messages_of, places_of}

@@ -10,8 +10,7 @@ use Rattle.ss_block.specs.Reading.{reading}
 use Rattle.ss_origin.specs.Chain.{Turn, start_behind, emitted_by}
 use Rattle.ss_origin.specs.CountedLaws.{sent_in_turns, sent_in_order, is_signature, HasGbc, AreCounted, SentBlocksAreCounted}
 use Rattle.ss_origin.proofs.Configs.{has_ranges}
-use Rattle.ss_review.specs.declared.keep.message.BlockContent.{BlockContent}
-use Rattle.ss_review.specs.declared.keep.message.BlockContent.TheVariants.{Hashes}
+use Rattle.ss_review.specs.keep.BlockMessage.{BlockContent, Hashes}
 use Rattle.ss_review.specs.keep.Notes.{note, notes}
 use Rattle.ss_review.specs.keep.Contents.{said_in, blocks}
 use Rattle.ss_review.specs.counted.Counted.{gbcs, next_after}

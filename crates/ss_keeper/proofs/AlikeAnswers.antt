@@ -9,7 +9,7 @@ use Rattle.ss_review.specs.declared.report.session_report.SessionState.{SessionS
 use Rattle.ss_review.specs.declared.report.session_report.SessionState.TheVariants as states
 use Rattle.ss_review.specs.declared.questions.question.Question.{Question}
 use Rattle.ss_review.specs.declared.questions.question.Question.TheVariants as question
-use Rattle.ss_review.specs.declared.keep.message.BlockMessage.{BlockMessage}
+use Rattle.ss_review.specs.keep.BlockMessage.{BlockMessage}
 use Rattle.ss_review.specs.keep.Contents.{Contents}
 use Rattle.ss_review.specs.Ordered.{in_order}
 use Rattle.ss_review.specs.sessions.Sessions.{sessions, of_session}

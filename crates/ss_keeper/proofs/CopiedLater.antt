@@ -10,7 +10,7 @@ use Rattle.ss_block.specs.declared.hash.HashPair.{HashPair}
 use Rattle.ss_octets.specs.Cut.{parts_at}
 use Rattle.ss_report.specs.runs.Carrying.{carried_by}
 use Rattle.ss_review.specs.declared.keep.message.NormalMessage.{NormalMessage}
-use Rattle.ss_review.specs.declared.keep.message.BlockMessage.{BlockMessage}
+use Rattle.ss_review.specs.keep.BlockMessage.{BlockMessage}
 use Rattle.ss_review.specs.keep.Contents.{Contents}
 use Rattle.ss_review.specs.Ordered.{in_order}
 use Rattle.ss_review.specs.announced.Announced.{Key, Row, same_key, rows, keys}

@@ -12,8 +12,7 @@ use Rattle.ss_block.specs.declared.hash.Alg.TheVariants as algs
 use Rattle.ss_block.specs.declared.reading.Reading.TheVariants as readings
 use Rattle.ss_block.specs.declared.session.Session.{Session}
 use Rattle.ss_origin.specs.Emission.{signature_in}
-use Rattle.ss_review.specs.declared.keep.message.BlockMessage.{BlockMessage}
-use Rattle.ss_review.specs.declared.keep.message.BlockContent.TheVariants.{Hashes, Fragment}
+use Rattle.ss_review.specs.keep.BlockMessage.{BlockMessage, Hashes, Fragment}
 use Rattle.ss_review.specs.declared.report.session_report.SessionReport.{SessionReport}
 use Rattle.ss_review.specs.declared.report.session_report.SessionState.TheVariants as states
 use Rattle.ss_review.specs.Laws.{StatesAreTheirs, JoinedPayloadsAreStated}

@@ -4,8 +4,7 @@ use Rattle.std.proofs.Common.{◌≡◌, ◌⊎◌, inl, inr, ℕ, zero, suc, �
 use Rattle.std.specs.Prelude.{Ok}
 use Rattle.std.proofs.lemmas.Bool.{cases_eq}
 use Rattle.ss_block.specs.declared.session.Session.{Session}
-use Rattle.ss_review.specs.declared.keep.message.BlockMessage.{BlockMessage}
-use Rattle.ss_review.specs.declared.keep.message.BlockContent.{BlockContent}
+use Rattle.ss_review.specs.keep.BlockMessage.{BlockMessage, BlockContent}
 use Rattle.ss_review.specs.sessions.States.{HasValidOctet}
 use Rattle.ss_review.specs.sessions.Verified.{Answers, signature_of, is_valid, joined, is_verified}
 use Rattle.ss_octets.proofs.Members.{Has, has_from_contains, contains_from_has}

@@ -4,7 +4,7 @@ use Rattle.std.specs.List.{sum_by, range_with_len}
 use Rattle.ss_block.specs.declared.block.Group.{Group}
 use Rattle.ss_block.specs.declared.hash.HashPair.{HashPair}
 use Rattle.ss_block.specs.declared.session.Session.{Session}
-use Rattle.ss_review.specs.declared.keep.message.BlockMessage.{BlockMessage}
+use Rattle.ss_review.specs.keep.BlockMessage.{BlockMessage}
 use Rattle.ss_review.specs.declared.keep.spoilt.SpoiltPlace.{SpoiltPlace}
 use Rattle.ss_review.specs.declared.questions.question.Question.{Question}
 use Rattle.ss_review.specs.declared.report.entry.Why.{Why}

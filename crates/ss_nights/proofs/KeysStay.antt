@@ -11,7 +11,7 @@ use Rattle.ss_block.specs.declared.hash.HashPair.{HashPair}
 use Rattle.ss_block.specs.OrderLaws.{hash_cmp_total}
 use Rattle.ss_review.specs.declared.report.session_report.SessionState.{SessionState}
 use Rattle.ss_review.specs.declared.keep.message.NormalMessage.{NormalMessage}
-use Rattle.ss_review.specs.declared.keep.message.BlockMessage.{BlockMessage}
+use Rattle.ss_review.specs.keep.BlockMessage.{BlockMessage}
 use Rattle.ss_review.specs.sessions.Sessions.{of_session}
 use Rattle.ss_review.specs.sessions.Verified.{Answers, joined, is_valid_in, is_verified}
 use Rattle.ss_review.specs.announced.Announced.{Key, Row, row_cmp, rows, hashes_for}

@@ -4,7 +4,7 @@ use Rattle.std.specs.Prelude.{Result, Ok, Err}
 use Rattle.ss_block.specs.Block as block
 use Rattle.ss_block.specs.Joining.{Stated, placed}
 use Rattle.ss_review.specs.declared.report.session_report.SessionState.{SessionState}
-use Rattle.ss_review.specs.declared.keep.message.BlockMessage.{BlockMessage}
+use Rattle.ss_review.specs.keep.BlockMessage.{BlockMessage}
 use Rattle.ss_review.specs.sessions.Payloads.{certificates}
 use Rattle.ss_review.specs.sessions.Verified.{Answers, joined}
 use Rattle.ss_review.specs.sessions.States.{stated_by, HasValidOctet, IsJoinedUnder}

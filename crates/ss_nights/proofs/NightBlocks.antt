@@ -11,9 +11,7 @@ use Rattle.ss_block.specs.declared.reading.Reading.TheVariants as readings
 use Rattle.ss_block.specs.OrderLaws.{session_cmp_total}
 use Rattle.ss_block.specs.Reading.{reading}
 use Rattle.ss_block.specs.ReadingLaws.{BlocksAreInRange}
-use Rattle.ss_review.specs.declared.keep.message.BlockMessage.{BlockMessage}
-use Rattle.ss_review.specs.declared.keep.message.BlockContent.{BlockContent}
-use Rattle.ss_review.specs.declared.keep.message.BlockContent.TheVariants.{Fragment}
+use Rattle.ss_review.specs.keep.BlockMessage.{BlockMessage, BlockContent, Fragment}
 use Rattle.ss_review.specs.keep.Notes.{notes}
 use Rattle.ss_review.specs.keep.Contents.{Contents, said_in, blocks}
 use Rattle.ss_review.specs.sessions.Sessions.{same_session, of_session}

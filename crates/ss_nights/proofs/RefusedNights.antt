@@ -4,7 +4,7 @@ use Rattle.std.specs.Prelude.{nat_le, count_by}
 use Rattle.std.specs.List.{sum_by, range_with_len}
 use Rattle.std.proofs.lemmas.Bool.{cases_Bool, true≢false, cases_eq, eqb-true, eq-eqb, not-true, le-leb, leb-true, or_cases, or_left, or_right, and_parts, false_from_ne_true}
 use Rattle.std.proofs.lemmas.List.Sums.{sum_by_push}
-use Rattle.ss_review.specs.declared.keep.message.BlockMessage.{BlockMessage}
+use Rattle.ss_review.specs.keep.BlockMessage.{BlockMessage}
 use Rattle.ss_review.specs.declared.keep.spoilt.SpoiltPlace.{SpoiltPlace}
 use Rattle.ss_review.specs.sessions.Verified.{Answers, joined, is_verified}
 use Rattle.ss_review.specs.report.Report.{refused}

@@ -1,8 +1,7 @@
 -- The first night of each small log leaves over its certificate block alone, and so none that announces a number.
 use Rattle.std.proofs.Common.{◌≡◌, inl, inr, false, [], ◌∷◌, refl, sym, ap, ◌∙◌, subst}
 use Rattle.std.proofs.lemmas.Bool.{true≢false}
-use Rattle.ss_review.specs.declared.keep.message.BlockMessage.{BlockMessage}
-use Rattle.ss_review.specs.declared.keep.message.BlockContent.TheVariants.{Hashes, Fragment}
+use Rattle.ss_review.specs.keep.BlockMessage.{BlockMessage, Hashes, Fragment}
 use Rattle.ss_review.specs.announced.Announced.{Key}
 use Rattle.ss_review.specs.report.Rows.{yes}
 use Rattle.ss_octets.proofs.Members.{Has, has_from_contains}

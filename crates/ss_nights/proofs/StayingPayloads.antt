@@ -2,7 +2,7 @@
 use Rattle.std.proofs.Common.{◌≡◌, inl, inr, ℕ, ◌+◌, ◌-◌, List, length, sym, subst, arith}
 use Rattle.std.specs.Prelude.{slice_index, Ok}
 use Rattle.ss_block.specs.Joining.{Stated, HasTotal, HasOctet, IsDisputed, HasGap, IsPayload}
-use Rattle.ss_review.specs.declared.keep.message.BlockMessage.{BlockMessage}
+use Rattle.ss_review.specs.keep.BlockMessage.{BlockMessage}
 use Rattle.ss_review.specs.sessions.Payloads.{certificates}
 use Rattle.ss_review.specs.sessions.Verified.{Answers, joined}
 use Rattle.ss_review.specs.sessions.States.{stated_by, IsCovered}

@@ -11,7 +11,7 @@ use Rattle.ss_review.specs.declared.report.session_report.SessionState.TheVarian
 use Rattle.ss_review.specs.declared.report.session_report.SessionReport.{SessionReport}
 use Rattle.ss_review.specs.declared.report.report.Report.{Report}
 use Rattle.ss_review.specs.declared.keep.message.NormalMessage.{NormalMessage}
-use Rattle.ss_review.specs.declared.keep.message.BlockMessage.{BlockMessage}
+use Rattle.ss_review.specs.keep.BlockMessage.{BlockMessage}
 use Rattle.ss_review.specs.announced.Announced.{Key}
 use Rattle.ss_parts.specs.PartRows.{joined_with}
 use Rattle.ss_review.specs.report.Report.{report_of}

@@ -5,7 +5,7 @@ use Rattle.std.specs.List.{flat_map}
 use Rattle.ss_block.specs.declared.session.Session.{Session}
 use Rattle.ss_review.specs.declared.report.session_report.SessionState.{SessionState}
 use Rattle.ss_review.specs.declared.report.session_report.SessionState.TheVariants as states
-use Rattle.ss_review.specs.declared.keep.message.BlockMessage.{BlockMessage}
+use Rattle.ss_review.specs.keep.BlockMessage.{BlockMessage}
 use Rattle.ss_review.specs.Ordered.{in_order}
 use Rattle.ss_review.specs.sessions.Sessions.{same_session, sessions, of_session}
 use Rattle.ss_block.specs.Order.{session_cmp}

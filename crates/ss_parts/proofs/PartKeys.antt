@@ -5,7 +5,7 @@ use Rattle.std.specs.Cmp.{Equal-is}
 use Rattle.ss_block.specs.declared.block.Group.{Group}
 use Rattle.ss_block.specs.declared.session.Session.{Session}
 use Rattle.ss_block.specs.Order.{group_cmp}
-use Rattle.ss_review.specs.declared.keep.message.BlockMessage.{BlockMessage}
+use Rattle.ss_review.specs.keep.BlockMessage.{BlockMessage}
 use Rattle.ss_review.specs.Ordered.{in_order}
 use Rattle.ss_review.specs.sessions.Sessions.{same_session}
 use Rattle.ss_review.specs.sessions.Verified.{Answers}

@@ -1,8 +1,6 @@
 pub mod Ends
 pub mod Keeping
-pub mod Bounds
-pub mod TextsTold
-pub mod CountedBlocks
+pub mod AmongEqual
 pub mod NotedBlocks
 pub mod StoredTold
 pub mod NotesTold

@@ -3,7 +3,6 @@ pub mod InOrder
 pub mod Agreeing
 pub mod Claims
 pub mod KeptOfSessions
-pub mod WithinTexts
 pub mod Asking
 pub mod Keeping
 pub mod Finding

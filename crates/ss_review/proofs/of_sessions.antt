@@ -7,3 +7,4 @@ pub mod Covering
 pub mod SessionStates
 pub mod StatesTold
 pub mod Fragments
+pub mod StatedFragments

@@ -1,5 +1,11 @@
 pub mod Notes
+pub mod Noted
+pub mod BlockMessage
 pub mod BlockNotes
 pub mod Contents
+pub mod Kept
+pub mod KeptBlock
 pub mod Keeping
+pub mod Signatures
+pub mod Stated
 pub mod Stored

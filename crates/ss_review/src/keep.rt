@@ -1,6 +1,9 @@
 //! What is kept of the messages of a log as they are fed.
+pub(crate) mod block_message;
+pub(crate) mod kept_block;
+pub(crate) mod kept_content;
 pub(crate) mod message;
-pub(crate) mod reading;
+pub(crate) mod noted;
 pub(crate) mod review_input;
 pub(crate) mod reviewer;
 pub(crate) mod spoilt;

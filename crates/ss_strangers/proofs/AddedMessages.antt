@@ -4,7 +4,7 @@ use Rattle.std.specs.Prelude.{count_by}
 use Rattle.std.specs.List.{Contains}
 use Rattle.ss_block.specs.declared.hash.HashPair.{HashPair}
 use Rattle.ss_block.specs.Hashes.{pair}
-use Rattle.ss_review.specs.declared.keep.message.BlockMessage.{BlockMessage}
+use Rattle.ss_review.specs.keep.BlockMessage.{BlockMessage}
 use Rattle.ss_review.specs.assign.Assigned.{same_pair, places_with}
 use Rattle.ss_review.specs.keep.Contents.{normals, blocks}
 use Rattle.ss_review.specs.deliveries.Delivery.{is_normal}

@@ -13,8 +13,7 @@ use Rattle.ss_block.specs.Reading.{reading}
 use Rattle.ss_block.specs.Signed.{signed}
 use Rattle.ss_payload.specs.Payload.{payload_text}
 use Rattle.ss_origin.specs.Chain.{Turn, emitted_by}
-use Rattle.ss_review.specs.declared.keep.message.BlockContent.TheVariants.{Hashes}
-use Rattle.ss_review.specs.declared.keep.message.BlockMessage.{BlockMessage}
+use Rattle.ss_review.specs.keep.BlockMessage.{BlockMessage, Hashes}
 use Rattle.ss_review.specs.declared.report.session_report.SessionReport.{SessionReport}
 use Rattle.ss_review.specs.declared.report.session_report.SessionState.TheVariants as states
 use Rattle.ss_review.specs.announced.Announced.{Key}

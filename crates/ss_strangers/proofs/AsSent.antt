@@ -12,8 +12,7 @@ use Rattle.ss_origin.specs.Chain.{IsChain, given_to}
 use Rattle.ss_origin.specs.SentLaws.{SentBlocksAreNumbered}
 use Rattle.ss_origin.specs.Groups.{sg_of, group_of}
 use Rattle.ss_review.specs.declared.counted.shortfall.LogShortfalls.{LogShortfalls}
-use Rattle.ss_review.specs.declared.keep.message.BlockContent.TheVariants.{Hashes}
-use Rattle.ss_review.specs.declared.keep.message.BlockMessage.{BlockMessage}
+use Rattle.ss_review.specs.keep.BlockMessage.{BlockMessage, Hashes}
 use Rattle.ss_review.specs.declared.report.entry.Why.{Why}
 use Rattle.ss_review.specs.declared.report.entry.Why.TheVariants as whys
 use Rattle.ss_review.specs.declared.report.report.Report.{Report}

@@ -10,8 +10,7 @@ use Rattle.ss_origin.specs.AheadLaws.{NumbersAreGivenOnce}
 use Rattle.ss_origin.specs.Chain.{IsChain, given_to}
 use Rattle.ss_origin.specs.SentLaws.{SentBlocksAreNumbered}
 use Rattle.ss_review.specs.declared.counted.counter.Counter.{Counter}
-use Rattle.ss_review.specs.declared.keep.message.BlockContent.{BlockContent}
-use Rattle.ss_review.specs.declared.keep.message.BlockMessage.{BlockMessage}
+use Rattle.ss_review.specs.keep.BlockMessage.{BlockMessage, BlockContent}
 use Rattle.ss_review.specs.declared.report.entry.Why.TheVariants as whys
 use Rattle.ss_review.specs.announced.Announced.{Key}
 use Rattle.ss_review.specs.announced.Announcing.{Announces, IsAnnounced}

@@ -7,8 +7,7 @@ use Rattle.ss_block.specs.Joining.{IsDisputed}
 use Rattle.ss_block.specs.ReadingLaws.{BlocksAreInRange}
 use Rattle.ss_block.specs.declared.reading.Reading.TheVariants as readings
 use Rattle.ss_block.specs.Reading.{reading}
-use Rattle.ss_review.specs.declared.keep.message.BlockContent.{BlockContent}
-use Rattle.ss_review.specs.declared.keep.message.BlockMessage.{BlockMessage}
+use Rattle.ss_review.specs.keep.BlockMessage.{BlockMessage, BlockContent}
 use Rattle.ss_review.specs.declared.report.session_report.SessionState.TheVariants as states
 use Rattle.ss_review.specs.keep.Contents.{blocks}
 use Rattle.ss_review.specs.keep.Notes.{notes}
@@ -23,7 +22,7 @@ use Rattle.ss_review.specs.pinned.Claimants.{AreWithin, IsClaimant, IsOnlyClaima
 use Rattle.ss_strangers.specs.StateLaws.{pinned_joined, LogsAreWithin, IsJoinedByGiven, SessionsAreJoinedByGiven, IsUndisputedOrUnclaimed, StatesAgree, OnlyDisputesEnd}
 use Rattle.ss_review.proofs.of_pinned.Claims.{joined_disputed}
 use Rattle.ss_review.proofs.of_pinned.KeptOfSessions.{left, kept_of_session, one_joined, two_joined, one_undisputed, how_many, unclaimed_left, session_within}
-use Rattle.ss_review.proofs.of_pinned.WithinTexts.{said_certificate}
+use Rattle.ss_review.proofs.of_deliveries.OwnPayload.{said_certificate}
 
 -- ---- logs
 

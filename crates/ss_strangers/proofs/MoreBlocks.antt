@@ -7,8 +7,7 @@ use Rattle.ss_block.specs.declared.hash.Hash.{Hash}
 use Rattle.ss_block.specs.declared.session.Session.{Session}
 use Rattle.ss_block.specs.Joining.{HasTotal, HasOctet, IsDisputed}
 use Rattle.ss_block.specs.OrderLaws.{hash_cmp_total}
-use Rattle.ss_review.specs.declared.keep.message.BlockContent.TheVariants.{Hashes}
-use Rattle.ss_review.specs.declared.keep.message.BlockMessage.{BlockMessage}
+use Rattle.ss_review.specs.keep.BlockMessage.{BlockMessage, Hashes}
 use Rattle.ss_review.specs.declared.report.session_report.SessionState.TheVariants as states
 use Rattle.ss_review.specs.announced.Announced.{Key, Row, rows, keys, hashes_for}
 use Rattle.ss_review.specs.announced.Announcing.{Announces}

@@ -13,8 +13,7 @@ use Rattle.ss_review.specs.announced.Announced.{Key, rows}
 use Rattle.ss_review.specs.announced.Announcing.{IsAnnounced}
 use Rattle.ss_review.specs.assign.Assigned.{has_hash, assigned}
 use Rattle.ss_review.specs.assign.Listing.{Wants, IsDue}
-use Rattle.ss_review.specs.declared.keep.message.BlockContent.{BlockContent}
-use Rattle.ss_review.specs.declared.keep.message.BlockMessage.{BlockMessage}
+use Rattle.ss_review.specs.keep.BlockMessage.{BlockMessage, BlockContent}
 use Rattle.ss_review.specs.declared.keep.message.NormalMessage.{NormalMessage}
 use Rattle.ss_review.specs.declared.keep.spoilt.SpoiltPlace.{SpoiltPlace}
 use Rattle.ss_review.specs.declared.report.report.Report.{Report}

@@ -1,7 +1,7 @@
 -- What became of each number and of each signature block, in a report by given payloads.
 use Rattle.std.proofs.Common.{◌≡◌, inl, inr, List, sym, subst}
 use Rattle.ss_review.specs.declared.counted.shortfall.LogShortfalls.{LogShortfalls}
-use Rattle.ss_review.specs.declared.keep.message.BlockMessage.{BlockMessage}
+use Rattle.ss_review.specs.keep.BlockMessage.{BlockMessage}
 use Rattle.ss_review.specs.declared.report.report.Report.{Report}
 use Rattle.ss_review.specs.announced.Announced.{Key}
 use Rattle.ss_review.specs.announced.Announcing.{IsAnnounced}

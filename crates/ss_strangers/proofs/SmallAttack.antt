@@ -17,9 +17,7 @@ use Rattle.ss_block.specs.Writing.{certificate_text}
 use Rattle.ss_block.specs.WritingLaws.{IsHash, SignaturesAreRead, CertificatesAreRead}
 use Rattle.ss_origin.specs.Chain.{emitted_by}
 use Rattle.ss_origin.specs.Emission.{certificate_in, signature_in}
-use Rattle.ss_review.specs.declared.keep.message.BlockContent.{BlockContent}
-use Rattle.ss_review.specs.declared.keep.message.BlockContent.TheVariants.{Hashes, Fragment}
-use Rattle.ss_review.specs.declared.keep.message.BlockMessage.{BlockMessage}
+use Rattle.ss_review.specs.keep.BlockMessage.{BlockMessage, BlockContent, Hashes, Fragment}
 use Rattle.ss_review.specs.declared.report.entry.Why.{Why}
 use Rattle.ss_review.specs.declared.report.entry.Why.TheVariants as whys
 use Rattle.ss_review.specs.declared.report.session_report.SessionState.TheVariants as states

@@ -23,8 +23,7 @@ use Rattle.ss_block.specs.WritingLaws.{IsHash, SignaturesAreRead, CertificatesAr
 use Rattle.ss_review.specs.Ordered.{in_order}
 use Rattle.ss_review.specs.announced.Announced.{rows, keys}
 use Rattle.ss_review.specs.assign.Assigned.{pair_of_bearer, places_with, wanted, rank, assigned, is_taken}
-use Rattle.ss_review.specs.declared.keep.message.BlockContent.{BlockContent}
-use Rattle.ss_review.specs.declared.keep.message.BlockContent.TheVariants.{Hashes, Fragment}
+use Rattle.ss_review.specs.keep.BlockMessage.{BlockContent, Hashes, Fragment}
 use Rattle.ss_review.specs.declared.report.entry.Entry.{Entry}
 use Rattle.ss_review.specs.declared.report.entry.Entry.TheVariants as entry
 use Rattle.ss_review.specs.declared.report.entry.Why.TheVariants as whys

@@ -7,7 +7,7 @@ use Rattle.ss_block.specs.Hashes.{pair}
 use Rattle.ss_block.specs.WritingLaws.{SignaturesAreRead, CertificatesAreRead}
 use Rattle.ss_block.specs.declared.session.Session.{Session}
 use Rattle.ss_review.specs.announced.Announced.{rows}
-use Rattle.ss_review.specs.declared.keep.message.BlockMessage.{BlockMessage}
+use Rattle.ss_review.specs.keep.BlockMessage.{BlockMessage}
 use Rattle.ss_review.specs.declared.keep.message.NormalMessage.{NormalMessage}
 use Rattle.ss_review.specs.declared.report.report.Report.{Report}
 use Rattle.ss_review.specs.declared.report.session_report.SessionReport.{SessionReport}

@@ -7,8 +7,7 @@ use Rattle.ss_block.specs.Reading.{reading}
 use Rattle.ss_block.specs.Session.{session}
 use Rattle.ss_block.specs.Signed.{signed}
 use Rattle.ss_block.specs.declared.reading.Reading.TheVariants as readings
-use Rattle.ss_review.specs.declared.keep.message.BlockContent.{BlockContent}
-use Rattle.ss_review.specs.declared.keep.message.BlockMessage.{BlockMessage}
+use Rattle.ss_review.specs.keep.BlockMessage.{BlockMessage, BlockContent}
 use Rattle.ss_review.specs.declared.keep.message.NormalMessage.{NormalMessage}
 use Rattle.ss_review.specs.deliveries.Delivery.{own_session}
 use Rattle.ss_review.specs.deliveries.SmallChains.{small, message}

@@ -30,9 +30,7 @@ use Rattle.ss_review.specs.assign.Assigned.{pair_of_bearer, places_with, wanted,
 use Rattle.ss_review.specs.counted.Counted.{gbcs, next_number, missing}
 use Rattle.ss_review.specs.counted.Kept.{kept_gbc, kept_number, gbc_in, number_in, groups_in, kept_sessions, tails_in, log_shortfalls}
 use Rattle.ss_review.specs.counted.KeptLaws.{IsInTail, IsInRunOf, IsLost, ReachTheEnd, number_kept}
-use Rattle.ss_review.specs.declared.keep.message.BlockContent.{BlockContent}
-use Rattle.ss_review.specs.declared.keep.message.BlockContent.TheVariants.{Hashes, Fragment}
-use Rattle.ss_review.specs.declared.keep.message.BlockMessage.{BlockMessage}
+use Rattle.ss_review.specs.keep.BlockMessage.{BlockMessage, BlockContent, Hashes, Fragment}
 use Rattle.ss_review.specs.declared.counted.shortfall.LogShortfalls.{LogShortfalls}
 use Rattle.ss_review.specs.declared.report.entry.Entry.{Entry}
 use Rattle.ss_review.specs.declared.report.entry.Entry.TheVariants as entry

@@ -23,8 +23,7 @@ use Rattle.ss_review.specs.counted.Counted.{gbcs, next_number, missing, counted_
 use Rattle.ss_review.specs.counted.Kept.{gbc_in, number_in, groups_in, kept_sessions, tails_in, log_shortfalls}
 use Rattle.ss_review.specs.counted.KeptLaws.{shortfalls_of, IsLost}
 use Rattle.ss_review.specs.declared.counted.shortfall.LogShortfalls.{LogShortfalls}
-use Rattle.ss_review.specs.declared.keep.message.BlockContent.TheVariants.{Hashes}
-use Rattle.ss_review.specs.declared.keep.message.BlockMessage.{BlockMessage}
+use Rattle.ss_review.specs.keep.BlockMessage.{BlockMessage, Hashes}
 use Rattle.ss_review.specs.declared.report.entry.Entry.TheVariants as entry
 use Rattle.ss_review.specs.declared.report.entry.Why.TheVariants as whys
 use Rattle.ss_review.specs.declared.report.report.Report.{Report}

@@ -17,7 +17,7 @@ use Rattle.ss_review.specs.report.Report.{report_of}
 use Rattle.ss_review.specs.sessions.Verified.{Answers}
 use Rattle.ss_octets.proofs.Members.{Has, contains_from_has}
 use Rattle.ss_review.proofs.of_assignment.OnePlaceOneKey.{only_one, wanted_key, assigned_cases, from_has-places_with, count_by-weaker}
-use Rattle.ss_review.proofs.of_kept_messages.Bounds.{with_itself}
+use Rattle.ss_review.proofs.of_kept_messages.AmongEqual.{with_itself}
 use Rattle.ss_review.proofs.of_lists.CountsWithin.{count_within}
 use Rattle.ss_review.proofs.of_lists.Finding.{find_some, bearer_of}
 use Rattle.ss_review.proofs.of_lists.Keyed.{has-slice_get}

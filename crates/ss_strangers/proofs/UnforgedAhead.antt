@@ -13,7 +13,7 @@ use Rattle.ss_origin.specs.Counting.{number_in}
 use Rattle.ss_origin.specs.Groups.{group_of}
 use Rattle.ss_origin.specs.Setting.{Setting}
 use Rattle.ss_review.specs.declared.counted.counter.Counter.{Counter}
-use Rattle.ss_review.specs.declared.keep.message.BlockMessage.{BlockMessage}
+use Rattle.ss_review.specs.keep.BlockMessage.{BlockMessage}
 use Rattle.ss_review.specs.declared.report.entry.Why.TheVariants as whys
 use Rattle.ss_review.specs.announced.Announced.{Key}
 use Rattle.ss_review.specs.announced.Announcing.{Announces, IsAnnounced}

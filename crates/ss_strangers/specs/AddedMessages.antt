@@ -1,6 +1,6 @@
 -- Messages that strangers add to a log, anywhere in it.
 use Rattle.std.specs.Prelude.{◌≡◌, ◌⊎◌, ℕ, List, [], ◌∷◌, Contains, Some}
-use Rattle.ss_review.specs.declared.keep.message.BlockMessage.{BlockMessage}
+use Rattle.ss_review.specs.keep.BlockMessage.{BlockMessage}
 use Rattle.ss_review.specs.keep.Contents.{block_in, contents}
 use Rattle.ss_review.specs.keep.Notes.{notes}
 use Rattle.ss_review.specs.sessions.Verified.{Answers}

@@ -11,7 +11,7 @@ use Rattle.ss_review.specs.announced.Announced.{Key, rows}
 use Rattle.ss_review.specs.announced.Announcing.{IsAnnounced}
 use Rattle.ss_review.specs.assign.Assigned.{assigned}
 use Rattle.ss_review.specs.assign.Listing.{IsDue}
-use Rattle.ss_review.specs.declared.keep.message.BlockMessage.{BlockMessage}
+use Rattle.ss_review.specs.keep.BlockMessage.{BlockMessage}
 use Rattle.ss_review.specs.declared.report.entry.Why.{Why}
 use Rattle.ss_review.specs.declared.report.report.Report.{Report}
 use Rattle.ss_review.specs.keep.Contents.{normals, blocks, contents}

@@ -5,8 +5,7 @@ use Rattle.ss_block.specs.Reading.{reading}
 use Rattle.ss_block.specs.declared.reading.Reading.TheVariants as readings
 use Rattle.ss_payload.specs.Payload.{payload_text}
 use Rattle.ss_origin.specs.Chain.{Turn, emitted_by}
-use Rattle.ss_review.specs.declared.keep.message.BlockContent.TheVariants.{Hashes}
-use Rattle.ss_review.specs.declared.keep.message.BlockMessage.{BlockMessage}
+use Rattle.ss_review.specs.keep.BlockMessage.{BlockMessage, Hashes}
 use Rattle.ss_review.specs.declared.report.report.Report.{Report}
 use Rattle.ss_review.specs.deliveries.Delivery.{own_session}
 use Rattle.ss_review.specs.deliveries.DeliveryLaws.{Case, says}

@@ -6,7 +6,7 @@ use Rattle.ss_block.specs.declared.session.Session.{Session}
 use Rattle.ss_block.specs.Reading.{reading}
 use Rattle.ss_block.specs.Session.{session}
 use Rattle.ss_block.specs.Signed.{signed}
-use Rattle.ss_review.specs.declared.keep.message.BlockContent.{BlockContent}
+use Rattle.ss_review.specs.keep.BlockMessage.{BlockContent}
 use Rattle.ss_review.specs.keep.Notes.{Note, Normal, Block, Spoilt, note, notes}
 use Rattle.ss_review.specs.keep.Contents.{said_in, block_with, block_in, normal_at, block_at, spoilt_at, normals, blocks, spoilts, contents}
 use Rattle.ss_whole_nights.specs.WholeRows.{LogsArePutTogether}

@@ -7,8 +7,7 @@ use Rattle.ss_block.specs.declared.hash.Hash.TheVariants as hashes
 use Rattle.ss_block.specs.declared.hash.HashPair.{HashPair}
 use Rattle.ss_review.specs.declared.counted.counter.Counter.{Counter}
 use Rattle.ss_review.specs.declared.counted.shortfall.LogShortfalls.{LogShortfalls}
-use Rattle.ss_review.specs.declared.keep.message.BlockMessage.{BlockMessage}
-use Rattle.ss_review.specs.declared.keep.message.BlockContent.TheVariants.{Hashes}
+use Rattle.ss_review.specs.keep.BlockMessage.{BlockMessage, Hashes}
 use Rattle.ss_review.specs.declared.keep.message.NormalMessage.{NormalMessage}
 use Rattle.ss_review.specs.declared.report.entry.Entry.TheVariants as entry
 use Rattle.ss_review.specs.declared.report.entry.Why.TheVariants as whys

@@ -11,7 +11,7 @@ use Rattle.ss_review.specs.declared.counted.counted_session.CountedSession.{Coun
 use Rattle.ss_review.specs.declared.counted.counter.Counter.{Counter}
 use Rattle.ss_review.specs.declared.counted.counter.Counts.TheVariants as counts
 use Rattle.ss_review.specs.declared.counted.shortfall.LogShortfalls.{LogShortfalls}
-use Rattle.ss_review.specs.declared.keep.message.BlockMessage.{BlockMessage}
+use Rattle.ss_review.specs.keep.BlockMessage.{BlockMessage}
 use Rattle.ss_review.specs.declared.keep.message.NormalMessage.{NormalMessage}
 use Rattle.ss_review.specs.declared.report.entry.Entry.{Entry}
 use Rattle.ss_review.specs.declared.report.group_report.GroupReport.{GroupReport}

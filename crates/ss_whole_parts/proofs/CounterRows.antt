@@ -1,7 +1,7 @@
 -- What the cut of the small logs keeps: the blocks of each session stay in one part.
 use Rattle.std.proofs.Common.{◌≡◌, inl, inr, ℕ, ◌<◌, ◌==◌, Bool, true, false, cond, [], ◌∷◌, refl, sym, ap, ◌∙◌, subst, arith}
 use Rattle.std.specs.List.{list_any}
-use Rattle.ss_review.specs.declared.keep.message.BlockMessage.{BlockMessage}
+use Rattle.ss_review.specs.keep.BlockMessage.{BlockMessage}
 use Rattle.ss_parts.specs.Parts.{SessionsStayWhole}
 use Rattle.ss_octets.proofs.Members.{Has, has_from_contains}
 use Rattle.ss_whole_parts.specs.CounterRows.{two_logs, by_host, home}

@@ -6,8 +6,7 @@ use Rattle.ss_block.specs.declared.session.Session.{Session}
 use Rattle.ss_block.specs.Reading.{reading}
 use Rattle.ss_block.specs.Session.{session}
 use Rattle.ss_block.specs.Signed.{signed}
-use Rattle.ss_review.specs.declared.keep.message.BlockMessage.{BlockMessage}
-use Rattle.ss_review.specs.declared.keep.message.BlockContent.{BlockContent}
+use Rattle.ss_review.specs.keep.BlockMessage.{BlockMessage, BlockContent}
 use Rattle.ss_review.specs.keep.Notes.{Note, Normal, Block, Spoilt, note, notes}
 use Rattle.ss_review.specs.keep.Contents.{said_in, block_with, block_in, block_at, blocks}
 use Rattle.ss_review.specs.pinned.Pinned.{speaks_for, claims, claimants, is_signature, keeps, kept, blocks_by}

@@ -8,7 +8,7 @@ use Rattle.ss_block.specs.declared.spoil.Spoil.{Spoil}
 use Rattle.ss_message.specs.Message.{MessageValue}
 use Rattle.ss_message.specs.Octets.{is_name}
 use Rattle.ss_review.specs.declared.counted.counter.Counter.{Counter}
-use Rattle.ss_review.specs.declared.keep.message.BlockMessage.{BlockMessage}
+use Rattle.ss_review.specs.keep.BlockMessage.{BlockMessage}
 use Rattle.ss_review.specs.declared.keep.message.NormalMessage.{NormalMessage}
 use Rattle.ss_review.specs.deliveries.SmallChains.{accepting}
 use Rattle.ss_review.specs.keep.Notes.{Note, Normal, Block, Spoilt, noted, note, notes}

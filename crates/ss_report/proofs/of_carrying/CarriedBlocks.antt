@@ -19,9 +19,7 @@ use Rattle.ss_block.specs.declared.full_reading.FullReading.{FullReading}
 use Rattle.ss_block.specs.Reading.{reading}
 use Rattle.ss_block.specs.Session.{session}
 use Rattle.ss_block.specs.Signed.{signed}
-use Rattle.ss_review.specs.declared.keep.message.BlockMessage.{BlockMessage}
-use Rattle.ss_review.specs.declared.keep.message.BlockContent.{BlockContent}
-use Rattle.ss_review.specs.declared.keep.message.BlockContent.TheVariants.{Hashes, Fragment}
+use Rattle.ss_review.specs.keep.BlockMessage.{BlockMessage, BlockContent, Hashes, Fragment}
 use Rattle.ss_review.specs.declared.report.entry.Entry.{Entry}
 use Rattle.ss_review.specs.declared.report.group_report.GroupReport.{GroupReport}
 use Rattle.ss_review.specs.declared.report.session_report.SessionReport.{SessionReport}

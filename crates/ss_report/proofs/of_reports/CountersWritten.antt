@@ -13,7 +13,7 @@ use Rattle.ss_review.specs.keep.Notes.{notes}
 use Rattle.ss_review.specs.keep.Contents.{Contents, blocks, contents}
 use Rattle.ss_review.specs.announced.Announced.{Row, rows}
 use Rattle.ss_review.specs.sessions.Sessions.{sessions}
-use Rattle.ss_review.specs.declared.keep.message.BlockMessage.{BlockMessage}
+use Rattle.ss_review.specs.keep.BlockMessage.{BlockMessage}
 use Rattle.ss_block.specs.declared.session.Session.{Session}
 use Rattle.ss_review.specs.sessions.Verified.{Answers}
 use Rattle.ss_review.specs.report.Report.{session_report, report_of, report}

@@ -10,7 +10,7 @@ use Rattle.ss_review.specs.declared.counted.missing.MissingRun.{MissingRun}
 use Rattle.ss_review.specs.declared.counted.shortfall.GroupTail.{GroupTail}
 use Rattle.ss_review.specs.declared.counted.shortfall.Shortfall.{Shortfall}
 use Rattle.ss_review.specs.declared.counted.shortfall.LogShortfalls.{LogShortfalls}
-use Rattle.ss_review.specs.declared.keep.message.BlockMessage.{BlockMessage}
+use Rattle.ss_review.specs.keep.BlockMessage.{BlockMessage}
 use Rattle.ss_review.specs.declared.report.session_report.SessionReport.{SessionReport}
 use Rattle.ss_review.specs.declared.report.report.Report.{Report}
 use Rattle.ss_review.specs.sessions.Verified.{Answers}

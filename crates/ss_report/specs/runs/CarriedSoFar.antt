@@ -8,9 +8,7 @@ use Rattle.std.specs.List.Sorted.{IsStrictlySortedBy}
 use Rattle.std.specs.BTreeSet.{BTreeSet, contains}
 use Rattle.ss_block.specs.Order.{session_cmp, group_cmp}
 use Rattle.ss_block.specs.declared.session.Session.{Session}
-use Rattle.ss_review.specs.declared.keep.message.BlockMessage.{BlockMessage}
-use Rattle.ss_review.specs.declared.keep.message.BlockContent.{BlockContent}
-use Rattle.ss_review.specs.declared.keep.message.BlockContent.TheVariants.{Hashes, Fragment}
+use Rattle.ss_review.specs.keep.BlockMessage.{BlockMessage, BlockContent, Hashes, Fragment}
 use Rattle.ss_review.specs.declared.report.entry.Entry.{Entry}
 use Rattle.ss_review.specs.declared.report.session_report.SessionReport.{SessionReport}
 use Rattle.ss_review.specs.declared.report.report.Report.{Report}

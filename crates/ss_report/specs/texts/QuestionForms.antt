@@ -1,6 +1,6 @@
 -- The forms of the text of the questions about a log.
 use Rattle.std.specs.Prelude.{ℕ, List, Option}
-use Rattle.ss_review.specs.declared.keep.message.BlockMessage.{BlockMessage}
+use Rattle.ss_review.specs.keep.BlockMessage.{BlockMessage}
 use Rattle.ss_review.specs.declared.questions.asked.AskedSession.{AskedSession}
 use Rattle.ss_review.specs.pinned.Pinned.{questions_by, sessions_by}
 use Rattle.ss_report.specs.texts.QuestionText.{asking_lines, question_lines}

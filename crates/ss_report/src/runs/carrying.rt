@@ -3,8 +3,7 @@ ghost use Rattle.std.specs.Prelude.{◌≡◌, ◌≤◌, ◌++◌, ◌∷◌, [
 ghost use Rattle.std.specs.List.{cons_option};
 ghost use Rattle.std.specs.BTreeSet.{Updates, contains};
 ghost use Rattle.ss_frame.specs.Limits.{most_messages};
-ghost use Rattle.ss_review.specs.declared.keep.message.BlockMessage.{BlockMessage};
-ghost use Rattle.ss_review.specs.declared.keep.message.BlockContent.TheVariants.{Hashes, Fragment};
+ghost use Rattle.ss_review.specs.keep.BlockMessage.{BlockMessage, Hashes, Fragment};
 ghost use Rattle.ss_review.specs.keep.Notes.{note, notes};
 ghost use Rattle.ss_review.specs.keep.Contents.{block_at, block_with, blocks, said_in};
 ghost use Rattle.ss_review.specs.report.Meaning.{IsInOrder};

@@ -24,7 +24,7 @@ use Rattle.std.proofs.lemmas.Map.Views.{btree_map_get_iff}
 use Rattle.ss_block.specs.Order.{pair_cmp}
 use Rattle.ss_block.specs.OrderLaws.{pair_cmp_total, pair_cmp_exact}
 use Rattle.ss_review.specs.keep.Keeping.{places_in, KeepsNormal}
-use Rattle.ss_review.proofs.of_kept_messages.Bounds.{with_itself}
+use Rattle.ss_review.proofs.of_kept_messages.AmongEqual.{with_itself}
 use Rattle.ss_review.proofs.of_lists.Counting.{same_pair-is}
 use Rattle.ss_review.proofs.of_lists.Keyed.{from_less, keys_rise-filter}
 use Rattle.ss_octets.proofs.Members.{Has, has_from_contains, contains_from_has, from_has-map, from_has-filter, has-filter_map, from_has-filter_map, all-has}

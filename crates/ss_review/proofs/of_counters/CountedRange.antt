@@ -8,9 +8,7 @@ use Rattle.ss_block.specs.Block as block
 use Rattle.ss_block.specs.Ranges.{last_number, past_last_number}
 use Rattle.ss_block.specs.Reading.{reading}
 use Rattle.ss_block.specs.ReadingLaws.{BlocksAreInRange}
-use Rattle.ss_review.specs.declared.keep.message.BlockMessage.{BlockMessage}
-use Rattle.ss_review.specs.declared.keep.message.BlockContent.{BlockContent}
-use Rattle.ss_review.specs.declared.keep.message.BlockContent.TheVariants.{Hashes}
+use Rattle.ss_review.specs.keep.BlockMessage.{BlockMessage, BlockContent, Hashes}
 use Rattle.ss_review.specs.declared.report.group_report.GroupReport.{GroupReport}
 use Rattle.ss_review.specs.declared.report.session_report.SessionReport.{SessionReport}
 use Rattle.ss_review.specs.keep.Notes.{notes}

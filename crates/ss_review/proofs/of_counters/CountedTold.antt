@@ -1,6 +1,6 @@
 -- What was found of sessions so far, with one more value or one more block, is what the blocks so far tell.
 use Rattle.std.proofs.Common.{◌≡◌, inl, inr, ℕ, zero, suc, ◌+◌, ◌<◌, Bool, true, false, cond, List, [], ◌∷◌, ◌++◌, length, get_or, take, map, filter, refl, sym, ap, ◌∙◌, subst, arith}
-use Rattle.std.specs.Prelude.{if◌then◌else◌, Result}
+use Rattle.std.specs.Prelude.{if◌then◌else◌, Result, None}
 use Rattle.std.specs.declared.cmp.Ordering.TheVariants.{Less, Equal, Greater}
 use Rattle.std.specs.Ordering.{nat_cmp, is_eq, ordering_index, ordering_reverse}
 use Rattle.std.specs.List.{Contains, Any}
@@ -14,15 +14,14 @@ use Rattle.std.proofs.lemmas.List.Elements.{filter_more, filter-append}
 use Rattle.std.proofs.lemmas.Map.Lookups.{exact_unsigned}
 use Rattle.std.proofs.lemmas.Simd.{map-map}
 use Rattle.ss_block.specs.declared.session.Session.{Session}
-use Rattle.ss_block.specs.Block as block
 use Rattle.ss_block.specs.Order.{session_cmp}
 use Rattle.ss_block.specs.OrderLaws.{session_cmp_total, session_cmp_exact}
 use Rattle.ss_review.specs.declared.report.session_report.SessionState.{SessionState}
-use Rattle.ss_review.specs.declared.keep.message.BlockMessage.{BlockMessage}
-use Rattle.ss_review.specs.declared.keep.message.BlockContent.TheVariants.{Fragment}
+use Rattle.ss_review.specs.keep.BlockMessage.{BlockMessage, BlockContent, Hashes, Fragment}
 use Rattle.ss_review.specs.declared.sessions.joined_session.JoinedSession.{JoinedSession}
 use Rattle.ss_review.specs.declared.counted.counting.SessionGbcs.{SessionGbcs}
 use Rattle.ss_review.specs.Ordered.{in_order}
+use Rattle.ss_review.specs.keep.Signatures.{gbc_of}
 use Rattle.ss_review.specs.sessions.Sessions.{same_session, sessions, of_session}
 use Rattle.ss_review.specs.sessions.Verified.{Answers, joined, is_verified}
 use Rattle.ss_review.specs.announced.Numbered.{session_with_joined, sessions_joined}
@@ -106,13 +105,17 @@ none_of : (b : Bool) → cond b (let none : List ℕ = [] in none) [] ≡ []
 none_of true = refl
 none_of false = refl
 
--- a certificate block adds nothing
-pub fragment_adds_none : (b : BlockMessage) (c : block.Certificate) (fs : List (Session × List ℕ)) → b.said ≡ Fragment c → fs ≡ map (with_block true b) fs
-fragment_adds_none b c [] e = refl
-fragment_adds_none b c (f ∷ fs) e =
+none_said : (said : BlockContent) → gbc_of said ≡ None → gbc_said said ≡ []
+none_said (Hashes b) e = cc
+none_said (Fragment c) e = refl
+
+-- a block with no GBC adds nothing
+pub none_adds_none : (b : BlockMessage) (fs : List (Session × List ℕ)) → gbc_of b.said ≡ None → fs ≡ map (with_block true b) fs
+none_adds_none b [] e = refl
+none_adds_none b (f ∷ fs) e =
     let more : f.1 ≡ f.1 ++ gbcs_added true b f.0
-    = sym (append-nil f.1) ∙ ap (λ gs. f.1 ++ gs) (sym (none_of (same_session b.session f.0))) ∙ ap (λ said. f.1 ++ cond (same_session b.session f.0) (gbc_said said) []) (sym e) in
-    let rest = fragment_adds_none b c fs e in
+    = sym (append-nil f.1) ∙ ap (λ gs. f.1 ++ gs) (sym (none_of (same_session b.session f.0))) ∙ ap (λ gs. f.1 ++ cond (same_session b.session f.0) gs []) (sym (none_said b.said e)) in
+    let rest = none_adds_none b fs e in
     λ i. (f.0, more i) ∷ rest i
 
 -- ---- the blocks so far

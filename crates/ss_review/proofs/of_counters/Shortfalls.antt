@@ -14,7 +14,7 @@ use Rattle.ss_review.specs.declared.counted.counted_session.CountedSession.{Coun
 use Rattle.ss_review.specs.declared.counted.counter.Counter.{Counter}
 use Rattle.ss_review.specs.declared.counted.shortfall.Shortfall.{Shortfall}
 use Rattle.ss_review.specs.declared.counted.shortfall.LogShortfalls.{LogShortfalls}
-use Rattle.ss_review.specs.declared.keep.message.BlockMessage.{BlockMessage}
+use Rattle.ss_review.specs.keep.BlockMessage.{BlockMessage}
 use Rattle.ss_review.specs.declared.report.group_report.GroupReport.{GroupReport}
 use Rattle.ss_review.specs.declared.report.report.Report.{Report}
 use Rattle.ss_review.specs.declared.report.session_report.SessionReport.{SessionReport}

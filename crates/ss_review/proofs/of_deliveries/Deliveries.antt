@@ -4,7 +4,7 @@ use Rattle.std.specs.List.{Contains}
 use Rattle.ss_payload.specs.Payload.{payload_text}
 use Rattle.ss_origin.specs.Chain.{emitted_by}
 use Rattle.ss_origin.specs.Setting.{IsSetting}
-use Rattle.ss_review.specs.declared.keep.message.BlockMessage.{BlockMessage}
+use Rattle.ss_review.specs.keep.BlockMessage.{BlockMessage}
 use Rattle.ss_review.specs.keep.Contents.{blocks}
 use Rattle.ss_review.specs.deliveries.Delivered.{IsSentBlock, IsStoredBlock, OwnBlocksAreSent, SentBlocksAreStored}
 use Rattle.ss_review.specs.deliveries.Delivery.{own_session, is_normal}

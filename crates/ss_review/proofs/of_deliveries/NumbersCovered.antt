@@ -9,7 +9,7 @@ use Rattle.ss_origin.specs.Setting.{Setting}
 use Rattle.ss_origin.specs.Chain.{Turn, calls_of, IsChain, emitted_by, given_to}
 use Rattle.ss_origin.specs.SentLaws.{HasSentBlock, OthersAreSent}
 use Rattle.ss_review.specs.deliveries.Delivered.{NumbersHaveBlocks}
-use Rattle.ss_review.specs.declared.keep.message.BlockContent.TheVariants.{Hashes}
+use Rattle.ss_review.specs.keep.BlockMessage.{Hashes}
 use Rattle.ss_review.specs.keep.Contents.{said_in}
 use Rattle.ss_review.proofs.of_deliveries.StoredBlocks.{block_not_normal}
 use Rattle.ss_octets.proofs.Members.{Has, has_from_contains, contains_from_has, has-append_right, has-flat_map}

@@ -23,9 +23,7 @@ use Rattle.ss_origin.specs.Configs.{is_between, is_config}
 use Rattle.ss_origin.specs.Groups.{is_grouping}
 use Rattle.ss_origin.specs.Chain.{Turn, emitted_by}
 use Rattle.ss_origin.specs.ChainLaws.{BeginsFirst}
-use Rattle.ss_review.specs.declared.keep.message.BlockMessage.{BlockMessage}
-use Rattle.ss_review.specs.declared.keep.message.BlockContent.{BlockContent}
-use Rattle.ss_review.specs.declared.keep.message.BlockContent.TheVariants.{Fragment}
+use Rattle.ss_review.specs.keep.BlockMessage.{BlockMessage, BlockContent, Fragment}
 use Rattle.ss_review.specs.declared.report.session_report.SessionState.TheVariants as states
 use Rattle.ss_review.specs.keep.Notes.{notes}
 use Rattle.ss_review.specs.keep.Contents.{said_in, blocks}
@@ -64,7 +62,7 @@ some_of_each c is =
 
 -- ---- certificate blocks
 
-said_certificate : (r : Reading) (c : block.Certificate) → said_in r ≡ Some (Fragment c) → r ≡ readings.Certificate c
+pub said_certificate : (r : Reading) (c : block.Certificate) → said_in r ≡ Some (Fragment c) → r ≡ readings.Certificate c
 said_certificate readings.Plain c e = absurd (cc)
 said_certificate (readings.Unparsed part pos) c e = absurd (cc)
 said_certificate (readings.Signature b) c e = absurd (cc)

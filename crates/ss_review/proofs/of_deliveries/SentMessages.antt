@@ -21,8 +21,7 @@ use Rattle.ss_origin.specs.Setting.{Setting}
 use Rattle.ss_origin.specs.Emission.{certificate_in, certificate_of, signature_in, block_of, blocks_of, IsSealed, sent_first, EmitsFrom}
 use Rattle.ss_origin.specs.Refusals.{first_fault, is_plain, faults_of, fault_of}
 use Rattle.ss_origin.specs.Chain.{Turn, calls_of, AreTurns, start_behind, AreChained, IsChain, emitted_by}
-use Rattle.ss_review.specs.declared.keep.message.BlockContent.{BlockContent}
-use Rattle.ss_review.specs.declared.keep.message.BlockContent.TheVariants.{Hashes, Fragment}
+use Rattle.ss_review.specs.keep.BlockMessage.{BlockContent, Hashes, Fragment}
 use Rattle.ss_review.specs.keep.Contents.{said_in}
 use Rattle.ss_review.specs.sessions.Verified.{signature_of}
 use Rattle.ss_review.specs.deliveries.Delivery.{own_session}

@@ -42,7 +42,7 @@ use Rattle.ss_origin.specs.Chain.{Turn, calls_of, AreTurns, start_behind, emitte
 use Rattle.ss_origin.specs.SignedLaws.{IsPending}
 use Rattle.ss_origin.specs.Ahead.{ended_with, AreAtLeast}
 use Rattle.ss_origin.specs.AheadLaws.{IsGiven}
-use Rattle.ss_review.specs.declared.keep.message.BlockContent.TheVariants.{Hashes, Fragment}
+use Rattle.ss_review.specs.keep.BlockMessage.{Hashes, Fragment}
 use Rattle.ss_review.specs.keep.Notes.{note, notes}
 use Rattle.ss_review.specs.keep.Contents.{said_in, blocks}
 use Rattle.ss_review.specs.announced.Announced.{keys}

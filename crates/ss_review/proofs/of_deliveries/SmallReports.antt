@@ -8,7 +8,7 @@ use Rattle.ss_block.specs.Reading.{reading}
 use Rattle.ss_review.specs.declared.counted.counted_session.CountedSession.{CountedSession}
 use Rattle.ss_review.specs.declared.counted.missing.MissingRun.{MissingRun}
 use Rattle.ss_review.specs.declared.counted.shortfall.Shortfall.{Shortfall}
-use Rattle.ss_review.specs.declared.keep.message.BlockContent.{BlockContent}
+use Rattle.ss_review.specs.keep.BlockMessage.{BlockContent}
 use Rattle.ss_review.specs.announced.Announced.{Key}
 use Rattle.ss_review.specs.keep.Contents.{blocks}
 use Rattle.ss_review.specs.counted.Counted.{gbcs, counted_session, counted_sessions, next_after, missing, missing_blocks}

@@ -5,7 +5,7 @@ use Rattle.std.proofs.lemmas.Option.{same_Some}
 use Rattle.ss_block.specs.Session.{session}
 use Rattle.ss_payload.specs.Payload.{payload_text}
 use Rattle.ss_origin.specs.Chain.{emitted_by}
-use Rattle.ss_review.specs.declared.keep.message.BlockMessage.{BlockMessage}
+use Rattle.ss_review.specs.keep.BlockMessage.{BlockMessage}
 use Rattle.ss_review.specs.declared.keep.spoilt.SpoiltPlace.{SpoiltPlace}
 use Rattle.ss_review.specs.keep.Notes.{Block, Spoilt, note, notes}
 use Rattle.ss_review.specs.keep.Contents.{blocks, spoilts}

@@ -10,7 +10,7 @@ use Rattle.ss_block.specs.Mark.{has_block_element}
 use Rattle.ss_block.specs.Reading.{reading}
 use Rattle.ss_block.specs.Session.{session}
 use Rattle.ss_block.specs.Signed.{signed}
-use Rattle.ss_review.specs.declared.keep.message.BlockMessage.{BlockMessage}
+use Rattle.ss_review.specs.keep.BlockMessage.{BlockMessage}
 use Rattle.ss_review.specs.declared.questions.questioner.Questioner.{Questioner}
 use Rattle.ss_review.specs.keep.Notes.{Note, noted, note}
 use Rattle.ss_review.specs.keep.Contents.{said_in, block_with, block_in, block_at, blocks}

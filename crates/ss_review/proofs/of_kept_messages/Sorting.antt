@@ -11,6 +11,10 @@ use Rattle.ss_review.proofs.of_kept_messages.Ends.{count_more}
 pub counted : (ns : List Note) (n : Note) (count : ℕ) (more : ℕ) → count ≡ length ns → length ns + 1 < 2 ^ 32 → more ≡ min (count + 1) (2 ^ 32 - 1) → more ≡ length (ns ++ n ∷ [])
 counted ns n count more kept fits told = omega (arith, kept, fits, told, count_more ns n)
 
+-- messages with this note at the end, by what it is
+pub with_note : (s : Sorted) (ns : List Note) (n m : Note) → n ≡ m → SortedOut s (ns ++ m ∷ []) → SortedOut s (ns ++ n ∷ [])
+with_note s ns n m e sorted = subst (λ x. SortedOut s (ns ++ x ∷ [])) (sym e) sorted
+
 -- a list to which it adds nothing
 pub stays : {X : Type 0} (xs told then : List X) → xs ≡ told → then ≡ told ++ [] → xs ≡ then
 stays xs told then kept added = kept ∙ sym (append-nil told) ∙ sym added

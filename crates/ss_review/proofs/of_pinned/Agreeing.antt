@@ -1,14 +1,20 @@
 -- Certificate blocks that agree with a payload: where their octets stand in it.
-use Rattle.std.proofs.Common.{◌≡◌, inl, inr, ℕ, zero, suc, ◌+◌, ◌-◌, ◌<◌, ◌≤◌, true, List, [], ◌∷◌, ◌++◌, length, drop, refl, sym, ap, ◌∙◌, arith}
-use Rattle.std.specs.Prelude.{◌==◌, nat_eq, Some, slice_get, slice_index}
+use Rattle.std.proofs.Common.{◌≡◌, inl, inr, ℕ, zero, suc, ◌+◌, ◌-◌, ◌<◌, ◌≤◌, true, false, ◌&&◌, List, [], ◌∷◌, ◌++◌, length, drop, length-drop, refl, sym, ap, ◌∙◌, arith}
+use Rattle.std.specs.Prelude.{◌==◌, nat_eq, Some, None, option_map, slice_get, slice_index, slice_range}
 use Rattle.std.specs.List.{starts_with}
-use Rattle.std.proofs.lemmas.Bool.{and_parts, and_from, cases_eq, eqb-true}
+use Rattle.std.proofs.lemmas.Bool.{and_parts, and_from, and_left, cases_eq, eqb-true, eq-eqb, ne_eqb}
 use Rattle.std.proofs.lemmas.Bool.Decides.{Decides-eqb}
 use Rattle.std.proofs.lemmas.Slice.Eq.{starts_is}
+use Rattle.std.proofs.lemmas.List.{take_all}
 use Rattle.ss_block.specs.Block as block
 use Rattle.ss_block.specs.Joining.{placed}
+use Rattle.ss_block.specs.Meanings.{octets_of}
 use Rattle.ss_octets.proofs.Members.{Has}
-use Rattle.ss_review.specs.pinned.Pinned.{agrees}
+use Rattle.ss_review.specs.declared.keep.kept_block.Stated.{Stated}
+use Rattle.ss_review.specs.keep.BlockMessage.{BlockContent, Hashes, Fragment}
+use Rattle.ss_review.specs.keep.Stated.{States}
+use Rattle.ss_review.specs.pinned.Pinned.{agrees, agrees_in}
+use Rattle.ss_review.specs.sessions.Payloads.{certificate_of}
 
 -- ---- elements by index
 
@@ -103,3 +109,31 @@ differ_at (x ∷ p) (y ∷ q) l n =
           (suc w.0, omega (arith, below), w.2))
       | inr apart ↦ (0, omega arith, apart)
     ]
+
+-- ---- what a block states of the payload
+
+pub agrees_by : (p : List ℕ) (said : BlockContent) (c : block.Certificate) → certificate_of said ≡ Some c → agrees_in p said ≡ agrees p c
+agrees_by p (Hashes b) c e = absurd (cc)
+agrees_by p (Fragment d) c e = let same : d ≡ c = cc in ap (agrees p) same
+
+pub not_agreeing : (p : List ℕ) (said : BlockContent) → certificate_of said ≡ None → agrees_in p said ≡ false
+not_agreeing p (Hashes b) e = refl
+not_agreeing p (Fragment c) e = absurd (cc)
+
+pub not_as_long : (p : List ℕ) (said : BlockContent) → ¬ (option_map (λ (c : block.Certificate). c.total) (certificate_of said) ≡ Some (length p)) → agrees_in p said ≡ false
+not_as_long p (Hashes b) n = refl
+not_as_long p (Fragment c) n =
+    and_left (c.total == length p) (starts_with nat_eq (drop (c.index - 1) p) c.fragment) (ne_eqb c.total (length p) (λ e. n (ap (λ (k : ℕ). Some k) e)))
+
+-- it is as long, so it begins as the fragment from its index on or not
+pub as_long : (p : List ℕ) (s : Stated) (c : block.Certificate) → States s c → s.total ≡ length p
+    → agrees p c ≡ starts_with nat_eq (drop (s.index - 1) p) (octets_of s.fragment)
+as_long p s c states e =
+    ap (λ b. b && starts_with nat_eq (drop (c.index - 1) p) c.fragment) (eq-eqb c.total (length p) (sym states.total ∙ e))
+    ∙ (λ i. starts_with nat_eq (drop (sym states.index i - 1) p) (sym states.fragment i))
+
+-- what stands from there up to the end
+pub up_to_end : (p rest : List ℕ) (from : ℕ) → rest ≡ slice_range p from (length p) → rest ≡ drop from p
+up_to_end p rest from e =
+    let long = length-drop from p in
+    e ∙ take_all (length p - from) (drop from p) (omega (arith, long))

@@ -7,7 +7,7 @@ use Rattle.std.proofs.lemmas.Slice.Eq.{bytes_eq-Decides}
 use Rattle.ss_block.specs.Block as block
 use Rattle.ss_block.specs.declared.session.Session.{Session}
 use Rattle.ss_block.specs.OrderLaws.{session_cmp_total, session_cmp_exact}
-use Rattle.ss_review.specs.declared.keep.message.BlockMessage.{BlockMessage}
+use Rattle.ss_review.specs.keep.BlockMessage.{BlockMessage}
 use Rattle.ss_review.specs.declared.questions.question.Question.{Question}
 use Rattle.ss_review.specs.declared.report.session_report.SessionState.{SessionState}
 use Rattle.ss_review.specs.declared.report.session_report.SessionState.TheVariants as states

@@ -9,9 +9,7 @@ use Rattle.ss_block.specs.Joining.{Stated, placed, HasTotal, HasOctet, IsDispute
 use Rattle.ss_block.specs.Payload.{PayloadValue}
 use Rattle.ss_block.specs.PayloadReading.{stamp_and_rest_in, payload_in}
 use Rattle.ss_octets.specs.Cut.{parts_at}
-use Rattle.ss_review.specs.declared.keep.message.BlockContent.{BlockContent}
-use Rattle.ss_review.specs.declared.keep.message.BlockContent.TheVariants.{Fragment}
-use Rattle.ss_review.specs.declared.keep.message.BlockMessage.{BlockMessage}
+use Rattle.ss_review.specs.keep.BlockMessage.{BlockMessage, BlockContent, Fragment}
 use Rattle.ss_review.specs.declared.report.session_report.SessionState.{SessionState}
 use Rattle.ss_review.specs.declared.report.session_report.SessionState.TheVariants as states
 use Rattle.ss_review.specs.sessions.Payloads.{certificate_of, certificates, has_index, cover, is_payload}

@@ -9,7 +9,7 @@ use Rattle.ss_block.specs.declared.spoil.Spoil.{Spoil}
 use Rattle.ss_block.specs.Reading.{signature_reading}
 use Rattle.ss_block.specs.ReadingLaws.{ReadingsAreOfValues}
 use Rattle.ss_review.specs.declared.counted.counter.Counter.{Counter}
-use Rattle.ss_review.specs.declared.keep.message.BlockMessage.{BlockMessage}
+use Rattle.ss_review.specs.keep.BlockMessage.{BlockMessage}
 use Rattle.ss_review.specs.declared.keep.message.NormalMessage.{NormalMessage}
 use Rattle.ss_review.specs.declared.report.session_report.SessionReport.{SessionReport}
 use Rattle.ss_review.specs.counted.Counted.{counted_sessions}

@@ -14,7 +14,7 @@ use Rattle.std.proofs.lemmas.Simd.{map-map}
 use Rattle.ss_block.specs.declared.session.Session.{Session}
 use Rattle.ss_block.specs.Order.{session_cmp}
 use Rattle.ss_block.specs.OrderLaws.{session_cmp_total, session_cmp_exact}
-use Rattle.ss_review.specs.declared.keep.message.BlockMessage.{BlockMessage}
+use Rattle.ss_review.specs.keep.BlockMessage.{BlockMessage}
 use Rattle.ss_review.specs.declared.pinned.claimant.Claimant.{Claimant}
 use Rattle.ss_review.specs.declared.pinned.claimant.ClaimedSession.{ClaimedSession}
 use Rattle.ss_review.specs.declared.questions.question.Question.{Question}

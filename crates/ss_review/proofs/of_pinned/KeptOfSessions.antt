@@ -13,9 +13,7 @@ use Rattle.ss_block.specs.declared.session.Session.{Session}
 use Rattle.ss_block.specs.Joining.{IsDisputed}
 use Rattle.ss_block.specs.Order.{session_cmp}
 use Rattle.ss_block.specs.OrderLaws.{session_cmp_total, session_cmp_exact}
-use Rattle.ss_review.specs.declared.keep.message.BlockContent.{BlockContent}
-use Rattle.ss_review.specs.declared.keep.message.BlockContent.TheVariants.{Fragment}
-use Rattle.ss_review.specs.declared.keep.message.BlockMessage.{BlockMessage}
+use Rattle.ss_review.specs.keep.BlockMessage.{BlockMessage, BlockContent, Fragment}
 use Rattle.ss_review.specs.declared.report.session_report.SessionState.TheVariants as states
 use Rattle.ss_review.specs.report.Verdict.{is_none}
 use Rattle.ss_review.specs.sessions.Payloads.{certificates}

@@ -9,11 +9,9 @@ use Rattle.ss_block.specs.declared.session.Session.{Session}
 use Rattle.ss_review.specs.declared.report.session_report.SessionState.{SessionState}
 use Rattle.ss_review.specs.declared.questions.asked.AskedBlock.{AskedBlock}
 use Rattle.ss_review.specs.declared.questions.asked.AskedSession.{AskedSession}
-use Rattle.ss_review.specs.declared.keep.message.BlockMessage.{BlockMessage}
+use Rattle.ss_review.specs.keep.BlockMessage.{BlockMessage, BlockContent, Hashes, Fragment}
 use Rattle.ss_review.specs.Ordered.{in_order}
 use Rattle.ss_review.specs.sessions.Sessions.{same_session, sessions, of_session}
-use Rattle.ss_review.specs.declared.keep.message.BlockContent.{BlockContent}
-use Rattle.ss_review.specs.declared.keep.message.BlockContent.TheVariants.{Hashes, Fragment}
 use Rattle.ss_review.specs.sessions.Payloads.{certificate_of, certificates, cover, is_payload, stated_payload}
 use Rattle.ss_review.specs.pinned.Pinned.{agrees, agrees_in, is_candidate, is_stated, pinned_sessions, session_pinned}
 use Rattle.ss_review.specs.questions.Questions.{asked_session, asked_sessions, Needed, needed}

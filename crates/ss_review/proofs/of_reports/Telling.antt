@@ -9,7 +9,7 @@ use Rattle.ss_review.specs.declared.report.entry.Entry.{Entry}
 use Rattle.ss_review.specs.declared.report.group_report.GroupReport.{GroupReport}
 use Rattle.ss_review.specs.declared.report.session_report.SessionReport.{SessionReport}
 use Rattle.ss_review.specs.declared.keep.message.NormalMessage.{NormalMessage}
-use Rattle.ss_review.specs.declared.keep.message.BlockMessage.{BlockMessage}
+use Rattle.ss_review.specs.keep.BlockMessage.{BlockMessage}
 use Rattle.ss_block.specs.Order.{session_cmp, group_cmp}
 use Rattle.ss_review.specs.keep.Contents.{Contents}
 use Rattle.ss_review.specs.sessions.Sessions.{same_session, sessions}

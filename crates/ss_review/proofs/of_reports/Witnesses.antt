@@ -20,9 +20,7 @@ use Rattle.ss_block.specs.Reading.{reading}
 use Rattle.ss_block.specs.ReadingLaws.{BlocksAreInRange}
 use Rattle.ss_review.specs.declared.report.session_report.SessionState.{SessionState}
 use Rattle.ss_review.specs.declared.keep.message.NormalMessage.{NormalMessage}
-use Rattle.ss_review.specs.declared.keep.message.BlockMessage.{BlockMessage}
-use Rattle.ss_review.specs.declared.keep.message.BlockContent.{BlockContent}
-use Rattle.ss_review.specs.declared.keep.message.BlockContent.TheVariants.{Hashes}
+use Rattle.ss_review.specs.keep.BlockMessage.{BlockMessage, BlockContent, Hashes}
 use Rattle.ss_block.specs.Hashes.{pair, hash_of}
 use Rattle.ss_review.specs.keep.Notes.{Note, Normal, Block, noted, note, notes}
 use Rattle.ss_review.specs.keep.Contents.{said_in, normals, blocks}

@@ -12,7 +12,7 @@ use Rattle.std.proofs.Math.Seq.{take-append_seam, drop-append_seam}
 use Rattle.ss_block.specs.declared.session.Session.{Session}
 use Rattle.ss_block.specs.Order.{session_cmp}
 use Rattle.ss_block.specs.OrderLaws.{session_cmp_total, session_cmp_exact}
-use Rattle.ss_review.specs.declared.keep.message.BlockMessage.{BlockMessage}
+use Rattle.ss_review.specs.keep.BlockMessage.{BlockMessage}
 use Rattle.ss_review.specs.sessions.Sessions.{same_session, sessions, of_session}
 use Rattle.ss_review.specs.sessions.Sectioned.{sections, referred, front, SessionsRise, EndsSection}
 use Rattle.ss_octets.proofs.Members.{Has, has_from_contains, contains_from_has, from_has-map}

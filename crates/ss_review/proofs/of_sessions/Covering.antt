@@ -16,7 +16,7 @@ use Rattle.std.proofs.lemmas.Simd.{map-map}
 use Rattle.std.proofs.lemmas.Map.Keys.{ge_from_not_lt}
 use Rattle.ss_block.specs.Block as block
 use Rattle.ss_review.specs.declared.sessions.span.Span.{Span}
-use Rattle.ss_review.specs.declared.keep.message.BlockMessage.{BlockMessage}
+use Rattle.ss_review.specs.keep.BlockMessage.{BlockMessage}
 use Rattle.ss_review.specs.sessions.Payloads.{certificate_of, certificates, has_index, cover}
 use Rattle.ss_review.specs.sessions.Verified.{Answers, is_valid}
 use Rattle.ss_review.specs.sessions.Covering.{span_of, spans_of, is_within, covers, IsFirstUncovered, accepted_span}

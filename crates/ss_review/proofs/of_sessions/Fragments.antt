@@ -10,8 +10,7 @@ use Rattle.std.proofs.lemmas.Cmp.{then_total, on_total}
 use Rattle.std.proofs.lemmas.Map.Lookups.{exact_pairs}
 use Rattle.ss_block.specs.Block as block
 use Rattle.ss_block.specs.Joining.{Stated, placed_cmp, placed, HasTotal, HasOctet, IsDisputed, IsPayload}
-use Rattle.ss_review.specs.declared.keep.message.BlockMessage.{BlockMessage}
-use Rattle.ss_review.specs.declared.keep.message.BlockContent.TheVariants.{Fragment}
+use Rattle.ss_review.specs.keep.BlockMessage.{BlockMessage, Fragment}
 use Rattle.ss_review.specs.sessions.Payloads.{certificate_of, certificates, octets}
 use Rattle.ss_review.specs.sessions.States.{stated_by, StatesText}
 use Rattle.ss_octets.proofs.Members.{Has, has-map, from_has-map, from_has-flat_map, has-flat_map, has-filter_map, from_has-filter_map}

@@ -8,9 +8,7 @@ use Rattle.ss_block.specs.Block as block
 use Rattle.ss_block.specs.Joining.{Stated, HasTotal, HasOctet, IsDisputed, HasGap, IsPayload}
 use Rattle.ss_block.specs.Payload.{PayloadValue}
 use Rattle.ss_block.specs.PayloadReading.{payload_in}
-use Rattle.ss_review.specs.declared.keep.message.BlockMessage.{BlockMessage}
-use Rattle.ss_review.specs.declared.keep.message.BlockContent.{BlockContent}
-use Rattle.ss_review.specs.declared.keep.message.BlockContent.TheVariants.{Hashes, Fragment}
+use Rattle.ss_review.specs.keep.BlockMessage.{BlockMessage, BlockContent, Hashes, Fragment}
 use Rattle.ss_review.specs.declared.report.session_report.SessionState.{SessionState}
 use Rattle.ss_review.specs.declared.report.session_report.SessionState.TheVariants as states
 use Rattle.ss_review.specs.sessions.Payloads.{certificate_of, certificates, octets, is_disputed, has_index, cover, lacks_some, octet_at, joined_text, payload_or_malformed, stated_payload}

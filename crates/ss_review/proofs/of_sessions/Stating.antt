@@ -19,7 +19,7 @@ use Rattle.ss_block.specs.Block as block
 use Rattle.ss_payload.specs.declared.joiner.JoinState.{JoinState}
 use Rattle.ss_payload.specs.declared.joiner.JoinState.TheVariants.{Incomplete, Disputed, Whole}
 use Rattle.ss_block.specs.Joining.{Stated, placed_cmp, placed, nothing_stated, with_fragment, HasTotal, HasOctet, IsDisputed, HasGap, HasState, IsPayload}
-use Rattle.ss_review.specs.declared.keep.message.BlockMessage.{BlockMessage}
+use Rattle.ss_review.specs.keep.BlockMessage.{BlockMessage}
 use Rattle.ss_review.specs.declared.report.session_report.SessionState.TheVariants as states
 use Rattle.ss_review.specs.sessions.Payloads.{certificate_of, certificates, octets, clash, is_disputed, has_index, cover, lacks_some, octet_found, octet_at, joined_text, payload_or_malformed, stated_payload}
 use Rattle.ss_review.specs.sessions.Stated.{stated_after, stated_in_turn, unjoined}

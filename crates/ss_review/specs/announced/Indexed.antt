@@ -9,7 +9,7 @@ use Rattle.ss_review.specs.declared.report.session_report.SessionState.TheVarian
 use Rattle.ss_review.specs.declared.announced.indexed_number.IndexedNumber.{IndexedNumber}
 use Rattle.ss_review.specs.declared.announced.announced_hash.AnnouncedHash as row
 use Rattle.ss_review.specs.declared.announced.announced_block.AnnouncedBlock.{AnnouncedBlock}
-use Rattle.ss_review.specs.declared.keep.message.BlockContent.TheVariants.{Hashes}
+use Rattle.ss_review.specs.keep.BlockMessage.{Hashes}
 use Rattle.ss_review.specs.declared.sessions.joined_session.JoinedSession.{JoinedSession}
 use Rattle.ss_review.specs.announced.Announced.{Key, Row, rows_said}
 

@@ -3,7 +3,7 @@ use Rattle.std.specs.Prelude.{ℕ, List, [], ◌∷◌, map, Option, Some, None,
 use Rattle.ss_block.specs.declared.hash.Hash.{Hash}
 use Rattle.ss_block.specs.declared.session.Session.{Session}
 use Rattle.ss_review.specs.declared.report.session_report.SessionState.{SessionState}
-use Rattle.ss_review.specs.declared.keep.message.BlockMessage.{BlockMessage}
+use Rattle.ss_review.specs.keep.BlockMessage.{BlockMessage}
 use Rattle.ss_review.specs.declared.announced.message_number.MessageNumber.{MessageNumber}
 use Rattle.ss_review.specs.declared.sessions.joined_session.JoinedSession.{JoinedSession}
 use Rattle.ss_review.specs.sessions.Sessions.{sessions, of_session}

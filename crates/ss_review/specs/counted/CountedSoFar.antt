@@ -2,7 +2,7 @@
 use Rattle.std.specs.Prelude.{ℕ, Bool, List, [], ◌∷◌, ◌++◌, map, filter, if◌then◌else◌}
 use Rattle.std.specs.Ordering.{nat_cmp}
 use Rattle.ss_block.specs.declared.session.Session.{Session}
-use Rattle.ss_review.specs.declared.keep.message.BlockMessage.{BlockMessage}
+use Rattle.ss_review.specs.keep.BlockMessage.{BlockMessage}
 use Rattle.ss_review.specs.declared.sessions.joined_session.JoinedSession.{JoinedSession}
 use Rattle.ss_review.specs.declared.counted.counted_session.CountedSession.{CountedSession}
 use Rattle.ss_review.specs.declared.counted.counting.SessionGbcs.{SessionGbcs}

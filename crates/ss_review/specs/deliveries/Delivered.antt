@@ -9,7 +9,7 @@ use Rattle.ss_origin.specs.Groups.{sg_of, group_of}
 use Rattle.ss_origin.specs.Calls.{spri_in}
 use Rattle.ss_origin.specs.Chain.{Turn, emitted_by, given_to}
 use Rattle.ss_review.specs.declared.report.session_report.SessionState.TheVariants as states
-use Rattle.ss_review.specs.declared.keep.message.BlockMessage.{BlockMessage}
+use Rattle.ss_review.specs.keep.BlockMessage.{BlockMessage}
 use Rattle.ss_review.specs.keep.Notes.{note, notes}
 use Rattle.ss_review.specs.keep.Contents.{block_in, blocks}
 use Rattle.ss_review.specs.sessions.Sessions.{of_session}

@@ -23,7 +23,7 @@ use Rattle.ss_review.specs.declared.report.session_report.SessionState.TheVarian
 use Rattle.ss_review.specs.declared.report.entry.Why.TheVariants as whys
 use Rattle.ss_review.specs.declared.keep.message.NormalMessage.{NormalMessage}
 use Rattle.ss_review.specs.keep.Notes.{note, notes}
-use Rattle.ss_review.specs.declared.keep.message.BlockContent.{BlockContent}
+use Rattle.ss_review.specs.keep.BlockMessage.{BlockContent}
 use Rattle.ss_review.specs.keep.Contents.{said_in, normals, blocks}
 use Rattle.ss_review.specs.sessions.Sessions.{same_session}
 use Rattle.ss_review.specs.sessions.Verified.{Answers, signature_of}

@@ -1,5 +1,5 @@
--- What a review keeps of a message (RFC 5848, section 7): of one without a block its two hashes alone, of a block its
--- text, and of a spoilt one why it is none.
+-- What a review depends on in a message (RFC 5848, section 7): of one without a block its two hashes alone, of a block
+-- its text, and of a spoilt one why it is none.
 use Rattle.std.specs.Prelude.{ℕ, List, map}
 use Rattle.ss_block.specs.declared.hash.HashPair.{HashPair}
 use Rattle.ss_block.specs.declared.spoil.Spoil.{Spoil}

@@ -1,8 +1,7 @@
 -- Which given payloads claim a session.
 use Rattle.std.specs.Prelude.{◌≡◌, ℕ, ◌+◌, ◌≤◌, true, List, length, Contains}
 use Rattle.ss_block.specs.Block as block
-use Rattle.ss_review.specs.declared.keep.message.BlockContent.TheVariants.{Fragment}
-use Rattle.ss_review.specs.declared.keep.message.BlockMessage.{BlockMessage}
+use Rattle.ss_review.specs.keep.BlockMessage.{BlockMessage, Fragment}
 use Rattle.ss_review.specs.sessions.Verified.{Answers}
 use Rattle.ss_review.specs.pinned.Pinned.{claims}
 

@@ -3,7 +3,7 @@ use Rattle.std.specs.List.Sorted.{IsStrictlySortedBy}
 use Rattle.std.specs.Ordering.{nat_cmp}
 use Rattle.std.specs.Prelude.{◌≡◌, ◌⊎◌, ℕ, ◌&&◌, Bool, true, List, length, Contains, All, map, filter, Option, MatchOption, Ok, false}
 use Rattle.ss_block.specs.declared.session.Session.{Session}
-use Rattle.ss_review.specs.declared.keep.message.BlockMessage.{BlockMessage}
+use Rattle.ss_review.specs.keep.BlockMessage.{BlockMessage}
 use Rattle.ss_review.specs.declared.pinned.claimant.Claimant.{Claimant}
 use Rattle.ss_review.specs.declared.pinned.claimant.ClaimedSession.{ClaimedSession}
 use Rattle.ss_review.specs.declared.questions.question.Question.{Question}

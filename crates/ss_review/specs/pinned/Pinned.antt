@@ -6,9 +6,7 @@ use Rattle.std.specs.List.{list_any, starts_with}
 use Rattle.std.specs.Str.{bytes_eq}
 use Rattle.ss_block.specs.Block as block
 use Rattle.ss_block.specs.declared.session.Session.{Session}
-use Rattle.ss_review.specs.declared.keep.message.BlockContent.{BlockContent}
-use Rattle.ss_review.specs.declared.keep.message.BlockContent.TheVariants.{Hashes, Fragment}
-use Rattle.ss_review.specs.declared.keep.message.BlockMessage.{BlockMessage}
+use Rattle.ss_review.specs.keep.BlockMessage.{BlockMessage, BlockContent, Hashes, Fragment}
 use Rattle.ss_review.specs.declared.counted.counted_session.CountedSession.{CountedSession}
 use Rattle.ss_review.specs.declared.questions.asked.AskedSession.{AskedSession}
 use Rattle.ss_review.specs.declared.questions.question.Question.{Question}

@@ -9,9 +9,7 @@ use Rattle.ss_review.specs.declared.questions.parameters.AskedParameters.{AskedP
 use Rattle.ss_review.specs.declared.questions.parameters.AskedParameters.TheVariants as parameters
 use Rattle.ss_review.specs.declared.questions.question.Question.{Question}
 use Rattle.ss_review.specs.declared.questions.question.Question.TheVariants as question
-use Rattle.ss_review.specs.declared.keep.message.BlockMessage.{BlockMessage}
-use Rattle.ss_review.specs.declared.keep.message.BlockContent.{BlockContent}
-use Rattle.ss_review.specs.declared.keep.message.BlockContent.TheVariants.{Hashes, Fragment}
+use Rattle.ss_review.specs.keep.BlockMessage.{BlockMessage, BlockContent, Hashes, Fragment}
 use Rattle.ss_review.specs.declared.sessions.joined_session.JoinedSession.{JoinedSession}
 use Rattle.ss_review.specs.sessions.Sessions.{sessions, of_session}
 use Rattle.ss_review.specs.sessions.Payloads.{certificate_of, certificates, stated_payload}

@@ -1,6 +1,6 @@
 -- Where the report on a log has each of its places.
 use Rattle.std.specs.Prelude.{◌≡◌, ℕ, true, List, map, Contains}
-use Rattle.ss_review.specs.declared.keep.message.BlockMessage.{BlockMessage}
+use Rattle.ss_review.specs.keep.BlockMessage.{BlockMessage}
 use Rattle.ss_review.specs.declared.report.report.Report.{Report}
 use Rattle.ss_review.specs.sessions.Verified.{Answers, is_verified}
 use Rattle.ss_review.specs.announced.Announced.{Key}

@@ -6,7 +6,7 @@ use Rattle.ss_review.specs.declared.report.group_report.GroupReport.{GroupReport
 use Rattle.ss_review.specs.declared.report.session_report.SessionReport.{SessionReport}
 use Rattle.ss_review.specs.declared.report.report.Report.{Report}
 use Rattle.ss_review.specs.declared.keep.message.NormalMessage.{NormalMessage}
-use Rattle.ss_review.specs.declared.keep.message.BlockMessage.{BlockMessage}
+use Rattle.ss_review.specs.keep.BlockMessage.{BlockMessage}
 use Rattle.ss_review.specs.Ordered.{in_order}
 use Rattle.ss_block.specs.Order.{group_cmp}
 use Rattle.ss_review.specs.keep.Notes.{notes}

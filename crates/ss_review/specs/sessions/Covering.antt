@@ -4,7 +4,7 @@ use Rattle.std.specs.Prelude.{None, option_map, if◌then◌else◌}
 use Rattle.std.specs.List.{list_any}
 use Rattle.ss_block.specs.Block as block
 use Rattle.ss_review.specs.declared.sessions.span.Span.{Span}
-use Rattle.ss_review.specs.declared.keep.message.BlockMessage.{BlockMessage}
+use Rattle.ss_review.specs.keep.BlockMessage.{BlockMessage}
 use Rattle.ss_review.specs.sessions.Payloads.{certificate_of}
 use Rattle.ss_review.specs.sessions.Verified.{Answers, is_valid}
 

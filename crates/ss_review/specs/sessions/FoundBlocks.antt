@@ -4,7 +4,7 @@ use Rattle.std.specs.declared.cmp.Ordering.{Ordering}
 use Rattle.std.specs.Ordering.{ordering_then}
 use Rattle.std.specs.BTreeMap.{get}
 use Rattle.ss_block.specs.Order.{octets_cmp, session_cmp}
-use Rattle.ss_review.specs.declared.keep.message.BlockMessage.{BlockMessage}
+use Rattle.ss_review.specs.keep.BlockMessage.{BlockMessage}
 use Rattle.ss_review.specs.declared.sessions.found_blocks.Claim.{Claim}
 use Rattle.ss_review.specs.declared.sessions.found_blocks.FoundBlocks.{FoundBlocks}
 use Rattle.ss_review.specs.sessions.Verified.{signature_of}

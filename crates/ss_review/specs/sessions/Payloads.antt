@@ -8,9 +8,7 @@ use Rattle.ss_block.specs.Joining.{placed}
 use Rattle.ss_block.specs.PayloadReading.{payload_in}
 use Rattle.ss_review.specs.declared.report.session_report.SessionState.{SessionState}
 use Rattle.ss_review.specs.declared.report.session_report.SessionState.TheVariants as states
-use Rattle.ss_review.specs.declared.keep.message.BlockMessage.{BlockMessage}
-use Rattle.ss_review.specs.declared.keep.message.BlockContent.{BlockContent}
-use Rattle.ss_review.specs.declared.keep.message.BlockContent.TheVariants.{Hashes, Fragment}
+use Rattle.ss_review.specs.keep.BlockMessage.{BlockMessage, BlockContent, Hashes, Fragment}
 
 abbrev pub certificate_of : BlockContent → Option block.Certificate
 certificate_of (Fragment c) = Some c

@@ -6,7 +6,7 @@ use Rattle.std.specs.List.{AllByRecursion}
 use Rattle.std.specs.Ordering.{is_gt}
 use Rattle.ss_block.specs.declared.session.Session.{Session}
 use Rattle.ss_block.specs.Order.{session_cmp}
-use Rattle.ss_review.specs.declared.keep.message.BlockMessage.{BlockMessage}
+use Rattle.ss_review.specs.keep.BlockMessage.{BlockMessage}
 use Rattle.ss_review.specs.sessions.Sessions.{same_session, sessions, of_session}
 
 -- each session, in order, with its blocks in theirs

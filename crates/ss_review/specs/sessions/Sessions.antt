@@ -2,7 +2,7 @@
 use Rattle.std.specs.Prelude.{Bool, List, map, filter}
 use Rattle.std.specs.Ordering.{is_eq}
 use Rattle.ss_block.specs.declared.session.Session.{Session}
-use Rattle.ss_review.specs.declared.keep.message.BlockMessage.{BlockMessage}
+use Rattle.ss_review.specs.keep.BlockMessage.{BlockMessage}
 use Rattle.ss_review.specs.Ordered.{in_order}
 use Rattle.ss_block.specs.Order.{session_cmp}
 

@@ -7,8 +7,7 @@ use Rattle.ss_block.specs.Payload.{PayloadValue}
 use Rattle.ss_block.specs.PayloadReading.{payload_in}
 use Rattle.ss_review.specs.declared.report.session_report.SessionState.{SessionState}
 use Rattle.ss_review.specs.declared.report.session_report.SessionState.TheVariants as states
-use Rattle.ss_review.specs.declared.keep.message.BlockMessage.{BlockMessage}
-use Rattle.ss_review.specs.declared.keep.message.BlockContent.TheVariants.{Fragment}
+use Rattle.ss_review.specs.keep.BlockMessage.{BlockMessage, Fragment}
 use Rattle.ss_review.specs.sessions.Payloads.{certificates, octets}
 use Rattle.ss_review.specs.sessions.Verified.{Answers}
 

@@ -2,9 +2,7 @@
 use Rattle.std.specs.Prelude.{ℕ, not, Bool, false, List, length, filter, Result, Ok, Err, if◌then◌else◌}
 use Rattle.ss_review.specs.declared.report.session_report.SessionState.{SessionState}
 use Rattle.ss_review.specs.declared.report.session_report.SessionState.TheVariants as states
-use Rattle.ss_review.specs.declared.keep.message.BlockMessage.{BlockMessage}
-use Rattle.ss_review.specs.declared.keep.message.BlockContent.{BlockContent}
-use Rattle.ss_review.specs.declared.keep.message.BlockContent.TheVariants.{Hashes, Fragment}
+use Rattle.ss_review.specs.keep.BlockMessage.{BlockMessage, BlockContent, Hashes, Fragment}
 use Rattle.ss_review.specs.sessions.Sessions.{of_session}
 use Rattle.ss_review.specs.sessions.Payloads.{certificates, cover, stated_payload}
 

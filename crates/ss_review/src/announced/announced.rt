@@ -2,7 +2,7 @@
 ghost use Rattle.std.specs.Prelude.{◌≡◌, ◌<◌, ◌^◌, ◌++◌, ℕ, List, All, map, flat_map, length, sum_by, IfOk, OnOk};
 ghost use Rattle.std.specs.List.Sorted.{IsStrictlySortedBy};
 ghost use Rattle.ss_block.specs.Order.{session_cmp};
-ghost use Rattle.ss_review.specs.declared.keep.message.BlockContent.TheVariants.{Hashes};
+ghost use Rattle.ss_review.specs.keep.BlockMessage.{Hashes};
 ghost use Rattle.ss_review.specs.declared.sessions.joined_session.JoinedSession.{JoinedSession};
 ghost use Rattle.ss_review.specs.sessions.Verified.{Answers, is_verified};
 ghost use Rattle.ss_review.specs.announced.Announced.{row_cmp, rows_said, rows, keys};
@@ -14,7 +14,7 @@ use crate::announced::announced_hash::AnnouncedHash;
 use crate::announced::indexed_number::IndexedNumber;
 use crate::announced::only_hashes::{Announced, by_number};
 use crate::announced::signature_blocks::signature_blocks;
-use crate::keep::message::BlockMessage;
+use crate::keep::block_message::BlockMessage;
 use crate::lists::ordered::put_in_order;
 use crate::sessions::joined_session::JoinedSession;
 use ss_block::SigBlock;

@@ -1,14 +1,14 @@
 //! The verified signature blocks of a log.
 ghost use Rattle.std.specs.Prelude.{◌≡◌, ◌<◌, ◌^◌, ◌++◌, true, List, length, map, filter, flat_map, All};
 ghost use Rattle.std.specs.Prelude.{IfOk, OnOk, IfSome, IsSome};
-ghost use Rattle.ss_review.specs.declared.keep.message.BlockMessage.{BlockMessage};
+ghost use Rattle.ss_review.specs.keep.BlockMessage.{BlockMessage};
 ghost use Rattle.ss_review.specs.sessions.Verified.{Answers, is_verified};
 ghost use Rattle.ss_review.specs.announced.Announced.{rows_said};
 ghost use Rattle.ss_review.specs.announced.Numbered.{session_with_joined, sessions_joined};
 ghost use Rattle.ss_review.specs.announced.Indexed.{session_at, rows_by};
 
 use crate::announced::announced_block::AnnouncedBlock;
-use crate::keep::message::{BlockContent, BlockMessage};
+use crate::keep::block_message::BlockMessage;
 use crate::sessions::joined_session::JoinedSession;
 use ss_octets::NoMemory;
 use std::alloc::Global;
@@ -22,7 +22,7 @@ fn session_of(sessions: &[JoinedSession], message: &BlockMessage) -> Option<usiz
         → is_verified says bs message.now ≡ true
         → IsSome result }
 {
-    match sessions.binary_search_by(|known| known.session.cmp(&message.session)) {
+    match sessions.binary_search_by(|known| known.session.cmp(message.session())) {
         Ok(index) => Some(index),
         Err(_) => None,
     }
@@ -30,6 +30,7 @@ fn session_of(sessions: &[JoinedSession], message: &BlockMessage) -> Option<usiz
 
 /// Adds a verified block, if it is a signature block. `sessions` are those of its log, in their order.
 fn add_block(
+    alloc: Global,
     announced: &mut Vec<AnnouncedBlock>,
     sessions: &[JoinedSession],
     message: BlockMessage,
@@ -47,14 +48,11 @@ fn add_block(
         return Ok(());
     };
     let session = index as u32;
-    let BlockMessage { said, .. } = message;
-    match said {
-        BlockContent::Hashes(block) => {
-            announced.push(AnnouncedBlock { session, block })?;
-            Ok(())
-        }
-        BlockContent::Fragment(_fragment) => Ok(()),
-    }
+    let Some(block) = message.into_signature_block(alloc)? else {
+        return Ok(());
+    };
+    announced.push(AnnouncedBlock { session, block })?;
+    Ok(())
 }
 
 /// The signature blocks that are marked as verified, in their order. `sessions` are those of the blocks, in their
@@ -81,7 +79,7 @@ pub(crate) fn signature_blocks(
     for message in blocks {
         let is_verified = marks.next().copied().unwrap_or(false);
         if is_verified {
-            add_block(&mut announced, sessions, message)?;
+            add_block(alloc, &mut announced, sessions, message)?;
         }
     }
     Ok(announced)

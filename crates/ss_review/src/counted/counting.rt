@@ -10,7 +10,7 @@ ghost use Rattle.ss_review.specs.counted.CountedSoFar.{found_of, nothing_of, wit
 ghost use Rattle.ss_review.specs.counted.CountedSoFar.{counted_in_order};
 
 use crate::counted::counted_session::{CountedSession, CountedSessions, Gbcs};
-use crate::keep::message::{BlockContent, BlockMessage};
+use crate::keep::block_message::BlockMessage;
 use crate::lists::ordered::put_in_order;
 use crate::sessions::joined_session::JoinedSession;
 use ss_block::Session;
@@ -68,9 +68,9 @@ fn add_block(
     if !is_verified {
         return Ok(());
     }
-    match &block.said {
-        BlockContent::Hashes(signature) => add_gbc(found, &block.session, signature.gbc()),
-        BlockContent::Fragment(_) => Ok(()),
+    match block.gbc() {
+        Some(gbc) => add_gbc(found, block.session(), gbc),
+        None => Ok(()),
     }
 }
 

@@ -1,5 +1,5 @@
 //! What a review reads of a log.
-use crate::keep::message::BlockMessage;
+use crate::keep::block_message::BlockMessage;
 use crate::keep::spoilt::SpoiltPlace;
 
 /// What a review reads of a log.

@@ -1,36 +1,60 @@
 //! Whether certificate blocks that say nothing but what a payload says cover it (RFC 5848, section 5.3.2).
-ghost use Rattle.std.specs.Prelude.{◌≡◌, ◌++◌, ◌∷◌, [], Bool, length, map, filter, IfOk, OnOk, if◌then◌else◌};
-ghost use Rattle.ss_review.specs.declared.keep.message.BlockMessage.{BlockMessage};
+ghost use Rattle.std.specs.Prelude.{◌≡◌, ◌↔◌, ◌++◌, ◌∷◌, [], Bool, length, map, filter, Some, IsTrue, IfOk, OnOk, if◌then◌else◌};
+ghost use Rattle.ss_review.specs.keep.BlockMessage.{BlockMessage};
+ghost use Rattle.ss_block.specs.Block.{Certificate};
+ghost use Rattle.ss_review.specs.keep.Stated.{States};
 ghost use Rattle.ss_review.specs.sessions.Covering.{spans_of};
 ghost use Rattle.ss_review.specs.sessions.Payloads.{certificates, cover, is_payload};
 ghost use Rattle.ss_review.specs.sessions.Sectioned.{referred};
 ghost use Rattle.ss_review.specs.pinned.Finding.{may_claim};
 ghost use Rattle.ss_review.specs.pinned.Pinned.{agrees, agrees_in};
 
-use crate::keep::message::{BlockContent, BlockMessage};
-use crate::sessions::span::{Span, cover, span_of};
-use ss_block::{CertBlock, Payload};
+use crate::keep::block_message::BlockMessage;
+use crate::keep::kept_block::Stated;
+use crate::sessions::span::{Span, cover};
+use ss_block::Payload;
 use ss_octets::NoMemory;
 use std::alloc::Global;
 
-/// Whether the certificate block says nothing but what the payload says.
-fn agrees(payload: &[u8], block: &CertBlock) -> bool
-    ensures { result ≡ agrees payload.now block.now }
+/// Whether a certificate block that states this says nothing but what the payload says.
+fn agrees(payload: &[u8], stated: &Stated<'_>) -> bool
+    ensures { (c : Certificate) → States stated.now c → result ≡ agrees payload.now c }
 {
-    block.assure_in_range();
-    if block.total() as usize != payload.len() {
+    if stated.total as usize != payload.len() {
         return false;
     }
-    payload[block.index() as usize - 1..].starts_with(block.fragment().as_slice())
+    let before = (stated.index as usize).saturating_sub(1);
+    let Some(rest) = payload.get(before..) else {
+        return false;
+    };
+    rest.starts_with(stated.fragment.as_slice())
+}
+
+/// Whether a certificate block with this TPBL is of a payload that long.
+fn is_as_long(payload: &[u8], total: Option<u32>) -> bool
+    ensures { IsTrue result ↔ (total ≡ Some (length payload.now)) }
+{
+    match total {
+        Some(total) => total as usize == payload.len(),
+        None => false,
+    }
 }
 
 /// Whether the block is a certificate block that says nothing but what the payload says.
-pub(crate) fn agrees_in(payload: &[u8], said: &BlockContent) -> bool
-    ensures { result ≡ agrees_in payload.now said.now }
+pub(crate) fn agrees_in(
+    alloc: Global,
+    payload: &[u8],
+    block: &BlockMessage,
+) -> Result<bool, NoMemory>
+    ensures { IfOk result (λ b. b ≡ agrees_in payload.now block.now.said) }
 {
-    match said {
-        BlockContent::Hashes(_) => false,
-        BlockContent::Fragment(block) => agrees(payload, block),
+    // Most known payloads are those of other sessions.
+    if !is_as_long(payload, block.total()) {
+        return Ok(false);
+    }
+    match block.stated(alloc)? {
+        None => Ok(false),
+        Some(stated) => Ok(agrees(payload, &stated)),
     }
 }
 
@@ -40,7 +64,7 @@ fn agreeing(alloc: Global, payload: &[u8], blocks: &[&BlockMessage]) -> Result<V
 {
     let mut agreeing = Vec::with_capacity(alloc, blocks.len())?;
     for block in blocks {
-        agreeing.push(agrees_in(payload, &block.said))?;
+        agreeing.push(agrees_in(alloc, payload, block)?)?;
     }
     Ok(agreeing)
 }
@@ -53,13 +77,11 @@ fn add_span(spans: &mut Vec<Span>, block: &BlockMessage, counts: bool) -> Result
     if !counts {
         return Ok(());
     }
-    match &block.said {
-        BlockContent::Hashes(_) => Ok(()),
-        BlockContent::Fragment(block) => {
-            spans.push(span_of(block))?;
-            Ok(())
-        }
-    }
+    let Some(span) = block.span() else {
+        return Ok(());
+    };
+    spans.push(span)?;
+    Ok(())
 }
 
 /// The indexes of the certificate blocks that count.

@@ -4,7 +4,7 @@ ghost use Rattle.ss_review.specs.sessions.Payloads.{certificates, stated_payload
 ghost use Rattle.ss_review.specs.sessions.Sectioned.{referred};
 ghost use Rattle.ss_review.specs.pinned.Pinned.{is_candidate, is_stated};
 
-use crate::keep::message::BlockMessage;
+use crate::keep::block_message::BlockMessage;
 use crate::pinned::agreeing::may_claim;
 use crate::report::session_report::SessionState;
 use ss_octets::{Bytes, NoMemory};

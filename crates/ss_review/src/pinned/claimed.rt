@@ -4,7 +4,7 @@ ghost use Rattle.ss_review.specs.sessions.Sectioned.{referred, sections, Session
 ghost use Rattle.ss_review.specs.sessions.Verified.{answers};
 ghost use Rattle.ss_review.specs.pinned.Finding.{session_claimed, section_claimed, AreAskableUnder, AreFoundRight};
 
-use crate::keep::message::BlockMessage;
+use crate::keep::block_message::BlockMessage;
 use crate::pinned::claimant::ClaimedSession;
 use crate::pinned::claiming::claimants;
 use crate::sessions::sectioning::{by_session, section_end};
@@ -31,7 +31,7 @@ fn claimed_sections<'a, J: Judge>(
     while start < blocks.len() {
         let end = section_end(blocks, start);
         sessions.push(ClaimedSession {
-            session: &blocks[start].session,
+            session: blocks[start].session(),
             claimants: claimants(alloc, judge, payloads, &blocks[start..end])?,
         })?;
         start = end;

@@ -7,7 +7,7 @@ ghost use Rattle.ss_review.specs.sessions.Verified.{answers, is_valid};
 ghost use Rattle.ss_review.specs.pinned.Finding.{may_claim, payloads_of, IsAskableUnder, IsClaimantIf, IsFoundRight};
 ghost use Rattle.ss_review.specs.pinned.Pinned.{speaks_for, claimants};
 
-use crate::keep::message::BlockMessage;
+use crate::keep::block_message::BlockMessage;
 use crate::pinned::agreeing::{agrees_in, covered, may_claim};
 use crate::pinned::claimant::Claimant;
 use crate::sessions::accepting::valid_once;
@@ -18,6 +18,7 @@ use std::alloc::Global;
 
 /// Whether the block speaks for the payload. `found` is what was found of blocks under it so far.
 fn speaks_once<'a, J: Judge>(
+    alloc: Global,
     judge: &J,
     payload: &[u8],
     found: &mut FoundBlocks<'a>,
@@ -30,7 +31,7 @@ fn speaks_once<'a, J: Judge>(
     ensures kept { KeepsWhatHolds (is_valid (answers J.trusted J.valid judge.now) payload.now) found.old
         → OnOk result (KeepsWhatHolds (is_valid (answers J.trusted J.valid judge.now) payload.now) found.new) }
 {
-    if agrees_in(payload, &message.said) {
+    if agrees_in(alloc, payload, message)? {
         valid_once(judge, payload, found, message)
     } else {
         Ok(false)
@@ -55,7 +56,7 @@ fn speaking<'a, J: Judge>(
 {
     let mut speaking = Vec::with_capacity(alloc, blocks.len())?;
     for message in blocks {
-        speaking.push(speaks_once(judge, payload, found, message)?)?;
+        speaking.push(speaks_once(alloc, judge, payload, found, message)?)?;
     }
     Ok(speaking)
 }

@@ -2,7 +2,7 @@
 ghost use Rattle.std.specs.Prelude.{◌≡◌, ◌||◌, ◌++◌, ◌∷◌, [], ℕ, Bool, List, All, Contains, map, filter, IfOk, OnOk};
 ghost use Rattle.std.specs.Prelude.{if◌then◌else◌};
 ghost use Rattle.std.specs.List.{list_any};
-ghost use Rattle.ss_review.specs.declared.keep.message.BlockMessage.{BlockMessage};
+ghost use Rattle.ss_review.specs.keep.BlockMessage.{BlockMessage};
 ghost use Rattle.ss_review.specs.declared.pinned.claimant.Claimant.{Claimant};
 ghost use Rattle.ss_review.specs.declared.pinned.claimant.ClaimedSession.{ClaimedSession};
 ghost use Rattle.ss_review.specs.questions.Questions.{question_about, AreAskable};
@@ -14,7 +14,7 @@ ghost use Rattle.ss_review.specs.pinned.Finding.{payloads_of, session_claimed, s
 ghost use Rattle.ss_review.specs.pinned.Finding.{AreFoundRight, IsAskableBlock, IsFoundRight};
 ghost use Rattle.ss_review.specs.pinned.Pinned.{is_signature, keeps, kept, left_out, pinned_questions, speaks_for};
 
-use crate::keep::message::{BlockContent, BlockMessage};
+use crate::keep::block_message::BlockMessage;
 use crate::pinned::agreeing::agrees_in;
 use crate::pinned::claimant::{Claimant, ClaimedSession};
 use crate::pinned::claimed::claimed_sessions;
@@ -25,68 +25,79 @@ use ss_octets::{Bytes, NoMemory};
 use std::alloc::Global;
 
 /// Whether the block speaks for the claimant's payload. The judge is asked only if nothing was found of the block.
-fn speaks<'a, J: Judge>(judge: &J, claimant: &Claimant<'a>, block: &'a BlockMessage) -> bool
+fn speaks<'a, J: Judge>(
+    alloc: Global,
+    judge: &J,
+    claimant: &Claimant<'a>,
+    block: &'a BlockMessage,
+) -> Result<bool, NoMemory>
     requires sound { J.sound judge.now }
     requires askable { J.askable judge.now (question_about claimant.now.payload.now block.now) }
     ensures { IsFoundRight (answers J.trusted J.valid judge.now) claimant.now
-        → result ≡ speaks_for (answers J.trusted J.valid judge.now) claimant.now.payload.now block.now }
+        → IfOk result (λ b. b
+        ≡ speaks_for (answers J.trusted J.valid judge.now) claimant.now.payload.now block.now) }
 {
-    if !agrees_in(claimant.payload.as_slice(), &block.said) {
-        return false;
+    if !agrees_in(alloc, claimant.payload.as_slice(), block)? {
+        return Ok(false);
     }
     match claimant.found.get(block) {
-        Some(is_valid) => is_valid,
-        None => is_valid(judge, claimant.payload.as_slice(), block),
+        Some(is_valid) => Ok(is_valid),
+        None => Ok(is_valid(judge, claimant.payload.as_slice(), block)),
     }
 }
 
 /// Whether the block speaks for the payload of some of the claimants.
 fn speaks_for_some<'a, J: Judge>(
+    alloc: Global,
     judge: &J,
     claimants: &[Claimant<'a>],
     block: &'a BlockMessage,
-) -> bool
+) -> Result<bool, NoMemory>
     requires sound { J.sound judge.now }
     requires askable { (c : Claimant)
         → Contains claimants.now c
         → J.askable judge.now (question_about c.payload.now block.now) }
     ensures { All (IsFoundRight (answers J.trusted J.valid judge.now)) claimants.now
-        → result
-        ≡ list_any (λ p. speaks_for (answers J.trusted J.valid judge.now) p block.now) (payloads_of claimants.now) }
+        → IfOk result (λ b. b
+        ≡ list_any (λ p. speaks_for (answers J.trusted J.valid judge.now) p block.now) (payloads_of claimants.now)) }
 {
     for claimant in claimants {
-        if speaks(judge, claimant, block) {
-            return true;
+        if speaks(alloc, judge, claimant, block)? {
+            return Ok(true);
         }
     }
-    false
+    Ok(false)
 }
 
 /// Whether the block is kept, where these claim its session.
-fn keeps_by<'a, J: Judge>(judge: &J, claimants: &[Claimant<'a>], block: &'a BlockMessage) -> bool
+fn keeps_by<'a, J: Judge>(
+    alloc: Global,
+    judge: &J,
+    claimants: &[Claimant<'a>],
+    block: &'a BlockMessage,
+) -> Result<bool, NoMemory>
     requires sound { J.sound judge.now }
     requires askable { (c : Claimant)
         → Contains claimants.now c
         → J.askable judge.now (question_about c.payload.now block.now) }
     ensures { All (IsFoundRight (answers J.trusted J.valid judge.now)) claimants.now
-        → result
+        → IfOk result (λ b. b
         ≡ (is_signature block.now.said || is_none (payloads_of claimants.now)
-        || list_any (λ p. speaks_for (answers J.trusted J.valid judge.now) p block.now) (payloads_of claimants.now)) }
+        || list_any (λ p. speaks_for (answers J.trusted J.valid judge.now) p block.now) (payloads_of claimants.now))) }
 {
-    match &block.said {
-        BlockContent::Hashes(_) => true,
-        BlockContent::Fragment(_) => {
-            if claimants.is_empty() {
-                true
-            } else {
-                speaks_for_some(judge, claimants, block)
-            }
-        }
+    if block.is_signature() || claimants.is_empty() {
+        return Ok(true);
     }
+    speaks_for_some(alloc, judge, claimants, block)
 }
 
 /// Whether the block is kept. `sessions` are those of its log, in their order.
-fn keeps<'a, J: Judge>(judge: &J, sessions: &[ClaimedSession<'a>], block: &'a BlockMessage) -> bool
+fn keeps<'a, J: Judge>(
+    alloc: Global,
+    judge: &J,
+    sessions: &[ClaimedSession<'a>],
+    block: &'a BlockMessage,
+) -> Result<bool, NoMemory>
     requires sound { J.sound judge.now }
     requires askable { IsAskableBlock J.askable judge.now sessions.now block.now }
     ensures { (ps : List (List ℕ)) (bs : List BlockMessage)
@@ -94,13 +105,13 @@ fn keeps<'a, J: Judge>(judge: &J, sessions: &[ClaimedSession<'a>], block: &'a Bl
         → map session_claimed sessions.now
         ≡ map (section_claimed (answers J.trusted J.valid judge.now) ps) (sections bs)
         → All (AreFoundRight (answers J.trusted J.valid judge.now)) sessions.now
-        → result
-        ≡ keeps (answers J.trusted J.valid judge.now) ps (of_session bs block.now.session) block.now }
+        → IfOk result (λ b. b
+        ≡ keeps (answers J.trusted J.valid judge.now) ps (of_session bs block.now.session) block.now) }
 {
-    match sessions.binary_search_by(|known| known.session.cmp(&block.session)) {
-        Ok(index) => keeps_by(judge, sessions[index].claimants.as_slice(), block),
+    match sessions.binary_search_by(|known| known.session.cmp(block.session())) {
+        Ok(index) => keeps_by(alloc, judge, sessions[index].claimants.as_slice(), block),
         // `sessions` has that of each block.
-        Err(_) => true,
+        Err(_) => Ok(true),
     }
 }
 
@@ -124,7 +135,7 @@ fn marks<'a, J: Judge>(
 {
     let mut marks = Vec::with_capacity(alloc, blocks.len())?;
     for block in blocks {
-        marks.push(keeps(judge, sessions, block))?;
+        marks.push(keeps(alloc, judge, sessions, block)?)?;
     }
     Ok(marks)
 }

@@ -1,14 +1,15 @@
 //! The messages of a log that is kept whole, by what they are.
-ghost use Rattle.std.specs.Prelude.{◌+◌, ◌^◌, ◌<◌, ◌++◌, ◌∷◌, [], List, length, IfOk, OnOk};
-ghost use Rattle.ss_review.specs.keep.Notes.{Note, Normal, Block, Spoilt, noted, note, notes};
+ghost use Rattle.std.specs.Prelude.{◌+◌, ◌^◌, ◌<◌, ◌++◌, ◌∷◌, [], ℕ, List, length, IfOk, OnOk};
+ghost use Rattle.ss_review.specs.keep.Notes.{Note, Normal, Spoilt, note, notes};
+ghost use Rattle.ss_review.specs.keep.Noted.{IsBlockOf, IsKeptOf};
 ghost use Rattle.ss_review.specs.keep.Keeping.{SortedOut};
 
-use crate::keep::message::{BlockMessage, NormalMessage};
-use crate::keep::reading::{block_in, reading_to_note};
+use crate::keep::kept_block::KeptBlock;
+use crate::keep::message::NormalMessage;
+use crate::keep::noted::{Noted, noted_in};
 use crate::keep::spoilt::SpoiltPlace;
-use crate::lists::optional::push_some;
 use crate::plain::by_hash::ByHash;
-use ss_block::{HashPair, Reading, Spoil, pair_of};
+use ss_block::{HashPair, Spoil, pair_of};
 use ss_octets::{Bytes, NoMemory};
 use std::alloc::Global;
 
@@ -18,7 +19,7 @@ pub(crate) struct Sorted {
     // How many messages there are; where they are more, as many as it can count.
     pub(crate) count: u32,
     pub(crate) normal: ByHash,
-    pub(crate) blocks: Vec<BlockMessage>,
+    pub(crate) blocks: Vec<KeptBlock>,
     pub(crate) spoilt: Vec<SpoiltPlace>,
 }
 
@@ -40,31 +41,29 @@ pub(crate) fn sort_out(alloc: Global, messages: &[Bytes]) -> Result<Sorted, NoMe
 
 impl Sorted {
     /// Adds the next message.
-    #[tactic(auto, unfolding(crate::specs::keep::Notes::note))]
     fn sort_in(&mut self, alloc: Global, message: &[u8]) -> Result<(), NoMemory>
         ensures { (ns : List Note)
             → SortedOut self.old ns
             → length ns + 1 < 2 ^ 32
             → OnOk result (SortedOut self.new (ns ++ note message.now ∷ [])) }
     {
-        let reading = reading_to_note(alloc, message)?;
-        self.add(alloc, message, reading)
+        let noted = noted_in(alloc, self.count, message)?;
+        self.add(alloc, message, noted)
     }
 
-    /// Adds the next message, which was read as this.
+    /// Adds the next message, of which this is kept.
     #[tactic(auto, unfolding(ss_block::specs::Hashes::pair))]
-    fn add(&mut self, alloc: Global, message: &[u8], reading: Reading) -> Result<(), NoMemory>
+    fn add(&mut self, alloc: Global, message: &[u8], noted: Noted) -> Result<(), NoMemory>
+        requires { IsKeptOf self.old.count message.now noted }
         ensures { (ns : List Note)
             → SortedOut self.old ns
             → length ns + 1 < 2 ^ 32
-            → OnOk result (SortedOut self.new (ns ++ noted message.now reading ∷ [])) }
+            → OnOk result (SortedOut self.new (ns ++ note message.now ∷ [])) }
     {
-        match reading {
-            Reading::Plain => self.add_normal(alloc, pair_of(message)),
-            Reading::Unparsed { .. } => self.add_normal(alloc, pair_of(message)),
-            Reading::Signature(_) => self.add_block(alloc, message),
-            Reading::Certificate(_) => self.add_block(alloc, message),
-            Reading::Spoilt(cause) => self.add_spoilt(cause),
+        match noted {
+            Noted::Normal => self.add_normal(alloc, pair_of(message)),
+            Noted::Block(block) => self.add_block(block),
+            Noted::Spoilt(cause) => self.add_spoilt(cause),
         }
     }
 
@@ -82,14 +81,14 @@ impl Sorted {
     }
 
     /// Adds a message with a block.
-    fn add_block(&mut self, alloc: Global, text: &[u8]) -> Result<(), NoMemory>
-        ensures { (ns : List Note)
+    fn add_block(&mut self, block: KeptBlock) -> Result<(), NoMemory>
+        ensures { (ns : List Note) (text : List ℕ)
             → SortedOut self.old ns
+            → IsBlockOf self.old.count text block
             → length ns + 1 < 2 ^ 32
-            → OnOk result (SortedOut self.new (ns ++ Block text.now ∷ [])) }
+            → OnOk result (SortedOut self.new (ns ++ note text ∷ [])) }
     {
-        let block = block_in(alloc, self.count, text)?;
-        push_some(&mut self.blocks, block)?;
+        self.blocks.push(block)?;
         self.count = self.count.saturating_add(1);
         Ok(())
     }

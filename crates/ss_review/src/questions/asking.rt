@@ -5,10 +5,9 @@ ghost use Rattle.ss_review.specs.questions.Questions.{session_questions, questio
 ghost use Rattle.ss_review.specs.sessions.Sectioned.{referred, SessionsRise};
 ghost use Rattle.ss_review.specs.pinned.Pinned.{pinned_sessions, session_pinned};
 
-use crate::keep::message::{BlockMessage, signature_of};
+use crate::keep::block_message::BlockMessage;
 use crate::pinned::candidates::candidates;
 use crate::questions::asked::{AskedBlock, AskedSession, AskedSessions};
-use crate::questions::parameters::parameters_of;
 use crate::questions::question::{Question, Questions};
 use crate::report::session_report::SessionState;
 use crate::sessions::joining::stated_payload;
@@ -29,10 +28,10 @@ fn asked_block(alloc: Global, block: &BlockMessage) -> Result<AskedBlock, NoMemo
     ensures { IfOk result (λ b. b ≡ asked_block block.now) }
 {
     Ok(AskedBlock {
-        place: block.place,
-        parameters: parameters_of(block),
-        octets: copy_of(alloc, &block.signed)?,
-        signature: copy_of(alloc, signature_of(&block.said))?,
+        place: block.place(),
+        parameters: block.parameters(),
+        octets: copy_of(alloc, block.signed())?,
+        signature: copy_of(alloc, block.signature())?,
     })
 }
 
@@ -137,7 +136,7 @@ fn asked_in_turn(
         add_session(
             alloc,
             &mut sessions,
-            &blocks[start].session,
+            blocks[start].session(),
             known,
             &blocks[start..end],
         )?;

@@ -1,7 +1,7 @@
 //! Whether the payload of a session is trusted, and accepted by valid certificate blocks (RFC 5848, section 7).
 ghost use Rattle.std.specs.Prelude.{◌≡◌, Bool, map, filter, Some, Ok, IfOk, OnOk};
 ghost use Rattle.std.specs.BTreeMap.{get};
-ghost use Rattle.ss_review.specs.declared.keep.message.BlockMessage.{BlockMessage};
+ghost use Rattle.ss_review.specs.keep.BlockMessage.{BlockMessage};
 ghost use Rattle.ss_review.specs.declared.sessions.found_blocks.Claim.{Claim};
 ghost use Rattle.ss_review.specs.sessions.Payloads.{certificates, stated_payload};
 ghost use Rattle.ss_review.specs.sessions.Verified.{answers, is_valid, is_accepted, judged, joined};
@@ -9,11 +9,11 @@ ghost use Rattle.ss_review.specs.sessions.Covering.{spans_of, accepted_span};
 ghost use Rattle.ss_review.specs.questions.Questions.{question_about, asked, AreAskable};
 ghost use Rattle.ss_review.specs.sessions.FoundBlocks.{claim_cmp, IsClaimOf, TellsEqualsAlike, KeepsWhatHolds};
 
-use crate::keep::message::{BlockContent, BlockMessage, signature_of};
+use crate::keep::block_message::BlockMessage;
 use crate::report::session_report::SessionState;
 use crate::sessions::found_blocks::FoundBlocks;
 use crate::sessions::joining::stated_payload;
-use crate::sessions::span::{Span, cover, span_of};
+use crate::sessions::span::{Span, cover};
 use crate::sessions::verifier::Judge;
 use ss_octets::{Bytes, NoMemory};
 use std::alloc::Global;
@@ -24,8 +24,8 @@ pub(crate) fn is_valid<J: Judge>(judge: &J, payload: &[u8], message: &BlockMessa
     requires askable { J.askable judge.now (question_about payload.now message.now) }
     ensures { result ≡ is_valid (answers J.trusted J.valid judge.now) payload.now message.now }
 {
-    let signature = signature_of(&message.said);
-    judge.accepts(payload, message.signed.as_slice(), signature.as_slice())
+    let signature = message.signature();
+    judge.accepts(payload, message.signed().as_slice(), signature.as_slice())
 }
 
 /// Whether the block's signature is valid under the payload. `found` is what was found of blocks so far: the judge
@@ -74,15 +74,13 @@ fn accepted_span<'a, J: Judge>(
     ensures kept { KeepsWhatHolds (is_valid (answers J.trusted J.valid judge.now) payload.now) found.old
         → OnOk result (KeepsWhatHolds (is_valid (answers J.trusted J.valid judge.now) payload.now) found.new) }
 {
-    match &message.said {
-        BlockContent::Hashes(_) => Ok(None),
-        BlockContent::Fragment(block) => {
-            if valid_once(judge, payload, found, message)? {
-                Ok(Some(span_of(block)))
-            } else {
-                Ok(None)
-            }
-        }
+    let Some(span) = message.span() else {
+        return Ok(None);
+    };
+    if valid_once(judge, payload, found, message)? {
+        Ok(Some(span))
+    } else {
+        Ok(None)
     }
 }
 

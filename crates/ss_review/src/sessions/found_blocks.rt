@@ -1,11 +1,11 @@
 //! What was found of blocks, so that one that stands in a log many times is asked about once.
 ghost use Rattle.std.specs.Prelude.{◌≡◌, Bool, Some, IfSome, OnOk};
 ghost use Rattle.std.specs.BTreeMap.{get, Updates};
-ghost use Rattle.ss_review.specs.declared.keep.message.BlockMessage.{BlockMessage};
+ghost use Rattle.ss_review.specs.keep.BlockMessage.{BlockMessage};
 ghost use Rattle.ss_review.specs.declared.sessions.found_blocks.Claim.{Claim};
 ghost use Rattle.ss_review.specs.sessions.FoundBlocks.{claim_cmp, IsClaimOf, TellsEqualsAlike, KeepsWhatHolds};
 
-use crate::keep::message::{BlockMessage, signature_of};
+use crate::keep::block_message::BlockMessage;
 use ss_block::Session;
 use ss_octets::NoMemory;
 use std::alloc::Global;
@@ -31,9 +31,9 @@ fn claim_of<'a>(block: &'a BlockMessage) -> Claim<'a>
     ensures { IsClaimOf result block.now }
 {
     Claim {
-        signature: signature_of(&block.said).as_slice(),
-        octets: block.signed.as_slice(),
-        session: &block.session,
+        signature: block.signature().as_slice(),
+        octets: block.signed().as_slice(),
+        session: block.session(),
     }
 }
 

@@ -2,35 +2,38 @@
 ghost use Rattle.std.specs.Prelude.{◌≡◌, ◌++◌, ◌∷◌, [], List, map, IfOk, OnOk};
 ghost use Rattle.ss_block.specs.Block.{Certificate};
 ghost use Rattle.ss_block.specs.Joiner.{Stands};
+ghost use Rattle.ss_review.specs.keep.Stated.{States, IsOfBlock};
 ghost use Rattle.ss_review.specs.sessions.Payloads.{certificates, payload_or_malformed, stated_payload};
 ghost use Rattle.ss_review.specs.sessions.Stated.{stated_in_turn, unjoined};
 
-use crate::keep::message::{BlockContent, BlockMessage};
+use crate::keep::block_message::BlockMessage;
+use crate::keep::kept_block::Stated;
 use crate::report::session_report::SessionState;
-use ss_block::{CertBlock, JoinState, Joiner, Payload};
+use ss_block::{JoinState, Joiner, Payload};
 use ss_octets::{Bytes, NoMemory};
 use std::alloc::Global;
 
 /// Gives the joiner the fragment of a certificate block.
-fn add_fragment(joiner: &mut Joiner, block: &CertBlock) -> Result<(), NoMemory>
-    ensures { (cs : List Certificate)
+fn add_fragment(joiner: &mut Joiner, stated: &Stated<'_>) -> Result<(), NoMemory>
+    requires { IsOfBlock stated.now }
+    ensures { (cs : List Certificate) (c : Certificate)
+        → States stated.now c
         → Stands joiner.old (stated_in_turn cs)
-        → OnOk result (Stands joiner.new (stated_in_turn (cs ++ block.now ∷ []))) }
+        → OnOk result (Stands joiner.new (stated_in_turn (cs ++ c ∷ []))) }
 {
-    block.assure_in_range();
-    joiner.add(block.total(), block.index(), block.fragment().as_slice())?;
+    joiner.add(stated.total, stated.index, stated.fragment.as_slice())?;
     Ok(())
 }
 
 /// Gives the joiner the fragment of a block, if it is a certificate block.
-fn add_block(joiner: &mut Joiner, message: &BlockMessage) -> Result<(), NoMemory>
+fn add_block(alloc: Global, joiner: &mut Joiner, message: &BlockMessage) -> Result<(), NoMemory>
     ensures { (cs : List Certificate)
         → Stands joiner.old (stated_in_turn cs)
         → OnOk result (Stands joiner.new (stated_in_turn (cs ++ certificates (message.now ∷ [])))) }
 {
-    match &message.said {
-        BlockContent::Hashes(_) => Ok(()),
-        BlockContent::Fragment(block) => add_fragment(joiner, block),
+    match message.stated(alloc)? {
+        None => Ok(()),
+        Some(stated) => add_fragment(joiner, &stated),
     }
 }
 
@@ -40,7 +43,7 @@ fn joined_fragments(alloc: Global, blocks: &[&BlockMessage]) -> Result<Joiner, N
 {
     let mut joiner = Joiner::new(alloc);
     for message in blocks {
-        add_block(&mut joiner, message)?;
+        add_block(alloc, &mut joiner, message)?;
     }
     Ok(joiner)
 }

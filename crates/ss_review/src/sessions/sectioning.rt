@@ -2,7 +2,7 @@
 ghost use Rattle.std.specs.Prelude.{◌≡◌, ◌<◌, ◌≤◌, length, IfOk};
 ghost use Rattle.ss_review.specs.sessions.Sectioned.{sections, referred, front, SessionsRise, EndsSection};
 
-use crate::keep::message::BlockMessage;
+use crate::keep::block_message::BlockMessage;
 use ss_block::Session;
 use ss_octets::NoMemory;
 use std::alloc::Global;
@@ -30,7 +30,7 @@ pub(crate) fn by_session<'a>(
     ensures sectioned { IfOk result (λ v. sections (referred v.items) ≡ sections blocks.now) }
 {
     let mut sorted = references(alloc, blocks)?;
-    sorted.sort_by(|a, b| a.session.cmp(&b.session))?;
+    sorted.sort_by(|a, b| a.session().cmp(b.session()))?;
     Ok(sorted)
 }
 
@@ -40,7 +40,7 @@ fn front_len(blocks: &[&BlockMessage], session: &Session) -> usize
     ensures within { result ≤ length blocks.now }
 {
     for (index, block) in blocks.iter().enumerate() {
-        if block.session != *session {
+        if *block.session() != *session {
             return index;
         }
     }
@@ -54,5 +54,5 @@ pub(crate) fn section_end(blocks: &[&BlockMessage], start: usize) -> usize
     requires some { start < length blocks.now }
     ensures { EndsSection blocks.now start result }
 {
-    start + front_len(&blocks[start..], &blocks[start].session)
+    start + front_len(&blocks[start..], blocks[start].session())
 }

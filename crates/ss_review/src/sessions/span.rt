@@ -3,28 +3,13 @@ ghost use Rattle.std.specs.Prelude.{◌≡◌, List};
 ghost use Rattle.std.specs.List.Sorted.{IsNonDecreasingBy};
 ghost use Rattle.ss_block.specs.Block.{Certificate};
 ghost use Rattle.ss_review.specs.sessions.Payloads.{cover};
-ghost use Rattle.ss_review.specs.sessions.Covering.{span_of, spans_of, IsFirstUncovered};
-
-use ss_block::CertBlock;
+ghost use Rattle.ss_review.specs.sessions.Covering.{spans_of, IsFirstUncovered};
 
 /// The indexes of a fragment: from `start` on, up to `end`, which isn't one.
 #[derive(Clone, Copy, Debug, PartialEq, Eq, PartialOrd, Ord)]
 pub(crate) struct Span {
     pub(crate) start: u64,
     pub(crate) end: u64,
-}
-
-/// The indexes of the fragment of a certificate block.
-pub(crate) fn span_of(block: &CertBlock) -> Span
-    ensures { result ≡ span_of block.now }
-{
-    block.assure_in_range();
-    let start = u64::from(block.index());
-    let length = block.fragment().as_slice().len() as u64;
-    Span {
-        start,
-        end: start + length,
-    }
 }
 
 /// The first index, from 1 on, that none of the spans covers. They rise by where they begin.

@@ -5,7 +5,7 @@ ghost use Rattle.ss_review.specs.sessions.Verified.{answers};
 ghost use Rattle.ss_review.specs.questions.Questions.{questions, AreAskable};
 ghost use Rattle.ss_review.specs.announced.Numbered.{session_with_joined, sessions_joined};
 
-use crate::keep::message::BlockMessage;
+use crate::keep::block_message::BlockMessage;
 use crate::sessions::accepting::joined;
 use crate::sessions::joined_session::JoinedSession;
 use crate::sessions::sectioning::{by_session, section_end};
@@ -30,7 +30,7 @@ fn joined_sections<J: Judge>(
     while start < blocks.len() {
         let end = section_end(blocks, start);
         sessions.push(JoinedSession {
-            session: blocks[start].session.try_clone(alloc)?,
+            session: blocks[start].session().try_clone(alloc)?,
             joined: joined(alloc, judge, &blocks[start..end])?,
         })?;
         start = end;

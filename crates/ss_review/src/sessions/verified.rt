@@ -1,12 +1,12 @@
 //! Which blocks of a log are verified, and the places of those that aren't (RFC 5848, section 7).
 ghost use Rattle.std.specs.Prelude.{◌≡◌, ◌++◌, ◌∷◌, [], ℕ, List, Contains, Bool, not, map, filter, Ok, IfOk, OnOk, if◌then◌else◌};
-ghost use Rattle.ss_review.specs.declared.keep.message.BlockMessage.{BlockMessage};
+ghost use Rattle.ss_review.specs.keep.BlockMessage.{BlockMessage};
 ghost use Rattle.ss_review.specs.sessions.Verified.{answers, is_valid_in, is_verified};
 ghost use Rattle.ss_review.specs.questions.Questions.{question_about, IsAskableIn};
 ghost use Rattle.ss_review.specs.announced.Numbered.{session_with_joined, sessions_joined};
 ghost use Rattle.ss_review.specs.sessions.FoundBlocks.{TellsEqualsAlike, KeepsWhatHolds};
 
-use crate::keep::message::BlockMessage;
+use crate::keep::block_message::BlockMessage;
 use crate::report::places::Places;
 use crate::report::session_report::SessionState;
 use crate::sessions::accepting::valid_once;
@@ -63,7 +63,7 @@ fn is_verified<'a, J: Judge>(
         → KeepsWhatHolds (is_verified (answers J.trusted J.valid judge.now) bs) found.old
         → OnOk result (KeepsWhatHolds (is_verified (answers J.trusted J.valid judge.now) bs) found.new) }
 {
-    match sessions.binary_search_by(|known| known.session.cmp(&block.session)) {
+    match sessions.binary_search_by(|known| known.session.cmp(block.session())) {
         Ok(index) => is_valid_in(judge, &sessions[index].joined, found, block),
         Err(_) => Ok(false),
     }
@@ -102,7 +102,7 @@ fn add_unmarked(
     if is_marked {
         return Ok(());
     }
-    places.push(block.place)?;
+    places.push(block.place())?;
     Ok(())
 }
 

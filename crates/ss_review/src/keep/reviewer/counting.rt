@@ -13,9 +13,9 @@ ghost use Rattle.ss_review.specs.keep.Keeping.{Keeps, kept_blocks};
 use crate::counted::counted_report::CountedReport;
 use crate::counted::reviewing::review_counted;
 use crate::fault::ReviewFault;
+use crate::keep::block_message::messages_of;
 use crate::keep::review_input::ReviewInput;
 use crate::keep::reviewer::Reviewer;
-use crate::keep::reviewer::concluding::blocks_of;
 use crate::laws::reports::reports_list_what_is_announced;
 use crate::sessions::verifier::Judge;
 
@@ -36,8 +36,8 @@ impl Reviewer {
             → IfOk result (λ r. ListsWhatIsAnnounced (answers J.trusted J.valid judge) log r.report) }
         ensures fault { IfErr result (λ f. f ≡ Memory) }
     {
-        let blocks = blocks_of(self.alloc, self.blocks)?;
         reports_list_what_is_announced();
+        let blocks = messages_of(self.alloc, self.blocks)?;
         let held = ReviewInput {
             index: self.normal,
             blocks,

@@ -9,20 +9,29 @@ ghost use Rattle.ss_review.specs.questions.Questions.{AreAskable};
 ghost use Rattle.ss_review.specs.keep.Keeping.{Keeps, kept_blocks};
 ghost use Rattle.ss_review.specs.pinned.Pinned.{counted_by, pinned_counted, pinned_questions, pinned_report};
 ghost use Rattle.ss_review.specs.pinned.Pinned.{questions_by, report_by};
+ghost use Rattle.ss_review.specs.pinned.Claimants.{AreWithin};
 
 use crate::counted::counted_report::CountedReport;
 use crate::counted::reviewing::review_counted;
 use crate::fault::ReviewFault;
+use crate::keep::block_message::{BlockMessage, messages_of};
 use crate::keep::review_input::ReviewInput;
 use crate::keep::reviewer::Reviewer;
-use crate::keep::reviewer::concluding::blocks_of;
 use crate::pinned::keeping::kept_blocks;
 use crate::pinned::refusing::with_left_out;
 use crate::report::report::Report;
 use crate::review::review;
 use crate::sessions::verifier::Judge;
-use ss_block::laws::readings::blocks_are_in_range;
 use ss_octets::{Bytes, NoMemory};
+
+/// Assures contracts that the fragments of these blocks lie within their payloads. It does nothing else.
+fn assure_within(blocks: &[BlockMessage])
+    ensures { AreWithin blocks.now }
+{
+    for block in blocks {
+        block.assure_in_range();
+    }
+}
 
 impl Reviewer {
     /// Makes the report on the messages that it was fed, by the answers of `judge`, as `conclude_with` does. Where
@@ -86,8 +95,8 @@ impl Reviewer {
             → Keeps self ns
             → IfOk result (λ r. r ≡ pinned_report (answers J.trusted J.valid judge) payloads.now (contents ns)) }
     {
-        blocks_are_in_range();
-        let blocks = blocks_of(self.alloc, self.blocks)?;
+        let blocks = messages_of(self.alloc, self.blocks)?;
+        assure_within(blocks.as_slice());
         let found = kept_blocks(self.alloc, &judge, payloads, blocks)?;
         let held = ReviewInput {
             index: self.normal,
@@ -116,8 +125,8 @@ impl Reviewer {
             → IfOk result (λ r. r.counted
             ≡ pinned_counted (answers J.trusted J.valid judge) payloads.now (blocks ns)) }
     {
-        blocks_are_in_range();
-        let blocks = blocks_of(self.alloc, self.blocks)?;
+        let blocks = messages_of(self.alloc, self.blocks)?;
+        assure_within(blocks.as_slice());
         let found = kept_blocks(self.alloc, &judge, payloads, blocks)?;
         let held = ReviewInput {
             index: self.normal,

@@ -1,7 +1,6 @@
 use Rattle.std.proofs.Common.{◌&&◌, not, ◌++◌, refl, sym, ap, ◌∙◌}
 use Rattle.std.proofs.lemmas.Result.{IfOk-weaker}
-use Rattle.ss_review.specs.declared.keep.message.BlockMessage.{BlockMessage}
-use Rattle.ss_review.specs.declared.keep.message.BlockContent.TheVariants.{Fragment}
+use Rattle.ss_review.specs.keep.BlockMessage.{BlockMessage, Fragment}
 use Rattle.ss_report.specs.runs.Carrying.{is_refused_in}
 use Rattle.ss_report.proofs.of_carrying.CarriedBlocks.{is_joined_there, carried_judged, knows_unverified}
 use Rattle.ss_report.proofs.runs.carrying.carry_certificate.Goals as goal

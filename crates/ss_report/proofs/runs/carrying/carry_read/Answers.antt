@@ -1,8 +1,7 @@
 use Rattle.std.proofs.Common.{◌≡◌, [], ◌++◌, length, Some, refl, sym, ap, subst, ◌∙◌}
 use Rattle.std.specs.List.{cons_option}
 use Rattle.std.proofs.lemmas.Result.{IfOk-weaker}
-use Rattle.ss_review.specs.declared.keep.message.BlockMessage.{BlockMessage}
-use Rattle.ss_review.specs.declared.keep.message.BlockContent.TheVariants.{Hashes}
+use Rattle.ss_review.specs.keep.BlockMessage.{BlockMessage, Hashes}
 use Rattle.ss_review.specs.keep.Contents.{block_with, said_in}
 use Rattle.ss_report.specs.runs.CarriedSoFar.{KnowsExtents, carried_at}
 use Rattle.ss_report.proofs.of_carrying.CarriedBlocks.{knows_signature}

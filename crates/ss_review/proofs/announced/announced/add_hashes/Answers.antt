@@ -3,7 +3,7 @@ use Rattle.std.specs.Prelude.{All}
 use Rattle.std.proofs.lemmas.List.{append-nil, drop_more, drop_all}
 use Rattle.std.proofs.lemmas.List.Elements.{All-push}
 use Rattle.ss_block.specs.declared.hash.Hash.TheVariants.{Sha1}
-use Rattle.ss_review.specs.declared.keep.message.BlockContent.TheVariants.{Hashes}
+use Rattle.ss_review.specs.keep.BlockMessage.{Hashes}
 use Rattle.ss_review.specs.announced.Announced.{rows_said}
 use Rattle.ss_review.specs.announced.Indexed.{session_at, row_at}
 use Rattle.ss_review.proofs.of_numbers.RowsTold.{row_more}

@@ -1,7 +1,7 @@
 -- The sessions of the rows so far are known; these rows, and those of the rest, are all.
 use Rattle.std.proofs.Common.{◌≡◌, ℕ, ◌<◌, ◌+◌, ◌++◌, List, drop, map}
 use Rattle.std.specs.Prelude.{All}
-use Rattle.ss_review.specs.declared.keep.message.BlockContent.TheVariants.{Hashes}
+use Rattle.ss_review.specs.keep.BlockMessage.{Hashes}
 use Rattle.ss_review.specs.declared.sessions.joined_session.JoinedSession.{JoinedSession}
 use Rattle.ss_review.specs.announced.Announced.{rows_said}
 use Rattle.ss_review.specs.announced.Indexed.{session_at, row_at}

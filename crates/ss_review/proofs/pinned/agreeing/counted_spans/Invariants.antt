@@ -1,6 +1,6 @@
 -- The spans of those of the blocks so far that count.
 use Rattle.std.proofs.Common.{◌≡◌, Bool, length, take, map, filter}
-use Rattle.ss_review.specs.declared.keep.message.BlockMessage.{BlockMessage}
+use Rattle.ss_review.specs.keep.BlockMessage.{BlockMessage}
 use Rattle.ss_review.specs.sessions.Covering.{spans_of}
 use Rattle.ss_review.specs.sessions.Payloads.{certificates}
 use Rattle.ss_review.specs.sessions.Sectioned.{referred}

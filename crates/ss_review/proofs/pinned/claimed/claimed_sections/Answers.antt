@@ -1,9 +1,9 @@
-use Rattle.std.proofs.Common.{◌++◌, List, All, get_or, drop, map, sym, ap, ◌∙◌, subst}
+use Rattle.std.proofs.Common.{Bor, ◌++◌, List, All, get_or, drop, map, sym, ap, ◌∙◌, subst}
 use Rattle.std.specs.Prelude.{slice_range}
 use Rattle.std.proofs.lemmas.List.{append-nil}
 use Rattle.std.proofs.lemmas.List.Elements.{All-push}
 use Rattle.ss_block.specs.declared.session.Session.{Session}
-use Rattle.ss_review.specs.declared.keep.message.BlockMessage.{BlockMessage}
+use Rattle.ss_review.specs.keep.BlockMessage.{BlockMessage}
 use Rattle.ss_review.specs.sessions.Sectioned.{sections, referred}
 use Rattle.ss_review.specs.sessions.Verified.{answers}
 use Rattle.ss_review.specs.pinned.Finding.{session_claimed, section_claimed, AreAskableUnder, AreFoundRight}
@@ -27,10 +27,11 @@ loop-start-preserved g c =
     let here = c.section_end-end.ensures.sectioned c.index-blocks-start.result in
     let later = sections (referred (drop c.section_end-end.result bs)) in
     let session : Session = (get_or bs c.loop-start.start c.index-blocks-start.result).now.session in
+    let told = c.session.ensures ∙ ap (λ (b : Bor BlockMessage). b.now.session) c.index-blocks-start.is in
     let s : Session × List BlockMessage = (session, referred (slice_range bs c.loop-start.start c.section_end-end.result)) in (
       ap (λ xs. map session_claimed xs ++ map (section_claimed says ps) later) c.in_ok-push.ensures.items
           ∙ one_more session_claimed (section_claimed says ps) c.loop-start.sessions.items _ s _ later here
-          (λ i. (session, c.in_ok-claimants.ensures.payloads i))
+          (λ i. (told i, c.in_ok-claimants.ensures.payloads i))
           ∙ c.loop-start.invariant.0,
       subst (All (AreFoundRight says)) (sym c.in_ok-push.ensures.items)
           (All-push (AreFoundRight says) c.loop-start.sessions.items _ c.loop-start.invariant.1 c.in_ok-claimants.ensures.found),

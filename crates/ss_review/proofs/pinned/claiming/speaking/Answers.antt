@@ -1,5 +1,5 @@
 use Rattle.std.proofs.Common.{Bor, sym, subst}
-use Rattle.ss_review.specs.declared.keep.message.BlockMessage.{BlockMessage}
+use Rattle.ss_review.specs.keep.BlockMessage.{BlockMessage}
 use Rattle.ss_review.specs.questions.Questions.{question_about}
 use Rattle.ss_review.proofs.of_questions.AskableBlocks.{askable_at}
 use Rattle.ss_review.proofs.pinned.claiming.speaking.Goals as goal

@@ -3,6 +3,7 @@ use Rattle.std.specs.Prelude.{Contains}
 use Rattle.std.specs.List.{list_any}
 use Rattle.std.proofs.lemmas.Fn.{always_returns_same}
 use Rattle.std.proofs.lemmas.List.Elements.{All-get_or, Contains-get_or}
+use Rattle.std.proofs.lemmas.Result.{IfOk-weaker}
 use Rattle.ss_block.specs.Order.{session_cmp}
 use Rattle.ss_block.specs.OrderLaws.{session_cmp_exact}
 use Rattle.ss_review.specs.declared.pinned.claimant.ClaimedSession.{ClaimedSession}
@@ -33,9 +34,11 @@ returns-in-Ok g c = λ ps bs stored told right.
     let tie = c.in-Ok.ensures.position (λ (x : ClaimedSession). session_cmp x.session.now b.session) (always_returns_same _ _ _ (λ a r q k. search rules)) d in
     let among = Contains-get_or xs c.in-Ok.index d c.in-Ok.ensures.bound in
     let same = c.as_slice.ensures.value in
-    c.keeps_by.ensures (subst (All (IsFoundRight says)) (sym same) (All-get_or (AreFoundRight says) xs c.in-Ok.index d c.in-Ok.ensures.bound right))
-    ∙ ap (λ cs. is_signature b.said || is_none (payloads_of cs) || list_any (λ p. speaks_for says p b) (payloads_of cs)) same
-    ∙ found_keeps says ps bs xs told b x (has_from_contains xs x among) (session_cmp_exact x.session.now b.session tie)
+    let keeps_it =
+    ap (λ cs. is_signature b.said || is_none (payloads_of cs) || list_any (λ p. speaks_for says p b) (payloads_of cs)) same
+    ∙ found_keeps says ps bs xs told b x (has_from_contains xs x among) (session_cmp_exact x.session.now b.session tie) in
+    IfOk-weaker c.keeps_by.result _ _ (λ b e. e ∙ keeps_it)
+    (c.keeps_by.ensures (subst (All (IsFoundRight says)) (sym same) (All-get_or (AreFoundRight says) xs c.in-Ok.index d c.in-Ok.ensures.bound right)))
 
 pub returns-in-Err : goal.returns-in-Err
 returns-in-Err g c = λ ps bs stored told right.

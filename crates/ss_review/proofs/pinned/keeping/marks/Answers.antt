@@ -2,7 +2,7 @@ use Rattle.std.proofs.Common.{[], ◌∷◌, ◌++◌, get_or, take, map, sym, a
 use Rattle.std.specs.Prelude.{Contains}
 use Rattle.std.proofs.lemmas.List.{map_more, take_all}
 use Rattle.std.proofs.lemmas.List.Elements.{Contains-get_or}
-use Rattle.ss_review.specs.declared.keep.message.BlockMessage.{BlockMessage}
+use Rattle.ss_review.specs.keep.BlockMessage.{BlockMessage}
 use Rattle.ss_review.specs.sessions.Sessions.{of_session}
 use Rattle.ss_review.specs.sessions.Verified.{answers}
 use Rattle.ss_review.specs.pinned.Finding.{IsAskableBlock}
@@ -26,7 +26,7 @@ loop-block-preserved g c = λ ps told right.
     let kept = map (λ (d : BlockMessage). keeps says ps (of_session bs d.session) d) (take i bs) in
     let stored = subst (Contains bs) (sym c.block-item.is) (Contains-get_or bs i b c.loop-block-test.true) in
     c.in_ok-push.ensures.items
-    ∙ (λ j. c.loop-block.invariant ps told right j ++ c.keeps.ensures ps bs stored told right j ∷ [])
+    ∙ (λ j. c.loop-block.invariant ps told right j ++ c.in_ok-keeps.ensures ps bs stored told right j ∷ [])
     ∙ ap (λ (d : BlockMessage). kept ++ keeps says ps (of_session bs d.session) d ∷ []) c.block-item.is
     ∙ sym (map_more (λ (d : BlockMessage). keeps says ps (of_session bs d.session) d) bs i b c.loop-block-test.true)
 

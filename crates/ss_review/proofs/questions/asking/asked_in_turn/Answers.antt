@@ -1,7 +1,10 @@
-use Rattle.std.proofs.Common.{◌++◌, drop, sym, ap, ◌∙◌}
-use Rattle.std.specs.Prelude.{flat_map}
+use Rattle.std.proofs.Common.{◌++◌, drop, Bor, sym, ap, ◌∙◌}
+use Rattle.std.specs.Prelude.{flat_map, slice_range}
 use Rattle.std.proofs.lemmas.List.{append-nil, append_assoc}
+use Rattle.ss_block.specs.declared.session.Session.{Session}
+use Rattle.ss_review.specs.keep.BlockMessage.{BlockMessage}
 use Rattle.ss_review.specs.sessions.Sectioned.{sections, referred}
+use Rattle.ss_review.specs.pinned.Pinned.{session_pinned}
 use Rattle.ss_review.proofs.of_sessions.SectionsTold.{section_pinned, sessions_pinned, no_sections}
 use Rattle.ss_review.proofs.questions.asking.asked_in_turn.Goals as goal
 
@@ -14,7 +17,9 @@ pub loop-start-preserved : goal.loop-start-preserved
 loop-start-preserved c =
     let done = c.loop-start.sessions.items in
     let later = flat_map (section_pinned c.args.known.now) (sections (referred (drop c.section_end-end.result c.args.blocks.now))) in
-    ap (λ ss. ss ++ later) c.in_ok-add_session.ensures
+    let here = referred (slice_range c.args.blocks.now c.loop-start.start c.section_end-end.result) in
+    let first = c.session.ensures ∙ ap (λ (b : Bor BlockMessage). b.now.session) c.index-blocks-start.is in
+    ap (λ ss. ss ++ later) (c.in_ok-add_session.ensures ∙ ap (λ (s : Session). done ++ session_pinned c.args.known.now s here) first)
     ∙ append_assoc done _ later
     ∙ ap (λ ss. done ++ flat_map (section_pinned c.args.known.now) ss) (sym (c.section_end-end.ensures.sectioned c.index-blocks-start.result))
     ∙ c.loop-start.invariant

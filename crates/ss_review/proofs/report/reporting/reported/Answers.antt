@@ -1,6 +1,6 @@
 use Rattle.std.proofs.Common.{◌≡◌, not, map, filter, refl, sym, ap, ◌∙◌}
 use Rattle.ss_review.specs.keep.Contents.{Contents}
-use Rattle.ss_review.specs.declared.keep.message.BlockMessage.{BlockMessage}
+use Rattle.ss_review.specs.keep.BlockMessage.{BlockMessage}
 use Rattle.ss_review.specs.sessions.Verified.{is_verified}
 use Rattle.ss_review.specs.announced.Announced.{rows}
 use Rattle.ss_review.specs.assign.Assigning.{assigned_all}

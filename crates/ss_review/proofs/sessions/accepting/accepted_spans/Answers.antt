@@ -1,7 +1,7 @@
 use Rattle.std.proofs.Common.{[], ◌∷◌, ◌++◌, take, map, filter, Bor, sym, ap, ◌∙◌, subst}
 use Rattle.std.specs.List.{cons_option}
 use Rattle.std.proofs.lemmas.List.{append-nil}
-use Rattle.ss_review.specs.declared.keep.message.BlockMessage.{BlockMessage}
+use Rattle.ss_review.specs.keep.BlockMessage.{BlockMessage}
 use Rattle.ss_review.specs.sessions.Payloads.{certificates}
 use Rattle.ss_review.specs.sessions.Verified.{answers, is_valid}
 use Rattle.ss_review.specs.sessions.Covering.{spans_of}

@@ -1,5 +1,5 @@
 use Rattle.std.proofs.Common.{map, filter, Bor, ◌∙◌}
-use Rattle.ss_review.specs.declared.keep.message.BlockMessage.{BlockMessage}
+use Rattle.ss_review.specs.keep.BlockMessage.{BlockMessage}
 use Rattle.ss_review.specs.sessions.Payloads.{certificates}
 use Rattle.ss_review.specs.sessions.Verified.{answers, is_valid}
 use Rattle.ss_review.proofs.sessions.accepting.is_accepted.Goals as goal

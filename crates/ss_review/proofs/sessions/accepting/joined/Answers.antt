@@ -1,6 +1,6 @@
 use Rattle.std.proofs.Common.{◌≡◌, map, Bor, sym, ap, ◌∙◌, subst}
 use Rattle.std.specs.Prelude.{IfOk}
-use Rattle.ss_review.specs.declared.keep.message.BlockMessage.{BlockMessage}
+use Rattle.ss_review.specs.keep.BlockMessage.{BlockMessage}
 use Rattle.ss_review.specs.questions.Questions.{asked, AreAskable}
 use Rattle.ss_review.specs.sessions.Verified.{answers, judged, joined}
 use Rattle.ss_review.proofs.sessions.accepting.joined.Goals as goal

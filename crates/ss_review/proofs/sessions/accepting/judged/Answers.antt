@@ -1,5 +1,5 @@
 use Rattle.std.proofs.Common.{List, ℕ, map, Bor, sym, subst}
-use Rattle.ss_review.specs.declared.keep.message.BlockMessage.{BlockMessage}
+use Rattle.ss_review.specs.keep.BlockMessage.{BlockMessage}
 use Rattle.ss_review.specs.questions.Questions.{question_about, AreAskable}
 use Rattle.ss_review.specs.declared.questions.question.Question.TheVariants as question
 use Rattle.ss_review.proofs.of_questions.AskableBlocks.{askable_trust, askable_rest}

@@ -1,6 +1,6 @@
 use Rattle.std.proofs.Common.{take, map, sym, subst, Bor}
 use Rattle.ss_block.specs.Joiner.{Stands}
-use Rattle.ss_review.specs.declared.keep.message.BlockMessage.{BlockMessage}
+use Rattle.ss_review.specs.keep.BlockMessage.{BlockMessage}
 use Rattle.ss_review.specs.sessions.Payloads.{certificates}
 use Rattle.ss_review.specs.sessions.Stated.{stated_in_turn}
 use Rattle.ss_review.proofs.of_sessions.Stating.{certificates_more}

@@ -2,7 +2,7 @@ use Rattle.std.proofs.Common.{◌≡◌, map, sym, ap, ◌∙◌, subst, Bor}
 use Rattle.std.specs.Prelude.{Err, IfOk, MatchOption}
 use Rattle.ss_payload.specs.declared.joiner.JoinState.TheVariants.{Whole}
 use Rattle.ss_block.specs.Joining.{HasState, IsPayload}
-use Rattle.ss_review.specs.declared.keep.message.BlockMessage.{BlockMessage}
+use Rattle.ss_review.specs.keep.BlockMessage.{BlockMessage}
 use Rattle.ss_review.specs.declared.report.session_report.SessionState.{SessionState}
 use Rattle.ss_review.specs.sessions.Payloads.{certificates}
 use Rattle.ss_review.specs.sessions.Stated.{stated_in_turn}

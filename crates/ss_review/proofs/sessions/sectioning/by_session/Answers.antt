@@ -2,7 +2,7 @@ use Rattle.std.proofs.Common.{rules, ap, ◌∙◌, Bor}
 use Rattle.std.proofs.lemmas.List.Sorted.{ranks_by}
 use Rattle.std.proofs.lemmas.Fn.{always_returns_same}
 use Rattle.ss_block.specs.OrderLaws.{session_cmp_total}
-use Rattle.ss_review.specs.declared.keep.message.BlockMessage.{BlockMessage}
+use Rattle.ss_review.specs.keep.BlockMessage.{BlockMessage}
 use Rattle.ss_review.specs.sessions.Sectioned.{sections}
 use Rattle.ss_review.proofs.of_sessions.BySession.{below, sessions_rise, sections_stay}
 use Rattle.ss_review.proofs.sessions.sectioning.by_session.Goals as goal

@@ -1,6 +1,7 @@
-use Rattle.std.proofs.Common.{◌++◌, drop, map, sym, ap, ◌∙◌, subst}
+use Rattle.std.proofs.Common.{◌++◌, drop, map, Bor, sym, ap, ◌∙◌, subst}
 use Rattle.std.specs.List.{flat_map}
 use Rattle.std.proofs.lemmas.List.{append-nil}
+use Rattle.ss_review.specs.keep.BlockMessage.{BlockMessage}
 use Rattle.ss_review.specs.sessions.Sectioned.{sections, referred}
 use Rattle.ss_review.specs.sessions.Verified.{answers}
 use Rattle.ss_review.specs.announced.Numbered.{session_with_joined}
@@ -27,10 +28,11 @@ loop-start-preserved g c =
     let says = answers g.J.Judge.trusted g.J.Judge.valid c.args.judge.now in
     let bs = c.args.blocks.now in
     let here = c.section_end-end.ensures.sectioned c.index-blocks-start.result in
+    let first = c.in_ok-try_clone.ensures ∙ c.session.ensures ∙ ap (λ (b : Bor BlockMessage). b.now.session) c.index-blocks-start.is in
     let later = sections (referred (drop c.section_end-end.result bs)) in (
       ap (λ xs. map session_with_joined xs ++ map (section_joined says) later) c.in_ok-push.ensures.items
           ∙ one_more session_with_joined (section_joined says) c.loop-start.sessions.items _ _ _ later here
-          (λ i. (c.in_ok-try_clone.ensures i, c.in_ok-joined.ensures i))
+          (λ i. (first i, c.in_ok-joined.ensures i))
           ∙ c.loop-start.invariant.0,
       askable_behind g.J.Judge.askable c.args.judge.now _ _ (subst (λ ss. AreAskable g.J.Judge.askable c.args.judge.now (flat_map section_asked ss)) here c.loop-start.invariant.1),
     )

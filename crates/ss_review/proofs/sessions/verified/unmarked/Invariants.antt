@@ -1,6 +1,6 @@
 -- The places of those of the blocks so far that aren't marked.
 use Rattle.std.proofs.Common.{◌≡◌, Bool, not, length, take, map, filter}
-use Rattle.ss_review.specs.declared.keep.message.BlockMessage.{BlockMessage}
+use Rattle.ss_review.specs.keep.BlockMessage.{BlockMessage}
 use Rattle.ss_review.proofs.sessions.verified.unmarked.Given as goal
 
 abbrev pub invariant-loop-block : goal.invariant-loop-block

@@ -11,7 +11,7 @@ pub returns-in_ok-pinned_sessions-in-Some-clause-sessions : goal.returns-in_ok-p
 returns-in_ok-pinned_sessions-in-Some-clause-sessions c = λ ns k.
     let ps = c.in-Some.payloads.now in
     c.in_ok-pinned_sessions-in-Some.ensures
-    ∙ ap (pinned_sessions ps) c.as_slice.ensures.value
+    ∙ ap (pinned_sessions ps) (c.as_slice.ensures.value ∙ c.in_ok-blocks-in-Some.ensures)
     ∙ same_pinned ps c.args.self.blocks.items (blocks ns) k.blocks
     ∙ ap (λ (o : Option (Bor (List (List ℕ)))). sessions_by (option_map (λ ps. ps.now) o) (blocks ns)) (sym c.in-Some.is)
 
@@ -20,7 +20,7 @@ returns-in_ok-pinned_sessions-in-Some-clause-asked c = λ ns k.
     let ps = c.in-Some.payloads.now in
     ap questions_shared
     (c.in_ok-pinned_sessions-in-Some.ensures
-    ∙ ap (pinned_sessions ps) c.as_slice.ensures.value
+    ∙ ap (pinned_sessions ps) (c.as_slice.ensures.value ∙ c.in_ok-blocks-in-Some.ensures)
     ∙ same_pinned ps c.args.self.blocks.items (blocks ns) k.blocks)
     ∙ pinned_shared ps (blocks ns)
     ∙ ap (λ (o : Option (Bor (List (List ℕ)))). questions_by (option_map (λ ps. ps.now) o) (blocks ns)) (sym c.in-Some.is)
