@@ -1,5 +1,5 @@
 -- A certificate block is made of what was read exactly where the fragment lies within the payload.
-use Rattle.std.proofs.Common.{◌≡◌, ◌↔◌, ℕ, ◌+◌, true, false, List, length, Option, refl, sym, ap, subst, ◌∙◌, arith}
+use Rattle.std.proofs.Common.{◌≡◌, ◌↔◌, ℕ, ◌+◌, true, false, List, length, Option, sym, ap, subst, ◌∙◌, arith}
 use Rattle.std.specs.Prelude.{nat_lt, not, is_some, IsSome, IfSome, ok_or, ◌==◌}
 use Rattle.std.proofs.lemmas.Bool.{not-false, eqb-true, eq-eqb, ne_eqb, le-ltb, ltb-false, or_parts, or_from, or_right, not_from_true, not_from_false}
 use Rattle.ss_message.specs.Message.{ElementValue, has_raws}

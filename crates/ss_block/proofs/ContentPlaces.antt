@@ -1,7 +1,7 @@
 -- The HB or FRAG of a block in its text, and in what is left without SIGN.
 use Rattle.std.proofs.Common.{◌≡◌, ℕ, true, false, Bool, cond, ◌+◌, ◌-◌, ◌≤◌, List, [], ◌∷◌, ◌++◌, length, take, drop, Option, Some, None, Result, Ok, Err, refl, sym, ap, subst, ◌∙◌, arith}
-use Rattle.std.specs.Prelude.{codes, IfSome, is_some}
-use Rattle.std.specs.List.{flat_map, slice_get, list_all}
+use Rattle.std.specs.Prelude.{codes, IfSome}
+use Rattle.std.specs.List.{flat_map, slice_get}
 use Rattle.std.specs.Str.{bytes_eq}
 use Rattle.std.proofs.lemmas.List.{length-append, append_assoc, take-append-le, drop-append-le, drop_at, length-drop}
 use Rattle.std.proofs.lemmas.Slice.Eq.{bytes_eq-Decides}
@@ -12,7 +12,7 @@ use Rattle.ss_message.specs.declared.message.Element.{Element}
 use Rattle.ss_message.specs.declared.message.Message.{Message}
 use Rattle.ss_message.specs.Octets.{part_of}
 use Rattle.ss_message.specs.Raw.{meant}
-use Rattle.ss_message.specs.Message.{ParameterValue, ElementValue, MessageValue, IsMessage, header_text, element_text, parameter_text, text}
+use Rattle.ss_message.specs.Message.{ParameterValue, ElementValue, MessageValue, IsMessage, has_raws, header_text, element_text, parameter_text, text}
 use Rattle.ss_message.specs.Layout.{Layout, layout_of, value_of, parameter_value, parameter_values, value_at}
 use Rattle.ss_message.specs.Elements.{element_from}
 use Rattle.ss_message.specs.Places.{IsWithin, PartsLie}
@@ -24,15 +24,18 @@ use Rattle.ss_block.specs.declared.reading.Reading.{Reading}
 use Rattle.ss_block.specs.declared.reading.Reading.TheVariants.{Plain, Unparsed, Signature, Certificate, Spoilt}
 use Rattle.ss_block.specs.Block as block
 use Rattle.ss_block.specs.SignPlace.{block_id, content_parameter}
+use Rattle.ss_block.specs.Parameters.{place_of}
 use Rattle.ss_block.specs.Parsed.{IsRead, IsFault, IsReadAs}
-use Rattle.ss_block.specs.Reading.{first_text, text_at, text_of, or_none, hash_in, hashes_in, pieces, signature_texts, signature_reading, certificate_reading, element_with, reading_with, value_reading, reading_from, reading}
+use Rattle.ss_block.specs.Reading.{first_text, text_at, text_of, or_none, hashes_in, pieces, signature_texts, signature_reading, certificate_reading, element_with, reading_with, value_reading, reading_from, reading}
 use Rattle.ss_block.specs.Signed.{unsigned_value, signed_if_block}
 use Rattle.ss_block.specs.PlacedReading.{SpellsHashes, SpellsFragment, HasContent, signature_in}
 use Rattle.ss_block.specs.Versions.{alg_of}
+use Rattle.ss_block.specs.Writing.{hashes_text}
 use Rattle.ss_block.proofs.Blocks.{with_block}
 use Rattle.ss_block.proofs.Layouts.{follows}
 use Rattle.ss_block.proofs.Placing.{element_placed, parameter_placed}
-use Rattle.ss_block.proofs.HashTexts.{length-hashes_in}
+use Rattle.ss_block.proofs.Values.{text_is_utf8, raws_with}
+use Rattle.ss_block.proofs.HashSpellings.{text_spelled, spelled_as_is}
 use Rattle.ss_block.proofs.SignatureCauses as signatures
 use Rattle.ss_block.proofs.CertificateCauses as certificates
 use Rattle.ss_block.proofs.SignPlaces.{front_of, back_of, sign_of, rounds, nine_text, elements_some, same_long}
@@ -98,6 +101,7 @@ record ContentPlaced (t : List ℕ) (l : Layout) (id : List ℕ) : Type 0 where
   front : List ℕ
   back : List ℕ
   in_order : at.value.start ≤ at.value.end
+  behind : l.msgid.start ≤ at.value.start
   before : at.value.end ≤ length front
   whole : t ≡ front ++ (parameter_text (sign_of raw) ++ back)
   left : text (unsigned_value (value_at t l)) ≡ front ++ back
@@ -135,6 +139,7 @@ content_placed t l id places valid spelled is_block =
       front = front;
       back = back_of v b.after;
       in_order = omega (arith, p.lies.value_stands.ends);
+      behind = omega (arith, places.msgid.within.0, e.lies.id_stands.ends, p.lies.name, p.lies.name_stands.ends, p.lies.value);
       before = omega (arith, p.lies.stands.ends, long, last, same_long (parameter_value t p.at) h.last p.says);
       whole = spelled ∙ r.whole;
       left = r.left;
@@ -166,17 +171,13 @@ certificate_of s None b e h is = absurd cc
 certificate_of None (Some x) b e h is = let same : x ≡ e = cc in ap certificate_reading (sym same) ∙ h
 certificate_of (Some x) (Some y) b e h is = absurd cc
 
-spells_hashes : (octets : List ℕ) (s : Span) (e : ElementValue) (b : block.Signature) → signature_reading e ≡ Signature b → IsWithin octets s → text_of e kinds.Hb ≡ meant (part_of octets s) → SpellsHashes octets s b
-spells_hashes octets s e b h within content =
+spells_hashes : (octets : List ℕ) (s : Span) (e : ElementValue) (b : block.Signature) → signature_reading e ≡ Signature b → has_raws e ≡ true → IsWithin octets s → text_of e kinds.Hb ≡ meant (part_of octets s) → SpellsHashes octets s b
+spells_hashes octets s e b h raws within content =
     let t = signature_texts e in
     let u = signatures.of_block e b h in
     let all = (signatures.both (signatures.counted t) (signatures.hashed t) u.3).1 in
-    subst (SpellsHashes octets s) u.6 (record {
-      within = within;
-      count = ap (λ (x : List ℕ). length (pieces x)) (sym content) ∙ sym (length-hashes_in (alg_of t.ver) (pieces t.hb) all);
-      each = ap (λ (x : List ℕ). list_all (λ piece. is_some (hash_in (alg_of t.ver) piece)) (pieces x)) (sym content) ∙ all;
-      hashes = ap (λ (x : List ℕ). hashes_in (alg_of t.ver) (pieces x)) content;
-    })
+    let hb : t.hb ≡ hashes_text (hashes_in (alg_of t.ver) (pieces t.hb)) = text_spelled (alg_of t.ver) t.hb (text_is_utf8 e (place_of kinds.Hb) raws) all in
+    subst (SpellsHashes octets s) u.6 (record { within = within; spelled = spelled_as_is (part_of octets s) (hashes_in (alg_of t.ver) (pieces t.hb)) (sym content ∙ hb) })
 
 spells_fragment : (octets : List ℕ) (s : Span) (e : ElementValue) (c : block.Certificate) → certificate_reading e ≡ Certificate c → IsWithin octets s → text_of e kinds.Frag ≡ meant (part_of octets s) → SpellsFragment octets s c
 spells_fragment octets s e c h within content =
@@ -208,22 +209,30 @@ content_left m id p at found =
       content = p.content ∙ ap (λ (x : List ℕ). meant x) (part_left m.source.now left p.front (parameter_text (sign_of p.raw) ++ p.back) p.back p.at.value p.in_order p.before p.whole p.left);
     })
 
+-- it stands behind MSGID
+pub message_behind : (m : Message) (id : List ℕ) (at : Parameter) → IsRead m → block_id (value_reading (value_of m)) ≡ Some id → Some at ≡ content_parameter m.source.now id m.elements → m.msgid.start ≤ at.value.start
+message_behind m id at r is_block found =
+    let p = placed m id r is_block in
+    let told : Some p.at ≡ Some at = sym p.found ∙ sym found in
+    let same : p.at ≡ at = cc in
+    subst (λ (x : Parameter). m.msgid.start ≤ x.value.start) same p.behind
+
 pub message_content : (m : Message) (id : List ℕ) (at : Parameter) → IsRead m → block_id (value_reading (value_of m)) ≡ Some id → Some at ≡ content_parameter m.source.now id m.elements
     → HasContent (signed_if_block (value_reading (value_of m)) (value_of m)) (Some at.value) (value_reading (value_of m))
-message_content m id at read is_block found = by_reading m id at found (placed m id read is_block) (value_reading (value_of m)) refl is_block
+message_content m id at read is_block found = by_reading m id at read found (placed m id read is_block) (value_reading (value_of m)) refl is_block
   where
-    by_reading : (m : Message) (id : List ℕ) (at : Parameter) → Some at ≡ content_parameter m.source.now id m.elements → ContentPlaced m.source.now (layout_of m) id
+    by_reading : (m : Message) (id : List ℕ) (at : Parameter) → IsRead m → Some at ≡ content_parameter m.source.now id m.elements → ContentPlaced m.source.now (layout_of m) id
         → (r : Reading) → value_reading (value_of m) ≡ r → block_id r ≡ Some id → HasContent (signed_if_block r (value_of m)) (Some at.value) r
-    by_reading m id at found p Plain is h = tt
-    by_reading m id at found p (Unparsed part pos) is h = tt
-    by_reading m id at found p (Spoilt cause) is h = tt
-    by_reading m id at found p (Signature b) is h =
+    by_reading m id at read found p Plain is h = tt
+    by_reading m id at read found p (Unparsed part pos) is h = tt
+    by_reading m id at read found p (Spoilt cause) is h = tt
+    by_reading m id at read found p (Signature b) is h =
         let same : codes "ssign" ≡ id = cc in
         let es : List ElementValue = (value_of m).elements in
         let left = content_left m id p at found in
         let e = signature_of (element_with (codes "ssign") es) (element_with (codes "ssign-cert") es) b p.element is (ap (λ (x : List ℕ). element_with x es) same ∙ p.reads) in
-        spells_hashes (text (unsigned_value (value_of m))) at.value p.element b e left.within left.content
-    by_reading m id at found p (Certificate c) is h =
+        spells_hashes (text (unsigned_value (value_of m))) at.value p.element b e (raws_with id es p.element read.valid.raws (sym p.reads)) left.within left.content
+    by_reading m id at read found p (Certificate c) is h =
         let same : codes "ssign-cert" ≡ id = cc in
         let es : List ElementValue = (value_of m).elements in
         let left = content_left m id p at found in

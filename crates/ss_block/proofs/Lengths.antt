@@ -1,5 +1,6 @@
 -- Neither undoing escapes nor decoding base64 makes a text longer.
-use Rattle.std.proofs.Common.{◌≡◌, ℕ, zero, suc, ◌+◌, ◌<◌, ◌≤◌, ◌==◌, Bool, true, false, cond, List, [], ◌∷◌, ◌++◌, length, replicate, Option, Some, None, refl, ap, arith, length-append}
+use Rattle.std.proofs.Common.{◌≡◌, ℕ, zero, suc, ◌+◌, ◌*◌, ◌/◌, ◌<◌, ◌≤◌, ◌==◌, Bool, true, false, cond, List, [], ◌∷◌, ◌++◌, length, replicate, Option, Some, None, refl, ap, arith, length-append}
+use Rattle.std.proofs.lemmas.List.{length-replicate}
 use Rattle.base64.specs.Rfc4648.{encode_symbols, padding_len}
 use Rattle.base64.specs.Engines.{standard}
 use Rattle.base64.specs.GeneralPurpose.{IsBytes, engine_symbols}
@@ -34,7 +35,7 @@ length-meant raw = (fewer raw).alone
 
 -- ---- octets below 256
 
-bytes_ahead : (b : ℕ) (x : List ℕ) → b < 256 → IsBytes x → IsBytes (b ∷ x)
+pub bytes_ahead : (b : ℕ) (x : List ℕ) → b < 256 → IsBytes x → IsBytes (b ∷ x)
 bytes_ahead b x small bytes zero = small
 bytes_ahead b x small bytes (suc i) = bytes i
 
@@ -46,15 +47,15 @@ pub bytes_before : (front rest : List ℕ) → IsBytes (front ++ rest) → IsByt
 bytes_before [] rest bytes = λ i. omega arith
 bytes_before (b ∷ front) rest bytes = bytes_ahead b front (bytes 0) (bytes_before front rest (λ i. bytes (suc i)))
 
+pub no_bytes : IsBytes []
+no_bytes i = omega arith
+
 record AreBytes (octets : List ℕ) : Type 0 where
   alone : IsBytes (meant_after false octets)
   pending : IsBytes (meant_after true octets)
 
-none : IsBytes []
-none i = omega arith
-
 are_bytes : (octets : List ℕ) → IsBytes octets → AreBytes octets
-are_bytes [] bytes = record { alone = none; pending = bytes_ahead 92 [] (omega arith) none }
+are_bytes [] bytes = record { alone = no_bytes; pending = bytes_ahead 92 [] (omega arith) no_bytes }
 are_bytes (b ∷ octets) bytes =
     let rest = are_bytes octets (λ i. bytes (suc i)) in
     record { alone = by_backslash b octets (bytes 0) rest (b == 92); pending = by_class b octets (bytes 0) rest (is_special b) }
@@ -71,6 +72,11 @@ pub bytes_meant : (raw : List ℕ) → IsBytes raw → IsBytes (meant raw)
 bytes_meant raw bytes = (are_bytes raw bytes).alone
 
 -- ---- base64
+
+pub length-padded : (octets : List ℕ) → length (base64 octets) ≡ (4 * length octets + 2) / 3 + padding_len (length octets)
+unfolding base64
+length-padded octets =
+    omega (arith, length-append (encode_symbols (engine_symbols standard) octets) (replicate (padding_len (length octets)) 61), length-encode_symbols (engine_symbols standard) octets, length-replicate {A = ℕ} (padding_len (length octets)) 61)
 
 length-base64 : (octets : List ℕ) → length octets ≤ length (base64 octets)
 unfolding base64

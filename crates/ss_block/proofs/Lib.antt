@@ -18,6 +18,7 @@ pub mod Blocks
 pub mod Layouts
 pub mod SignPlaces
 pub mod Lengths
+pub mod HashSpellings
 pub mod ContentPlaces
 pub mod SenderPlaces
 pub mod Marks
@@ -29,3 +30,4 @@ pub mod WrittenCertificates
 pub mod Written
 pub mod JoinedHashes
 pub mod Pieces
+pub mod HashArrays

@@ -1,6 +1,6 @@
 -- Who sent a block, in its text and in what is left without SIGN.
-use Rattle.std.proofs.Common.{◌≡◌, ℕ, ◌+◌, ◌≤◌, List, [], ◌∷◌, ◌++◌, length, Option, Some, None, refl, sym, ap, subst, ◌∙◌, arith}
-use Rattle.std.specs.Prelude.{codes}
+use Rattle.std.proofs.Common.{◌≡◌, ℕ, ◌+◌, ◌≤◌, List, [], ◌∷◌, ◌++◌, length, Option, Some, None, sym, ap, subst, ◌∙◌, arith}
+use Rattle.std.specs.Prelude.{codes, IfSome}
 use Rattle.std.specs.List.{flat_map}
 use Rattle.std.proofs.lemmas.List.{length-append}
 use Rattle.ss_message.specs.declared.span.Span.{Span}
@@ -16,6 +16,7 @@ use Rattle.ss_block.specs.declared.session_places.SessionPlaces.{SessionPlaces}
 use Rattle.ss_block.specs.Block as block
 use Rattle.ss_block.specs.SignPlace.{block_id}
 use Rattle.ss_block.specs.Parsed.{IsRead}
+use Rattle.ss_block.specs.PlacedReading.{StandsBefore}
 use Rattle.ss_block.specs.Reading.{value_reading}
 use Rattle.ss_block.specs.Session.{field_from, session_from, session_if_block}
 use Rattle.ss_block.specs.SessionPlaces.{LieIn, HasSender, session_at}
@@ -32,24 +33,30 @@ next_field : (t before octets next : List ℕ) (a b : Span) → SpanLies t befor
 next_field t before octets next a b first second =
     omega (arith, first.behind.ends, first.stands.ends, second.behind.ends, length-append (before ++ octets) (32 ∷ []), length-append before octets)
 
--- the fields end before the header does
-record InHeader (t : List ℕ) (l : Layout) : Type 0 where
-  hostname : l.hostname.end ≤ length (header_text (value_at t l))
-  app_name : l.app_name.end ≤ length (header_text (value_at t l))
-  procid : l.procid.end ≤ length (header_text (value_at t l))
+-- the places of a message's session
+abbrev places_of : Layout → ℕ → SessionPlaces
+places_of l rsid = record { host = l.hostname; app = l.app_name; procid = l.procid; rsid = rsid }
 
-in_header : (t : List ℕ) (l : Layout) → PartsLie t l → l.msgid.end + 1 ≡ length (header_text (value_at t l)) → InHeader t l
-in_header t l places header =
+-- they end before MSGID begins
+fields_before : (t : List ℕ) (l : Layout) (rsid : ℕ) → PartsLie t l → StandsBefore (Some (places_of l rsid)) (Some l.msgid)
+fields_before t l rsid places =
     let v : MessageValue = value_at t l in
     let app = next_field t (before_hostname v) (field_text v.hostname) (field_text v.app_name) l.hostname l.app_name places.hostname.lies places.app_name.lies in
     let procid = next_field t (before_app_name v) (field_text v.app_name) (field_text v.procid) l.app_name l.procid places.app_name.lies places.procid.lies in
-    let msgid = next_field t (before_procid v) (field_text v.procid) (field_text v.msgid) l.procid l.msgid places.procid.lies places.msgid.lies in
-    let last = places.msgid.within.0 in
-    record {
-      hostname = omega (arith, app, procid, msgid, header, last, places.app_name.within.0, places.procid.within.0);
-      app_name = omega (arith, procid, msgid, header, last, places.procid.within.0);
-      procid = omega (arith, msgid, header, last);
-    }
+    let msgid = next_field t (before_procid v) (field_text v.procid) (field_text v.msgid) l.procid l.msgid places.procid.lies places.msgid.lies in (
+      omega (arith, app, procid, msgid, places.app_name.within.0, places.procid.within.0),
+      omega (arith, procid, msgid, places.procid.within.0),
+      omega (arith, msgid),
+    )
+
+pub sender_before : (m : Message) (rsid : ℕ) → IsRead m → StandsBefore (Some (places_of (layout_of m) rsid)) (Some m.msgid)
+sender_before m rsid read = fields_before m.source.now (layout_of m) rsid read.places
+
+-- what begins behind MSGID begins behind a sender who stands before MSGID
+pub stands_before : (p : Option SessionPlaces) (s : Option Span) (msgid : Span) → StandsBefore p (Some msgid) → IfSome s (λ x. msgid.start ≤ x.start) → StandsBefore p s
+stands_before None s msgid before behind = tt
+stands_before (Some p) None msgid before behind = tt
+stands_before (Some p) (Some s) msgid before behind = (omega (arith, before.0, behind), omega (arith, before.1, behind), omega (arith, before.2, behind))
 
 -- ---- in the signed octets as well
 
@@ -67,10 +74,6 @@ part_stays t octets front x y long s fits whole left order before =
 abbrev spelled_by : List ℕ → List ℕ → List ℕ → ℕ → Session
 spelled_by host app procid rsid = record { host = field_from (field_of host); app = field_from (field_of app); procid = field_from (field_of procid); rsid = rsid }
 
--- the places of a message's session
-abbrev pub places_of : Layout → ℕ → SessionPlaces
-places_of l rsid = record { host = l.hostname; app = l.app_name; procid = l.procid; rsid = rsid }
-
 pub sender_left : (m : Message) (id : List ℕ) (rsid : ℕ) → IsRead m → block_id (value_reading (value_of m)) ≡ Some id
     → LieIn (text (unsigned_value (value_of m))) (places_of (layout_of m) rsid) × (Some (session_from (value_of m) rsid) ≡ Some (session_at (text (unsigned_value (value_of m))) (places_of (layout_of m) rsid)))
 sender_left m id rsid read is_block =
@@ -80,7 +83,8 @@ sender_left m id rsid read is_block =
     let b = with_block v id read.valid.ids is_block in
     let r = rounds v id b in
     let f = follows t l read.places (elements_some t l.elements b.before _ b.after b.is) in
-    let h = in_header t l read.places f.header in
+    let h = fields_before t l rsid read.places in
+    let last = read.places.msgid.within.0 in
     let F : List ℕ = flat_map element_text b.before in
     let P : List ℕ = flat_map parameter_text b.parameters in
     let front : List ℕ = front_of v b.before id b.parameters in
@@ -89,9 +93,9 @@ sender_left m id rsid read is_block =
     let y : List ℕ = back_of v b.after in
     let octets : List ℕ = text (unsigned_value v) in
     let whole : t ≡ front ++ x = read.spelled ∙ r.whole in
-    let host = part_stays t octets front x y (length (header_text v)) l.hostname long whole r.left read.places.hostname.within.0 h.hostname in
-    let app = part_stays t octets front x y (length (header_text v)) l.app_name long whole r.left read.places.app_name.within.0 h.app_name in
-    let procid = part_stays t octets front x y (length (header_text v)) l.procid long whole r.left read.places.procid.within.0 h.procid in (
+    let host = part_stays t octets front x y (length (header_text v)) l.hostname long whole r.left read.places.hostname.within.0 (omega (arith, h.0, last, f.header)) in
+    let app = part_stays t octets front x y (length (header_text v)) l.app_name long whole r.left read.places.app_name.within.0 (omega (arith, h.1, last, f.header)) in
+    let procid = part_stays t octets front x y (length (header_text v)) l.procid long whole r.left read.places.procid.within.0 (omega (arith, h.2, last, f.header)) in (
       (host.within, app.within, procid.within),
       ap (λ (o : List ℕ). Some (spelled_by o (part_of t l.app_name) (part_of t l.procid) rsid)) host.same
           ∙ ap (λ (o : List ℕ). Some (spelled_by (part_of octets l.hostname) o (part_of t l.procid) rsid)) app.same

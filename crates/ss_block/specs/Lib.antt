@@ -7,7 +7,6 @@ pub mod Engines
 pub mod Reading
 pub mod Mark
 pub mod Signed
-pub mod PlacedReading
 pub mod Session
 pub mod SessionPlaces
 pub mod Order
@@ -20,6 +19,8 @@ pub mod Parsed
 pub mod SignPlace
 pub mod Head
 pub mod Writing
+pub mod HashArrays
+pub mod PlacedReading
 pub mod WritingLaws
 pub mod FragmentLaws
 pub use Rattle.ss_octets.specs.StrictBase64

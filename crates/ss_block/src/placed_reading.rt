@@ -1,25 +1,19 @@
 //! What a message is found to be by one parse, and where the session and the content of its block stand in its signed
 //! octets.
-ghost use Rattle.std.specs.Prelude.{◌≡◌, ◌≤◌, ◌+◌, length, Some, None, IfOk, IfSome, IsSome, is_some, if◌then◌else◌};
-ghost use Rattle.std.specs.List.{list_all};
+ghost use Rattle.std.specs.Prelude.{◌≡◌, ◌≤◌, ◌+◌, length, Some, IfOk, IfSome, IsSome, is_some};
 ghost use Rattle.ss_message.specs.Layout.{value_of};
-ghost use Rattle.ss_message.specs.Raw.{meant};
 ghost use Rattle.ss_block.specs.SignPlace.{block_id, content_parameter};
 ghost use Rattle.ss_block.specs.Parsed.{IsRead};
-ghost use Rattle.ss_block.specs.Reading.{hash_in, hashes_in, pieces, reading, value_reading};
+ghost use Rattle.ss_block.specs.Reading.{reading, value_reading};
 ghost use Rattle.ss_block.specs.Session.{session};
 ghost use Rattle.ss_block.specs.SessionPlaces.{HasSender};
 ghost use Rattle.ss_block.specs.Signed.{signed, signed_if_block};
-ghost use Rattle.ss_block.specs.PlacedReading.{HasContent, signature_in};
+ghost use Rattle.ss_block.specs.PlacedReading.{HasContent, HasRsid, StandsBefore, signature_in};
 
 use crate::block_parameter::BlockParameter;
-use crate::hash::Alg;
-use crate::hash_text::hashes_of;
-use crate::hashes::Hashes;
 use crate::reading::{Reading, read};
 use crate::session_places::{SessionPlaces, sender_with};
 use crate::signed::signed_with;
-use crate::texts::meaning;
 use ss_message::{Message, Parameter, Span};
 use ss_octets::{Bytes, NoMemory};
 use std::alloc::Global;
@@ -59,6 +53,7 @@ fn content_of(message: &Message<'_>, id: &[u8]) -> Option<Span>
     ensures content { HasContent (signed_if_block (value_reading (value_of message.now)) (value_of message.now)) result
         (value_reading (value_of message.now)) }
     ensures found { IsSome result }
+    ensures behind { IfSome result (λ s. message.now.msgid.start ≤ s.start) }
 {
     let Some(parameter) = content_parameter(message, id) else {
         return None;
@@ -72,6 +67,7 @@ fn content_with(message: &Message<'_>, reading: &Reading) -> Option<Span>
     requires reading { reading.now ≡ value_reading (value_of message.now) }
     ensures content { HasContent (signed_if_block reading.now (value_of message.now)) result reading.now }
     ensures both { is_some result ≡ is_some (signed_if_block reading.now (value_of message.now)) }
+    ensures behind { IfSome result (λ s. message.now.msgid.start ≤ s.start) }
 {
     let id: &[u8] = match reading {
         Reading::Signature(_) => b"ssign",
@@ -91,6 +87,8 @@ pub fn read_placed(alloc: Global, bytes: &[u8]) -> Result<PlacedReading, NoMemor
     ensures sender { IfOk result (λ r. HasSender r.signed r.sender (session bytes.now)) }
     ensures content { IfOk result (λ r. HasContent r.signed r.content r.reading) }
     ensures both { IfOk result (λ r. is_some r.content ≡ is_some r.signed) }
+    ensures before { IfOk result (λ r. StandsBefore r.sender r.content) }
+    ensures rsid { IfOk result (λ r. HasRsid r.sender r.reading) }
     // The text holds the base64 of the signature beside the signed octets.
     ensures small { IfOk result
         (λ r. IfSome r.signed (λ octets. length octets + length (signature_in r.reading) ≤ length bytes.now)) }
@@ -113,22 +111,4 @@ pub fn read_placed(alloc: Global, bytes: &[u8]) -> Result<PlacedReading, NoMemor
         signed,
         content,
     })
-}
-
-/// The hashes that the value of HB spells, as `raw` stands in a message; `None` where a piece spells no hash of this
-/// algorithm. `count` is how many pieces the value is cut into at its SPs, and so how many hashes room is taken for.
-///
-/// Errs only where memory runs out, which is taken for the hashes, and for the value while its escapes are taken off.
-pub fn hashes_in(
-    alloc: Global,
-    alg: Alg,
-    raw: &[u8],
-    count: usize,
-) -> Result<Option<Hashes>, NoMemory>
-    requires { count ≡ length (pieces (meant raw.now)) }
-    ensures { IfOk result (λ o. o ≡ (if list_all (λ piece. is_some (hash_in alg piece)) (pieces (meant raw.now))
-        then Some (hashes_in alg (pieces (meant raw.now))) else None)) }
-{
-    let text = meaning(alloc, raw)?;
-    hashes_of(alloc, alg, text.as_slice(), count)
 }

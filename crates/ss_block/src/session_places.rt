@@ -1,7 +1,8 @@
 //! Where the session of a block stands in its signed octets.
-ghost use Rattle.std.specs.Prelude.{◌≡◌, IfOk};
+ghost use Rattle.std.specs.Prelude.{◌≡◌, Some, IfOk};
 ghost use Rattle.ss_message.specs.Layout.{value_of};
 ghost use Rattle.ss_block.specs.Parsed.{IsRead};
+ghost use Rattle.ss_block.specs.PlacedReading.{HasRsid, StandsBefore};
 ghost use Rattle.ss_block.specs.Reading.{value_reading};
 ghost use Rattle.ss_block.specs.Session.{session_if_block};
 ghost use Rattle.ss_block.specs.SessionPlaces.{HasSender, LieIn, session_at};
@@ -49,8 +50,10 @@ impl SessionPlaces {
 pub(crate) fn sender_with(message: &Message<'_>, reading: &Reading) -> Option<SessionPlaces>
     requires read { IsRead message.now }
     requires reading { reading.now ≡ value_reading (value_of message.now) }
-    ensures { HasSender (signed_if_block reading.now (value_of message.now)) result
+    ensures sender { HasSender (signed_if_block reading.now (value_of message.now)) result
         (session_if_block reading.now (value_of message.now)) }
+    ensures before { StandsBefore result (Some message.now.msgid) }
+    ensures rsid { HasRsid result reading.now }
 {
     let rsid = match reading {
         Reading::Signature(block) => block.rsid(),

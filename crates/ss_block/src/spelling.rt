@@ -27,7 +27,7 @@ pub fn base64_text(alloc: Global, octets: &[u8]) -> Result<Bytes, NoMemory>
 }
 
 /// The octets of the hash.
-fn octets_of(hash: &Hash) -> &[u8]
+pub fn octets_of(hash: &Hash) -> &[u8]
     ensures { result.now ≡ hash_octets hash.now }
 {
     match hash {

@@ -1,5 +1,6 @@
 pub mod Ends
 pub mod Keeping
+pub mod Packing
 pub mod AmongEqual
 pub mod NotedBlocks
 pub mod StoredTold

@@ -3,6 +3,8 @@ pub mod Noted
 pub mod BlockMessage
 pub mod BlockNotes
 pub mod Contents
+pub mod Packed
+pub mod KeptSender
 pub mod Kept
 pub mod KeptBlock
 pub mod Keeping

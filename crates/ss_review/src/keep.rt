@@ -2,8 +2,10 @@
 pub(crate) mod block_message;
 pub(crate) mod kept_block;
 pub(crate) mod kept_content;
+pub(crate) mod kept_sender;
 pub(crate) mod message;
 pub(crate) mod noted;
+pub(crate) mod packed;
 pub(crate) mod review_input;
 pub(crate) mod reviewer;
 pub(crate) mod spoilt;

@@ -1,5 +1,6 @@
 //! Blocks (RFC 5848, sections 4 and 5): what a message is read as, what is signed of it, payloads, and fragments
 //! joined.
+mod arrays;
 mod causes;
 pub mod elements;
 mod fields;

@@ -1,8 +1,6 @@
 //! What one parse finds of a message: what it is, its session, what is signed of it, and where session and content stand
 //! there.
-use ss_block::{
-    Alg, Hash, PlacedReading, Reading, Session, hashes_in, meaning, read_fully, read_placed,
-};
+use ss_block::{PlacedReading, Reading, Session, meaning, read_fully, read_placed};
 use ss_message::{Field, Part};
 use ss_octets::{Bytes, NoMemory};
 use std::process::Abort;
@@ -78,12 +76,15 @@ fn session_of_placed(
     Ok(Some(sender.session(rt.alloc(), octets)?))
 }
 
-/// The octets of HB or FRAG, as they stand in what is signed.
-fn sees_content(rt: &impl Abort, told: &PlacedReading, content: &[u8]) {
-    let (Some(signed), Some(span)) = (&told.signed, told.content) else {
+/// The octets of HB or FRAG, as they stand in what is signed, behind the session. RSID is that of the block.
+fn sees_content(rt: &impl Abort, told: &PlacedReading, content: &[u8], rsid: u64) {
+    let (Some(signed), Some(span), Some(sender)) = (&told.signed, told.content, told.sender) else {
         panic!(rt; "no content");
     };
     assert_eq!(rt; signed.as_slice().get(span.start..span.end), Some(content));
+    let ends = [sender.host.end, sender.app.end, sender.procid.end];
+    assert!(rt; ends.into_iter().all(|end| end <= span.start), "{told:?}");
+    assert_eq!(rt; sender.rsid, rsid);
 }
 
 /// A text, whether it is a certificate block, the end of its session, what is signed of it, and the value of HB or FRAG.
@@ -130,7 +131,7 @@ fn sees_block(rt: &(impl Abort + AllocGlobal), row: &Row) -> Result<(), NoMemory
     let placed = read_placed(rt.alloc(), row.0)?;
     let session = session_of_placed(rt, &placed)?;
     sees_told(rt, (&placed.reading, &session, &placed.signed), row);
-    sees_content(rt, &placed, row.4);
+    sees_content(rt, &placed, row.4, row.2.1);
     Ok(())
 }
 
@@ -176,21 +177,11 @@ fn read_once(rt: HostRuntime) -> Result<(), NoMemory> {
     sees_no_block(&rt, b"abc", Some((Part::Pri, 0)))
 }
 
-/// SHA-1 of `abc` (FIPS 180-2, appendix A.1), which the value of HB spells above.
-const ABC: Hash = Hash::Sha1([
-    0xa9, 0x99, 0x3e, 0x36, 0x47, 0x06, 0x81, 0x6a, 0xba, 0x3e, 0x25, 0x71, 0x78, 0x50, 0xc2, 0x6c,
-    0x9c, 0xd0, 0xd8, 0x9d,
-]);
-
 #[test]
 fn read_from_content(rt: HostRuntime) -> Result<(), NoMemory> {
     let fragment = meaning(rt.alloc(), ROWS[2].4)?;
     assert_eq!(rt; fragment.as_slice(), b"\"]\\\\n".as_slice());
     let plain = meaning(rt.alloc(), ROWS[0].4)?;
     assert_eq!(rt; plain.as_slice(), ROWS[0].4);
-    let Some(hashes) = hashes_in(rt.alloc(), Alg::Sha1, b"qZk+NkcGgWq6PiVxeFDCbJzQ2J0=", 1)? else {
-        panic!(rt; "no hashes");
-    };
-    assert_eq!(rt; hashes.as_slice(), [ABC].as_slice());
     Ok(())
 }

@@ -48,14 +48,18 @@ fn sees_lengths(
 }
 
 /// Messages that a reviewer is fed in turn, and how many octets it keeps then: 52 of one without a block, and the 130
-/// signed octets and 3 octets of a signature of each certificate block.
-const KEPT: [(Text, u128); 6] = [
+/// signed octets and 3 octets of a signature of each certificate block. Of a signature block it keeps the 3 octets, and
+/// the signed octets with a hash in 20 octets in place of 28 (SHA-1), or 32 in place of 44, and no SP between two.
+const KEPT: [(Text, u128); 9] = [
     (Text::Short, 52),
     (Text::Short, 52),
     (Text::Certificate, 185),
     (Text::PastLastNumber, 185),
     (Text::Long, 237),
     (Text::Certificate, 370),
+    (Text::ShortAlone, 370 + 118 - 8 + 3),
+    (Text::Both, 483 + 147 - 17 + 3),
+    (Text::ShortBySha256, 616 + 134 - 12 + 3),
 ];
 
 fn sees_kept(rt: &(impl Abort + AllocGlobal)) -> Result<(), ReviewFault> {

@@ -1,20 +1,24 @@
 -- What is kept of a block holds of each that equals it in signature, signed octets and session.
-use Rattle.std.proofs.Common.{◌≡◌, ℕ, Bool, true, false, cond, List, refl, sym, ap, ◌∙◌, subst}
+use Rattle.std.proofs.Common.{◌≡◌, ℕ, Bool, true, false, cond, List, refl, sym, ap, ◌∙◌, arith}
 use Rattle.std.specs.Prelude.{Result, Ok, Err, Some, None, Option, IfSome}
 use Rattle.std.specs.declared.cmp.Ordering.TheVariants.{Equal}
-use Rattle.std.specs.Ordering.{is_eq, ordering_then}
+use Rattle.std.specs.Ordering.{is_eq}
 use Rattle.std.specs.Cmp.{Equal-is}
-use Rattle.std.specs.BTreeMap.{BTreeMap, get, get_by, Updates, UpdatesBy}
-use Rattle.std.proofs.lemmas.Map.Lookups.{exact_bytes}
-use Rattle.ss_block.specs.Order.{octets_cmp, session_cmp}
+use Rattle.std.specs.BTreeMap.{get, Updates}
+use Rattle.std.proofs.lemmas.Map.Lookups.{exact_bytes, exact_unsigned}
+use Rattle.ss_block.specs.declared.hash.Alg.{Alg}
+use Rattle.ss_block.specs.declared.hash.Alg.TheVariants.{Sha1, Sha256}
 use Rattle.ss_block.specs.OrderLaws.{session_cmp_exact}
+use Rattle.ss_block.specs.Versions.{hash_length}
+use Rattle.ss_review.specs.declared.keep.packed.Packed.{Packed}
 use Rattle.ss_review.specs.declared.report.session_report.SessionState.{SessionState}
 use Rattle.ss_review.specs.keep.BlockMessage.{BlockMessage}
+use Rattle.ss_review.specs.keep.Packed.{signed_packed}
 use Rattle.ss_review.specs.declared.sessions.found_blocks.Claim.{Claim}
 use Rattle.ss_review.specs.declared.sessions.found_blocks.FoundBlocks.{FoundBlocks}
 use Rattle.ss_review.specs.sessions.Sessions.{of_session}
 use Rattle.ss_review.specs.sessions.Verified.{Answers, joined, is_valid, is_valid_in, is_verified}
-use Rattle.ss_review.specs.sessions.FoundBlocks.{claim_cmp, IsClaimOf, TellsEqualsAlike, KeepsWhatHolds}
+use Rattle.ss_review.specs.sessions.FoundBlocks.{claim_cmp, IsClaimOf, IsKeptSigned, TellsEqualsAlike, KeepsWhatHolds}
 use Rattle.ss_review.proofs.of_lists.TotalOrders.{both_tie}
 
 -- ---- what a scheme says of a block
@@ -32,19 +36,24 @@ verified_alike says bs b c signature octets session =
     ap (λ s. is_valid_in says (joined says (of_session bs s)) b) session
     ∙ valid_in_alike says (joined says (of_session bs c.session)) b c signature octets session
 
--- ---- claims of one block
+-- ---- equal keys
 
-module _ (k j : Claim) (b : BlockMessage) (of : IsClaimOf k b) (at : IsClaimOf j b) where
-  one_claim : claim_cmp k ≡ claim_cmp j
-  one_claim = λ i a.
-      ordering_then (octets_cmp ((of.signature_is ∙ sym at.signature_is) i) a.signature.now)
-      (ordering_then (octets_cmp ((of.octets_are ∙ sym at.octets_are) i) a.octets.now) (session_cmp ((of.session_is ∙ sym at.session_is) i) a.session.now))
+-- the hashes of two algorithms differ in length
+one_length : (a b : Alg) → hash_length a ≡ hash_length b → a ≡ b
+one_length Sha1 Sha1 e = refl
+one_length Sha1 Sha256 e = absurd (omega arith)
+one_length Sha256 Sha1 e = absurd (omega arith)
+one_length Sha256 Sha256 e = refl
 
-  pub got_alike : (m : BTreeMap Claim Bool) → get claim_cmp m k ≡ get claim_cmp m j
-  got_alike m = ap (λ compare. get_by compare m) one_claim
-
-  pub updated_alike : (m n : BTreeMap Claim Bool) (v : Bool) → Updates claim_cmp m n k (Some v) → Updates claim_cmp m n j (Some v)
-  updated_alike m n v update = subst (λ compare. UpdatesBy claim_cmp compare m n (Some v)) one_claim update
+-- the same is signed where the same octets are kept, with as many hashes as long at the same place
+module _ (k j : Claim) (p q : Packed) (of : IsKeptSigned k p) (at : IsKeptSigned j q) where
+  one_signed : k.octets.now ≡ j.octets.now → k.start ≡ j.start → k.count ≡ j.count → k.each ≡ j.each → signed_packed p ≡ signed_packed q
+  one_signed octets start count each = λ i. signed_packed (record {
+    octets = (sym of.octets_are ∙ octets ∙ at.octets_are) i;
+    alg = one_length p.alg q.alg (sym of.each_is ∙ each ∙ at.each_is) i;
+    count = (sym of.count_is ∙ count ∙ at.count_is) i;
+    start = (sym of.start_is ∙ start ∙ at.start_is) i;
+  })
 
 -- ---- what is kept
 
@@ -55,12 +64,21 @@ found_at f kept had k b of (Some v) e = had k b v of (sym e)
 module _ (f : BlockMessage → Bool) (same : TellsEqualsAlike f) (k : Claim) (b : BlockMessage) (v : Bool) (of : IsClaimOf k b) (is : v ≡ f b) where
   equal_keys : (j : Claim) (c : BlockMessage) → IsClaimOf j c → claim_cmp k j ≡ Equal → f b ≡ f c
   equal_keys j c at tie =
-      let t = both_tie _ _ tie in
-      let u = both_tie _ _ t.1 in
+      let signature = both_tie _ _ tie in
+      let octets = both_tie _ _ signature.1 in
+      let session = both_tie _ _ octets.1 in
+      let start = both_tie _ _ session.1 in
+      let lengths = both_tie _ _ start.1 in
+      let signed = one_signed k j of.packed at.packed of.kept at.kept
+      (exact_bytes k.octets.now j.octets.now octets.0)
+      (exact_unsigned k.start j.start start.0)
+      (exact_unsigned k.count j.count lengths.0)
+      (exact_unsigned k.each j.each lengths.1)
+      in
       same b c
-      (sym of.signature_is ∙ exact_bytes k.signature.now j.signature.now t.0 ∙ at.signature_is)
-      (sym of.octets_are ∙ exact_bytes k.octets.now j.octets.now u.0 ∙ at.octets_are)
-      (sym of.session_is ∙ session_cmp_exact k.session.now j.session.now u.1 ∙ at.session_is)
+      (sym of.signature_is ∙ exact_bytes k.signature.now j.signature.now signature.0 ∙ at.signature_is)
+      (sym of.of.signed ∙ signed ∙ at.of.signed)
+      (sym of.session_is ∙ session_cmp_exact k.session.now j.session.now session.0 ∙ at.session_is)
 
   of_either : (old : Option Bool) (j : Claim) (c : BlockMessage) (w : Bool) → IsClaimOf j c → (old ≡ Some w → w ≡ f c) → (x : Bool) → is_eq (claim_cmp k j) ≡ x → cond x (Some v) old ≡ Some w → w ≡ f c
   of_either old j c w at had true tie e = let told : v ≡ w = cc in sym told ∙ is ∙ equal_keys j c at ((Equal-is (claim_cmp k j)).0 tie)

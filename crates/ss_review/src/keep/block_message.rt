@@ -1,6 +1,6 @@
 //! A message with a block in a review.
 ghost use Rattle.std.specs.Prelude.{◌≡◌, option_map, IfOk};
-ghost use Rattle.ss_review.specs.keep.Kept.{IsContent};
+ghost use Rattle.ss_review.specs.keep.Kept.{IsContent, IsPackedOf};
 ghost use Rattle.ss_review.specs.keep.Signatures.{gbc_of, signature_block_of};
 ghost use Rattle.ss_review.specs.keep.Stated.{IsStated};
 ghost use Rattle.ss_review.specs.sessions.Covering.{span_of};
@@ -10,6 +10,7 @@ ghost use Rattle.ss_review.specs.questions.Questions.{parameters_of};
 ghost use Rattle.ss_review.specs.pinned.Pinned.{is_signature};
 
 use crate::keep::kept_block::{KeptBlock, Stated};
+use crate::keep::packed::Packed;
 use crate::questions::parameters::AskedParameters;
 use crate::sessions::span::Span;
 use ss_block::{Session, SigBlock};
@@ -83,11 +84,18 @@ impl BlockMessage {
         self.session.as_ref()
     }
 
-    /// What is signed of it.
-    pub(crate) fn signed(&self) -> &Bytes
-        ensures { result.now ≡ self.now.signed }
+    /// What is signed of it, in memory of its own.
+    pub(crate) fn signed(&self, alloc: Global) -> Result<Bytes, NoMemory>
+        ensures { IfOk result (λ b. b ≡ self.now.signed) }
     {
-        self.kept.signed()
+        self.kept.signed(alloc)
+    }
+
+    /// What is signed of it, as it is kept.
+    pub(crate) fn packed(&self) -> &Packed
+        ensures { IsPackedOf result.now self.now }
+    {
+        self.kept.packed()
     }
 
     /// SIGN's octets.

@@ -1,13 +1,11 @@
 //! A message with a block, as it is kept until a review begins.
-ghost use Rattle.std.specs.Prelude.{◌≡◌, ◌≤◌, take, length, is_some, option_map, Some, None, IfOk, if◌then◌else◌};
-ghost use Rattle.std.specs.List.{list_all};
-ghost use Rattle.ss_message.specs.Raw.{meant};
-ghost use Rattle.ss_block.specs.Reading.{hash_in, hashes_in, pieces};
-ghost use Rattle.ss_block.specs.PlacedReading.{SpellsHashes, SpellsFragment};
+ghost use Rattle.std.specs.Prelude.{◌≡◌, ◌≤◌, option_map, Some, IfOk};
+ghost use Rattle.ss_block.specs.PlacedReading.{SpellsHashes, SpellsFragment, StandsBefore};
 ghost use Rattle.ss_block.specs.SessionPlaces.{LieIn, session_at};
 ghost use Rattle.ss_review.specs.keep.BlockMessage.{Hashes, Fragment};
-ghost use Rattle.ss_review.specs.keep.Kept.{IsContent};
+ghost use Rattle.ss_review.specs.keep.Kept.{IsContent, IsPackedOf};
 ghost use Rattle.ss_review.specs.keep.KeptBlock.{message_of, AreKept};
+ghost use Rattle.ss_review.specs.keep.Noted.{signed_kept};
 ghost use Rattle.ss_review.specs.keep.Signatures.{gbc_of, signature_block_of};
 ghost use Rattle.ss_review.specs.keep.Stated.{IsStated};
 ghost use Rattle.ss_review.specs.sessions.Covering.{span_of};
@@ -18,12 +16,12 @@ ghost use Rattle.ss_review.specs.questions.Shortened.{hash_count};
 ghost use Rattle.ss_review.specs.pinned.Pinned.{is_signature};
 
 use crate::keep::kept_content::KeptContent;
+use crate::keep::kept_sender::{KeptSender, ShortSpan};
+use crate::keep::packed::Packed;
 use crate::questions::asking::copy_of;
 use crate::questions::parameters::AskedParameters;
 use crate::sessions::span::Span;
-use ss_block::{
-    Alg, CertBlock, Hashes, Meant, Session, SessionPlaces, SigBlock, hashes_in, meaning,
-};
+use ss_block::{CertBlock, Hashes, Meant, Session, SessionPlaces, SigBlock, meaning};
 use ss_message::Span as Place;
 use ss_octets::{Bytes, NoMemory};
 use std::alloc::Global;
@@ -44,16 +42,15 @@ pub(crate) struct Stated<'a> {
 #[derive(Drop)]
 pub(crate) struct KeptFields {
     place: u32,
-    count: u8,
-    sender: SessionPlaces,
+    sender: KeptSender,
     content: KeptContent,
-    signed: Bytes,
+    packed: Packed,
     signature: Bytes,
 }
 
-/// A message with a block. Its signed octets and its signature are kept once. Its session, and its hashes or its
-/// fragment, are read from the signed octets when they are needed, so no octet is kept twice. Contracts see what the
-/// block says. A list of them has only where each stands.
+/// A message with a block. Its signed octets, with the hashes in octets, and its signature are kept once. Its session
+/// and its fragment are read from the signed octets when they are needed, so no octet is kept twice. Contracts see what
+/// the block says. A list of them has only where each stands.
 #[derive(Drop)]
 pub(crate) struct KeptBlock {
     fields: Box<KeptFields>,
@@ -82,7 +79,8 @@ fn block_with(alloc: Global, fields: KeptFields) -> Result<KeptBlock, NoMemory>
 }
 
 impl KeptBlock {
-    /// The message at this place whose signature block this is. HB stands at `text` in its signed octets.
+    /// The message at this place whose signature block this is. HB stands at `text` in its signed octets, behind the
+    /// places of the sender.
     pub(crate) fn of_signature(
         alloc: Global,
         place: u32,
@@ -93,6 +91,8 @@ impl KeptBlock {
     ) -> Result<KeptBlock, NoMemory>
         requires sender { LieIn signed sender }
         requires text { SpellsHashes signed text block }
+        requires before { StandsBefore (Some sender) (Some text) }
+        requires rsid { sender.rsid ≡ block.rsid }
         ensures { IfOk result (λ b. b ≡ record {
           place = place;
           count = hash_count (Hashes block);
@@ -102,24 +102,21 @@ impl KeptBlock {
         }) }
     {
         block.assure_in_range();
-        let held = block.hashes().as_slice().len() as u8;
+        let hashes = block.hashes().as_slice();
+        let packed = Packed::of_signature(alloc, signed.as_slice(), text, block.alg(), hashes)?;
         let content = KeptContent::Hashes {
-            alg: block.alg(),
-            rsid: block.rsid(),
             group: block.group(),
             gbc: block.gbc(),
             first: block.first(),
-            held,
-            text,
+            held: packed.count,
         };
         block_with(
             alloc,
             KeptFields {
                 place,
-                count: held,
-                sender,
+                sender: KeptSender::of(sender),
                 content,
-                signed,
+                packed,
                 signature: block.into_signature(),
             },
         )
@@ -136,6 +133,7 @@ impl KeptBlock {
     ) -> Result<KeptBlock, NoMemory>
         requires sender { LieIn signed sender }
         requires text { SpellsFragment signed text block }
+        requires rsid { sender.rsid ≡ block.rsid }
         ensures { IfOk result (λ b. b ≡ record {
           place = place;
           count = 0;
@@ -145,23 +143,21 @@ impl KeptBlock {
         }) }
     {
         block.assure_in_range();
+        let packed = Packed::of_certificate(block.alg(), signed)?;
         let content = KeptContent::Fragment {
-            alg: block.alg(),
-            rsid: block.rsid(),
             group: block.group(),
             total: block.total(),
             index: block.index(),
             len: block.fragment().as_slice().len() as u32,
-            text,
+            text: ShortSpan::of(text),
         };
         block_with(
             alloc,
             KeptFields {
                 place,
-                count: 0,
-                sender,
+                sender: KeptSender::of(sender),
                 content,
-                signed,
+                packed,
                 signature: block.into_signature(),
             },
         )
@@ -178,16 +174,29 @@ impl KeptBlock {
     pub(crate) fn session(&self, alloc: Global) -> Result<Session, NoMemory>
         ensures { IfOk result (λ s. s ≡ self.now.session) }
     {
-        self.fields
-            .sender
-            .session(alloc, self.fields.signed.as_slice())
+        let places = self.fields.sender.places();
+        places.session(alloc, self.fields.packed.front())
     }
 
-    /// What is signed of it.
-    pub(crate) fn signed(&self) -> &Bytes
-        ensures { result.now ≡ self.now.signed }
+    /// What is signed of it, in memory of its own.
+    pub(crate) fn signed(&self, alloc: Global) -> Result<Bytes, NoMemory>
+        ensures { IfOk result (λ b. b ≡ self.now.signed) }
     {
-        &self.fields.signed
+        self.fields.packed.signed(alloc)
+    }
+
+    /// How many octets are kept of what is signed of it.
+    pub(crate) fn signed_kept(&self) -> usize
+        ensures { result ≡ signed_kept self.now }
+    {
+        self.fields.packed.octets.as_slice().len()
+    }
+
+    /// What is signed of it, as it is kept.
+    pub(crate) fn packed(&self) -> &Packed
+        ensures { IsPackedOf result.now self.now }
+    {
+        &self.fields.packed
     }
 
     /// SIGN's octets.
@@ -205,10 +214,9 @@ impl KeptBlock {
             alloc,
             KeptFields {
                 place: self.fields.place,
-                count: self.fields.count,
                 sender: self.fields.sender,
                 content: self.fields.content,
-                signed: copy_of(alloc, &self.fields.signed)?,
+                packed: self.fields.packed.try_clone(alloc)?,
                 signature: copy_of(alloc, &self.fields.signature)?,
             },
         )
@@ -261,9 +269,9 @@ impl KeptBlock {
     pub(crate) fn parameters(&self) -> AskedParameters
         ensures { result ≡ parameters_of self.now.count self.now.said }
     {
+        let alg = self.fields.packed.alg;
         match self.fields.content {
             KeptContent::Hashes {
-                alg,
                 group,
                 gbc,
                 first,
@@ -273,10 +281,9 @@ impl KeptBlock {
                 group,
                 gbc,
                 first,
-                count: self.fields.count,
+                count: self.fields.packed.count,
             },
             KeptContent::Fragment {
-                alg,
                 group,
                 total,
                 index,
@@ -317,7 +324,7 @@ impl KeptBlock {
             } => Ok(Some(Stated {
                 total,
                 index,
-                fragment: meaning(alloc, text.of(self.fields.signed.as_slice()))?,
+                fragment: meaning(alloc, text.span().of(self.fields.packed.octets.as_slice()))?,
             })),
         }
     }
@@ -329,18 +336,14 @@ impl KeptBlock {
         let fields = Box::into_inner(self.fields);
         match fields.content {
             KeptContent::Hashes {
-                alg,
-                rsid,
                 group,
                 gbc,
                 first,
                 held,
-                text,
             } => {
-                let raw = text.of(fields.signed.as_slice());
-                let Some(hashes) = held_hashes(alloc, alg, raw, fields.count, held)? else {
-                    return Ok(None);
-                };
+                let hashes = fields.packed.hashes(alloc, held)?;
+                let alg = fields.packed.alg;
+                let rsid = fields.sender.rsid();
                 Ok(SigBlock::new(alg, rsid, group, gbc, first, hashes, fields.signature))
             }
             KeptContent::Fragment { .. } => Ok(None),
@@ -355,46 +358,20 @@ impl KeptBlock {
         let fields = &mut *self.fields;
         match fields.content {
             KeptContent::Hashes {
-                alg,
-                rsid,
                 group,
                 gbc,
                 first,
-                text,
                 ..
             } => {
                 fields.content = KeptContent::Hashes {
-                    alg,
-                    rsid,
                     group,
                     gbc,
                     first,
                     held: 1,
-                    text,
                 };
                 self
             }
             KeptContent::Fragment { .. } => self,
         }
     }
-}
-
-/// The first `held` of the hashes that the value of HB spells, of which there are `count`.
-fn held_hashes(
-    alloc: Global,
-    alg: Alg,
-    raw: &[u8],
-    count: u8,
-    held: u8,
-) -> Result<Option<Hashes>, NoMemory>
-    requires { count ≡ length (pieces (meant raw.now)) }
-    ensures { IfOk result (λ o. o ≡ (if list_all (λ piece. is_some (hash_in alg piece)) (pieces (meant raw.now))
-        then Some (take held (hashes_in alg (pieces (meant raw.now)))) else None)) }
-{
-    let Some(hashes) = hashes_in(alloc, alg, raw, count as usize)? else {
-        return Ok(None);
-    };
-    let mut hashes = hashes.into_vec();
-    hashes.truncate(held as usize);
-    Ok(Some(Hashes::from_vec(hashes)))
 }

@@ -1,17 +1,13 @@
 //! What a block says, as a review keeps it.
-use ss_block::{Alg, Group};
-use ss_message::Span;
+use crate::keep::kept_sender::ShortSpan;
+use ss_block::Group;
 
-/// The numbers of a block, and where HB or FRAG stands in the signed octets of its message. Its hashes or its fragment
-/// are read from there when they are needed.
+/// The numbers of a block, and where FRAG stands in the signed octets of its message. The fragment is read from there
+/// when it is needed. The hashes, and VER's algorithm, stand beside the signed octets.
 #[derive(Clone, Copy, Debug)]
 pub(crate) enum KeptContent {
     /// Of a signature block.
     Hashes {
-        /// VER's hash algorithm.
-        alg: Alg,
-        /// RSID, 0 to 9,999,999,999.
-        rsid: u64,
         /// SG and SPRI.
         group: Group,
         /// GBC, 0 to 9,999,999,999.
@@ -20,15 +16,9 @@ pub(crate) enum KeptContent {
         first: u64,
         /// How many of its hashes are held, from the first on: 1 to 99.
         held: u8,
-        /// Where the value of HB stands.
-        text: Span,
     },
     /// Of a certificate block.
     Fragment {
-        /// VER's hash algorithm.
-        alg: Alg,
-        /// RSID, 0 to 9,999,999,999.
-        rsid: u64,
         /// SG and SPRI.
         group: Group,
         /// TPBL, 1 to 99,999,999.
@@ -38,6 +28,6 @@ pub(crate) enum KeptContent {
         /// FLEN, 1 to 9,999.
         len: u32,
         /// Where the value of FRAG stands.
-        text: Span,
+        text: ShortSpan,
     },
 }

@@ -32,7 +32,7 @@ fn speaks_once<'a, J: Judge>(
         → OnOk result (KeepsWhatHolds (is_valid (answers J.trusted J.valid judge.now) payload.now) found.new) }
 {
     if agrees_in(alloc, payload, message)? {
-        valid_once(judge, payload, found, message)
+        valid_once(alloc, judge, payload, found, message)
     } else {
         Ok(false)
     }

@@ -19,6 +19,7 @@ use crate::pinned::agreeing::agrees_in;
 use crate::pinned::claimant::{Claimant, ClaimedSession};
 use crate::pinned::claimed::claimed_sessions;
 use crate::sessions::accepting::is_valid;
+use crate::sessions::found_blocks::Claim;
 use crate::sessions::verified::unmarked;
 use crate::sessions::verifier::Judge;
 use ss_octets::{Bytes, NoMemory};
@@ -40,9 +41,9 @@ fn speaks<'a, J: Judge>(
     if !agrees_in(alloc, claimant.payload.as_slice(), block)? {
         return Ok(false);
     }
-    match claimant.found.get(block) {
+    match claimant.found.get(&Claim::of(block)) {
         Some(is_valid) => Ok(is_valid),
-        None => Ok(is_valid(judge, claimant.payload.as_slice(), block)),
+        None => is_valid(alloc, judge, claimant.payload.as_slice(), block),
     }
 }
 

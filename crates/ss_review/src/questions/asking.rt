@@ -30,7 +30,7 @@ fn asked_block(alloc: Global, block: &BlockMessage) -> Result<AskedBlock, NoMemo
     Ok(AskedBlock {
         place: block.place(),
         parameters: block.parameters(),
-        octets: copy_of(alloc, block.signed())?,
+        octets: block.signed(alloc)?,
         signature: copy_of(alloc, block.signature())?,
     })
 }

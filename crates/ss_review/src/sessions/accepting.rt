@@ -1,17 +1,15 @@
 //! Whether the payload of a session is trusted, and accepted by valid certificate blocks (RFC 5848, section 7).
-ghost use Rattle.std.specs.Prelude.{◌≡◌, Bool, map, filter, Some, Ok, IfOk, OnOk};
-ghost use Rattle.std.specs.BTreeMap.{get};
+ghost use Rattle.std.specs.Prelude.{◌≡◌, Bool, map, filter, Ok, IfOk, OnOk};
 ghost use Rattle.ss_review.specs.keep.BlockMessage.{BlockMessage};
-ghost use Rattle.ss_review.specs.declared.sessions.found_blocks.Claim.{Claim};
 ghost use Rattle.ss_review.specs.sessions.Payloads.{certificates, stated_payload};
 ghost use Rattle.ss_review.specs.sessions.Verified.{answers, is_valid, is_accepted, judged, joined};
 ghost use Rattle.ss_review.specs.sessions.Covering.{spans_of, accepted_span};
 ghost use Rattle.ss_review.specs.questions.Questions.{question_about, asked, AreAskable};
-ghost use Rattle.ss_review.specs.sessions.FoundBlocks.{claim_cmp, IsClaimOf, TellsEqualsAlike, KeepsWhatHolds};
+ghost use Rattle.ss_review.specs.sessions.FoundBlocks.{IsKeptOfBlock, TellsEqualsAlike, KeepsWhatHolds};
 
 use crate::keep::block_message::BlockMessage;
 use crate::report::session_report::SessionState;
-use crate::sessions::found_blocks::FoundBlocks;
+use crate::sessions::found_blocks::{Claim, FoundBlocks};
 use crate::sessions::joining::stated_payload;
 use crate::sessions::span::{Span, cover};
 use crate::sessions::verifier::Judge;
@@ -19,18 +17,25 @@ use ss_octets::{Bytes, NoMemory};
 use std::alloc::Global;
 
 /// Whether the block's signature is valid under the payload.
-pub(crate) fn is_valid<J: Judge>(judge: &J, payload: &[u8], message: &BlockMessage) -> bool
+pub(crate) fn is_valid<J: Judge>(
+    alloc: Global,
+    judge: &J,
+    payload: &[u8],
+    message: &BlockMessage,
+) -> Result<bool, NoMemory>
     requires sound { J.sound judge.now }
     requires askable { J.askable judge.now (question_about payload.now message.now) }
-    ensures { result ≡ is_valid (answers J.trusted J.valid judge.now) payload.now message.now }
+    ensures { IfOk result (λ b. b ≡ is_valid (answers J.trusted J.valid judge.now) payload.now message.now) }
 {
+    let signed = message.signed(alloc)?;
     let signature = message.signature();
-    judge.accepts(payload, message.signed().as_slice(), signature.as_slice())
+    Ok(judge.accepts(payload, signed.as_slice(), signature.as_slice()))
 }
 
 /// Whether the block's signature is valid under the payload. `found` is what was found of blocks so far: the judge
 /// isn't asked again about one that equals one of those in signature, signed octets and session.
 pub(crate) fn valid_once<'a, J: Judge>(
+    alloc: Global,
     judge: &J,
     payload: &[u8],
     found: &mut FoundBlocks<'a>,
@@ -47,21 +52,21 @@ pub(crate) fn valid_once<'a, J: Judge>(
         → KeepsWhatHolds f found.old
         → f message.now ≡ is_valid (answers J.trusted J.valid judge.now) payload.now message.now
         → OnOk result (KeepsWhatHolds f found.new) }
-    ensures remembered { (k : Claim)
-        → IsClaimOf k message.now
-        → IfOk result (λ b. get claim_cmp found.new.found k ≡ Some b) }
+    ensures remembered { IfOk result (IsKeptOfBlock found.new message.now) }
 {
-    if let Some(is_valid) = found.get(message) {
+    let claim = Claim::of(message);
+    if let Some(is_valid) = found.get(&claim) {
         return Ok(is_valid);
     }
-    let is_valid = is_valid(judge, payload, message);
-    found.add(message, is_valid)?;
+    let is_valid = is_valid(alloc, judge, payload, message)?;
+    found.add(claim, is_valid)?;
     Ok(is_valid)
 }
 
 /// The indexes of a certificate block that is valid under the payload. `found` is what was found of the certificate
 /// blocks under it so far.
 fn accepted_span<'a, J: Judge>(
+    alloc: Global,
     judge: &J,
     payload: &[u8],
     found: &mut FoundBlocks<'a>,
@@ -77,7 +82,7 @@ fn accepted_span<'a, J: Judge>(
     let Some(span) = message.span() else {
         return Ok(None);
     };
-    if valid_once(judge, payload, found, message)? {
+    if valid_once(alloc, judge, payload, found, message)? {
         Ok(Some(span))
     } else {
         Ok(None)
@@ -100,7 +105,7 @@ fn accepted_spans<J: Judge>(
     let mut spans = Vec::new(alloc);
     let mut found = FoundBlocks::new(alloc);
     for message in blocks {
-        match accepted_span(judge, payload, &mut found, message)? {
+        match accepted_span(alloc, judge, payload, &mut found, message)? {
             Some(span) => spans.push(span)?,
             None => {}
         }

@@ -19,6 +19,7 @@ use std::alloc::Global;
 /// Whether the block is valid under the payload, if its session has one. `found` is what was found of the blocks of
 /// such sessions so far.
 fn is_valid_in<'a, J: Judge>(
+    alloc: Global,
     judge: &J,
     joined: &Result<Bytes, SessionState>,
     found: &mut FoundBlocks<'a>,
@@ -39,7 +40,7 @@ fn is_valid_in<'a, J: Judge>(
         → OnOk result (KeepsWhatHolds f found.new) }
 {
     match joined {
-        Ok(payload) => valid_once(judge, payload.as_slice(), found, block),
+        Ok(payload) => valid_once(alloc, judge, payload.as_slice(), found, block),
         Err(_) => Ok(false),
     }
 }
@@ -47,6 +48,7 @@ fn is_valid_in<'a, J: Judge>(
 /// Whether the block is verified. `sessions` are those of its log, in their order, and `found` is what was found of its
 /// blocks so far.
 fn is_verified<'a, J: Judge>(
+    alloc: Global,
     judge: &J,
     sessions: &[JoinedSession],
     found: &mut FoundBlocks<'a>,
@@ -64,7 +66,7 @@ fn is_verified<'a, J: Judge>(
         → OnOk result (KeepsWhatHolds (is_verified (answers J.trusted J.valid judge.now) bs) found.new) }
 {
     match sessions.binary_search_by(|known| known.session.cmp(block.session())) {
-        Ok(index) => is_valid_in(judge, &sessions[index].joined, found, block),
+        Ok(index) => is_valid_in(alloc, judge, &sessions[index].joined, found, block),
         Err(_) => Ok(false),
     }
 }
@@ -86,7 +88,7 @@ pub(crate) fn verified<J: Judge>(
     let mut verified = Vec::with_capacity(alloc, blocks.len())?;
     let mut found = FoundBlocks::new(alloc);
     for block in blocks {
-        verified.push(is_verified(judge, sessions, &mut found, block)?)?;
+        verified.push(is_verified(alloc, judge, sessions, &mut found, block)?)?;
     }
     Ok(verified)
 }

@@ -10,6 +10,7 @@ use Rattle.ss_block.specs.SessionPlaces.{HasSender}
 use Rattle.ss_block.specs.Signed.{signed_if_block}
 use Rattle.ss_block.proofs.Parses.{session_none, session_read, signed_none, signed_read, value_read}
 use Rattle.ss_block.proofs.ContentPlaces.{no_content, signed_small}
+use Rattle.ss_block.proofs.SenderPlaces.{stands_before}
 use Rattle.ss_block.proofs.placed_reading.read_placed.Goals as goal
 
 pub returns-in_default-clause-signed : goal.returns-in_default-clause-signed
@@ -46,13 +47,16 @@ returns-clause-sender c =
     let m = c.in-Some.message in
     let r = c.in_ok-reading.reading in
     let read : IsReadAs t r (Some m) = rw c.in-Some.is at c.in_ok-reading.ensures in
-    let told = subst (λ (s : Option Session). HasSender (signed_if_block r (value_of m)) c.sender_with-sender.result s) (session_read t r m read) c.sender_with-sender.ensures in
+    let told = subst (λ (s : Option Session). HasSender (signed_if_block r (value_of m)) c.sender_with-sender.result s) (session_read t r m read) c.sender_with-sender.ensures.sender in
     subst (λ (o : Option (List ℕ)). HasSender o c.sender_with-sender.result (session t)) (sym c.in_ok-signed.ensures.value) told
 
 pub returns-clause-signed : goal.returns-clause-signed
 returns-clause-signed c =
     let read : IsReadAs c.args.bytes.now c.in_ok-reading.reading (Some c.in-Some.message) = rw c.in-Some.is at c.in_ok-reading.ensures in
     c.in_ok-signed.ensures.value ∙ signed_read c.args.bytes.now c.in_ok-reading.reading c.in-Some.message read
+
+pub returns-clause-before : goal.returns-clause-before
+returns-clause-before c = stands_before c.sender_with-sender.result c.content_with-content.result c.in-Some.message.msgid c.sender_with-sender.ensures.before c.content_with-content.ensures.behind
 
 pub returns-clause-small : goal.returns-clause-small
 returns-clause-small c =

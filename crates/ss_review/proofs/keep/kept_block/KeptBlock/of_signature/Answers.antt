@@ -1,37 +1,59 @@
-use Rattle.std.proofs.Common.{◌≡◌, ℕ, ◌≤◌, List, length, sym, ap, ◌∙◌, subst, arith}
+use Rattle.std.proofs.Common.{◌≡◌, ℕ, List, length, take, ap, ◌∙◌, subst, arith}
+use Rattle.std.specs.Prelude.{IfOk}
 use Rattle.std.proofs.lemmas.List.{take_all}
-use Rattle.ss_message.specs.declared.span.Span.{Span}
 use Rattle.ss_block.specs.Block as block
-use Rattle.ss_block.specs.declared.hash.Hash.{Hash}
-use Rattle.ss_block.specs.Reading.{hashes_in}
-use Rattle.ss_block.specs.PlacedReading.{SpellsHashes}
+use Rattle.ss_block.specs.declared.session.Session.{Session}
+use Rattle.ss_block.specs.declared.session_places.SessionPlaces.{SessionPlaces}
+use Rattle.ss_block.specs.SessionPlaces.{session_at}
+use Rattle.ss_review.specs.declared.keep.kept_content.KeptContent.{KeptContent}
 use Rattle.ss_review.specs.declared.keep.kept_content.KeptContent.TheVariants as kept
-use Rattle.ss_review.specs.keep.Kept.{IsKept, held_hashes, pieces_at}
+use Rattle.ss_review.specs.declared.keep.packed.Packed.{Packed}
+use Rattle.ss_review.specs.keep.BlockMessage.{BlockMessage, Hashes}
+use Rattle.ss_review.specs.keep.Kept.{message_kept}
+use Rattle.ss_review.specs.keep.Packed.{front_packed, hashes_packed, signed_packed}
+use Rattle.ss_review.proofs.of_kept_messages.Packing.{session_before}
 use Rattle.ss_review.proofs.keep.kept_block.KeptBlock.of_signature.Goals as goal
 
--- a block whose hashes are held, all of them
-all_held : (b : block.Signature) (octets : List ℕ) (text : Span) (count : ℕ)
-    → SpellsHashes octets text b
-    → count ≡ length b.hashes
-    → held_hashes b.alg octets count text ≡ b.hashes
-all_held b octets text count spells many =
-    let hs : List Hash = hashes_in b.alg (pieces_at octets text) in
-    let long : length hs ≤ count = omega (arith, ap length spells.hashes) in
-    take_all count hs long ∙ sym spells.hashes
+-- a message with a signature block
+abbrev message_with : ℕ → ℕ → Session → block.Signature → List ℕ → BlockMessage
+message_with place count session b signed = record { place = place; count = count; session = session; said = Hashes b; signed = signed }
 
-kept_whole : (b : block.Signature) (octets : List ℕ) (text : Span) (count : ℕ)
-    → block.IsSignature b
-    → SpellsHashes octets text b
-    → count ≡ length b.hashes
-    → IsKept count (kept.Hashes b.alg b.rsid b.group b.gbc b.first count text) octets b.signature
-kept_whole b octets text count valid spells many = record {
-  text = record { within = spells.within; announced = spells.count ∙ sym many; each = spells.each; at_most = omega arith };
-  valid = subst (λ hs. block.IsSignature (record b { hashes = hs })) (sym (all_held b octets text count spells many)) valid;
-}
+-- a block of which all hashes are held
+whole : (b : block.Signature) (place : ℕ) (sender : SessionPlaces) (signed : List ℕ) (content : KeptContent) (p : Packed) (signature : List ℕ)
+    → content ≡ kept.Hashes b.group b.gbc b.first p.count
+    → sender.rsid ≡ b.rsid
+    → p.alg ≡ b.alg
+    → p.count ≡ length b.hashes
+    → hashes_packed p ≡ b.hashes
+    → signature ≡ b.signature
+    → session_at (front_packed p) sender ≡ session_at signed sender
+    → signed_packed p ≡ signed
+    → message_kept place sender content p signature ≡ message_with place (length b.hashes) (session_at signed sender) b signed
+whole b place sender signed content p signature content_is rsid_is alg_is count_is hashes_are signature_is session_is signed_is =
+    let session = session_at (front_packed p) sender in
+    let held = take p.count (hashes_packed p) in
+    let all : held ≡ b.hashes = take_all p.count (hashes_packed p) (omega (arith, count_is, ap length hashes_are)) ∙ hashes_are in
+    ap (λ k. message_kept place sender k p signature) content_is
+    ∙ ap (λ rsid. message_with place p.count session (record b { rsid = rsid; alg = p.alg; hashes = held; signature = signature }) (signed_packed p)) rsid_is
+    ∙ ap (λ alg. message_with place p.count session (record b { alg = alg; hashes = held; signature = signature }) (signed_packed p)) alg_is
+    ∙ ap (λ hs. message_with place p.count session (record b { hashes = hs; signature = signature }) (signed_packed p)) all
+    ∙ ap (λ octets. message_with place p.count session (record b { signature = octets }) (signed_packed p)) signature_is
+    ∙ ap (λ n. message_with place n session b (signed_packed p)) count_is
+    ∙ ap (λ s. message_with place (length b.hashes) s b (signed_packed p)) session_is
+    ∙ ap (message_with place (length b.hashes) (session_at signed sender) b) signed_is
 
-pub block_with-requires : goal.block_with-requires
-block_with-requires c =
-    rw (c.alg.ensures, c.rsid.ensures, c.group.ensures, c.gbc.ensures, c.first.ensures, c.into_signature.ensures) (
-      c.requires.sender,
-      kept_whole c.args.block c.args.signed c.args.text _ c.assure_in_range.ensures c.requires.text (ap length (c.as_slice.ensures ∙ c.hashes.ensures)),
-    )
+pub returns : goal.returns
+returns c =
+    let b = c.args.block in
+    let p = c.in_ok-packed.packed in
+    let hashes = c.as_slice-hashes.ensures ∙ c.hashes.ensures in
+    let session =
+    ap (λ octets. session_at octets c.args.sender) (c.in_ok-packed.ensures.front ∙ ap (take c.args.text.start) c.as_slice.ensures)
+    ∙ session_before c.args.signed c.args.sender c.args.text c.requires.sender c.requires.before in
+    let content : kept.Hashes c.group.result c.gbc.result c.first.result p.count ≡ kept.Hashes b.group b.gbc b.first p.count = cc in
+    subst (λ m. IfOk c.block_with.result (λ b. b ≡ m))
+    (ap (λ s. message_kept c.args.place s (kept.Hashes c.group.result c.gbc.result c.first.result p.count) p c.into_signature.result) c.of.ensures
+    ∙ whole b c.args.place c.args.sender c.args.signed _ p c.into_signature.result content c.requires.rsid (c.in_ok-packed.ensures.alg ∙ c.alg.ensures)
+    (c.in_ok-packed.ensures.count ∙ ap length hashes) (c.in_ok-packed.ensures.hashes ∙ hashes) c.into_signature.ensures session
+    (c.in_ok-packed.ensures.signed ∙ c.as_slice.ensures))
+    c.block_with.ensures

@@ -2,18 +2,18 @@ use Rattle.std.proofs.Common.{◌≡◌, ℕ, zero, suc, ◌≤◌, true, List, 
 use Rattle.std.specs.List.{list_all}
 use Rattle.std.proofs.lemmas.Bool.{and_parts, and_from}
 use Rattle.std.proofs.lemmas.List.{length-take}
-use Rattle.ss_message.specs.declared.span.Span.{Span}
 use Rattle.ss_block.specs.Block as block
 use Rattle.ss_block.specs.Block.{is_of}
 use Rattle.ss_block.specs.declared.block.Group.{Group}
-use Rattle.ss_block.specs.declared.hash.Alg.{Alg}
 use Rattle.ss_block.specs.declared.hash.Hash.{Hash}
-use Rattle.ss_block.specs.Reading.{hashes_in}
+use Rattle.ss_block.specs.declared.session_places.SessionPlaces.{SessionPlaces}
 use Rattle.ss_review.specs.declared.keep.kept_content.KeptContent.{KeptContent}
 use Rattle.ss_review.specs.declared.keep.kept_content.KeptContent.TheVariants as kept
-use Rattle.ss_review.specs.declared.keep.kept_block.KeptFields.{KeptFields}
+use Rattle.ss_review.specs.declared.keep.packed.Packed.{Packed}
 use Rattle.ss_review.specs.keep.KeptBlock.{AreKept}
-use Rattle.ss_review.specs.keep.Kept.{IsKept, pieces_at}
+use Rattle.ss_review.specs.keep.Kept.{IsKept}
+use Rattle.ss_review.specs.keep.KeptSender.{places_at}
+use Rattle.ss_review.specs.keep.Packed.{hashes_packed}
 use Rattle.ss_review.proofs.keep.kept_block.KeptBlock.with_one_hash.Goals as goal
 
 -- a block with some of these hashes, and the block with the first alone
@@ -41,27 +41,25 @@ one_held : {A : Type 0} (hs : List A) → length (take 1 hs) ≤ 1
 one_held hs = omega (arith, length-take 1 hs)
 
 pub returns-in-Hashes-clause-few : goal.returns-in-Hashes-clause-few
-returns-in-Hashes-clause-few c = one_held (hashes_in c.in-Hashes.alg (pieces_at c.deref_mut-fields.result.now.signed c.in-Hashes.text))
+returns-in-Hashes-clause-few c = one_held (hashes_packed c.deref_mut-fields.result.now.packed)
 
-shortened : (count : ℕ) (content : KeptContent) (octets signature : List ℕ) (alg : Alg) (rsid : ℕ) (group : Group) (gbc first held : ℕ) (text : Span)
-    → IsKept count content octets signature
-    → content ≡ kept.Hashes alg rsid group gbc first held text
-    → IsKept count (kept.Hashes alg rsid group gbc first 1 text) octets signature
-shortened count content octets signature alg rsid group gbc first held text agrees is =
-    let k = subst (λ k. IsKept count k octets signature) is agrees in
-    let some = some_held (hashes_in alg (pieces_at octets text)) held k.valid.some_hash in
-    let most = k.text.at_most in
+shortened : (sender : SessionPlaces) (content : KeptContent) (packed : Packed) (signature : List ℕ) (group : Group) (gbc first held : ℕ)
+    → IsKept sender content packed signature
+    → content ≡ kept.Hashes group gbc first held
+    → IsKept sender (kept.Hashes group gbc first 1) packed signature
+shortened sender content packed signature group gbc first held agrees is =
+    let k = subst (λ k. IsKept sender k packed signature) is agrees in
+    let some = some_held (hashes_packed packed) held k.valid.some_hash in
+    let most = k.text in
     record {
-      text = record { within = k.text.within; announced = k.text.announced; each = k.text.each; at_most = omega arith };
-      valid = first_valid (record { alg = alg; rsid = rsid; group = group; gbc = gbc; first = first; hashes = []; signature = signature }) (hashes_in alg (pieces_at octets text)) held k.valid;
+      hashes = k.hashes;
+      head = k.head;
+      text = omega arith;
+      valid = first_valid (record { alg = packed.alg; rsid = sender.rsid; group = group; gbc = gbc; first = first; hashes = []; signature = signature }) (hashes_packed packed) held k.valid;
     }
 
 pub invariant_of-self : goal.invariant_of-self
 invariant_of-self c =
     let f = c.deref_mut-fields.result.now in
     let same : f ≡ c.self.inside.fields.value = c.deref_mut-fields.ensures.value in
-    let agrees : AreKept f = subst AreKept (sym same) c.self.invariant in (
-      agrees.0,
-      shortened f.count f.content f.signed f.signature c.in-Hashes.alg c.in-Hashes.rsid c.in-Hashes.group c.in-Hashes.gbc c.in-Hashes.first c.in-Hashes.held
-          c.in-Hashes.text agrees.1 c.in-Hashes.is,
-    )
+    shortened (places_at f.sender) f.content f.packed f.signature c.in-Hashes.group c.in-Hashes.gbc c.in-Hashes.first c.in-Hashes.held (subst AreKept (sym same) c.self.invariant) c.in-Hashes.is

@@ -1,0 +1,121 @@
+//! Hashes as an array: their octets, one hash after the other. It takes three quarters of the room of HB.
+ghost use Rattle.std.specs.Prelude.{◌≡◌, ◌≤◌, ◌*◌, ◌++◌, true, length, IfOk, OnOk};
+ghost use Rattle.std.specs.List.{list_all};
+ghost use Rattle.ss_block.specs.Block.{is_of};
+ghost use Rattle.ss_block.specs.HashArrays.{array_of, hashes_at, IsArray};
+ghost use Rattle.ss_block.specs.Reading.{hash_with};
+ghost use Rattle.ss_block.specs.Versions.{hash_length};
+ghost use Rattle.ss_block.specs.Writing.{hashes_text};
+
+use crate::hash::{Alg, Hash};
+use crate::hashes::Hashes;
+use crate::sound::assure_hashes;
+use crate::spelling::octets_of;
+use crate::version::{SHA1_OCTETS, SHA256_OCTETS};
+use base64::engine::general_purpose::STANDARD;
+use ss_octets::NoMemory;
+use std::alloc::Global;
+
+/// How many octets the longest hash has in base64.
+const LONGEST_TEXT: usize = 44;
+
+impl Alg {
+    /// How many octets a hash has: 20 or 32.
+    pub fn hash_octets(self) -> usize
+        ensures { result ≡ hash_length self }
+    {
+        match self {
+            Alg::Sha1 => SHA1_OCTETS,
+            Alg::Sha256 => SHA256_OCTETS,
+        }
+    }
+}
+
+/// The hash of this algorithm that these octets are.
+fn hash_with(alg: Alg, octets: &[u8]) -> Hash
+    requires { length octets.now ≡ hash_length alg }
+    ensures { result ≡ hash_with alg octets.now }
+{
+    match alg {
+        Alg::Sha1 => {
+            let mut hash = [0; SHA1_OCTETS];
+            hash.copy_from_slice(octets);
+            Hash::Sha1(hash)
+        }
+        Alg::Sha256 => {
+            let mut hash = [0; SHA256_OCTETS];
+            hash.copy_from_slice(octets);
+            Hash::Sha256(hash)
+        }
+    }
+}
+
+/// Puts the octets of these hashes of one algorithm behind the others, one hash after the other.
+///
+/// Errs only where memory runs out.
+pub fn put_hash_array(out: &mut Vec<u8>, alg: Alg, hashes: &[Hash]) -> Result<(), NoMemory>
+    requires { list_all (is_of alg) hashes.now ≡ true }
+    ensures put { OnOk result (out.new.items ≡ out.old.items ++ array_of hashes.now) }
+    ensures array { IsArray alg (array_of hashes.now) hashes.now }
+{
+    assure_hashes(hashes);
+    out.reserve(hashes.len().saturating_mul(alg.hash_octets()))?;
+    for hash in hashes {
+        out.extend_from_slice(octets_of(hash))?;
+    }
+    Ok(())
+}
+
+/// The first `count` hashes of this algorithm that stand in `octets`, one after the other.
+///
+/// Errs only where memory runs out, which is taken for the hashes.
+pub fn array_hashes(
+    alloc: Global,
+    alg: Alg,
+    octets: &[u8],
+    count: usize,
+) -> Result<Hashes, NoMemory>
+    requires { count * hash_length alg ≤ length octets.now }
+    ensures { IfOk result (λ hs. hs ≡ hashes_at alg count octets.now) }
+{
+    let mut hashes = Vec::with_capacity(alloc, count)?;
+    let mut rest = octets;
+    for _read in 0..count {
+        let (hash, after) = rest.split_at(alg.hash_octets());
+        hashes.push(hash_with(alg, hash))?;
+        rest = after;
+    }
+    Ok(Hashes::from_vec(hashes))
+}
+
+/// Puts HB's value (RFC 5848, section 4.2.7) for the first `count` hashes of this algorithm that stand in `octets`, one
+/// after the other: each in base64 by itself, one SP between two.
+///
+/// Errs only where memory runs out.
+pub fn put_array_text(
+    out: &mut Vec<u8>,
+    alg: Alg,
+    octets: &[u8],
+    count: usize,
+) -> Result<(), NoMemory>
+    requires { count * hash_length alg ≤ length octets.now }
+    ensures { OnOk result (out.new.items ≡ out.old.items ++ hashes_text (hashes_at alg count octets.now)) }
+{
+    out.reserve(count.saturating_mul(LONGEST_TEXT + 1))?;
+    // Each use of the constant copies its tables.
+    let base64 = STANDARD;
+    let mut text = [0; LONGEST_TEXT];
+    let mut rest = octets;
+    for i in 0..count {
+        if i > 0 {
+            out.push(b' ')?;
+        }
+        let (hash, after) = rest.split_at(alg.hash_octets());
+        let Ok(size) = base64.encode_slice(hash, &mut text) else {
+            unreachable!();
+        };
+        out.extend_from_slice(&text[..size])?;
+        rest = after;
+    }
+    Ok(())
+}
