@@ -40,7 +40,7 @@ NAMES = {
     "parsed": ["ss_message::reading::parse"],
     "asked": ["ss_answers::table::find"],
     "reviews": ["ss_review::report::reporting::reported"],
-    "files": ["ss_answers::input::read_all"],
+    "files": ["ss_answers::input::read_all", "ss_answers::reading::read_lines"],
     "compared": ["core::slice::sort::order::ByOrder::less"],
 }
 SIGN = b"AAAA"

@@ -1,11 +1,23 @@
 -- Lines by the places of their fields: what a place gives, and that octets put after them change no line.
-use Rattle.std.proofs.Common.{◌≡◌, ℕ, ◌+◌, ◌-◌, ◌<◌, ◌≤◌, true, false, eqb, codes, Option, List, [], ◌∷◌, ◌++◌, length, take, drop, get_or, Some, None, nat_le, sym, refl, ap, ◌∙◌, arith, length-append, length-drop, inl, inr}
-use Rattle.std.specs.List.{AllByRecursion, IsAmong, slice_range}
+use Rattle.std.proofs.Common.{◌≡◌, ℕ, ◌+◌, ◌-◌, ◌<◌, ◌≤◌, true, false, eqb, codes, cond, Option, List, [], ◌∷◌, ◌++◌, length, take, drop, Some, None, nat_le, Result, Ok, Err, subst, sym, refl, ap, ◌∙◌, arith, length-append, length-drop, inl, inr}
+use Rattle.std.specs.BTreeMap.{insert_entry, is_at}
+use Rattle.std.specs.Cmp.Lexicographic.{slice_cmp}
+use Rattle.std.specs.List.{AllByRecursion, slice_range}
+use Rattle.std.specs.Map.{lookup}
+use Rattle.std.specs.Option.{IfSome}
+use Rattle.std.specs.Result.{IfOk, OnOk}
+use Rattle.std.specs.Ordering.{is_eq, match_ordering, nat_cmp}
+use Rattle.std.specs.declared.alloc.Global.{Global}
+use Rattle.std.specs.declared.cmp.Ordering.{Ordering}
+use Rattle.std.specs.declared.cmp.Ordering.TheVariants.{Less, Equal, Greater}
+use Rattle.std.specs.declared.vec.Vec.{Vec}
+use Rattle.std.proofs.lemmas.Map.Lookups.{exact_bytes}
 use Rattle.std.proofs.lemmas.List.{append-nil, append_assoc, take-append-le, drop-append-le}
 use Rattle.std.proofs.lemmas.Bool.Decides.{nat_tests}
 use Rattle.std.proofs.Math.Seq.{drop-append_seam, take-append_seam}
 use Rattle.std.proofs.lemmas.Bool.{cases_lt}
 use Rattle.ss_answers.specs.declared.place.Place.{Place}
+use Rattle.ss_answers.specs.declared.field.LineFault.{LineFault}
 use Rattle.ss_answers.specs.declared.field.Span.{Span}
 use Rattle.ss_answers.specs.declared.line.Known.{Known}
 use Rattle.ss_octets.specs.Ascii.{sp}
@@ -127,17 +139,58 @@ HasField-grows old new text span most grows has = record {
   within = omega (arith, has.within, length-Grows old new most grows);
 }
 
-pub AreKnown-grows : (old new : List ℕ) (payloads : List Known) (most : ℕ) → Grows old new most → AreKnown old payloads → AreKnown new payloads
-AreKnown-grows old new payloads most grows h = λ i d lt.
-    HasField-grows old new (get_or payloads i d).text.now (get_or payloads i d).span most grows (h i d lt)
+pub AreKnown-grows : (old new : List ℕ) (payloads : List (Vec ℕ Global × Span)) (most : ℕ) → Grows old new most → AreKnown old payloads → AreKnown new payloads
+AreKnown-grows old new [] most grows h = tt
+AreKnown-grows old new (entry ∷ payloads) most grows h =
+    (HasField-grows old new entry.0.items entry.1 most grows h.0, AreKnown-grows old new payloads most grows h.1)
 
--- one of those that are known
-pub HasField-among : (octets : List ℕ) (payloads : List Known) (known : Known) → AreKnown octets payloads → IsAmong payloads known → HasField octets known.text.now known.span
-HasField-among octets payloads known h among = rw among.1.1 (h among.0 known among.1.0)
+-- what a look-up finds for a text
+found_here : (octets text : List ℕ) (entry : Vec ℕ Global × Span) (rest : Option Span) (order : Ordering) → (order ≡ Equal → text ≡ entry.0.items)
+    → HasField octets entry.0.items entry.1 → IfSome rest (λ span. HasField octets text span)
+    → IfSome (cond (is_eq order) (Some entry.1) rest) (λ span. HasField octets text span)
+found_here octets text entry rest Less same has others = others
+found_here octets text entry rest Equal same has others = rw (same refl) has
+found_here octets text entry rest Greater same has others = others
+
+pub HasField-found : (octets text : List ℕ) (payloads : List (Vec ℕ Global × Span)) → AreKnown octets payloads
+    → IfSome (lookup (is_at (λ (name : Vec ℕ Global). slice_cmp nat_cmp text name.items)) payloads) (λ span. HasField octets text span)
+HasField-found octets text [] h = tt
+HasField-found octets text (entry ∷ payloads) h =
+    found_here octets text entry _ (slice_cmp nat_cmp text entry.0.items) (exact_bytes text entry.0.items) h.0 (HasField-found octets text payloads h.1)
+
+pub found_at : (octets text : List ℕ) (payloads : List (Vec ℕ Global × Span)) (span : Span) → AreKnown octets payloads
+    → Some span ≡ lookup (is_at (λ (name : Vec ℕ Global). slice_cmp nat_cmp text name.items)) payloads → HasField octets text span
+found_at octets text payloads span h found =
+    subst (λ (r : Option Span). IfSome r (λ s. HasField octets text s)) (sym found) (HasField-found octets text payloads h)
+
+pub KeepsPayload-known_by : (old new text : List ℕ) (span : Span) (r : Result Known LineFault) → HasField new text span → Grows old new (length text)
+    → IfOk r (λ known. (known.text.items ≡ text) × (known.span ≡ span)) → IfOk r (λ known. KeepsPayload old new text known)
+KeepsPayload-known_by old new text span (Ok known) has grows h = record { has = rw (h.0, h.1) has; same = h.0; grows = grows }
+KeepsPayload-known_by old new text span (Err fault) has grows h = tt
+
+pub AreKnown-known_by : (octets : List ℕ) (payloads : List (Vec ℕ Global × Span)) (r : Result Known LineFault) → AreKnown octets payloads
+    → OnOk r (AreKnown octets payloads)
+AreKnown-known_by octets payloads (Ok known) h = h
+AreKnown-known_by octets payloads (Err fault) h = tt
+
+-- one payload more
+more_here : (octets : List ℕ) (name : Vec ℕ Global) (span : Span) (entry : Vec ℕ Global × Span) (payloads more : List (Vec ℕ Global × Span)) (order : Ordering)
+    → (order ≡ Equal → name.items ≡ entry.0.items) → HasField octets name.items span → HasField octets entry.0.items entry.1 → AreKnown octets payloads
+    → AreKnown octets more → AreKnown octets (match_ordering order ((name, span) ∷ entry ∷ payloads) ((entry.0, span) ∷ payloads) (entry ∷ more))
+more_here octets name span entry payloads more Less same has first others inserted = (has, (first, others))
+more_here octets name span entry payloads more Equal same has first others inserted = (rw (← same refl) has, others)
+more_here octets name span entry payloads more Greater same has first others inserted = (first, inserted)
+
+pub AreKnown-insert : (octets : List ℕ) (name : Vec ℕ Global) (span : Span) (payloads : List (Vec ℕ Global × Span)) → AreKnown octets payloads
+    → HasField octets name.items span → AreKnown octets (insert_entry (λ (x y : Vec ℕ Global). slice_cmp nat_cmp x.items y.items) payloads name span)
+AreKnown-insert octets name span [] h has = (has, tt)
+AreKnown-insert octets name span (entry ∷ payloads) h has =
+    more_here octets name span entry payloads _ (slice_cmp nat_cmp name.items entry.0.items) (exact_bytes name.items entry.0.items) has h.0 h.1
+    (AreKnown-insert octets name span payloads h.1 has)
 
 pub IsKnown-grows : (old new : List ℕ) (known : Option Known) (most : ℕ) → Grows old new most → IsKnown old known → IsKnown new known
 IsKnown-grows old new None most grows h = tt
-IsKnown-grows old new (Some known) most grows h = HasField-grows old new known.text.now known.span most grows h
+IsKnown-grows old new (Some known) most grows h = HasField-grows old new known.text.items known.span most grows h
 
 pub KeepsPair-fields : (old middle new text left right : List ℕ) (first second : Span) → text ≡ left ++ sp ∷ right → KeepsField old middle left first
     → KeepsField middle new right second → KeepsPair old new text first second
@@ -156,17 +209,17 @@ pub Lacks-known : (octets text : List ℕ) (span : Span) → HasField octets tex
 Lacks-known octets text span has = rw has.spelt (Lacks-space has.field)
 
 -- the payload is one that stood there, or comes now
-pub KeepsTriple-known : (old new text rest : List ℕ) (known : Known) (first second : Span) → text ≡ known.text.now ++ sp ∷ rest
-    → HasField old known.text.now known.span → KeepsPair old new rest first second → KeepsTriple old new text known first second
+pub KeepsTriple-known : (old new text rest : List ℕ) (known : Known) (first second : Span) → text ≡ known.text.items ++ sp ∷ rest
+    → HasField old known.text.items known.span → KeepsPair old new rest first second → KeepsTriple old new text known first second
 KeepsTriple-known old new text rest known first second spelt has pair = record {
   left = pair.left;
   right = pair.right;
-  spelt = spelt ∙ ap (λ t. known.text.now ++ sp ∷ t) pair.spelt;
-  payload = HasField-grows old new known.text.now known.span (length rest) pair.grows has;
+  spelt = spelt ∙ ap (λ t. known.text.items ++ sp ∷ t) pair.spelt;
+  payload = HasField-grows old new known.text.items known.span (length rest) pair.grows has;
   one = pair.one;
   two = pair.two;
   seam = pair.seam;
-  grows = Grows-more old new (length rest) (length text) pair.grows (omega (arith, ap length spelt, length-append known.text.now (sp ∷ rest)));
+  grows = Grows-more old new (length rest) (length text) pair.grows (omega (arith, ap length spelt, length-append known.text.items (sp ∷ rest)));
 }
 
 pub KeepsTriple-payload : (old middle new text first rest : List ℕ) (known : Known) (left right : Span) → text ≡ first ++ sp ∷ rest
@@ -174,8 +227,8 @@ pub KeepsTriple-payload : (old middle new text first rest : List ℕ) (known : K
 KeepsTriple-payload old middle new text first rest known left right spelt payload pair = record {
   left = pair.left;
   right = pair.right;
-  spelt = spelt ∙ ap (λ t. t ++ sp ∷ rest) (sym payload.same) ∙ ap (λ t. known.text.now ++ sp ∷ t) pair.spelt;
-  payload = HasField-grows middle new known.text.now known.span (length rest) pair.grows payload.has;
+  spelt = spelt ∙ ap (λ t. t ++ sp ∷ rest) (sym payload.same) ∙ ap (λ t. known.text.items ++ sp ∷ t) pair.spelt;
+  payload = HasField-grows middle new known.text.items known.span (length rest) pair.grows payload.has;
   one = pair.one;
   two = pair.two;
   seam = pair.seam;
@@ -232,7 +285,7 @@ unfolding answer_at
 KeepsLine-yes old new text rest known first second spelt kept =
     let here = second_here new kept.right first second kept.two kept.seam in
     let payload = kept.payload in
-    let fields : known.text.now ++ sp ∷ (kept.left ++ sp ∷ kept.right) ≡ base64 payload.field ++ sp ∷ (base64 kept.one.field ++ sp ∷ base64 kept.two.field) =
+    let fields : known.text.items ++ sp ∷ (kept.left ++ sp ∷ kept.right) ≡ base64 payload.field ++ sp ∷ (base64 kept.one.field ++ sp ∷ base64 kept.two.field) =
     ap (λ t. t ++ sp ∷ (kept.left ++ sp ∷ kept.right)) payload.spelt ∙ ap (λ t. base64 payload.field ++ sp ∷ (t ++ sp ∷ kept.right)) kept.one.spelt
     ∙ ap (λ t. base64 payload.field ++ sp ∷ (base64 kept.one.field ++ sp ∷ t)) kept.two.spelt in
     record {

@@ -5,10 +5,12 @@ mod CounterLaws
 pub mod CounterWords
 pub mod Cuts
 mod Decoded
+mod EndedLines
 mod FirstOctets
 mod KeptLines
 mod LineLaws
 mod OrderedLines
 mod ReadLines
+mod ReadParts
 pub mod Starts
 mod TrustedPayloads

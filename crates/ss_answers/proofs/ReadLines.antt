@@ -11,7 +11,7 @@ pub first_clear : (a b : List ℕ) → Clear lf a → first_line (a ++ lf ∷ b)
 first_clear [] b h = refl
 first_clear (x ∷ a) b h = rw (h.0, first_clear a b h.1) refl
 
-whole_clear : (a : List ℕ) → Clear lf a → first_line a ≡ a
+pub whole_clear : (a : List ℕ) → Clear lf a → first_line a ≡ a
 whole_clear [] h = refl
 whole_clear (x ∷ a) h = rw (h.0, whole_clear a h.1) refl
 

@@ -40,6 +40,12 @@ pub record AreRead (old new : Option (List ℕ)) (max : ℕ) (answers : List Ans
   pub has : HasLines text lines
   pub same : SaysTheSame lines answers
 
+-- the lines are those of the text that the reader gave
+pub record AreLinesRead (old new : Option (List ℕ)) (max : ℕ) (lines : List Answer) : Type 0 where
+  pub text : List ℕ
+  pub all : GivesAll old new max text
+  pub has : HasLines text lines
+
 -- the line of this number is the first bad one of those that the reader gave
 pub record IsBadLine (old new : Option (List ℕ)) (max : ℕ) (line : ℕ) : Type 0 where
   pub text : List ℕ

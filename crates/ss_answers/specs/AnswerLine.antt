@@ -1,9 +1,11 @@
 -- A line of an answers file as it is read, and as the program keeps it.
 use Rattle.std.specs.Prelude.{◌≡◌, ℕ, ◌≤◌, Bool, ◌&&◌, nat_le, if◌then◌else◌, List, [], ◌∷◌, ◌++◌, length, map}
 use Rattle.std.specs.Prelude.{slice_range, Option, Some, None}
-use Rattle.std.specs.List.{All, AllByRecursion}
+use Rattle.std.specs.List.{AllByRecursion}
 use Rattle.std.specs.Ordering.{is_eq, is_lt}
 use Rattle.std.specs.List.Sorted.{IsSortedBy}
+use Rattle.std.specs.declared.vec.Vec.{Vec}
+use Rattle.std.specs.declared.alloc.Global.{Global}
 use Rattle.ss_answers.specs.declared.field.LineFault.{LineFault}
 use Rattle.ss_answers.specs.declared.field.LineFault.TheVariants as faults
 use Rattle.ss_answers.specs.declared.field.Span.{Span}
@@ -93,16 +95,16 @@ pub record KeepsField (old new text : List ℕ) (span : Span) : Type 0 where
 -- a payload that is known stands at its place
 abbrev pub IsKnown : List ℕ → Option Known → Type 0
 IsKnown octets None = Unit {0}
-IsKnown octets (Some known) = HasField octets known.text.now known.span
+IsKnown octets (Some known) = HasField octets known.text.items known.span
 
 -- payloads that are known stand at their places
-abbrev pub AreKnown : List ℕ → List Known → Type 0
-AreKnown octets payloads = All (λ known. HasField octets known.text.now known.span) payloads
+abbrev pub AreKnown : List ℕ → List (Vec ℕ Global × Span) → Type 0
+AreKnown octets payloads = AllByRecursion (λ entry. HasField octets entry.0.items entry.1) payloads
 
 -- the text spells a payload, which came now or stood there before
 pub record KeepsPayload (old new text : List ℕ) (known : Known) : Type 0 where
-  pub has : HasField new known.text.now known.span
-  pub same : known.text.now ≡ text
+  pub has : HasField new known.text.items known.span
+  pub same : known.text.items ≡ text
   pub grows : Grows old new (length text)
 
 -- the text is two fields, which came one after the other
@@ -119,8 +121,8 @@ pub record KeepsPair (old new text : List ℕ) (first second : Span) : Type 0 wh
 pub record KeepsTriple (old new text : List ℕ) (known : Known) (first second : Span) : Type 0 where
   pub left : List ℕ
   pub right : List ℕ
-  pub spelt : text ≡ known.text.now ++ sp ∷ (left ++ sp ∷ right)
-  pub payload : HasField new known.text.now known.span
+  pub spelt : text ≡ known.text.items ++ sp ∷ (left ++ sp ∷ right)
+  pub payload : HasField new known.text.items known.span
   pub one : HasField new left first
   pub two : HasField new right second
   pub seam : first.end ≡ second.start

@@ -1,5 +1,5 @@
 -- What reading all of a file takes from its reader, and when that fails.
-use Rattle.std.specs.Prelude.{◌≡◌, ℕ, ◌+◌, ◌≤◌, Bool, true, false, List, ◌++◌, length, Option, Result, Ok, Err}
+use Rattle.std.specs.Prelude.{◌≡◌, ℕ, ◌+◌, ◌≤◌, Bool, true, false, List, ◌++◌, length, take, Option, Result, Ok, Err}
 use Rattle.std.specs.Io.KnownBytes.{Consumes, IsAtEnd}
 use Rattle.ss_answers.specs.declared.input.InputFault.{InputFault}
 use Rattle.ss_answers.specs.declared.input.InputFault.TheVariants.{Read, TooBig, Memory}
@@ -48,4 +48,15 @@ pub record TakesSome (old new : Option (List ℕ)) (before after : List ℕ) (mo
   pub appended : after ≡ before ++ octets
   pub counted : length octets ≡ count
   pub fits : count ≤ most
+  pub none : count ≡ 0 → IsAtEnd new
+
+-- a reader gave a text, and so many octets are left of the limit
+pub record GivesFirst (old new : Option (List ℕ)) (max left : ℕ) (text : List ℕ) : Type 0 where
+  pub taken : Consumes old new text
+  pub counted : length text + left ≡ max
+
+-- one read gave the first octets of a chunk, so many, and none only at the end
+pub record GivesPart (old new : Option (List ℕ)) (chunk : List ℕ) (count : ℕ) : Type 0 where
+  pub taken : Consumes old new (take count chunk)
+  pub fits : count ≤ length chunk
   pub none : count ≡ 0 → IsAtEnd new

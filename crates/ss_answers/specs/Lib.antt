@@ -3,6 +3,7 @@ pub mod Input
 pub mod Answers
 pub mod AnswerLine
 pub mod AnswerKey
+pub mod LinesSoFar
 pub mod AnswerInput
 pub mod Seals
 pub mod CounterLine

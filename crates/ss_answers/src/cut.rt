@@ -1,5 +1,5 @@
 //! Cutting a text at its first line feed, and a line at its first space.
-ghost use Rattle.std.specs.Prelude.{◌≡◌, ◌++◌, ◌∷◌, ◌<◌, length, MatchOption};
+ghost use Rattle.std.specs.Prelude.{◌≡◌, ◌++◌, ◌∷◌, ◌<◌, length, IfSome, MatchOption};
 ghost use Rattle.ss_octets.specs.Ascii.{lf, sp};
 ghost use Rattle.ss_answers.specs.Lines.{IsCutAfterLine, Lacks};
 
@@ -15,10 +15,19 @@ pub fn cut_line(text: &[u8]) -> (&[u8], &[u8])
     ensures cut { IsCutAfterLine text.now result.0.now result.1.now }
     ensures shorter { 0 < length text.now → length result.1.now < length text.now }
 {
-    match cut_first(text, LINE_FEED) {
+    match cut_ended_line(text) {
         Some(parts) => parts,
         None => (text, &[]),
     }
+}
+
+/// What stands before the first line feed, and what stands after it.
+pub fn cut_ended_line(text: &[u8]) -> Option<(&[u8], &[u8])>
+    ensures cut { MatchOption result (Lacks lf text.now)
+        (λ parts. Lacks lf parts.0.now × (text.now ≡ parts.0.now ++ lf ∷ parts.1.now)) }
+    ensures shorter { IfSome result (λ parts. length parts.1.now < length text.now) }
+{
+    cut_first(text, LINE_FEED)
 }
 
 /// What stands before the first space, and what stands after it.

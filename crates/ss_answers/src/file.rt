@@ -5,8 +5,7 @@ ghost use Rattle.ss_answers.specs.AnswerInput.{AreOfFile, ArePayloadsOfFile, Are
 ghost use Rattle.ss_answers.specs.AnswerInput.{failed_read};
 
 use crate::fault::AnswerFault;
-use crate::input::read_all;
-use crate::lines::read_lines;
+use crate::reading::read_lines;
 use crate::table::Answers;
 use ss_frame::Watched;
 use ss_octets::Bytes;
@@ -15,8 +14,8 @@ use std::fs;
 use std::io::Read;
 use std::rt::Files;
 
-/// The answers that a reader gives, in at most `max` octets. All is read before a line is looked at, at most one
-/// octet more than `max`, and the reader is one that hasn't failed yet.
+/// The answers that a reader gives, in at most `max` octets. All is read before a bad line is answered, at most one
+/// octet more than `max`, and the reader is one that hasn't failed yet. The text is never held whole.
 ///
 /// # Errors
 ///
@@ -34,9 +33,7 @@ pub fn read_answers<R: Read>(
         IsAnswerFault (R.remaining (inner_of reader.old)) (R.remaining (inner_of reader.new)) max fault) }
     ensures failed { has_failed reader.new ≡ failed_read result }
 {
-    let text = read_all(alloc, reader, max)?;
-    let lines = read_lines(alloc, &text)?;
-    drop(text);
+    let lines = read_lines(alloc, reader, max)?;
     match Answers::of_lines(lines) {
         Ok(answers) => Ok(answers),
         Err(_) => Err(AnswerFault::Memory),

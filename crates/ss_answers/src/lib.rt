@@ -13,6 +13,8 @@ pub mod laws;
 mod line;
 mod lines;
 mod place;
+mod reading;
+mod room;
 mod seals;
 mod table;
 

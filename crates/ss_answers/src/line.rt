@@ -1,7 +1,6 @@
 //! One line of an answers file.
-ghost use Rattle.std.specs.Prelude.{◌≡◌, ◌++◌, ◌∷◌, ◌+◌, ◌<◌, ◌^◌, List, ℕ, length, codes, IfOk, IfErr, OnOk};
+ghost use Rattle.std.specs.Prelude.{◌≡◌, ◌++◌, ◌∷◌, ◌+◌, ◌<◌, ◌^◌, length, IfOk, IfErr, OnOk};
 ghost use Rattle.std.specs.Prelude.{MatchOption};
-ghost use Rattle.std.specs.BTreeMap.{values};
 ghost use Rattle.ss_octets.specs.Ascii.{sp};
 ghost use Rattle.ss_answers.specs.Answers.{IsNoField, IsNoPair, IsNoTriple, IsNoLine};
 ghost use Rattle.ss_answers.specs.AnswerLine.{AreKnown, IfBad, IsKnown, KeepsLine, KeepsPair, KeepsPayload};
@@ -10,13 +9,15 @@ ghost use Rattle.ss_answers.specs.AnswerLine.{KeepsTriple};
 use crate::cut::cut_word;
 use crate::field::{self, LineFault, Span};
 use crate::place::Place;
+use crate::room::emptied;
+use std::alloc::Global;
 use std::collections::BTreeMap;
 
 /// A payload whose octets stand among those of the lines: its text, and where they stand.
-#[derive(Clone, Copy, Debug)]
-pub struct Known<'a> {
+#[derive(Debug, Drop)]
+pub struct Known {
     /// How the payload is spelt.
-    pub text: &'a [u8],
+    pub text: Vec<u8>,
     /// Where its octets stand.
     pub span: Span,
 }
@@ -27,27 +28,28 @@ pub struct Known<'a> {
 /// # Errors
 ///
 /// `Bad` where the text is no line; `Memory`. Some of its fields may stand among the octets then.
-pub fn keep<'a>(
+pub fn keep(
+    alloc: Global,
     octets: &mut Vec<u8>,
-    text: &'a [u8],
-    last: Option<Known<'a>>,
-    payloads: &mut BTreeMap<&'a [u8], Known<'a>>,
-) -> Result<(Place, Option<Known<'a>>), LineFault>
+    text: &[u8],
+    last: Option<Known>,
+    payloads: &mut BTreeMap<Vec<u8>, Span>,
+) -> Result<(Place, Option<Known>), LineFault>
     requires room { length octets.old.items + length text.now < 2 ^ 32 }
     requires known { IsKnown octets.old.items last }
-    requires payloads { AreKnown octets.old.items (values payloads.old) }
+    requires payloads { AreKnown octets.old.items payloads.old.entries }
     ensures ok { IfOk result (λ kept. KeepsLine octets.old.items octets.new.items text.now kept.0) }
     ensures known { IfOk result (λ kept. IsKnown octets.new.items kept.1) }
-    ensures payloads { OnOk result (AreKnown octets.new.items (values payloads.new)) }
+    ensures payloads { OnOk result (AreKnown octets.new.items payloads.new.entries) }
     ensures bad { IfErr result (λ fault. IfBad fault (IsNoLine text.now)) }
 {
     if let Some(fields) = text.strip_prefix(b"trust ") {
-        let payload = payload(octets, fields, last)?;
+        let payload = payload(alloc, octets, fields, last)?;
         let place = Place::of(payload.span, Span::none(), Span::none());
         return Ok((place, Some(payload)));
     }
     if let Some(fields) = text.strip_prefix(b"yes ") {
-        let (payload, bytes, signature) = triple(octets, fields, last, payloads)?;
+        let (payload, bytes, signature) = triple(alloc, octets, fields, last, payloads)?;
         return Ok((Place::of(payload.span, bytes, signature), Some(payload)));
     }
     if let Some(fields) = text.strip_prefix(b"seal ") {
@@ -58,74 +60,98 @@ pub fn keep<'a>(
 }
 
 /// A payload alone.
-fn payload<'a>(
+fn payload(
+    alloc: Global,
     octets: &mut Vec<u8>,
-    text: &'a [u8],
-    last: Option<Known<'a>>,
-) -> Result<Known<'a>, LineFault>
+    text: &[u8],
+    last: Option<Known>,
+) -> Result<Known, LineFault>
     requires room { length octets.old.items + length text.now < 2 ^ 32 }
     requires known { IsKnown octets.old.items last }
     ensures ok { IfOk result (λ known. KeepsPayload octets.old.items octets.new.items text.now known) }
     ensures bad { IfErr result (λ fault. IfBad fault (IsNoField text.now)) }
 {
-    if let Some(known) = last
-        && known.text == text
-    {
-        return Ok(known);
-    }
+    let room = match last {
+        Some(known) => {
+            if known.text.as_slice() == text {
+                return Ok(known);
+            }
+            known.text
+        }
+        None => Vec::new(alloc),
+    };
     let span = field::keep(octets, text)?;
-    Ok(Known { text, span })
+    known_by(alloc, room, text, span)
 }
 
 /// Three fields, of which the first is a payload.
-fn triple<'a>(
+fn triple(
+    alloc: Global,
     octets: &mut Vec<u8>,
-    text: &'a [u8],
-    last: Option<Known<'a>>,
-    payloads: &mut BTreeMap<&'a [u8], Known<'a>>,
-) -> Result<(Known<'a>, Span, Span), LineFault>
+    text: &[u8],
+    last: Option<Known>,
+    payloads: &mut BTreeMap<Vec<u8>, Span>,
+) -> Result<(Known, Span, Span), LineFault>
     requires room { length octets.old.items + length text.now < 2 ^ 32 }
     requires known { IsKnown octets.old.items last }
-    requires payloads { AreKnown octets.old.items (values payloads.old) }
+    requires payloads { AreKnown octets.old.items payloads.old.entries }
     ensures ok { IfOk result (λ t. KeepsTriple octets.old.items octets.new.items text.now t.0 t.1 t.2) }
-    ensures payloads { OnOk result (AreKnown octets.new.items (values payloads.new)) }
+    ensures payloads { OnOk result (AreKnown octets.new.items payloads.new.entries) }
     ensures bad { IfErr result (λ fault. IfBad fault (IsNoTriple text.now)) }
 {
-    if let Some(known) = last
-        && let Some(rest) = behind(text, known.text)
-    {
-        let (bytes, signature) = pair(octets, rest)?;
-        return Ok((known, bytes, signature));
-    }
+    let room = match last {
+        Some(known) => {
+            if let Some(rest) = behind(text, known.text.as_slice()) {
+                let (bytes, signature) = pair(octets, rest)?;
+                return Ok((known, bytes, signature));
+            }
+            known.text
+        }
+        None => Vec::new(alloc),
+    };
     let Some((first, rest)) = cut_word(text) else {
         return Err(LineFault::Bad);
     };
-    let payload = among(octets, first, payloads)?;
+    let payload = among(alloc, octets, first, room, payloads)?;
     let (bytes, signature) = pair(octets, rest)?;
     Ok((payload, bytes, signature))
 }
 
 /// A payload. If it is known, it isn't decoded again; otherwise it is known from now on.
-fn among<'a>(
+fn among(
+    alloc: Global,
     octets: &mut Vec<u8>,
-    text: &'a [u8],
-    payloads: &mut BTreeMap<&'a [u8], Known<'a>>,
-) -> Result<Known<'a>, LineFault>
+    text: &[u8],
+    room: Vec<u8>,
+    payloads: &mut BTreeMap<Vec<u8>, Span>,
+) -> Result<Known, LineFault>
     requires room { length octets.old.items + length text.now < 2 ^ 32 }
-    requires payloads { AreKnown octets.old.items (values payloads.old) }
+    requires payloads { AreKnown octets.old.items payloads.old.entries }
     ensures ok { IfOk result (λ known. KeepsPayload octets.old.items octets.new.items text.now known) }
-    ensures payloads { OnOk result (AreKnown octets.new.items (values payloads.new)) }
+    ensures payloads { OnOk result (AreKnown octets.new.items payloads.new.entries) }
     ensures bad { IfErr result (λ fault. IfBad fault (IsNoField text.now)) }
 {
-    if let Some(known) = payloads.get(&text)
-        && known.text == text
-    {
-        return Ok(*known);
+    if let Some(span) = payloads.get(text) {
+        return known_by(alloc, room, text, *span);
     }
     let span = field::keep(octets, text)?;
-    let known = Known { text, span };
-    match payloads.insert(text, known) {
-        Ok(_) => Ok(known),
+    let Ok(name) = Vec::from_slice(alloc, text) else {
+        return Err(LineFault::Memory);
+    };
+    match payloads.insert(name, span) {
+        Ok(_) => known_by(alloc, room, text, span),
+        Err(_) => Err(LineFault::Memory),
+    }
+}
+
+/// The payload with this text. Where there is room for its text, it is used again.
+fn known_by(alloc: Global, room: Vec<u8>, text: &[u8], span: Span) -> Result<Known, LineFault>
+    ensures ok { IfOk result (λ known. (known.text.items ≡ text.now) × (known.span ≡ span)) }
+    ensures err { IfErr result (λ fault. fault ≡ LineFault.Memory) }
+{
+    let mut room = emptied(alloc, room);
+    match room.extend_from_slice(text) {
+        Ok(()) => Ok(Known { text: room, span }),
         Err(_) => Err(LineFault::Memory),
     }
 }

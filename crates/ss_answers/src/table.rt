@@ -1,5 +1,5 @@
 //! Answers in order, and their look-ups.
-ghost use Rattle.std.specs.Prelude.{◌≡◌, [], ◌∷◌, ◌++◌, Option, IfOk, OnOk, OnErr};
+ghost use Rattle.std.specs.Prelude.{◌≡◌, [], ◌∷◌, ◌++◌, Option, IfOk, OnOk};
 ghost use Rattle.std.specs.List.{cons_option, find};
 ghost use Rattle.std.specs.Option.{option_copied};
 ghost use Rattle.ss_answers.specs.Answers.{SaysTheSame, last_trust, payloads_of};
