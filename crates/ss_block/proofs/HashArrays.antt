@@ -3,7 +3,7 @@ use Rattle.std.proofs.Common.{◌≡◌, ℕ, zero, suc, ◌+◌, ◌-◌, ◌*�
 use Rattle.std.specs.Prelude.{flat_map}
 use Rattle.std.specs.List.{AllByRecursion, list_all}
 use Rattle.std.proofs.lemmas.Bool.{and_parts}
-use Rattle.std.proofs.lemmas.List.{take_at, append-nil}
+use Rattle.std.proofs.lemmas.List.{take_at, drop_at, append-nil}
 use Rattle.base64.specs.Rfc4648.{padding_len}
 use Rattle.ss_octets.specs.StrictBase64.{base64}
 use Rattle.ss_block.specs.declared.hash.Alg.{Alg}
@@ -33,15 +33,9 @@ same_hash algs.Sha1 (hashes.Sha256 octets) of = absurd cc
 same_hash algs.Sha256 (hashes.Sha1 octets) of = absurd cc
 
 -- how long a hash is in base64
-length-text : (alg : Alg) (octets : List ℕ) → length octets ≡ hash_length alg → length (base64 octets) ≡ hash_length alg + base64_more alg
+pub length-text : (alg : Alg) (octets : List ℕ) → length octets ≡ hash_length alg → length (base64 octets) ≡ hash_length alg + base64_more alg
 length-text algs.Sha1 octets size = length-padded octets ∙ ap (λ k. (4 * k + 2) / 3 + padding_len k) size
 length-text algs.Sha256 octets size = length-padded octets ∙ ap (λ k. (4 * k + 2) / 3 + padding_len k) size
-
-drop_at : (a b : List ℕ) (n : ℕ) → length a ≡ n → drop n (a ++ b) ≡ b
-drop_at [] b zero e = refl
-drop_at [] b (suc n) e = absurd (omega arith)
-drop_at (x ∷ a) b zero e = absurd (omega arith)
-drop_at (x ∷ a) b (suc n) e = drop_at a b n (omega arith)
 
 pub is_array : (alg : Alg) (hs : List Hash) → list_all (is_of alg) hs ≡ true → AllByRecursion IsHash hs → IsArray alg (array_of hs) hs
 is_array alg [] of are = record { long = omega arith; text = omega arith; read = λ behind. refl }
@@ -101,7 +95,7 @@ is_left_more alg octets count i before done rest hash after h lt left is_hash is
 
 -- ---- HB is put, one hash after the other
 
--- what is still to be put of these hashes, behind so many others
+-- what is still to be put of these hashes, after so many others
 abbrev pub text_left : ℕ → List Hash → List ℕ
 text_left zero hs = hashes_text hs
 text_left (suc i) hs = flat_map (λ h. 32 ∷ base64 (hash_octets h)) hs
@@ -111,7 +105,7 @@ pub record IsLeftText (alg : Alg) (all : List ℕ) (count i : ℕ) (done rest : 
   pub enough : (count - i) * hash_length alg ≤ length rest
   pub text : done ++ text_left i (hashes_at alg (count - i) rest) ≡ all
 
-hash_octets_with : (alg : Alg) (octets : List ℕ) → hash_octets (hash_with alg octets) ≡ octets
+pub hash_octets_with : (alg : Alg) (octets : List ℕ) → hash_octets (hash_with alg octets) ≡ octets
 hash_octets_with algs.Sha1 octets = refl
 hash_octets_with algs.Sha256 octets = refl
 

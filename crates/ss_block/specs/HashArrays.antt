@@ -26,8 +26,8 @@ base64_more algs.Sha256 = 12
 abbrev pub text_more : Alg → ℕ → ℕ
 text_more alg n = n * base64_more alg + (n - 1)
 
--- these octets are the array of these hashes of one algorithm, whatever stands behind them
+-- these octets are the array of these hashes of one algorithm, whatever stands after them
 pub record IsArray (alg : Alg) (octets : List ℕ) (hs : List Hash) : Type 0 where
   pub long : length octets ≡ length hs * hash_length alg
   pub text : length (hashes_text hs) ≡ length octets + text_more alg (length hs)
-  pub read : (behind : List ℕ) → hashes_at alg (length hs) (octets ++ behind) ≡ hs
+  pub read : (after : List ℕ) → hashes_at alg (length hs) (octets ++ after) ≡ hs

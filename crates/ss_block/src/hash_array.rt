@@ -1,8 +1,8 @@
 //! Hashes as an array: their octets, one hash after the other. It takes three quarters of the room of HB.
-ghost use Rattle.std.specs.Prelude.{◌≡◌, ◌≤◌, ◌*◌, ◌++◌, true, length, IfOk, OnOk};
+ghost use Rattle.std.specs.Prelude.{◌≡◌, ◌≤◌, ◌+◌, ◌*◌, ◌++◌, true, length, IfOk, OnOk};
 ghost use Rattle.std.specs.List.{list_all};
 ghost use Rattle.ss_block.specs.Block.{is_of};
-ghost use Rattle.ss_block.specs.HashArrays.{array_of, hashes_at, IsArray};
+ghost use Rattle.ss_block.specs.HashArrays.{array_of, hashes_at, base64_more, IsArray};
 ghost use Rattle.ss_block.specs.Reading.{hash_with};
 ghost use Rattle.ss_block.specs.Versions.{hash_length};
 ghost use Rattle.ss_block.specs.Writing.{hashes_text};
@@ -16,8 +16,11 @@ use base64::engine::general_purpose::STANDARD;
 use ss_octets::NoMemory;
 use std::alloc::Global;
 
-/// How many octets the longest hash has in base64.
-const LONGEST_TEXT: usize = 44;
+/// How many octets an SHA-1 hash has in base64.
+const SHA1_TEXT_OCTETS: usize = 28;
+
+/// How many octets an SHA-256 hash has in base64, the longest of all.
+const SHA256_TEXT_OCTETS: usize = 44;
 
 impl Alg {
     /// How many octets a hash has: 20 or 32.
@@ -27,6 +30,16 @@ impl Alg {
         match self {
             Alg::Sha1 => SHA1_OCTETS,
             Alg::Sha256 => SHA256_OCTETS,
+        }
+    }
+
+    /// How many octets a hash has in base64 (RFC 4648, section 4): 28 or 44.
+    pub fn text_octets(self) -> usize
+        ensures { result ≡ hash_length self + base64_more self }
+    {
+        match self {
+            Alg::Sha1 => SHA1_TEXT_OCTETS,
+            Alg::Sha256 => SHA256_TEXT_OCTETS,
         }
     }
 }
@@ -50,7 +63,7 @@ fn hash_with(alg: Alg, octets: &[u8]) -> Hash
     }
 }
 
-/// Puts the octets of these hashes of one algorithm behind the others, one hash after the other.
+/// Puts the octets of these hashes of one algorithm after the others, one hash after the other.
 ///
 /// Errs only where memory runs out.
 pub fn put_hash_array(out: &mut Vec<u8>, alg: Alg, hashes: &[Hash]) -> Result<(), NoMemory>
@@ -101,10 +114,11 @@ pub fn put_array_text(
     requires { count * hash_length alg ≤ length octets.now }
     ensures { OnOk result (out.new.items ≡ out.old.items ++ hashes_text (hashes_at alg count octets.now)) }
 {
-    out.reserve(count.saturating_mul(LONGEST_TEXT + 1))?;
+    // With one SP to each hash.
+    out.reserve(count.saturating_mul(alg.text_octets() + 1))?;
     // Each use of the constant copies its tables.
     let base64 = STANDARD;
-    let mut text = [0; LONGEST_TEXT];
+    let mut text = [0; SHA256_TEXT_OCTETS];
     let mut rest = octets;
     for i in 0..count {
         if i > 0 {
