@@ -5,14 +5,13 @@ ghost use Rattle.ss_block.specs.Order.{session_cmp};
 ghost use Rattle.ss_review.specs.keep.BlockMessage.{Hashes};
 ghost use Rattle.ss_review.specs.declared.sessions.joined_session.JoinedSession.{JoinedSession};
 ghost use Rattle.ss_review.specs.sessions.Verified.{Answers, is_verified};
-ghost use Rattle.ss_review.specs.announced.Announced.{row_cmp, rows_said, rows, keys};
-ghost use Rattle.ss_review.specs.announced.Numbered.{key_of, only_hashes, session_with_joined, sessions_joined};
+ghost use Rattle.ss_review.specs.announced.Announced.{row_cmp, rows_said, rows};
+ghost use Rattle.ss_review.specs.announced.Numbered.{session_with_joined, sessions_joined};
 ghost use Rattle.ss_review.specs.announced.Indexed.{session_at, row_at, rows_by};
 
 use crate::announced::announced_block::{AnnouncedBlock, first_number};
 use crate::announced::announced_hash::AnnouncedHash;
 use crate::announced::indexed_number::IndexedNumber;
-use crate::announced::only_hashes::{Announced, by_number};
 use crate::announced::signature_blocks::signature_blocks;
 use crate::keep::block_message::BlockMessage;
 use crate::lists::ordered::put_in_order;
@@ -80,7 +79,7 @@ fn rows_of(alloc: Global, blocks: Vec<AnnouncedBlock>) -> Result<Vec<AnnouncedHa
 /// All that is announced, each row once, in order. The blocks are put in order first, so their rows mostly stand in
 /// theirs. Of each message, what isn't needed any more is let go on the way. The marks are let go before the blocks: an
 /// allocator that gives memory back from its end alone keeps what was taken before them as long as them.
-fn rows(
+pub(crate) fn announced(
     alloc: Global,
     sessions: &[JoinedSession],
     blocks: Vec<BlockMessage>,
@@ -100,26 +99,4 @@ fn rows(
     let mut rows = rows_of(alloc, announced)?;
     put_in_order(&mut rows);
     Ok(rows)
-}
-
-/// The numbers that the verified blocks announce, in order, and the only hash of each. `sessions` are those of the
-/// blocks, in their order. The blocks are let go before the numbers are collected.
-pub(crate) fn announced<'s>(
-    alloc: Global,
-    sessions: &'s [JoinedSession],
-    blocks: Vec<BlockMessage>,
-    verified: Vec<bool>,
-) -> Result<Announced<'s>, NoMemory>
-    requires { IsStrictlySortedBy session_cmp (map (λ s. s.session) sessions.now) }
-    ensures numbers { (says : Answers)
-        → map session_with_joined sessions.now ≡ sessions_joined says blocks.items
-        → verified.items ≡ map (is_verified says blocks.items) blocks.items
-        → IfOk result (λ a. map key_of a.numbers.items ≡ keys (rows says blocks.items)) }
-    ensures hashes { (says : Answers)
-        → map session_with_joined sessions.now ≡ sessions_joined says blocks.items
-        → verified.items ≡ map (is_verified says blocks.items) blocks.items
-        → IfOk result (λ a. a.hashes.items ≡ only_hashes (rows says blocks.items)) }
-{
-    let rows = rows(alloc, sessions, blocks, verified)?;
-    by_number(alloc, sessions, rows.as_slice())
 }

@@ -3,10 +3,10 @@ ghost use Rattle.std.specs.Prelude.{◌≡◌, ◌<◌, ◌^◌, ℕ, Option, So
 ghost use Rattle.ss_block.specs.declared.hash.Hash.{Hash};
 ghost use Rattle.ss_review.specs.assign.StoredHashes.{hashes_in, IsInOrder, IsFoundFor};
 
+use crate::announced::only_hash::OnlyHash;
 use crate::assign::hash_list::HashList;
 use crate::assign::search::Search;
 use crate::assign::wanted_hash::wanted_hashes;
-use ss_block::Hash;
 use ss_octets::NoMemory;
 use std::alloc::Global;
 
@@ -35,7 +35,7 @@ fn narrowed(at: Option<usize>) -> Option<u32>
 pub(crate) fn find_bearers(
     alloc: Global,
     list: &HashList,
-    hashes: &[Option<Hash>],
+    hashes: &[OnlyHash<'_>],
 ) -> Result<Vec<Option<u32>>, NoMemory>
     ensures few { IfOk result (λ v. length hashes.now < 2 ^ 32) }
     ensures length { IfOk result (λ v. length v.items ≡ length hashes.now) }

@@ -3,7 +3,7 @@ ghost use Rattle.std.specs.Prelude.{◌≡◌, List, map, IfOk};
 ghost use Rattle.ss_review.specs.declared.keep.message.NormalMessage.{NormalMessage};
 ghost use Rattle.ss_review.specs.assign.Assigning.{assigned_all};
 
-use ss_block::Hash;
+use crate::announced::only_hash::OnlyHash;
 use ss_octets::NoMemory;
 use std::alloc::Global;
 
@@ -20,7 +20,7 @@ pub(crate) trait Index {
 
     /// The places that the announced keys are assigned, in their order, from the hash that each is announced with, or
     /// none where none counts.
-    fn assign(&self, alloc: Global, hashes: &[Option<Hash>]) -> Result<Vec<Option<u32>>, NoMemory>
+    fn assign(&self, alloc: Global, hashes: &[OnlyHash<'_>]) -> Result<Vec<Option<u32>>, NoMemory>
         ensures { (ms : List NormalMessage)
             → has self.now ms
             → IfOk result (λ places. places.items ≡ assigned_all ms hashes.now) };
@@ -34,7 +34,7 @@ impl<'i, I: Index> Index for &'i I {
         (**self).places(alloc)
     }
 
-    fn assign(&self, alloc: Global, hashes: &[Option<Hash>]) -> Result<Vec<Option<u32>>, NoMemory> {
+    fn assign(&self, alloc: Global, hashes: &[OnlyHash<'_>]) -> Result<Vec<Option<u32>>, NoMemory> {
         (**self).assign(alloc, hashes)
     }
 }

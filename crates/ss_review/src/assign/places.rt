@@ -10,6 +10,7 @@ ghost use Rattle.ss_review.specs.assign.Assigning.{pair_wanted, pairs_wanted, be
 ghost use Rattle.ss_review.specs.assign.Assigning.{place_after, assigned_all};
 ghost use Rattle.ss_review.specs.assign.StoredHashes.{hashes_in, Lists, IsFoundFor, same_hashes, place_beside, Tallies};
 
+use crate::announced::only_hash::OnlyHash;
 use crate::assign::bearers::find_bearers;
 use crate::assign::counters::Counters;
 use crate::assign::hash_entry::hash_of;
@@ -18,7 +19,7 @@ use crate::assign::stored_hash::StoredHash;
 use crate::assign::stored_hashes::stored_hashes;
 use crate::keep::stored_message::StoredMessage;
 use ss_block::laws::orders::hashes_rise_by_algorithm;
-use ss_block::{Hash, HashPair};
+use ss_block::HashPair;
 use ss_octets::NoMemory;
 use std::alloc::Global;
 
@@ -96,7 +97,7 @@ pub(crate) fn assigned_places(
     alloc: Global,
     pairs: &[HashPair],
     messages: &[StoredMessage],
-    hashes: &[Option<Hash>],
+    hashes: &[OnlyHash<'_>],
 ) -> Result<Vec<Option<u32>>, NoMemory>
     ensures { (ms : List NormalMessage)
         → Tells pairs.now messages.now ms

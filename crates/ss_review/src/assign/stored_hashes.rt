@@ -9,6 +9,7 @@ ghost use Rattle.ss_review.specs.keep.Stored.{Tells};
 ghost use Rattle.ss_review.specs.assign.StoredHashes.{BeginsAsItsHash, is_by, entry_of, needed_entries, stored_cmp};
 ghost use Rattle.ss_review.specs.assign.StoredHashes.{listed, Lists};
 
+use crate::announced::only_hash::OnlyHash;
 use crate::assign::hash_entry::{HashEntry, entry_cmp, entry_of};
 use crate::keep::stored_message::StoredMessage;
 use ss_block::{Alg, Hash, HashPair};
@@ -16,10 +17,10 @@ use ss_octets::NoMemory;
 use std::alloc::Global;
 
 /// Whether the hash is there and by this algorithm.
-fn is_by(hash: &Option<Hash>, alg: Alg) -> bool
+fn is_by(hash: &OnlyHash<'_>, alg: Alg) -> bool
     ensures { result ≡ is_by alg hash.now }
 {
-    match (hash, alg) {
+    match (hash.get(), alg) {
         (Some(Hash::Sha1(_)), Alg::Sha1) => true,
         (Some(Hash::Sha256(_)), Alg::Sha256) => true,
         _ => false,
@@ -27,7 +28,7 @@ fn is_by(hash: &Option<Hash>, alg: Alg) -> bool
 }
 
 /// Whether a hash by this algorithm is among these.
-fn has_one_by(hashes: &[Option<Hash>], alg: Alg) -> bool
+fn has_one_by(hashes: &[OnlyHash<'_>], alg: Alg) -> bool
     ensures { result ≡ list_any (is_by alg) hashes.now }
 {
     hashes.iter().any(|hash| is_by(hash, alg))
@@ -54,7 +55,7 @@ fn add_needed(
     list: &mut Vec<HashEntry>,
     pairs: &[HashPair],
     messages: &[StoredMessage],
-    announced: &[Option<Hash>],
+    announced: &[OnlyHash<'_>],
     alg: Alg,
 ) -> Result<(), NoMemory>
     ensures { OnOk result (list.new.items ≡ list.old.items ++ needed_entries pairs.now alg announced.now messages.now) }
@@ -87,7 +88,7 @@ pub(crate) fn stored_hashes(
     alloc: Global,
     pairs: &[HashPair],
     messages: &[StoredMessage],
-    announced: &[Option<Hash>],
+    announced: &[OnlyHash<'_>],
 ) -> Result<Vec<HashEntry>, NoMemory>
     ensures begin { IfOk result (λ v. (e : HashEntry) → Contains v.items e → BeginsAsItsHash pairs.now e) }
     ensures lists { (ms : List NormalMessage)

@@ -4,6 +4,7 @@ ghost use Rattle.std.specs.List.Sorted.{IsStrictlySortedBy};
 ghost use Rattle.ss_review.specs.declared.assign.wanted_hash.WantedHash.{WantedHash};
 ghost use Rattle.ss_review.specs.assign.StoredHashes.{KeyedHash, keyed, keyed_cmp, BeginsAsWanted, wanted_cmp, Wanted};
 
+use crate::announced::only_hash::OnlyHash;
 use crate::assign::hash_start::HashStart;
 use ss_block::Hash;
 use ss_block::laws::orders::hashes_rise_by_algorithm;
@@ -58,10 +59,10 @@ fn put_in_order(wanted: &mut Vec<WantedHash>)
 }
 
 /// The hashes that are there, in order.
-pub(crate) fn wanted_hashes(
+pub(crate) fn wanted_hashes<'h>(
     alloc: Global,
-    hashes: &[Option<Hash>],
-) -> Result<Vec<WantedHash>, NoMemory>
+    hashes: &[OnlyHash<'h>],
+) -> Result<Vec<WantedHash<'h>>, NoMemory>
     ensures few { IfOk result (λ v. length hashes.now < 2 ^ 32) }
     ensures wanted { IfOk result (λ v. Wanted (map keyed v.items) hashes.now) }
 {
@@ -70,7 +71,7 @@ pub(crate) fn wanted_hashes(
     }
     let mut wanted = Vec::with_capacity(alloc, hashes.len())?;
     for (key, hash) in hashes.iter().enumerate() {
-        if let Some(hash) = hash {
+        if let Some(hash) = hash.get() {
             wanted.push(WantedHash {
                 start: HashStart::of(hash),
                 key: key as u32,

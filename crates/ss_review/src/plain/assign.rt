@@ -10,9 +10,9 @@ ghost use Rattle.ss_review.specs.keep.Keeping.{KeepsNormal};
 ghost use Rattle.ss_review.specs.assign.Assigning.{pair_wanted, pairs_wanted, bearer_wanted, bearers_wanted};
 ghost use Rattle.ss_review.specs.assign.Assigning.{place_after, assigned_all, count_of, Counts};
 
+use crate::announced::only_hash::OnlyHash;
 use crate::keep::message::NormalMessage;
 use crate::plain::by_hash::ByHash;
-use ss_block::Hash;
 use ss_octets::NoMemory;
 use std::alloc::Global;
 use std::collections::BTreeMap;
@@ -70,7 +70,7 @@ fn next_place(
 pub(crate) fn assign(
     alloc: Global,
     index: &ByHash,
-    hashes: &[Option<Hash>],
+    hashes: &[OnlyHash<'_>],
 ) -> Result<Vec<Option<u32>>, NoMemory>
     ensures { (ms : List NormalMessage)
         → KeepsNormal index.now ms

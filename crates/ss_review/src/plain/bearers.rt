@@ -10,6 +10,7 @@ ghost use Rattle.ss_block.specs.Order.{hash_cmp, pair_cmp};
 ghost use Rattle.ss_review.specs.declared.keep.message.NormalMessage.{NormalMessage};
 ghost use Rattle.ss_review.specs.assign.Bearing.{earlier, bearer_among, bearers_among};
 
+use crate::announced::only_hash::OnlyHash;
 use crate::keep::message::NormalMessage;
 use crate::lists::optional::push_some;
 use crate::lists::ordered::put_in_order;
@@ -101,14 +102,14 @@ fn nothing_found(alloc: Global, announced: &[Hash]) -> Result<Vec<Option<NormalM
 }
 
 /// The announced hashes, each once, in their order.
-fn distinct(alloc: Global, hashes: &[Option<Hash>]) -> Result<Vec<Hash>, NoMemory>
+fn distinct(alloc: Global, hashes: &[OnlyHash<'_>]) -> Result<Vec<Hash>, NoMemory>
     ensures rising { IfOk result (λ v. IsStrictlySortedBy hash_cmp v.items) }
     ensures all { (h : Hash) → Contains hashes.now (Some h) → IfOk result (λ v. Contains v.items h) }
     ensures only { (h : Hash) → IfOk result (λ v. Contains v.items h → Contains hashes.now (Some h)) }
 {
     let mut announced = Vec::with_capacity(alloc, hashes.len())?;
     for hash in hashes {
-        push_some(&mut announced, *hash)?;
+        push_some(&mut announced, hash.get().copied())?;
     }
     hashes_rise_by_algorithm();
     put_in_order(&mut announced);
@@ -158,7 +159,7 @@ fn wanted(
 pub(crate) fn bearers(
     alloc: Global,
     pairs: &BTreeMap<HashPair, EqualPlaces>,
-    hashes: &[Option<Hash>],
+    hashes: &[OnlyHash<'_>],
 ) -> Result<Vec<Option<NormalMessage>>, NoMemory>
     ensures bearers { IfOk result (λ v. v.items ≡ bearers_among pairs.now.entries hashes.now) }
     ensures ordered { IsOrdered pair_cmp pairs.now }
@@ -168,7 +169,7 @@ pub(crate) fn bearers(
     let found = all_bearers(alloc, announced.as_slice(), pairs)?;
     let mut bearers = Vec::with_capacity(alloc, hashes.len())?;
     for hash in hashes {
-        let bearer = wanted(announced.as_slice(), found.as_slice(), *hash);
+        let bearer = wanted(announced.as_slice(), found.as_slice(), hash.get().copied());
         bearers.push(bearer)?;
     }
     Ok(bearers)

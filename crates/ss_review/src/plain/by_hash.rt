@@ -7,13 +7,14 @@ ghost use Rattle.ss_review.specs.assign.Assigned.{places_with};
 ghost use Rattle.ss_review.specs.assign.Assigning.{bearers_wanted};
 ghost use Rattle.ss_review.specs.keep.Keeping.{KeepsNormal};
 
+use crate::announced::only_hash::OnlyHash;
 use crate::assign::index::Index;
 use crate::keep::message::NormalMessage;
 use crate::plain::assign::assign;
 use crate::plain::bearers::bearers;
 use crate::plain::equal_places::EqualPlaces;
 use crate::plain::places_by_hashes::add_place;
-use ss_block::{Hash, HashPair};
+use ss_block::HashPair;
 use ss_octets::NoMemory;
 use std::alloc::Global;
 use std::collections::BTreeMap;
@@ -61,7 +62,7 @@ impl ByHash {
     pub(crate) fn bearers(
         &self,
         alloc: Global,
-        hashes: &[Option<Hash>],
+        hashes: &[OnlyHash<'_>],
     ) -> Result<Vec<Option<NormalMessage>>, NoMemory>
         ensures { (ms : List NormalMessage)
             → KeepsNormal self.now ms
@@ -93,7 +94,7 @@ impl Index for ByHash {
         Ok(Vec::from_slice(alloc, self.stored_places())?)
     }
 
-    fn assign(&self, alloc: Global, hashes: &[Option<Hash>]) -> Result<Vec<Option<u32>>, NoMemory> {
+    fn assign(&self, alloc: Global, hashes: &[OnlyHash<'_>]) -> Result<Vec<Option<u32>>, NoMemory> {
         assign(alloc, self, hashes)
     }
 }

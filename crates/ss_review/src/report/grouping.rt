@@ -8,20 +8,18 @@ ghost use Rattle.ss_review.specs.keep.Contents.{Contents};
 ghost use Rattle.ss_review.specs.sessions.Sessions.{same_session, sessions};
 ghost use Rattle.ss_review.specs.sessions.Verified.{Answers, state_in};
 ghost use Rattle.ss_review.specs.announced.Announced.{Row, keys, rows};
-ghost use Rattle.ss_review.specs.assign.Assigned.{assigned};
 ghost use Rattle.ss_review.specs.report.Entries.{same_group};
 ghost use Rattle.ss_review.specs.report.Report.{session_report};
-ghost use Rattle.ss_review.specs.announced.Numbered.{key_of, only_hashes, session_with_joined, sessions_joined};
+ghost use Rattle.ss_review.specs.announced.Numbered.{session_with_joined, sessions_joined};
 ghost use Rattle.ss_review.specs.report.Grouped.{with_entry, with_entries, Rise, GroupsRise, numbers_of_session};
 ghost use Rattle.ss_review.specs.report.Grouped.{group_told, groups_told, session_told};
 
-use crate::announced::message_number::MessageNumber;
 use crate::report::entries::entries;
 use crate::report::group_report::{GroupReport, GroupReports};
-use crate::report::number_entry::{NumberEntry, with_entries};
+use crate::report::number_entry::NumberEntry;
 use crate::report::session_report::{SessionReport, SessionReports, SessionState};
 use crate::sessions::joined_session::JoinedSession;
-use ss_block::{Group, Hash, Session};
+use ss_block::{Group, Session};
 use ss_octets::{Bytes, NoMemory};
 use std::alloc::Global;
 
@@ -131,27 +129,21 @@ fn session_report(
 }
 
 /// What a report says about the sessions of a log, which stand in their order. `numbers` has all announced numbers in
-/// theirs, `hashes` the hash that each is announced with, or none where there are several, and `places` the place that
-/// each is assigned, if any.
+/// theirs, with their entries.
 pub(crate) fn session_reports(
     alloc: Global,
     joined: &[JoinedSession],
-    numbers: &[MessageNumber<'_>],
-    hashes: &[Option<Hash>],
-    places: &[Option<u32>],
+    numbers: &[NumberEntry<'_>],
 ) -> Result<SessionReports, NoMemory>
     ensures { (says : Answers) (log : Contents) (rs : List Row)
         → rs ≡ rows says log.blocks
         → map session_with_joined joined.now ≡ sessions_joined says log.blocks
-        → map key_of numbers.now ≡ keys rs
-        → hashes.now ≡ only_hashes rs
-        → places.now ≡ map (assigned log.normal rs) (keys rs)
+        → map with_entry numbers.now ≡ with_entries log.normal rs (keys rs)
         → IfOk result (λ r. r ≡ map (session_report says log rs) (sessions log.blocks)) }
 {
-    let numbered = with_entries(alloc, numbers, hashes, places)?;
     let mut reports = Vec::with_capacity(alloc, joined.len())?;
     for session in joined {
-        reports.push(session_report(alloc, session, numbered.as_slice())?)?;
+        reports.push(session_report(alloc, session, numbers)?)?;
     }
     Ok(SessionReports::from_vec(reports))
 }

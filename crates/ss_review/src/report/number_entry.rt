@@ -1,5 +1,5 @@
 //! Announced message numbers with what a report says about them.
-ghost use Rattle.std.specs.Prelude.{◌≡◌, List, map, IfOk};
+ghost use Rattle.std.specs.Prelude.{◌≡◌, List, map, option_map, IfOk};
 ghost use Rattle.ss_review.specs.declared.keep.message.NormalMessage.{NormalMessage};
 ghost use Rattle.ss_review.specs.announced.Announced.{Row, keys};
 ghost use Rattle.ss_review.specs.assign.Assigned.{assigned};
@@ -7,6 +7,7 @@ ghost use Rattle.ss_review.specs.announced.Numbered.{key_of, only_hashes};
 ghost use Rattle.ss_review.specs.report.Grouped.{entry_from, numbered, with_entry, with_entries};
 
 use crate::announced::message_number::MessageNumber;
+use crate::announced::only_hash::OnlyHash;
 use crate::report::entry::{Entry, Why};
 use ss_block::Hash;
 use ss_octets::NoMemory;
@@ -20,8 +21,8 @@ pub(crate) struct NumberEntry<'a> {
 }
 
 /// The entry of a number that is announced with one hash, or with several, and that is assigned a place, or none.
-fn entry_from(number: u64, hash: Option<Hash>, place: Option<u32>) -> Entry
-    ensures { result ≡ entry_from number hash place }
+fn entry_from(number: u64, hash: Option<&Hash>, place: Option<u32>) -> Entry
+    ensures { result ≡ entry_from number (option_map (λ h. h.now) hash.entry) place }
 {
     match (place, hash) {
         (Some(place), _) => Entry::Listed { number, place },
@@ -40,7 +41,7 @@ fn entry_from(number: u64, hash: Option<Hash>, place: Option<u32>) -> Entry
 fn zipped<'a>(
     alloc: Global,
     numbers: &[MessageNumber<'a>],
-    hashes: &[Option<Hash>],
+    hashes: &[OnlyHash<'_>],
     places: &[Option<u32>],
 ) -> Result<Vec<NumberEntry<'a>>, NoMemory>
     ensures { IfOk result (λ v. v.items ≡ numbered numbers.now hashes.now places.now) }
@@ -51,7 +52,7 @@ fn zipped<'a>(
             .zip(hashes.iter().zip(places.iter()))
             .map(|(number, (hash, place))| NumberEntry {
                 number: *number,
-                entry: entry_from(number.number, *hash, *place),
+                entry: entry_from(number.number, hash.get(), *place),
             })
             .collect(alloc)?,
     )
@@ -62,7 +63,7 @@ fn zipped<'a>(
 pub(crate) fn with_entries<'a>(
     alloc: Global,
     numbers: &[MessageNumber<'a>],
-    hashes: &[Option<Hash>],
+    hashes: &[OnlyHash<'_>],
     places: &[Option<u32>],
 ) -> Result<Vec<NumberEntry<'a>>, NoMemory>
     ensures { (ms : List NormalMessage) (rs : List Row)

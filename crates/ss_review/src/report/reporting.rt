@@ -8,10 +8,12 @@ ghost use Rattle.ss_review.specs.announced.Numbered.{session_with_joined, sessio
 ghost use Rattle.ss_review.specs.report.Report.{report_of};
 
 use crate::announced::announced::announced;
+use crate::announced::only_hashes::{numbers, only_hashes};
 use crate::assign::index::Index;
 use crate::keep::review_input::ReviewInput;
 use crate::keep::spoilt::SpoiltPlaces;
 use crate::report::grouping::session_reports;
+use crate::report::number_entry::with_entries;
 use crate::report::report::Report;
 use crate::report::unlisted::unlisted;
 use crate::sessions::joined_session::JoinedSession;
@@ -21,7 +23,8 @@ use std::alloc::Global;
 use std::mem::drop;
 
 /// What a review reports about a log whose blocks were judged: `sessions` are theirs, in their order, and `verified` says
-/// which of them are verified. The blocks are freed before the index is asked, and the index before the report is made.
+/// which of them are verified. The blocks are freed before the index is asked, the index before the numbers are collected,
+/// and what is announced before the report is made.
 pub(crate) fn reported<I: Index + Drop>(
     alloc: Global,
     held: ReviewInput<'_, I>,
@@ -45,14 +48,18 @@ pub(crate) fn reported<I: Index + Drop>(
         count,
     } = held;
     let refused = unmarked(alloc, blocks.as_slice(), verified.as_slice())?;
-    let announced = announced(alloc, sessions, blocks, verified)?;
-    let hashes = announced.hashes.as_slice();
-    let places = index.assign(alloc, hashes)?;
+    let rows = announced(alloc, sessions, blocks, verified)?;
+    let hashes = only_hashes(alloc, rows.as_slice())?;
+    let places = index.assign(alloc, hashes.as_slice())?;
     let stored = index.places(alloc)?;
     drop(index);
-    let numbers = announced.numbers.as_slice();
+    let numbers = numbers(alloc, sessions, rows.as_slice())?;
+    let entries = with_entries(alloc, numbers.as_slice(), hashes.as_slice(), places.as_slice())?;
+    drop(numbers);
+    drop(hashes);
+    drop(rows);
     Ok(Report {
-        sessions: session_reports(alloc, sessions, numbers, hashes, places.as_slice())?,
+        sessions: session_reports(alloc, sessions, entries.as_slice())?,
         unlisted: unlisted(alloc, stored.as_slice(), places.as_slice())?,
         refused,
         spoilt: SpoiltPlaces::from_vec(Vec::from_slice(alloc, spoilt)?),

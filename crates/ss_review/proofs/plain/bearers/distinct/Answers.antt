@@ -3,7 +3,7 @@ use Rattle.std.specs.Prelude.{Option, filter_map, Some, None, Contains}
 use Rattle.std.specs.declared.cmp.Ordering.{Ordering}
 use Rattle.std.specs.List.{cons_option}
 use Rattle.std.specs.List.Sorted.{IsStrictlySortedBy}
-use Rattle.std.proofs.lemmas.List.{take_more, take_all}
+use Rattle.std.proofs.lemmas.List.{take_more, take_all, get_or_default}
 use Rattle.std.proofs.lemmas.List.Elements.{filter_map-append}
 use Rattle.ss_block.specs.declared.hash.Hash.{Hash}
 use Rattle.ss_block.specs.OrderLaws.{hash_cmp_exact}
@@ -15,6 +15,7 @@ loop-hash-preserved c =
     let hs = c.args.hashes.now in
     let i = c.loop-hash.hash-index in
     c.in_ok-push_some.ensures
+    ∙ ap (λ o. c.loop-hash.announced.items ++ cons_option o []) (c.copied.ensures ∙ c.get.ensures ∙ c.hash-item.is ∙ get_or_default hs i c.hash-item.result None c.loop-hash-test.true)
     ∙ ap (λ xs. xs ++ cons_option (get_or hs i None) []) c.loop-hash.invariant
     ∙ sym (ap (filter_map (λ h. h)) (take_more hs i None c.loop-hash-test.true) ∙ filter_map-append (λ h. h) (take i hs) (get_or hs i None ∷ []))
 

@@ -7,5 +7,5 @@ use Rattle.ss_review.specs.report.Grouped.{with_entry, with_entries, session_tol
 use Rattle.ss_review.proofs.report.grouping.session_reports.Given as goal
 
 abbrev pub invariant-loop-session : goal.invariant-loop-session
-invariant-loop-session l = (ms : List NormalMessage) (rs : List Row) → map with_entry l.numbered.items ≡ with_entries ms rs (keys rs)
+invariant-loop-session l = (ms : List NormalMessage) (rs : List Row) → map with_entry l.numbers ≡ with_entries ms rs (keys rs)
     → l.reports.items ≡ map (λ s. session_told ms rs (session_with_joined s)) (take l.session-index l.joined)

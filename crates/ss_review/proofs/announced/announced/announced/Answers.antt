@@ -7,7 +7,7 @@ use Rattle.ss_review.proofs.of_lists.Rising.{keys_rise_among, in_order_among}
 use Rattle.ss_review.proofs.of_numbers.IndexedRows.{members_stand, still_known}
 use Rattle.ss_review.proofs.of_numbers.RowsTold.{rows_stay}
 use Rattle.ss_review.proofs.of_lists.TotalOrders.{row_cmp_total, row_cmp_exact}
-use Rattle.ss_review.proofs.announced.announced.rows.Goals as goal
+use Rattle.ss_review.proofs.announced.announced.announced.Goals as goal
 
 pub returns : goal.returns
 unfolding rows
