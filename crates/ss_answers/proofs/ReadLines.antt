@@ -1,5 +1,5 @@
 -- A step of reading the lines of a text, whatever kind they are of.
-use Rattle.std.proofs.Common.{◌≡◌, ℕ, ◌+◌, ◌<◌, ◌≤◌, length-append, List, [], ◌∷◌, ◌++◌, length, sym, refl, ap, ◌∙◌, inl, inr, arith}
+use Rattle.std.proofs.Common.{◌≡◌, ℕ, ◌+◌, ◌<◌, List, [], ◌∷◌, ◌++◌, length, sym, refl, ap, ◌∙◌, inl, inr, arith}
 use Rattle.std.specs.List.{AllByRecursion}
 use Rattle.std.proofs.lemmas.List.{append-nil, append_assoc}
 use Rattle.std.proofs.lemmas.List.Elements.{recursion_from_All}
@@ -36,23 +36,3 @@ pub reached_some : {A : Type 0} (spell : A → List ℕ) (text : List ℕ) (line
     → IsUpTo spell text lines rest → 0 < length rest → text ≡ ended spell lines ++ rest
 reached_some spell text lines rest (inl h) some = h
 reached_some spell text lines rest (inr h) some = absurd (omega (arith, ap length h.0))
-
-regroup : (a b after : List ℕ) (c : ℕ) → a ++ (b ++ c ∷ after) ≡ (a ++ (b ++ c ∷ [])) ++ after
-regroup a b after c = simp append_assoc
-
-pub IsUpTo-more : {A : Type 0} (spell : A → List ℕ) (text : List ℕ) (lines : List A) (rest first after : List ℕ) (line : A)
-    → text ≡ ended spell lines ++ rest → IsCutAfterLine rest first after → first ≡ spell line → IsUpTo spell text (lines ++ line ∷ []) after
-IsUpTo-more spell text lines rest first after line h (inl cut) spelt =
-    inl (h ∙ ap (λ t. ended spell lines ++ t) (cut ∙ ap (λ t. t ++ lf ∷ after) spelt)
-    ∙ regroup (ended spell lines) (spell line) after lf ∙ ap (λ t. t ++ after) (sym (ended-push spell lines line)))
-IsUpTo-more spell text lines rest first after line h (inr cut) spelt =
-    inr (
-      cut.1,
-      ap (λ t. t ++ lf ∷ []) (h ∙ ap (λ t. ended spell lines ++ t) (cut.0 ∙ spelt))
-          ∙ append_assoc (ended spell lines) (spell line) (lf ∷ []) ∙ sym (ended-push spell lines line),
-    )
-
--- what a line and the rest after it are shorter than
-pub cut_sizes : (text line after : List ℕ) → IsCutAfterLine text line after → length line + length after ≤ length text
-cut_sizes text line after (inl cut) = omega (arith, ap length cut, length-append line (lf ∷ after))
-cut_sizes text line after (inr cut) = omega (arith, ap length cut.0, ap length cut.1)

@@ -23,7 +23,7 @@ pub struct Lines {
 }
 
 /// The lines of a text that is taken part by part, each ended by a line feed that may be missing at the last. No more
-/// of the text is held than what stands behind its last line feed, and the payloads that are known.
+/// of the text is held than what stands after its last line feed, and the payloads that are known.
 #[derive(Debug, Drop)]
 pub struct LinesSoFar {
     /// Those that have ended.
@@ -32,7 +32,7 @@ pub struct LinesSoFar {
     last: Option<Known>,
     /// The payloads of the lines `yes`.
     payloads: BTreeMap<Vec<u8>, Span>,
-    /// What stands behind the last line feed.
+    /// What stands after the last line feed.
     unfinished: Vec<u8>,
 }
 

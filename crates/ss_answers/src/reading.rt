@@ -49,7 +49,7 @@ pub fn read_lines<R: Read>(
         match lines.take(alloc, &part[..count]) {
             Ok(()) => {}
             Err(AnswerFault::BadLine { line }) => {
-                // Nothing is kept behind a bad line.
+                // Nothing is kept after a bad line.
                 drop(lines);
                 skip_rest(reader, &mut chunk, left)?;
                 return Err(AnswerFault::BadLine { line });

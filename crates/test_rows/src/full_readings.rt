@@ -76,7 +76,7 @@ fn session_of_placed(
     Ok(Some(sender.session(rt.alloc(), octets)?))
 }
 
-/// The octets of HB or FRAG, as they stand in what is signed, behind the session. RSID is that of the block.
+/// The octets of HB or FRAG, as they stand in what is signed, after the session. RSID is that of the block.
 fn sees_content(rt: &impl Abort, told: &PlacedReading, content: &[u8], rsid: u64) {
     let (Some(signed), Some(span), Some(sender)) = (&told.signed, told.content, told.sender) else {
         panic!(rt; "no content");

@@ -17,7 +17,7 @@ use Rattle.ss_block.specs.declared.block.Group.{Group}
 use Rattle.ss_block.specs.declared.session.Session.{Session}
 use Rattle.ss_review.specs.announced.Announced.{Key}
 use Rattle.ss_review.specs.counted.KeptLaws as fates
-use Rattle.ss_review.specs.counted.KeptLaws.{IsToldOf, IsInTail, IsInRunOf, NothingIsMissing, Fate, HasFate, EveryNumberIsTold, EveryBlockIsTold, CleanUpToCounters}
+use Rattle.ss_review.specs.counted.KeptLaws.{IsInTail, IsInRunOf, NothingIsMissing, Fate, HasFate, EveryNumberIsTold, EveryBlockIsTold, CleanUpToCounters}
 use Rattle.ss_review.specs.report.Meaning.{Tells, IsListed}
 use Rattle.ss_review.specs.report.Report.{report}
 use Rattle.ss_review.specs.report.Verdict.{is_joined, is_listed, is_none, is_clean}

@@ -53,7 +53,7 @@ use Rattle.ss_review.proofs.of_deliveries.JoinedByFragments.{joined_where_arrive
 use Rattle.ss_review.proofs.of_deliveries.OwnKeys.{own_alg}
 use Rattle.ss_review.proofs.of_deliveries.OwnPayload.{Laws, OneBegins, joins_payload}
 use Rattle.ss_review.proofs.of_lists.Paired.{one_last}
-use Rattle.ss_review.proofs.of_deliveries.SentMessages.{AreAllTurns, IsTurn, turn_of, IsSentBy}
+use Rattle.ss_review.proofs.of_deliveries.SentMessages.{AreAllTurns, turn_of}
 use Rattle.ss_review.proofs.of_deliveries.SentMessages as messages
 use Rattle.ss_review.proofs.of_deliveries.StoredBlocks.{none_spoilt, own_block_sent, sent_block_stored}
 use Rattle.ss_review.proofs.of_lists.Tests.{any_member, member_any}

@@ -1,8 +1,6 @@
 -- What a certificate block states of a payload, and the block that states it.
-use Rattle.std.proofs.Common.{◌≡◌, refl, List, ◌++◌, [], ap, ◌∙◌}
+use Rattle.std.proofs.Common.{◌≡◌, refl}
 use Rattle.std.specs.Prelude.{Option, Some, None}
-use Rattle.std.specs.List.{cons_option}
-use Rattle.std.proofs.lemmas.List.{append-nil}
 use Rattle.ss_block.specs.Block as block
 use Rattle.ss_review.specs.declared.keep.kept_block.Stated.{Stated}
 use Rattle.ss_review.specs.keep.Stated.{States, IsStated}

@@ -33,7 +33,7 @@ const SHA1_TEXT: &[u8] = b"hJg+RBw70m66rkqh+VEp5eVGcPE= qZk+NkcGgWq6PiVxeFDCbJzQ
 const SHA256_TEXT: &[u8] =
     b"ungWv48Bz+pBQUDeXa4iI7ADYaOWF3qctBD/YfIAFa0= JI1qYdIGOLjlwCaTDD5gOaM85Flk/yFn9uzt1BnbBsE=";
 
-/// Behind six octets stand the octets of these hashes, and six more. They are read back, and HB of them is put behind
+/// After six octets stand the octets of these hashes, and six more. They are read back, and HB of them is put after
 /// what stands there.
 fn sees_array(
     rt: &(impl Abort + AllocGlobal),

@@ -1,7 +1,6 @@
 use Rattle.std.proofs.Common.{◌≡◌, ◌-◌, length, drop, sym, ap, ◌∙◌, arith}
 use Rattle.std.specs.Prelude.{nat_eq}
 use Rattle.std.specs.List.{starts_with}
-use Rattle.ss_block.specs.Meanings.{octets_of}
 use Rattle.ss_review.proofs.of_pinned.Agreeing.{as_long, up_to_end}
 use Rattle.ss_review.proofs.pinned.agreeing.agrees.Goals as goal
 

@@ -1,4 +1,4 @@
-use Rattle.std.proofs.Common.{sym, ap, ◌∙◌, subst}
+use Rattle.std.proofs.Common.{sym, ◌∙◌, subst}
 use Rattle.std.proofs.lemmas.Bool.{true≢false}
 use Rattle.ss_review.specs.keep.Stated.{IsStated}
 use Rattle.ss_review.specs.sessions.Payloads.{certificate_of}
