@@ -1,13 +1,14 @@
 -- The entries of numbers in their order are those of their keys.
 use Rattle.std.proofs.Common.{◌≡◌, inl, inr, ℕ, ◌<◌, ◌≤◌, false, cond, List, [], ◌∷◌, ◌++◌, length, map, filter, flat_map, fold, refl, sym, ap, ◌∙◌, subst, arith}
-use Rattle.std.specs.Prelude.{Option, Some, None, max, nat_lt, if◌then◌else◌}
+use Rattle.std.specs.Prelude.{Option, Some, None, Result, max, nat_lt, if◌then◌else◌}
 use Rattle.std.specs.declared.cmp.Ordering.TheVariants.{Less}
 use Rattle.std.specs.Ordering.{nat_cmp}
-use Rattle.std.specs.List.{AllByRecursion}
+use Rattle.std.specs.List.{AllByRecursion, zip}
 use Rattle.std.specs.List.Sorted.{IsStrictlySortedBy}
 use Rattle.std.proofs.lemmas.Bool.{lt-ltb, le-ltb}
 use Rattle.std.proofs.lemmas.List.{append_assoc}
 use Rattle.ss_block.specs.declared.hash.Hash.{Hash}
+use Rattle.ss_review.specs.declared.report.entry.Why.{Why}
 use Rattle.ss_review.specs.declared.report.entry.Why.TheVariants as whys
 use Rattle.ss_review.specs.declared.report.entry.Entry.{Entry}
 use Rattle.ss_review.specs.declared.report.entry.Entry.TheVariants as entry
@@ -17,7 +18,7 @@ use Rattle.ss_review.specs.announced.Announced.{Key, Row, keys, hashes_for}
 use Rattle.ss_review.specs.assign.Assigned.{assigned}
 use Rattle.ss_review.specs.report.Entries.{entry_with, entry_of, hole_between, entries}
 use Rattle.ss_review.specs.announced.Numbered.{key_of, only_hash, only_hashes}
-use Rattle.ss_review.specs.report.Grouped.{entry_from, numbered, with_entry, with_entries, entries_after}
+use Rattle.ss_review.specs.report.Grouped.{found_for, found_with, entry_by, numbered, with_entry, with_entries, entries_after}
 use Rattle.ss_review.proofs.of_numbers.Announcements.{from_has-keys, has-hashes_for}
 use Rattle.ss_review.proofs.of_lists.Keyed.{from_less}
 use Rattle.ss_octets.proofs.Members.{Has, has-map, all-has}
@@ -27,7 +28,7 @@ use Rattle.ss_review.proofs.of_lists.Sections.{keeps_none}
 -- ---- the entry of a number
 
 -- a hash that is the only one is disputed by no other
-gap_from : (n : ℕ) (hs : List Hash) (h : Hash) → Has hs h → entry_from n (only_hash hs) None ≡ entry.Gap n (if nat_lt 1 (length hs) then whys.Disputed else whys.Lost)
+gap_from : (n : ℕ) (hs : List Hash) (h : Hash) → Has hs h → entry_by n (found_for (only_hash hs) None) ≡ entry.Gap n (if nat_lt 1 (length hs) then whys.Disputed else whys.Lost)
 gap_from n [] h i = absurd i
 gap_from n (h ∷ []) g i = refl
 gap_from n (h ∷ g ∷ hs) f i = ap (λ b. entry.Gap n (if b then whys.Disputed else whys.Lost)) (sym (lt-ltb 1 (length (h ∷ g ∷ hs)) (omega arith)))
@@ -37,23 +38,27 @@ hash_of rs k i =
     let w = from_has-keys rs k i in
     (w.0.hash, has-hashes_for rs k w.0.hash (subst (λ (j : Key). Has rs (record { key = j; hash = w.0.hash })) w.2 w.1))
 
-entry_at : (rs : List Row) (k : Key) (place : Option ℕ) → Has (keys rs) k → entry_from k.number (only_hash (hashes_for rs k)) place ≡ entry_with rs k place
+entry_at : (rs : List Row) (k : Key) (place : Option ℕ) → Has (keys rs) k → entry_by k.number (found_for (only_hash (hashes_for rs k)) place) ≡ entry_with rs k place
 entry_at rs k (Some place) i = refl
 entry_at rs k None i = let h = hash_of rs k i in gap_from k.number (hashes_for rs k) h.0 h.1
 
+-- the place of each number, or why it has none
+abbrev found_all : List (Option Hash) → List (Option ℕ) → List (Result ℕ Why)
+found_all hs ps = map found_with (zip hs ps)
+
 zipped_are : (ms : List NormalMessage) (rs : List Row) (ns : List MessageNumber) → ((n : MessageNumber) → Has ns n → Has (keys rs) (key_of n))
-    → map with_entry (numbered ns (map (λ k. only_hash (hashes_for rs k)) (map key_of ns)) (map (assigned ms rs) (map key_of ns))) ≡ with_entries ms rs (map key_of ns)
+    → map with_entry (numbered ns (found_all (map (λ k. only_hash (hashes_for rs k)) (map key_of ns)) (map (assigned ms rs) (map key_of ns)))) ≡ with_entries ms rs (map key_of ns)
 zipped_are ms rs [] within = refl
 zipped_are ms rs (n ∷ ns) within =
-    let head : entry_from n.number (only_hash (hashes_for rs (key_of n))) (assigned ms rs (key_of n)) ≡ entry_of ms rs (key_of n) = entry_at rs (key_of n) (assigned ms rs (key_of n)) (within n (inl refl)) in
+    let head : entry_by n.number (found_for (only_hash (hashes_for rs (key_of n))) (assigned ms rs (key_of n))) ≡ entry_of ms rs (key_of n) = entry_at rs (key_of n) (assigned ms rs (key_of n)) (within n (inl refl)) in
     let rest = zipped_are ms rs ns (λ m h. within m (inr h)) in
     λ i. (key_of n, head i) ∷ rest i
 
-pub numbered_are : (ms : List NormalMessage) (rs : List Row) (ns : List MessageNumber) (hs : List (Option Hash)) (ps : List (Option ℕ))
-    → map key_of ns ≡ keys rs → hs ≡ only_hashes rs → ps ≡ map (assigned ms rs) (keys rs) → map with_entry (numbered ns hs ps) ≡ with_entries ms rs (keys rs)
-numbered_are ms rs ns hs ps e f g =
-    (λ i. map with_entry (numbered ns (f i) (g i)))
-    ∙ (λ i. map with_entry (numbered ns (map (λ k. only_hash (hashes_for rs k)) (sym e i)) (map (assigned ms rs) (sym e i))))
+pub numbered_are : (ms : List NormalMessage) (rs : List Row) (ns : List MessageNumber) (found : List (Result ℕ Why))
+    → map key_of ns ≡ keys rs → found ≡ found_all (only_hashes rs) (map (assigned ms rs) (keys rs)) → map with_entry (numbered ns found) ≡ with_entries ms rs (keys rs)
+numbered_are ms rs ns found e f =
+    ap (λ xs. map with_entry (numbered ns xs)) f
+    ∙ (λ i. map with_entry (numbered ns (found_all (map (λ k. only_hash (hashes_for rs k)) (sym e i)) (map (assigned ms rs) (sym e i)))))
     ∙ zipped_are ms rs ns (λ n h. subst (λ ks. Has ks (key_of n)) e (has-map key_of ns n h))
     ∙ ap (with_entries ms rs) e
 

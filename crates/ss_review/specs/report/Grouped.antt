@@ -1,5 +1,5 @@
 -- Announced numbers with their entries, by group.
-use Rattle.std.specs.Prelude.{◌≡◌, ℕ, false, List, [], ◌∷◌, ◌++◌, map, filter, Option, Some, None, Result}
+use Rattle.std.specs.Prelude.{◌≡◌, ℕ, false, List, [], ◌∷◌, ◌++◌, map, filter, Option, Some, None, Result, Ok, Err}
 use Rattle.std.specs.Ordering.{is_gt}
 use Rattle.std.specs.List.{zip, AllByRecursion}
 use Rattle.std.specs.List.Sorted.{IsStrictlySortedBy}
@@ -7,6 +7,7 @@ use Rattle.ss_block.specs.declared.block.Group.{Group}
 use Rattle.ss_block.specs.declared.hash.Hash.{Hash}
 use Rattle.ss_block.specs.declared.session.Session.{Session}
 use Rattle.ss_block.specs.Order.{group_cmp}
+use Rattle.ss_review.specs.declared.report.entry.Why.{Why}
 use Rattle.ss_review.specs.declared.report.entry.Why.TheVariants as whys
 use Rattle.ss_review.specs.declared.report.entry.Entry.{Entry}
 use Rattle.ss_review.specs.declared.report.entry.Entry.TheVariants as entry
@@ -24,18 +25,27 @@ use Rattle.ss_review.specs.report.Entries.{same_group, entry_of, hole_between}
 use Rattle.ss_review.specs.report.Report.{groups, group_report}
 use Rattle.ss_review.specs.announced.Numbered.{key_of}
 
--- the entry of a number that is announced with this hash, or with several, and that is assigned this place, or none
-abbrev pub entry_from : ℕ → Option Hash → Option ℕ → Entry
-entry_from n hash (Some place) = entry.Listed n place
-entry_from n (Some h) None = entry.Gap n whys.Lost
-entry_from n None None = entry.Gap n whys.Disputed
+-- the place of a number that is announced with this hash, or with several, and that is assigned this place, or none; or
+-- why it has no place
+abbrev pub found_for : Option Hash → Option ℕ → Result ℕ Why
+found_for hash (Some place) = Ok place
+found_for (Some h) None = Err whys.Lost
+found_for None None = Err whys.Disputed
 
-abbrev pub numbered_with : MessageNumber × (Option Hash × Option ℕ) → NumberEntry
-numbered_with n = record { number = n.0; entry = entry_from n.0.number n.1.0 n.1.1 }
+abbrev pub found_with : Option Hash × Option ℕ → Result ℕ Why
+found_with p = found_for p.0 p.1
 
--- numbers with their entries, from the hash and the place of each
-abbrev pub numbered : List MessageNumber → List (Option Hash) → List (Option ℕ) → List NumberEntry
-numbered ns hs ps = map numbered_with (zip ns (zip hs ps))
+-- the entry of a number, by its place or by why it has none
+abbrev pub entry_by : ℕ → Result ℕ Why → Entry
+entry_by n (Ok place) = entry.Listed n place
+entry_by n (Err why) = entry.Gap n why
+
+abbrev pub numbered_by : MessageNumber × Result ℕ Why → NumberEntry
+numbered_by n = record { number = n.0; entry = entry_by n.0.number n.1 }
+
+-- numbers with their entries
+abbrev pub numbered : List MessageNumber → List (Result ℕ Why) → List NumberEntry
+numbered ns found = map numbered_by (zip ns found)
 
 abbrev pub with_entry : NumberEntry → Key × Entry
 with_entry n = (key_of n.number, n.entry)

@@ -13,7 +13,7 @@ use crate::assign::index::Index;
 use crate::keep::review_input::ReviewInput;
 use crate::keep::spoilt::SpoiltPlaces;
 use crate::report::grouping::session_reports;
-use crate::report::number_entry::with_entries;
+use crate::report::number_entry::{found_places, with_entries};
 use crate::report::report::Report;
 use crate::report::unlisted::unlisted;
 use crate::sessions::joined_session::JoinedSession;
@@ -24,7 +24,7 @@ use std::mem::drop;
 
 /// What a review reports about a log whose blocks were judged: `sessions` are theirs, in their order, and `verified` says
 /// which of them are verified. The blocks are freed before the index is asked, the index before the numbers are collected,
-/// and what is announced before the report is made.
+/// and what is announced before they get their entries.
 pub(crate) fn reported<I: Index + Drop>(
     alloc: Global,
     held: ReviewInput<'_, I>,
@@ -51,13 +51,14 @@ pub(crate) fn reported<I: Index + Drop>(
     let rows = announced(alloc, sessions, blocks, verified)?;
     let hashes = only_hashes(alloc, rows.as_slice())?;
     let places = index.assign(alloc, hashes.as_slice())?;
+    let found = found_places(alloc, hashes.as_slice(), places.as_slice())?;
+    drop(hashes);
     let stored = index.places(alloc)?;
     drop(index);
     let numbers = numbers(alloc, sessions, rows.as_slice())?;
-    let entries = with_entries(alloc, numbers.as_slice(), hashes.as_slice(), places.as_slice())?;
-    drop(numbers);
-    drop(hashes);
     drop(rows);
+    let entries = with_entries(alloc, numbers.as_slice(), found.as_slice())?;
+    drop(numbers);
     Ok(Report {
         sessions: session_reports(alloc, sessions, entries.as_slice())?,
         unlisted: unlisted(alloc, stored.as_slice(), places.as_slice())?,

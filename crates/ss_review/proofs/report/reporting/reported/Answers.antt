@@ -1,5 +1,6 @@
 use Rattle.std.proofs.Common.{◌≡◌, ◌<◌, not, List, length, map, filter, refl, sym, ap, ◌∙◌, subst}
 use Rattle.std.specs.Prelude.{All}
+use Rattle.std.specs.List.{zip}
 use Rattle.std.specs.List.Sorted.{IsStrictlySortedBy}
 use Rattle.ss_review.specs.keep.Contents.{Contents}
 use Rattle.ss_review.specs.keep.BlockMessage.{BlockMessage}
@@ -8,7 +9,7 @@ use Rattle.ss_review.specs.announced.Announced.{row_cmp, rows, keys}
 use Rattle.ss_review.specs.announced.Indexed.{row_at}
 use Rattle.ss_review.specs.assign.Assigning.{assigned_all}
 use Rattle.ss_review.specs.declared.announced.announced_hash.AnnouncedHash as row
-use Rattle.ss_review.specs.report.Grouped.{with_entry}
+use Rattle.ss_review.specs.report.Grouped.{found_with, with_entry}
 use Rattle.ss_review.specs.announced.Numbered.{key_of, only_hashes, session_with_joined, sessions_joined}
 use Rattle.ss_review.specs.declared.report.report.Report.{Report}
 use Rattle.ss_review.specs.report.Report.{report_of}
@@ -32,12 +33,15 @@ returns g c = λ says log has blocks spoilt count told marked.
     = λ os e. subst (λ qs. All (λ r. r.number.session < length js) qs × IsStrictlySortedBy row_cmp (map (row_at js) qs) × (map (row_at js) qs ≡ rs)) (sym e) (known, rise, announced) in
     let for_hashes = told_of _ c.as_slice-3.ensures.value in
     let hashes = c.as_slice-4.ensures.value ∙ c.in_ok-hashes.ensures js c.requires for_hashes.0 for_hashes.1 ∙ ap only_hashes for_hashes.2 in
-    let for_numbers = told_of _ c.as_slice-5.ensures.value in
+    let for_numbers = told_of _ c.as_slice-7.ensures.value in
     let numbers = c.in_ok-numbers.ensures ∙ ap keys for_numbers.2 in
     let places = c.in_ok-places.ensures log.normal has ∙ ap (assigned_all log.normal) hashes ∙ assigned_is log.normal rs in
-    let entries = ap (map with_entry) c.as_slice-9.ensures.value ∙ c.in_ok-entries.ensures log.normal rs (ap (map key_of) c.as_slice-6.ensures.value ∙ numbers) (c.as_slice-7.ensures.value ∙ c.in_ok-hashes.ensures js c.requires for_hashes.0 for_hashes.1 ∙ ap only_hashes for_hashes.2) (c.as_slice-8.ensures.value ∙ places) in
+    let own_hashes = c.as_slice-5.ensures.value ∙ c.in_ok-hashes.ensures js c.requires for_hashes.0 for_hashes.1 ∙ ap only_hashes for_hashes.2 in
+    let own_places = c.as_slice-6.ensures.value ∙ places in
+    let found = c.as_slice-9.ensures.value ∙ c.in_ok-found.ensures ∙ (λ i. map found_with (zip (own_hashes i) (own_places i))) in
+    let entries = ap (map with_entry) c.as_slice-10.ensures.value ∙ c.in_ok-entries.ensures log.normal rs (ap (map key_of) c.as_slice-8.ensures.value ∙ numbers) found in
     let sessions = c.in_ok-session_reports.ensures says here rs refl joined entries in
-    let unlisted = c.in_ok-unlisted.ensures log.normal rs (c.as_slice-10.ensures.value ∙ c.in_ok-stored.ensures log.normal has) (c.as_slice-11.ensures.value ∙ places) in
+    let unlisted = c.in_ok-unlisted.ensures log.normal rs (c.as_slice-11.ensures.value ∙ c.in_ok-stored.ensures log.normal has) (c.as_slice-12.ensures.value ∙ places) in
     let refused = c.refused.view_is ∙ c.in_ok-refused.ensures (is_verified says bs) (c.as_slice-2.ensures.value ∙ marks ∙ ap (map (is_verified says bs)) (sym c.as_slice.ensures.value)) ∙ ap (λ ds. map (λ (b : BlockMessage). b.place) (filter (λ b. not (is_verified says bs b)) ds)) c.as_slice.ensures.value in
     let kept = c.from_vec.ensures ∙ c.in_ok-from_slice.ensures.items in
     let report : Report = record { sessions = c.in_ok-session_reports.field-0; unlisted = c.in_ok-unlisted.field-0; refused = c.refused.inside.items.items; spoilt = c.from_vec.result; count = c.args.held.count } in
