@@ -1,6 +1,7 @@
 pub mod Ends
 pub mod Keeping
 pub mod Packing
+pub mod Fields
 pub mod AmongEqual
 pub mod NotedBlocks
 pub mod StoredTold

@@ -7,6 +7,7 @@ pub mod Packed
 pub mod KeptSender
 pub mod Kept
 pub mod KeptBlock
+pub mod KeptFields
 pub mod Keeping
 pub mod Signatures
 pub mod Stated

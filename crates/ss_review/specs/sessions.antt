@@ -6,4 +6,5 @@ pub mod States
 pub mod Stated
 pub mod Covering
 pub mod Verifiers
+pub mod Claims
 pub mod FoundBlocks

@@ -122,3 +122,14 @@ session_before octets p s lie before =
     let app = part_before octets p.app s.start lie.1.0 before.1 in
     let procid = part_before octets p.procid s.start lie.2.0 before.2 in
     rw (host, app, procid) refl
+
+-- where it stands in what is before the hashes, it stands in all that is kept
+pub session_in_front : (p : Packed) (s : SessionPlaces) → LieIn (front_packed p) s → session_at (front_packed p) s ≡ session_at p.octets s
+session_in_front p s lie =
+    let host_in = lie.0.1 in
+    let app_in = lie.1.1 in
+    let procid_in = lie.2.1 in
+    let host = part_before p.octets s.host p.start lie.0.0 (omega (arith, host_in, length-take p.start p.octets)) in
+    let app = part_before p.octets s.app p.start lie.1.0 (omega (arith, app_in, length-take p.start p.octets)) in
+    let procid = part_before p.octets s.procid p.start lie.2.0 (omega (arith, procid_in, length-take p.start p.octets)) in
+    rw (host, app, procid) refl

@@ -1,6 +1,7 @@
 //! A message with a block in a review.
 ghost use Rattle.std.specs.Prelude.{◌≡◌, option_map, IfOk};
-ghost use Rattle.ss_review.specs.keep.Kept.{IsContent, IsPackedOf};
+ghost use Rattle.ss_review.specs.keep.Kept.{IsContent};
+ghost use Rattle.ss_review.specs.keep.KeptFields.{AreFieldsOf};
 ghost use Rattle.ss_review.specs.keep.Signatures.{gbc_of, signature_block_of};
 ghost use Rattle.ss_review.specs.keep.Stated.{IsStated};
 ghost use Rattle.ss_review.specs.sessions.Covering.{span_of};
@@ -9,8 +10,7 @@ ghost use Rattle.ss_review.specs.sessions.Verified.{signature_of};
 ghost use Rattle.ss_review.specs.questions.Questions.{parameters_of};
 ghost use Rattle.ss_review.specs.pinned.Pinned.{is_signature};
 
-use crate::keep::kept_block::{KeptBlock, Stated};
-use crate::keep::packed::Packed;
+use crate::keep::kept_block::{KeptBlock, KeptFields, Stated};
 use crate::questions::parameters::AskedParameters;
 use crate::sessions::span::Span;
 use ss_block::{Session, SigBlock};
@@ -91,11 +91,11 @@ impl BlockMessage {
         self.kept.signed(alloc)
     }
 
-    /// What is signed of it, as it is kept.
-    pub(crate) fn packed(&self) -> &Packed
-        ensures { IsPackedOf result.now self.now }
+    /// What is kept of it: its signature, what is signed of it, and where its session stands there.
+    pub(crate) fn fields(&self) -> &KeptFields
+        ensures { AreFieldsOf result.now self.now }
     {
-        self.kept.packed()
+        self.kept.fields()
     }
 
     /// SIGN's octets.

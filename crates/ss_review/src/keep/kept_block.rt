@@ -3,8 +3,9 @@ ghost use Rattle.std.specs.Prelude.{◌≡◌, ◌≤◌, option_map, Some, IfOk
 ghost use Rattle.ss_block.specs.PlacedReading.{SpellsHashes, SpellsFragment, StandsBefore};
 ghost use Rattle.ss_block.specs.SessionPlaces.{LieIn, session_at};
 ghost use Rattle.ss_review.specs.keep.BlockMessage.{Hashes, Fragment};
-ghost use Rattle.ss_review.specs.keep.Kept.{IsContent, IsPackedOf};
+ghost use Rattle.ss_review.specs.keep.Kept.{IsContent};
 ghost use Rattle.ss_review.specs.keep.KeptBlock.{message_of, AreKept};
+ghost use Rattle.ss_review.specs.keep.KeptFields.{AreFieldsOf};
 ghost use Rattle.ss_review.specs.keep.Noted.{signed_kept};
 ghost use Rattle.ss_review.specs.keep.Signatures.{gbc_of, signature_block_of};
 ghost use Rattle.ss_review.specs.keep.Stated.{IsStated};
@@ -42,10 +43,10 @@ pub(crate) struct Stated<'a> {
 #[derive(Drop)]
 pub(crate) struct KeptFields {
     place: u32,
-    sender: KeptSender,
+    pub(crate) sender: KeptSender,
     content: KeptContent,
-    packed: Packed,
-    signature: Bytes,
+    pub(crate) packed: Packed,
+    pub(crate) signature: Bytes,
 }
 
 /// A message with a block. Its signed octets, with the hashes in octets, and its signature are kept once. Its session
@@ -192,11 +193,11 @@ impl KeptBlock {
         self.fields.packed.octets.as_slice().len()
     }
 
-    /// What is signed of it, as it is kept.
-    pub(crate) fn packed(&self) -> &Packed
-        ensures { IsPackedOf result.now self.now }
+    /// What is kept of it: its signature, what is signed of it, and where its session stands there.
+    pub(crate) fn fields(&self) -> &KeptFields
+        ensures { AreFieldsOf result.now self.now }
     {
-        &self.fields.packed
+        &self.fields
     }
 
     /// SIGN's octets.

@@ -19,7 +19,7 @@ use crate::pinned::agreeing::agrees_in;
 use crate::pinned::claimant::{Claimant, ClaimedSession};
 use crate::pinned::claimed::claimed_sessions;
 use crate::sessions::accepting::is_valid;
-use crate::sessions::found_blocks::Claim;
+use crate::sessions::claim::Claim;
 use crate::sessions::verified::unmarked;
 use crate::sessions::verifier::Judge;
 use ss_octets::{Bytes, NoMemory};

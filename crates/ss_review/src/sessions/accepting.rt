@@ -9,7 +9,8 @@ ghost use Rattle.ss_review.specs.sessions.FoundBlocks.{IsKeptOfBlock, TellsEqual
 
 use crate::keep::block_message::BlockMessage;
 use crate::report::session_report::SessionState;
-use crate::sessions::found_blocks::{Claim, FoundBlocks};
+use crate::sessions::claim::Claim;
+use crate::sessions::found_blocks::FoundBlocks;
 use crate::sessions::joining::stated_payload;
 use crate::sessions::span::{Span, cover};
 use crate::sessions::verifier::Judge;

@@ -2,49 +2,18 @@
 ghost use Rattle.std.specs.Prelude.{◌≡◌, Bool, Some, IfSome, OnOk};
 ghost use Rattle.std.specs.BTreeMap.{get, Updates};
 ghost use Rattle.ss_review.specs.keep.BlockMessage.{BlockMessage};
-ghost use Rattle.ss_review.specs.sessions.FoundBlocks.{claim_cmp, IsClaimOf, TellsEqualsAlike, KeepsWhatHolds};
+ghost use Rattle.ss_review.specs.sessions.Claims.{claim_cmp, IsClaimOf};
+ghost use Rattle.ss_review.specs.sessions.FoundBlocks.{TellsEqualsAlike, KeepsWhatHolds};
 
-use crate::keep::block_message::BlockMessage;
-use ss_block::Session;
+use crate::sessions::claim::Claim;
 use ss_octets::NoMemory;
 use std::alloc::Global;
 use std::collections::BTreeMap;
-
-/// The signature of a block, the octets that are signed as they are kept, and the session. Under one scheme and log, the
-/// same holds of all blocks that agree in these. The signature comes first, because its first octets differ for most
-/// blocks.
-#[derive(Clone, Copy, PartialEq, Eq, PartialOrd, Ord)]
-pub(crate) struct Claim<'a> {
-    signature: &'a [u8],
-    octets: &'a [u8],
-    session: &'a Session,
-    start: u32,
-    count: u8,
-    /// How many octets a hash has: 20 or 32.
-    each: u8,
-}
 
 /// What was found of some blocks, and so of each that equals one of them.
 #[derive(Drop)]
 pub(crate) struct FoundBlocks<'a> {
     found: BTreeMap<Claim<'a>, bool>,
-}
-
-impl<'a> Claim<'a> {
-    /// The claim of a block.
-    pub(crate) fn of(block: &'a BlockMessage) -> Claim<'a>
-        ensures { IsClaimOf result block.now }
-    {
-        let packed = block.packed();
-        Claim {
-            signature: block.signature().as_slice(),
-            octets: packed.octets.as_slice(),
-            session: block.session(),
-            start: packed.start,
-            count: packed.count,
-            each: packed.alg.hash_octets() as u8,
-        }
-    }
 }
 
 impl<'a> FoundBlocks<'a> {
