@@ -54,8 +54,8 @@ kept_cmp a b =
 abbrev pub claim_cmp : Claim → Claim → Ordering
 claim_cmp a b = ordering_then (nat_cmp a.start b.start) (kept_cmp a.kept.now b.kept.now)
 
--- The signature, the signed octets and the session are the block's. A certificate block has one claim: its octets are
--- those that are signed, and no hash stands behind them.
+-- The signature, the signed octets and the session are the block's. All claims of a certificate block tie: the octets
+-- are those that are signed, and no hash stands after them.
 pub record IsClaimOf (k : Claim) (b : BlockMessage) : Type 0 where
   pub fields : AreFieldsOf k.kept.now b
   pub start_is : k.start ≡ signature_start k.kept.now.signature
