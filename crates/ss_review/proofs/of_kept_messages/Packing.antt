@@ -17,13 +17,19 @@ use Rattle.ss_block.specs.Versions.{hash_length}
 use Rattle.ss_block.specs.Writing.{hash_octets, hashes_text}
 use Rattle.ss_block.proofs.Lengths.{length-padded}
 use Rattle.ss_review.specs.declared.keep.packed.Packed.{Packed}
-use Rattle.ss_review.specs.keep.Packed.{array_long, array_on, front_packed, back_packed, hashes_packed, signed_packed, IsPacked}
+use Rattle.ss_review.specs.keep.Packed.{kept_packed, array_long, array_on, front_packed, back_packed, hashes_packed, signed_packed, IsPacked}
 
 -- ---- octets about an array of hashes
 
--- The octets are these before the hashes, then the hashes, then those behind. So are those that they stand for.
+-- what is kept of the signed octets, and the signature after it
+pub parted : (octets kept signature : List ℕ) (end : ℕ) → octets ≡ kept ++ signature → end ≡ length octets - length signature → (take end octets ≡ kept) × (drop end octets ≡ signature)
+parted octets kept signature end octets_are ends =
+    let at : end ≡ length kept = omega (arith, ends, ap length octets_are, length-append kept signature) in
+    (ap (take end) octets_are ∙ take_at kept signature end (sym at), ap (drop end) octets_are ∙ drop_at kept signature end (sym at))
+
+-- What is kept of the signed octets are these before the hashes, then the hashes, then those behind. So are those that they stand for.
 pub written : (p : Packed) (front : List ℕ) (hs : List Hash) (back : List ℕ)
-    → p.octets ≡ front ++ (array_of hs ++ back)
+    → kept_packed p ≡ front ++ (array_of hs ++ back)
     → p.start ≡ length front
     → p.count ≡ length hs
     → IsArray p.alg (array_of hs) hs
@@ -86,17 +92,17 @@ pub text_is_long : (alg : Alg) (n : ℕ) (octets : List ℕ) → n * hash_length
 text_is_long alg n octets enough = hashes_long alg n octets enough ∙ more_long alg n
 
 -- so many octets are kept of what is signed
-pub kept_long : (p : Packed) → IsPacked p → length p.octets ≡ length (signed_packed p) - text_more p.alg p.count
+pub kept_long : (p : Packed) → IsPacked p → length (kept_packed p) ≡ length (signed_packed p) - text_more p.alg p.count
 kept_long p packed =
     omega (
       arith,
       packed,
       length-append (front_packed p) (hashes_text (hashes_packed p) ++ back_packed p),
       length-append (hashes_text (hashes_packed p)) (back_packed p),
-      length-take p.start p.octets,
-      length-drop p.start p.octets,
+      length-take p.start (kept_packed p),
+      length-drop p.start (kept_packed p),
       length-drop (array_long p) (array_on p),
-      text_is_long p.alg p.count (array_on p) (omega (arith, packed, length-drop p.start p.octets)),
+      text_is_long p.alg p.count (array_on p) (omega (arith, packed, length-drop p.start (kept_packed p))),
     )
 
 -- ---- the first hashes
@@ -124,12 +130,12 @@ session_before octets p s lie before =
     rw (host, app, procid) refl
 
 -- where it stands in what is before the hashes, it stands in all that is kept
-pub session_in_front : (p : Packed) (s : SessionPlaces) → LieIn (front_packed p) s → session_at (front_packed p) s ≡ session_at p.octets s
+pub session_in_front : (p : Packed) (s : SessionPlaces) → LieIn (front_packed p) s → session_at (front_packed p) s ≡ session_at (kept_packed p) s
 session_in_front p s lie =
     let host_in = lie.0.1 in
     let app_in = lie.1.1 in
     let procid_in = lie.2.1 in
-    let host = part_before p.octets s.host p.start lie.0.0 (omega (arith, host_in, length-take p.start p.octets)) in
-    let app = part_before p.octets s.app p.start lie.1.0 (omega (arith, app_in, length-take p.start p.octets)) in
-    let procid = part_before p.octets s.procid p.start lie.2.0 (omega (arith, procid_in, length-take p.start p.octets)) in
+    let host = part_before (kept_packed p) s.host p.start lie.0.0 (omega (arith, host_in, length-take p.start (kept_packed p))) in
+    let app = part_before (kept_packed p) s.app p.start lie.1.0 (omega (arith, app_in, length-take p.start (kept_packed p))) in
+    let procid = part_before (kept_packed p) s.procid p.start lie.2.0 (omega (arith, procid_in, length-take p.start (kept_packed p))) in
     rw (host, app, procid) refl

@@ -1,5 +1,5 @@
 -- What is kept of a block holds of each that equals it in signature, signed octets and session.
-use Rattle.std.proofs.Common.{◌≡◌, ℕ, Bool, true, false, cond, List, refl, sym, ap, ◌∙◌, arith}
+use Rattle.std.proofs.Common.{◌≡◌, ℕ, ◌*◌, Bool, true, false, cond, List, ◌++◌, take, drop, refl, sym, ap, ◌∙◌, arith}
 use Rattle.std.specs.Prelude.{Result, Ok, Err, Some, None, Option, IfSome}
 use Rattle.std.specs.declared.cmp.Ordering.TheVariants.{Equal}
 use Rattle.std.specs.Ordering.{is_eq}
@@ -9,14 +9,16 @@ use Rattle.std.proofs.lemmas.Map.Lookups.{exact_bytes, exact_unsigned}
 use Rattle.ss_message.specs.Layout.{field_of}
 use Rattle.ss_block.specs.declared.hash.Alg.{Alg}
 use Rattle.ss_block.specs.declared.hash.Alg.TheVariants.{Sha1, Sha256}
+use Rattle.ss_block.specs.HashArrays.{hashes_at}
 use Rattle.ss_block.specs.Session.{field_from}
 use Rattle.ss_block.specs.SessionPlaces.{session_at}
 use Rattle.ss_block.specs.Versions.{hash_length}
+use Rattle.ss_block.specs.Writing.{hashes_text}
 use Rattle.ss_review.specs.declared.keep.kept_block.KeptFields.{KeptFields}
 use Rattle.ss_review.specs.declared.keep.packed.Packed.{Packed}
 use Rattle.ss_review.specs.declared.report.session_report.SessionState.{SessionState}
 use Rattle.ss_review.specs.keep.BlockMessage.{BlockMessage}
-use Rattle.ss_review.specs.keep.Packed.{signed_packed}
+use Rattle.ss_review.specs.keep.Packed.{kept_packed, signature_packed, signed_packed}
 use Rattle.ss_review.specs.keep.KeptSender.{places_at}
 use Rattle.ss_review.specs.declared.sessions.claim.Claim.{Claim}
 use Rattle.ss_review.specs.declared.sessions.found_blocks.FoundBlocks.{FoundBlocks}
@@ -50,20 +52,25 @@ one_length Sha1 Sha256 e = absurd (omega arith)
 one_length Sha256 Sha1 e = absurd (omega arith)
 one_length Sha256 Sha256 e = refl
 
-packed_cmp_exact : (p q : Packed) → packed_cmp p q ≡ Equal → p ≡ q
-packed_cmp_exact p q tie =
+-- What is signed follows from what is kept of it, and from the hashes that stand in it.
+abbrev signed_from : List ℕ → ℕ → ℕ → Alg → List ℕ
+signed_from kept start count alg =
+    let on = drop start kept in
+    take start kept ++ (hashes_text (hashes_at alg count on) ++ drop (count * hash_length alg) on)
+
+signed_alike : (p q : Packed) → kept_packed p ≡ kept_packed q → p.start ≡ q.start → p.count ≡ q.count → p.alg ≡ q.alg → signed_packed p ≡ signed_packed q
+signed_alike p q kept start count alg = λ i. signed_from (kept i) (start i) (count i) (alg i)
+
+one_signed : (p q : Packed) → packed_cmp p q ≡ Equal → signed_packed p ≡ signed_packed q
+one_signed p q tie =
     let octets = both_tie _ _ tie in
     let start = both_tie _ _ octets.1 in
     let lengths = both_tie _ _ start.1 in
-    λ i. record {
-      octets = exact_bytes p.octets q.octets octets.0 i;
-      alg = one_length p.alg q.alg (exact_unsigned (hash_length p.alg) (hash_length q.alg) lengths.1) i;
-      count = exact_unsigned p.count q.count lengths.0 i;
-      start = exact_unsigned p.start q.start start.0 i;
-    }
+    signed_alike p q (exact_bytes (kept_packed p) (kept_packed q) octets.0) (exact_unsigned p.start q.start start.0)
+    (exact_unsigned p.count q.count lengths.0) (one_length p.alg q.alg (exact_unsigned (hash_length p.alg) (hash_length q.alg) lengths.1))
 
 -- the same session is spelled where the same octets stand
-one_session : (a b : KeptFields) → sender_cmp a b ≡ Equal → session_at a.packed.octets (places_at a.sender) ≡ session_at b.packed.octets (places_at b.sender)
+one_session : (a b : KeptFields) → sender_cmp a b ≡ Equal → session_at (kept_packed a.packed) (places_at a.sender) ≡ session_at (kept_packed b.packed) (places_at b.sender)
 one_session a b tie =
     let host = both_tie _ _ tie in
     let app = both_tie _ _ host.1 in
@@ -88,8 +95,8 @@ module _ (f : BlockMessage → Bool) (same : TellsEqualsAlike f) (k : Claim) (b 
       let signature = both_tie _ _ start.1 in
       let rest = both_tie _ _ signature.1 in
       same b c
-      (sym of.fields.signature_is ∙ exact_bytes k.kept.now.signature j.kept.now.signature signature.0 ∙ at.fields.signature_is)
-      (sym of.fields.packed.signed ∙ ap signed_packed (packed_cmp_exact k.kept.now.packed j.kept.now.packed rest.0) ∙ at.fields.packed.signed)
+      (sym of.fields.signature_is ∙ exact_bytes (signature_packed k.kept.now.packed) (signature_packed j.kept.now.packed) signature.0 ∙ at.fields.signature_is)
+      (sym of.fields.packed.signed ∙ one_signed k.kept.now.packed j.kept.now.packed rest.0 ∙ at.fields.packed.signed)
       (sym of.fields.session_is ∙ one_session k.kept.now j.kept.now rest.1 ∙ at.fields.session_is)
 
   of_either : (old : Option Bool) (j : Claim) (c : BlockMessage) (w : Bool) → IsClaimOf j c → (old ≡ Some w → w ≡ f c) → (x : Bool) → is_eq (claim_cmp k j) ≡ x → cond x (Some v) old ≡ Some w → w ≡ f c

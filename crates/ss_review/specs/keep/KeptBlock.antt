@@ -6,8 +6,8 @@ use Rattle.ss_review.specs.keep.KeptSender.{places_at}
 
 -- the message that the fields hold
 abbrev pub message_of : KeptFields → BlockMessage
-message_of f = message_kept f.place (places_at f.sender) f.content f.packed f.signature
+message_of f = message_kept f.place (places_at f.sender) f.content f.packed
 
 -- the fields agree
 abbrev pub AreKept : KeptFields → Type 0
-AreKept f = IsKept (places_at f.sender) f.content f.packed f.signature
+AreKept f = IsKept (places_at f.sender) f.content f.packed

@@ -1,5 +1,5 @@
 -- The signed octets of a block as they are kept: its hashes in octets in place of their base64 (RFC 5848, section
--- 4.2.7), and all else as it stands.
+-- 4.2.7), and all else as it stands. The signature stands after them.
 use Rattle.std.specs.Prelude.{ℕ, ◌+◌, ◌*◌, ◌≤◌, List, ◌++◌, length, take, drop}
 use Rattle.ss_block.specs.declared.hash.Hash.{Hash}
 use Rattle.ss_block.specs.HashArrays.{hashes_at}
@@ -11,9 +11,17 @@ use Rattle.ss_review.specs.declared.keep.packed.Packed.{Packed}
 abbrev pub array_long : Packed → ℕ
 array_long p = p.count * hash_length p.alg
 
--- the octets from the first hash on
+-- what is kept of the signed octets
+abbrev pub kept_packed : Packed → List ℕ
+kept_packed p = take p.end p.octets
+
+-- the signature: the octets after those
+abbrev pub signature_packed : Packed → List ℕ
+signature_packed p = drop p.end p.octets
+
+-- the octets from the first hash on, up to the signature
 abbrev pub array_on : Packed → List ℕ
-array_on p = drop p.start p.octets
+array_on p = drop p.start (kept_packed p)
 
 -- the hashes of HB; none of a certificate block
 abbrev pub hashes_packed : Packed → List Hash
@@ -21,9 +29,9 @@ hashes_packed p = hashes_at p.alg p.count (array_on p)
 
 -- the octets that stand before the hashes, as they are signed
 abbrev pub front_packed : Packed → List ℕ
-front_packed p = take p.start p.octets
+front_packed p = take p.start (kept_packed p)
 
--- those behind them
+-- those behind them, up to the signature
 abbrev pub back_packed : Packed → List ℕ
 back_packed p = drop (array_long p) (array_on p)
 
@@ -31,6 +39,6 @@ back_packed p = drop (array_long p) (array_on p)
 abbrev pub signed_packed : Packed → List ℕ
 signed_packed p = front_packed p ++ (hashes_text (hashes_packed p) ++ back_packed p)
 
--- the hashes lie within the octets
+-- the hashes lie within what is kept of the signed octets, before the signature
 abbrev pub IsPacked : Packed → Type 0
-IsPacked p = p.start + array_long p ≤ length p.octets
+IsPacked p = p.start + array_long p ≤ length (kept_packed p)

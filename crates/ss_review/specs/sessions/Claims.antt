@@ -14,6 +14,7 @@ use Rattle.ss_review.specs.declared.sessions.claim.Claim.{Claim}
 use Rattle.ss_review.specs.keep.BlockMessage.{BlockMessage}
 use Rattle.ss_review.specs.keep.KeptFields.{AreFieldsOf}
 use Rattle.ss_review.specs.keep.KeptSender.{places_at}
+use Rattle.ss_review.specs.keep.Packed.{kept_packed, signature_packed}
 
 -- the first eight octets as one number, the greatest first; 0 for fewer
 abbrev pub signature_start : List ℕ → ℕ
@@ -23,19 +24,19 @@ signature_start octets = if nat_le 8 (length octets) then from_be_bytes w64 (tak
 -- each is
 abbrev pub packed_cmp : Packed → Packed → Ordering
 packed_cmp a b =
-    ordering_then (octets_cmp a.octets b.octets)
+    ordering_then (octets_cmp (kept_packed a) (kept_packed b))
     (ordering_then (nat_cmp a.start b.start)
     (ordering_then (nat_cmp a.count b.count) (nat_cmp (hash_length a.alg) (hash_length b.alg))))
 
 -- the octets that spell HOSTNAME, APP-NAME and PROCID
 abbrev pub host_kept : KeptFields → List ℕ
-host_kept f = part_of f.packed.octets (places_at f.sender).host
+host_kept f = part_of (kept_packed f.packed) (places_at f.sender).host
 
 abbrev pub app_kept : KeptFields → List ℕ
-app_kept f = part_of f.packed.octets (places_at f.sender).app
+app_kept f = part_of (kept_packed f.packed) (places_at f.sender).app
 
 abbrev pub procid_kept : KeptFields → List ℕ
-procid_kept f = part_of f.packed.octets (places_at f.sender).procid
+procid_kept f = part_of (kept_packed f.packed) (places_at f.sender).procid
 
 -- by these, then RSID
 abbrev pub sender_cmp : KeptFields → KeptFields → Ordering
@@ -47,7 +48,7 @@ sender_cmp a b =
 -- by the signature, then what is signed, then the session
 abbrev pub kept_cmp : KeptFields → KeptFields → Ordering
 kept_cmp a b =
-    ordering_then (octets_cmp a.signature b.signature)
+    ordering_then (octets_cmp (signature_packed a.packed) (signature_packed b.packed))
     (ordering_then (packed_cmp a.packed b.packed) (sender_cmp a b))
 
 -- by what the signatures begin with, then by the whole
@@ -58,13 +59,13 @@ claim_cmp a b = ordering_then (nat_cmp a.start b.start) (kept_cmp a.kept.now b.k
 -- are those that are signed, and no hash stands after them.
 pub record IsClaimOf (k : Claim) (b : BlockMessage) : Type 0 where
   pub fields : AreFieldsOf k.kept.now b
-  pub start_is : k.start ≡ signature_start k.kept.now.signature
+  pub start_is : k.start ≡ signature_start (signature_packed k.kept.now.packed)
 
 -- ---- the order is total
 
 pub packed_cmp_total : IsTotalOrder packed_cmp
 packed_cmp_total =
-    then_total (on_total (λ p. p.octets) nat_list_cmp_total)
+    then_total (on_total kept_packed nat_list_cmp_total)
     (then_total (on_total (λ p. p.start) nat_cmp_total)
     (then_total (on_total (λ p. p.count) nat_cmp_total) (on_total (λ p. hash_length p.alg) nat_cmp_total)))
 
@@ -76,7 +77,7 @@ sender_cmp_total =
 
 pub kept_cmp_total : IsTotalOrder kept_cmp
 kept_cmp_total =
-    then_total (on_total (λ f. f.signature) nat_list_cmp_total)
+    then_total (on_total (λ f. signature_packed f.packed) nat_list_cmp_total)
     (then_total (on_total (λ f. f.packed) packed_cmp_total) sender_cmp_total)
 
 pub claim_cmp_total : IsTotalOrder claim_cmp

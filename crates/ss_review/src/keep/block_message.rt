@@ -99,7 +99,7 @@ impl BlockMessage {
     }
 
     /// SIGN's octets.
-    pub(crate) fn signature(&self) -> &Bytes
+    pub(crate) fn signature(&self) -> &[u8]
         ensures { result.now ≡ signature_of self.now.said }
     {
         self.kept.signature()

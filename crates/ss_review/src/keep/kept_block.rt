@@ -19,7 +19,6 @@ ghost use Rattle.ss_review.specs.pinned.Pinned.{is_signature};
 use crate::keep::kept_content::KeptContent;
 use crate::keep::kept_sender::{KeptSender, ShortSpan};
 use crate::keep::packed::Packed;
-use crate::questions::asking::copy_of;
 use crate::questions::parameters::AskedParameters;
 use crate::sessions::span::Span;
 use ss_block::{CertBlock, Hashes, Meant, Session, SessionPlaces, SigBlock, meaning};
@@ -46,12 +45,11 @@ pub(crate) struct KeptFields {
     pub(crate) sender: KeptSender,
     content: KeptContent,
     pub(crate) packed: Packed,
-    pub(crate) signature: Bytes,
 }
 
-/// A message with a block. Its signed octets, with the hashes in octets, and its signature are kept once. Its session
-/// and its fragment are read from the signed octets when they are needed, so no octet is kept twice. Contracts see what
-/// the block says. A list of them has only where each stands.
+/// A message with a block. Its signed octets, with the hashes in octets, and its signature after them are kept once, in
+/// one piece of memory. Its session and its fragment are read from the signed octets when they are needed, so no octet
+/// is kept twice. Contracts see what the block says. A list of them has only where each stands.
 #[derive(Drop)]
 pub(crate) struct KeptBlock {
     fields: Box<KeptFields>,
@@ -104,7 +102,9 @@ impl KeptBlock {
     {
         block.assure_in_range();
         let hashes = block.hashes().as_slice();
-        let packed = Packed::of_signature(alloc, signed.as_slice(), text, block.alg(), hashes)?;
+        let signature = block.signature().as_slice();
+        let alg = block.alg();
+        let packed = Packed::of_signature(alloc, signed.as_slice(), text, alg, hashes, signature)?;
         let content = KeptContent::Hashes {
             group: block.group(),
             gbc: block.gbc(),
@@ -118,7 +118,6 @@ impl KeptBlock {
                 sender: KeptSender::of(sender),
                 content,
                 packed,
-                signature: block.into_signature(),
             },
         )
     }
@@ -144,7 +143,8 @@ impl KeptBlock {
         }) }
     {
         block.assure_in_range();
-        let packed = Packed::of_certificate(block.alg(), signed)?;
+        let signature = block.signature().as_slice();
+        let packed = Packed::of_certificate(alloc, block.alg(), signed.as_slice(), signature)?;
         let content = KeptContent::Fragment {
             group: block.group(),
             total: block.total(),
@@ -159,7 +159,6 @@ impl KeptBlock {
                 sender: KeptSender::of(sender),
                 content,
                 packed,
-                signature: block.into_signature(),
             },
         )
     }
@@ -190,7 +189,7 @@ impl KeptBlock {
     pub(crate) fn signed_kept(&self) -> usize
         ensures { result ≡ signed_kept self.now }
     {
-        self.fields.packed.octets.as_slice().len()
+        self.fields.packed.kept().len()
     }
 
     /// What is kept of it: its signature, what is signed of it, and where its session stands there.
@@ -201,10 +200,10 @@ impl KeptBlock {
     }
 
     /// SIGN's octets.
-    pub(crate) fn signature(&self) -> &Bytes
+    pub(crate) fn signature(&self) -> &[u8]
         ensures { result.now ≡ signature_of self.now.said }
     {
-        &self.fields.signature
+        self.fields.packed.signature()
     }
 
     /// The same message, in memory of its own.
@@ -218,7 +217,6 @@ impl KeptBlock {
                 sender: self.fields.sender,
                 content: self.fields.content,
                 packed: self.fields.packed.try_clone(alloc)?,
-                signature: copy_of(alloc, &self.fields.signature)?,
             },
         )
     }
@@ -325,7 +323,7 @@ impl KeptBlock {
             } => Ok(Some(Stated {
                 total,
                 index,
-                fragment: meaning(alloc, text.span().of(self.fields.packed.octets.as_slice()))?,
+                fragment: meaning(alloc, text.span().of(self.fields.packed.kept()))?,
             })),
         }
     }
@@ -345,7 +343,8 @@ impl KeptBlock {
                 let hashes = fields.packed.hashes(alloc, held)?;
                 let alg = fields.packed.alg;
                 let rsid = fields.sender.rsid();
-                Ok(SigBlock::new(alg, rsid, group, gbc, first, hashes, fields.signature))
+                let signature = Bytes::from_vec(Vec::from_slice(alloc, fields.packed.signature())?);
+                Ok(SigBlock::new(alg, rsid, group, gbc, first, hashes, signature))
             }
             KeptContent::Fragment { .. } => Ok(None),
         }

@@ -1,4 +1,4 @@
-//! The signed octets of a block, as a review keeps them.
+//! The signed octets of a block and its signature, as a review keeps them.
 ghost use Rattle.std.specs.Prelude.{◌≡◌, ◌≤◌, ◌++◌, true, length, take, drop, IfOk};
 ghost use Rattle.std.specs.List.{list_all};
 ghost use Rattle.ss_message.specs.Octets.{part_of};
@@ -7,7 +7,7 @@ ghost use Rattle.ss_block.specs.Block.{is_of};
 ghost use Rattle.ss_block.specs.HashArrays.{array_of, IsArray};
 ghost use Rattle.ss_block.specs.Writing.{hashes_text};
 ghost use Rattle.ss_review.specs.keep.Packed.{array_long, array_on, front_packed, back_packed, hashes_packed};
-ghost use Rattle.ss_review.specs.keep.Packed.{signed_packed, IsPacked};
+ghost use Rattle.ss_review.specs.keep.Packed.{kept_packed, signature_packed, signed_packed, IsPacked};
 
 use crate::questions::asking::copy_of;
 use ss_block::{Alg, Hash, Hashes, array_hashes, put_array_text, put_hash_array};
@@ -15,51 +15,59 @@ use ss_message::Span;
 use ss_octets::{Bytes, NoMemory};
 use std::alloc::Global;
 
-/// The signed octets of a block, with its hashes in octets in place of their base64, which takes a third more.
+/// The signed octets of a block, with its hashes in octets in place of their base64, which takes a third more. Its
+/// signature stands after them, so that both take one piece of memory.
 #[derive(Drop)]
 pub(crate) struct Packed {
-    /// The octets before HB's value, those of the hashes, and those behind HB's value. Of a certificate block, all that
-    /// is signed.
-    pub(crate) octets: Bytes,
+    /// The octets before HB's value, those of the hashes, and those behind HB's value; of a certificate block, all that
+    /// is signed. After these, the octets of the signature.
+    octets: Bytes,
     /// VER's hash algorithm.
     pub(crate) alg: Alg,
     /// How many hashes stand there: CNT, 1 to 99; 0 of a certificate block.
     pub(crate) count: u8,
-    /// Where the first of them stands; behind the last octet of a certificate block.
+    /// Where the first of them stands; of a certificate block, where the signature begins.
     pub(crate) start: u32,
+    /// Where the signature begins.
+    end: u32,
 }
 
-/// The octets with the array of these hashes of one algorithm in place of those of `text`.
+/// The octets with the array of these hashes of one algorithm in place of those of `text`, then the signature. They
+/// take no more memory than they need.
 fn packed_octets(
     alloc: Global,
     signed: &[u8],
     text: Span,
     alg: Alg,
     hashes: &[Hash],
+    signature: &[u8],
 ) -> Result<Bytes, NoMemory>
     requires within { IsWithin signed.now text }
     requires hashes { list_all (is_of alg) hashes.now ≡ true }
     requires few { length hashes.now ≤ 99 }
     ensures octets { IfOk result
-        (λ b. b ≡ take text.start signed.now ++ (array_of hashes.now ++ drop text.end signed.now)) }
+        (λ b. b ≡ (take text.start signed.now ++ (array_of hashes.now ++ drop text.end signed.now)) ++ signature.now) }
     ensures array { IfOk result (λ _. IsArray alg (array_of hashes.now) hashes.now) }
 {
     let array = hashes.len() * alg.hash_octets();
-    let mut octets = Vec::with_capacity(alloc, signed.len() - (text.end - text.start) + array)?;
+    let kept = signed.len() - (text.end - text.start) + array;
+    let mut octets = Vec::with_capacity(alloc, kept.saturating_add(signature.len()))?;
     octets.extend_from_slice(&signed[..text.start])?;
     put_hash_array(&mut octets, alg, hashes)?;
     octets.extend_from_slice(&signed[text.end..])?;
+    octets.extend_from_slice(signature)?;
     Ok(Bytes::from_vec(octets))
 }
 
 impl Packed {
-    /// The signed octets of a signature block with these hashes, where HB's value stands at `text`.
+    /// The signed octets of a signature block with these hashes and this signature, where HB's value stands at `text`.
     pub(crate) fn of_signature(
         alloc: Global,
         signed: &[u8],
         text: Span,
         alg: Alg,
         hashes: &[Hash],
+        signature: &[u8],
     ) -> Result<Packed, NoMemory>
         requires within { IsWithin signed.now text }
         requires spelled { part_of signed.now text ≡ hashes_text hashes.now }
@@ -72,37 +80,68 @@ impl Packed {
         ensures hashes { IfOk result (λ p. hashes_packed p ≡ hashes.now) }
         ensures front { IfOk result (λ p. front_packed p ≡ take text.start signed.now) }
         ensures signed { IfOk result (λ p. signed_packed p ≡ signed.now) }
+        ensures signature { IfOk result (λ p. signature_packed p ≡ signature.now) }
     {
-        if text.start > u32::MAX as usize {
+        let octets = packed_octets(alloc, signed, text, alg, hashes, signature)?;
+        let size = octets.as_slice().len();
+        if size > u32::MAX as usize {
             return Err(NoMemory);
         }
         Ok(Packed {
-            octets: packed_octets(alloc, signed, text, alg, hashes)?,
+            octets,
             alg,
             count: hashes.len() as u8,
             start: text.start as u32,
+            end: (size - signature.len()) as u32,
         })
     }
 
-    /// The signed octets of a certificate block.
-    pub(crate) fn of_certificate(alg: Alg, signed: Bytes) -> Result<Packed, NoMemory>
+    /// The signed octets of a certificate block with this signature.
+    pub(crate) fn of_certificate(
+        alloc: Global,
+        alg: Alg,
+        signed: &[u8],
+        signature: &[u8],
+    ) -> Result<Packed, NoMemory>
         ensures packed { IfOk result IsPacked }
         ensures alg { IfOk result (λ p. p.alg ≡ alg) }
         ensures count { IfOk result (λ p. p.count ≡ 0) }
-        ensures octets { IfOk result (λ p. p.octets ≡ signed) }
-        ensures start { IfOk result (λ p. p.start ≡ length signed) }
-        ensures signed { IfOk result (λ p. signed_packed p ≡ signed) }
+        ensures kept { IfOk result (λ p. kept_packed p ≡ signed.now) }
+        ensures start { IfOk result (λ p. p.start ≡ length signed.now) }
+        ensures signed { IfOk result (λ p. signed_packed p ≡ signed.now) }
+        ensures signature { IfOk result (λ p. signature_packed p ≡ signature.now) }
     {
-        let end = signed.as_slice().len();
-        if end > u32::MAX as usize {
+        let size = signed.len() + signature.len();
+        if size > u32::MAX as usize {
             return Err(NoMemory);
         }
+        let mut octets = Vec::with_capacity(alloc, size)?;
+        octets.extend_from_slice(signed)?;
+        octets.extend_from_slice(signature)?;
+        let end = signed.len() as u32;
         Ok(Packed {
-            octets: signed,
+            octets: Bytes::from_vec(octets),
             alg,
             count: 0,
-            start: end as u32,
+            start: end,
+            end,
         })
+    }
+
+    /// What is kept of the signed octets.
+    pub(crate) fn kept(&self) -> &[u8]
+        ensures { result.now ≡ kept_packed self.now }
+    {
+        let octets = self.octets.as_slice();
+        &octets[..octets.len().min(self.end as usize)]
+    }
+
+    /// SIGN's octets.
+    pub(crate) fn signature(&self) -> &[u8]
+        ensures { result.now ≡ signature_packed self.now }
+    {
+        let octets = self.octets.as_slice();
+        &octets[octets.len().min(self.end as usize)..]
     }
 
     /// The octets before HB's value. Of a certificate block, all that is signed.
@@ -110,7 +149,7 @@ impl Packed {
         requires { IsPacked self.now }
         ensures { result.now ≡ front_packed self.now }
     {
-        &self.octets.as_slice()[..self.start as usize]
+        &self.kept()[..self.start as usize]
     }
 
     /// How many octets the hashes take.
@@ -120,15 +159,15 @@ impl Packed {
         self.count as usize * self.alg.hash_octets()
     }
 
-    /// The octets from the first hash on.
+    /// The octets from the first hash on, up to the signature.
     fn array_on(&self) -> &[u8]
         requires { IsPacked self.now }
         ensures { result.now ≡ array_on self.now }
     {
-        &self.octets.as_slice()[self.start as usize..]
+        &self.kept()[self.start as usize..]
     }
 
-    /// The octets behind HB's value.
+    /// The signed octets behind HB's value.
     fn back(&self) -> &[u8]
         requires { IsPacked self.now }
         ensures { result.now ≡ back_packed self.now }
@@ -153,7 +192,7 @@ impl Packed {
         requires { IsPacked self.now }
         ensures { result ≡ length (signed_packed self.now) }
     {
-        self.octets.as_slice().len() - self.array_long() + self.text_octets()
+        self.kept().len() - self.array_long() + self.text_octets()
     }
 
     /// What is signed.
@@ -186,6 +225,7 @@ impl Packed {
             alg: self.alg,
             count: self.count,
             start: self.start,
+            end: self.end,
         })
     }
 }

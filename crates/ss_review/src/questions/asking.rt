@@ -31,7 +31,7 @@ fn asked_block(alloc: Global, block: &BlockMessage) -> Result<AskedBlock, NoMemo
         place: block.place(),
         parameters: block.parameters(),
         octets: block.signed(alloc)?,
-        signature: copy_of(alloc, block.signature())?,
+        signature: Bytes::from_vec(Vec::from_slice(alloc, block.signature())?),
     })
 }
 

@@ -29,8 +29,7 @@ pub(crate) fn is_valid<J: Judge>(
     ensures { IfOk result (λ b. b ≡ is_valid (answers J.trusted J.valid judge.now) payload.now message.now) }
 {
     let signed = message.signed(alloc)?;
-    let signature = message.signature();
-    Ok(judge.accepts(payload, signed.as_slice(), signature.as_slice()))
+    Ok(judge.accepts(payload, signed.as_slice(), message.signature()))
 }
 
 /// Whether the block's signature is valid under the payload. `found` is what was found of blocks so far: the judge

@@ -3,6 +3,7 @@ ghost use Rattle.std.specs.Prelude.{◌≡◌, refl};
 ghost use Rattle.std.specs.Ordering.{as_partial_cmp, eq_by_cmp};
 ghost use Rattle.std.specs.Cmp.{eq_by_cmp_equiv, partial_equiv_from_equiv, partial_order_from_total};
 ghost use Rattle.ss_message.specs.Octets.{part_of};
+ghost use Rattle.ss_review.specs.keep.Packed.{kept_packed};
 ghost use Rattle.ss_review.specs.sessions.Claims.{signature_start, packed_cmp, sender_cmp, kept_cmp, claim_cmp};
 ghost use Rattle.ss_review.specs.sessions.Claims.{claim_cmp_total, IsClaimOf};
 
@@ -38,7 +39,7 @@ impl<'a> Claim<'a> {
     {
         let kept = block.fields();
         Claim {
-            start: signature_start(kept.signature.as_slice()),
+            start: signature_start(kept.packed.signature()),
             kept,
         }
     }
@@ -49,9 +50,8 @@ impl<'a> Claim<'a> {
 fn compare_packed(a: &Packed, b: &Packed) -> Ordering
     ensures { result ≡ packed_cmp a.now b.now }
 {
-    a.octets
-        .as_slice()
-        .cmp(&b.octets.as_slice())
+    a.kept()
+        .cmp(&b.kept())
         .then_with(|| a.start.cmp(&b.start))
         .then_with(|| a.count.cmp(&b.count))
         .then_with(|| a.alg.hash_octets().cmp(&b.alg.hash_octets()))
@@ -59,9 +59,9 @@ fn compare_packed(a: &Packed, b: &Packed) -> Ordering
 
 /// The octets of the place, as far as they are kept.
 fn part(kept: &KeptFields, place: Span) -> &[u8]
-    ensures { result.now ≡ part_of kept.now.packed.octets place }
+    ensures { result.now ≡ part_of (kept_packed kept.now.packed) place }
 {
-    let octets = kept.packed.octets.as_slice();
+    let octets = kept.packed.kept();
     let end = place.end.min(octets.len());
     if place.start < end {
         &octets[place.start..end]
@@ -87,9 +87,9 @@ fn compare_senders(a: &KeptFields, b: &KeptFields) -> Ordering
 fn compare_kept(a: &KeptFields, b: &KeptFields) -> Ordering
     ensures { result ≡ kept_cmp a.now b.now }
 {
-    a.signature
-        .as_slice()
-        .cmp(&b.signature.as_slice())
+    a.packed
+        .signature()
+        .cmp(&b.packed.signature())
         .then_with(|| compare_packed(&a.packed, &b.packed))
         .then_with(|| compare_senders(a, b))
 }

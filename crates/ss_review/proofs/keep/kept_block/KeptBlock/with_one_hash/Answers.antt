@@ -13,7 +13,7 @@ use Rattle.ss_review.specs.declared.keep.packed.Packed.{Packed}
 use Rattle.ss_review.specs.keep.KeptBlock.{AreKept}
 use Rattle.ss_review.specs.keep.Kept.{IsKept}
 use Rattle.ss_review.specs.keep.KeptSender.{places_at}
-use Rattle.ss_review.specs.keep.Packed.{hashes_packed}
+use Rattle.ss_review.specs.keep.Packed.{signature_packed, hashes_packed}
 use Rattle.ss_review.proofs.keep.kept_block.KeptBlock.with_one_hash.Goals as goal
 
 -- a block with some of these hashes, and the block with the first alone
@@ -43,23 +43,23 @@ one_held hs = omega (arith, length-take 1 hs)
 pub returns-in-Hashes-clause-few : goal.returns-in-Hashes-clause-few
 returns-in-Hashes-clause-few c = one_held (hashes_packed c.deref_mut-fields.result.now.packed)
 
-shortened : (sender : SessionPlaces) (content : KeptContent) (packed : Packed) (signature : List ℕ) (group : Group) (gbc first held : ℕ)
-    → IsKept sender content packed signature
+shortened : (sender : SessionPlaces) (content : KeptContent) (packed : Packed) (group : Group) (gbc first held : ℕ)
+    → IsKept sender content packed
     → content ≡ kept.Hashes group gbc first held
-    → IsKept sender (kept.Hashes group gbc first 1) packed signature
-shortened sender content packed signature group gbc first held agrees is =
-    let k = subst (λ k. IsKept sender k packed signature) is agrees in
+    → IsKept sender (kept.Hashes group gbc first 1) packed
+shortened sender content packed group gbc first held agrees is =
+    let k = subst (λ k. IsKept sender k packed) is agrees in
     let some = some_held (hashes_packed packed) held k.valid.some_hash in
     let most = k.text in
     record {
       hashes = k.hashes;
       head = k.head;
       text = omega arith;
-      valid = first_valid (record { alg = packed.alg; rsid = sender.rsid; group = group; gbc = gbc; first = first; hashes = []; signature = signature }) (hashes_packed packed) held k.valid;
+      valid = first_valid (record { alg = packed.alg; rsid = sender.rsid; group = group; gbc = gbc; first = first; hashes = []; signature = signature_packed packed }) (hashes_packed packed) held k.valid;
     }
 
 pub invariant_of-self : goal.invariant_of-self
 invariant_of-self c =
     let f = c.deref_mut-fields.result.now in
     let same : f ≡ c.self.inside.fields.value = c.deref_mut-fields.ensures.value in
-    shortened (places_at f.sender) f.content f.packed f.signature c.in-Hashes.group c.in-Hashes.gbc c.in-Hashes.first c.in-Hashes.held (subst AreKept (sym same) c.self.invariant) c.in-Hashes.is
+    shortened (places_at f.sender) f.content f.packed c.in-Hashes.group c.in-Hashes.gbc c.in-Hashes.first c.in-Hashes.held (subst AreKept (sym same) c.self.invariant) c.in-Hashes.is

@@ -1,7 +1,7 @@
 use Rattle.std.proofs.Common.{◌++◌, length, ap, length-append, arith}
 use Rattle.std.proofs.lemmas.List.{length-take, length-drop}
 use Rattle.ss_block.specs.Writing.{hashes_text}
-use Rattle.ss_review.specs.keep.Packed.{array_long, array_on, front_packed, back_packed, hashes_packed}
+use Rattle.ss_review.specs.keep.Packed.{kept_packed, array_long, array_on, front_packed, back_packed, hashes_packed}
 use Rattle.ss_review.proofs.keep.packed.Packed.signed_octets.Goals as goal
 
 pub returns : goal.returns
@@ -11,8 +11,8 @@ returns c =
       arith,
       length-append (front_packed p) (hashes_text (hashes_packed p) ++ back_packed p),
       length-append (hashes_text (hashes_packed p)) (back_packed p),
-      length-take p.start p.octets,
-      length-drop p.start p.octets,
+      length-take p.start (kept_packed p),
+      length-drop p.start (kept_packed p),
       length-drop (array_long p) (array_on p),
-      ap length c.as_slice.ensures,
+      ap length c.kept.ensures,
     )

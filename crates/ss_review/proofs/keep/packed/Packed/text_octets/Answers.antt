@@ -3,7 +3,7 @@ use Rattle.std.specs.Int.{div_ceil}
 use Rattle.ss_block.specs.declared.hash.Alg.{Alg}
 use Rattle.ss_block.specs.declared.hash.Alg.TheVariants as algs
 use Rattle.ss_block.specs.Versions.{hash_length}
-use Rattle.ss_review.specs.keep.Packed.{array_on}
+use Rattle.ss_review.specs.keep.Packed.{kept_packed, array_on}
 use Rattle.ss_review.proofs.of_kept_messages.Packing.{hashes_long, text_long}
 use Rattle.ss_review.proofs.keep.packed.Packed.text_octets.Goals as goal
 
@@ -26,7 +26,7 @@ module _ (c : goal.After-saturating_sub) where
 pub returns-clause-long : goal.returns-clause-long
 returns-clause-long c =
     let p = c.args.self.now in
-    result_is c ∙ sym (hashes_long p.alg p.count (array_on p) (omega (arith, length-drop p.start p.octets, c.requires)))
+    result_is c ∙ sym (hashes_long p.alg p.count (array_on p) (omega (arith, length-drop p.start (kept_packed p), c.requires)))
 
 pub returns-clause-few : goal.returns-clause-few
 returns-clause-few c = omega (arith, result_is c, few_of c.args.self.now.alg c.args.self.now.count (omega arith))
