@@ -15,7 +15,7 @@ use Rattle.ss_block.specs.Reading.{hash_with}
 use Rattle.ss_block.specs.SessionPlaces.{LieIn, session_at}
 use Rattle.ss_block.specs.Versions.{hash_length}
 use Rattle.ss_block.specs.Writing.{hash_octets, hashes_text}
-use Rattle.ss_block.proofs.Lengths.{length-padded}
+use Rattle.ss_block.proofs.HashArrays.{length-text, hash_octets_with}
 use Rattle.ss_review.specs.declared.keep.packed.Packed.{Packed}
 use Rattle.ss_review.specs.keep.Packed.{kept_packed, array_long, array_on, front_packed, back_packed, hashes_packed, signed_packed, IsPacked}
 
@@ -27,7 +27,7 @@ parted octets kept signature end octets_are ends =
     let at : end ≡ length kept = omega (arith, ends, ap length octets_are, length-append kept signature) in
     (ap (take end) octets_are ∙ take_at kept signature end (sym at), ap (drop end) octets_are ∙ drop_at kept signature end (sym at))
 
--- What is kept of the signed octets are these before the hashes, then the hashes, then those behind. So are those that they stand for.
+-- What is kept of the signed octets are these before the hashes, then the hashes, then those after. So are those that they stand for.
 pub written : (p : Packed) (front : List ℕ) (hs : List Hash) (back : List ℕ)
     → kept_packed p ≡ front ++ (array_of hs ++ back)
     → p.start ≡ length front
@@ -44,7 +44,7 @@ written p front hs back octets_are starts counted array =
     ∙ ap (λ (kept : List Hash). front ++ (hashes_text kept ++ back_packed p)) hashes_are
     ∙ ap (λ octets. front ++ (hashes_text hs ++ octets)) back_is
 
--- octets are those before a span, its own, and those behind it
+-- octets are those before a span, its own, and those after it
 pub about_span : (octets : List ℕ) (s : Span) → s.start ≤ s.end → take s.start octets ++ (part_of octets s ++ drop s.end octets) ≡ octets
 about_span octets s forth =
     let sum : s.start + (s.end - s.start) ≡ s.end = omega arith in
@@ -60,8 +60,9 @@ abbrev pub text_long : Alg → ℕ
 text_long alg = hash_length alg + base64_more alg
 
 first_long : (alg : Alg) (octets : List ℕ) → hash_length alg ≤ length octets → length (base64 (hash_octets (hash_with alg (take (hash_length alg) octets)))) ≡ text_long alg
-first_long algs.Sha1 octets enough = rw (length-take-le 20 octets enough) at (length-padded (take 20 octets))
-first_long algs.Sha256 octets enough = rw (length-take-le 32 octets enough) at (length-padded (take 32 octets))
+first_long alg octets enough =
+    ap (λ t. length (base64 t)) (hash_octets_with alg (take (hash_length alg) octets))
+    ∙ length-text alg (take (hash_length alg) octets) (length-take-le (hash_length alg) octets enough)
 
 spaced_long : (alg : Alg) (n : ℕ) (octets : List ℕ) → suc n * hash_length alg ≤ length octets
     → length (hashes_text (hashes_at alg (suc n) octets)) + 1 ≡ suc n * (text_long alg + 1)

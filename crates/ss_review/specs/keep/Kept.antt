@@ -53,7 +53,7 @@ message_kept place sender content packed = record {
   signed = signed_packed packed;
 }
 
--- What is signed of the message is kept so. Of a block without hashes nothing signed is kept behind their place.
+-- What is signed of the message is kept so. Of a block without hashes nothing signed is kept after their place.
 pub record IsPackedOf (p : Packed) (b : BlockMessage) : Type 0 where
   pub packed : IsPacked p
   pub signed : signed_packed p ≡ b.signed

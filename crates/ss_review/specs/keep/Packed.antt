@@ -31,7 +31,7 @@ hashes_packed p = hashes_at p.alg p.count (array_on p)
 abbrev pub front_packed : Packed → List ℕ
 front_packed p = take p.start (kept_packed p)
 
--- those behind them, up to the signature
+-- those after them, up to the signature
 abbrev pub back_packed : Packed → List ℕ
 back_packed p = drop (array_long p) (array_on p)
 

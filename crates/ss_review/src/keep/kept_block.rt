@@ -78,7 +78,7 @@ fn block_with(alloc: Global, fields: KeptFields) -> Result<KeptBlock, NoMemory>
 }
 
 impl KeptBlock {
-    /// The message at this place whose signature block this is. HB stands at `text` in its signed octets, behind the
+    /// The message at this place whose signature block this is. HB stands at `text` in its signed octets, after the
     /// places of the sender.
     pub(crate) fn of_signature(
         alloc: Global,

@@ -19,7 +19,7 @@ use std::alloc::Global;
 /// signature stands after them, so that both take one piece of memory.
 #[derive(Drop)]
 pub(crate) struct Packed {
-    /// The octets before HB's value, those of the hashes, and those behind HB's value; of a certificate block, all that
+    /// The octets before HB's value, those of the hashes, and those after HB's value; of a certificate block, all that
     /// is signed. After these, the octets of the signature.
     octets: Bytes,
     /// VER's hash algorithm.
@@ -167,7 +167,7 @@ impl Packed {
         &self.kept()[self.start as usize..]
     }
 
-    /// The signed octets behind HB's value.
+    /// The signed octets after HB's value.
     fn back(&self) -> &[u8]
         requires { IsPacked self.now }
         ensures { result.now ≡ back_packed self.now }
@@ -183,7 +183,7 @@ impl Packed {
         ensures few { result ≤ 11475 }
     {
         // The base64 of each, and one SP between two.
-        let each = self.alg.hash_octets().div_ceil(3) * 4 + 1;
+        let each = self.alg.text_octets() + 1;
         (self.count as usize * each).saturating_sub(1)
     }
 

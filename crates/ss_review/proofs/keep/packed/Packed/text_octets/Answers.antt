@@ -1,16 +1,9 @@
-use Rattle.std.proofs.Common.{◌≡◌, ℕ, ◌+◌, ◌*◌, ◌-◌, ◌≤◌, ◌<◌, refl, sym, ap, ◌∙◌, arith, length-drop}
-use Rattle.std.specs.Int.{div_ceil}
+use Rattle.std.proofs.Common.{◌≡◌, ℕ, ◌+◌, ◌*◌, ◌-◌, ◌≤◌, ◌<◌, sym, ap, ◌∙◌, arith, length-drop}
 use Rattle.ss_block.specs.declared.hash.Alg.{Alg}
 use Rattle.ss_block.specs.declared.hash.Alg.TheVariants as algs
-use Rattle.ss_block.specs.Versions.{hash_length}
 use Rattle.ss_review.specs.keep.Packed.{kept_packed, array_on}
 use Rattle.ss_review.proofs.of_kept_messages.Packing.{hashes_long, text_long}
 use Rattle.ss_review.proofs.keep.packed.Packed.text_octets.Goals as goal
-
--- base64 has four octets for three
-text_of : (alg : Alg) → div_ceil (hash_length alg) 3 * 4 ≡ text_long alg
-text_of algs.Sha1 = refl
-text_of algs.Sha256 = refl
 
 few_of : (alg : Alg) (count : ℕ) → count < 256 → count * (text_long alg + 1) - 1 ≤ 11475
 few_of algs.Sha1 count few = omega arith
@@ -19,9 +12,7 @@ few_of algs.Sha256 count few = omega arith
 module _ (c : goal.After-saturating_sub) where
   result_is : c.saturating_sub.result ≡ c.args.self.now.count * (text_long c.args.self.now.alg + 1) - 1
   result_is =
-      let alg = c.args.self.now.alg in
-      let each : c.div_ceil.result * 4 ≡ text_long alg = ap (λ n. n * 4) (c.div_ceil.ensures ∙ ap (λ n. div_ceil n 3) c.hash_octets.ensures) ∙ text_of alg in
-      c.saturating_sub.ensures ∙ ap (λ n. c.args.self.now.count * (n + 1) - 1) each
+      c.saturating_sub.ensures ∙ ap (λ n. c.args.self.now.count * (n + 1) - 1) c.text_octets-each.ensures
 
 pub returns-clause-long : goal.returns-clause-long
 returns-clause-long c =
