@@ -18,8 +18,8 @@ use crate::assign::hash_list::HashList;
 use crate::assign::stored_hash::StoredHash;
 use crate::assign::stored_hashes::stored_hashes;
 use crate::keep::stored_message::StoredMessage;
-use ss_block::laws::orders::hashes_rise_by_algorithm;
 use ss_block::HashPair;
+use ss_block::laws::orders::hashes_rise_by_algorithm;
 use ss_octets::NoMemory;
 use std::alloc::Global;
 

@@ -16,18 +16,22 @@ loop-i-preserved c =
     let ks = map key_of c.loop-i.numbers.items in
     let hs = c.loop-i.invariant.0 in
     elim c.if-is_first.branch [
-      | then-is_first+in_ok-push w ↦
-          (_, row_of_next js c.requires.sessions rows c.requires.known c.loop-i.i _ c.loop-i-test.true c.get.result c.get.ensures.lookup c.goes_on-goes_on.result c.goes_on-goes_on.ensures
-          ks _ hs _ c.loop-i.is_first w.if-is_first.true
-          (ap (map key_of) ((λ j. (w.numbers-is j).items) ∙ w.in_ok-push.ensures.items) ∙ map-append key_of c.loop-i.numbers.items (w.with_session.result ∷ []) ∙ ap (λ k. ks ++ k ∷ []) w.with_session.ensures)
-          refl
-          c.loop-i.invariant.1)
-      | else-is_first w ↦
-          (hs, row_of_same js c.requires.sessions rows c.requires.known c.loop-i.i _ c.loop-i-test.true c.get.result c.get.ensures.lookup c.goes_on-goes_on.result c.goes_on-goes_on.ensures
-          ks _ hs _ c.loop-i.is_first w.if-is_first.false
-          (λ j. map key_of (w.numbers-is j).items)
-          refl
-          c.loop-i.invariant.1)
+      | then-is_first+in_ok-push w ↦ (
+        _,
+        row_of_next js c.requires.sessions rows c.requires.known c.loop-i.i _ c.loop-i-test.true c.get.result c.get.ensures.lookup c.goes_on-goes_on.result c.goes_on-goes_on.ensures
+            ks _ hs _ c.loop-i.is_first w.if-is_first.true
+            (ap (map key_of) ((λ j. (w.numbers-is j).items) ∙ w.in_ok-push.ensures.items) ∙ map-append key_of c.loop-i.numbers.items (w.with_session.result ∷ []) ∙ ap (λ k. ks ++ k ∷ []) w.with_session.ensures)
+            refl
+            c.loop-i.invariant.1,
+      )
+      | else-is_first w ↦ (
+        hs,
+        row_of_same js c.requires.sessions rows c.requires.known c.loop-i.i _ c.loop-i-test.true c.get.result c.get.ensures.lookup c.goes_on-goes_on.result c.goes_on-goes_on.ensures
+            ks _ hs _ c.loop-i.is_first w.if-is_first.false
+            (λ j. map key_of (w.numbers-is j).items)
+            refl
+            c.loop-i.invariant.1,
+      )
     ]
 
 pub returns : goal.returns

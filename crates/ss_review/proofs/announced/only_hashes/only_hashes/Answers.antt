@@ -15,18 +15,22 @@ loop-i-preserved c = λ js up known rise.
     let ks = told.0 in
     let hs = c.loop-i.hashes.items in
     elim c.if-is_first.branch [
-      | then-is_first+in_ok-push w ↦
-          (ks ++ (row_at js (get_or rows c.loop-i.i _)).key ∷ [], row_of_next js up rows known c.loop-i.i _ c.loop-i-test.true c.get.result c.get.ensures.lookup c.goes_on-goes_on.result c.goes_on-goes_on.ensures
-          ks _ hs _ c.loop-i.is_first w.if-is_first.true
-          refl
-          ((λ j. (w.hashes-is j).items) ∙ w.in_ok-push.ensures.items ∙ ap (λ h. hs ++ h ∷ []) w.only_hash.ensures)
-          told.1)
-      | else-is_first w ↦
-          (ks, row_of_same js up rows known c.loop-i.i _ c.loop-i-test.true c.get.result c.get.ensures.lookup c.goes_on-goes_on.result c.goes_on-goes_on.ensures
-          ks _ hs _ c.loop-i.is_first w.if-is_first.false
-          refl
-          (λ j. (w.hashes-is j).items)
-          told.1)
+      | then-is_first+in_ok-push w ↦ (
+        ks ++ (row_at js (get_or rows c.loop-i.i _)).key ∷ [],
+        row_of_next js up rows known c.loop-i.i _ c.loop-i-test.true c.get.result c.get.ensures.lookup c.goes_on-goes_on.result c.goes_on-goes_on.ensures
+            ks _ hs _ c.loop-i.is_first w.if-is_first.true
+            refl
+            ((λ j. (w.hashes-is j).items) ∙ w.in_ok-push.ensures.items ∙ ap (λ h. hs ++ h ∷ []) w.only_hash.ensures)
+            told.1,
+      )
+      | else-is_first w ↦ (
+        ks,
+        row_of_same js up rows known c.loop-i.i _ c.loop-i-test.true c.get.result c.get.ensures.lookup c.goes_on-goes_on.result c.goes_on-goes_on.ensures
+            ks _ hs _ c.loop-i.is_first w.if-is_first.false
+            refl
+            (λ j. (w.hashes-is j).items)
+            told.1,
+      )
     ]
 
 pub returns : goal.returns
