@@ -24,7 +24,7 @@ import tempfile
 from counters import counters_text
 from nights import Told, carried
 from pinned_logs import make
-from review_examples import A, B, C, C11, C9A, C9B, CX, H1, M1, M2, P1, S7, ZEROS, certificate, never, signature
+from review_examples import A, B, C, C11, C9A, C9B, CI, CX, H1, M1, M2, P1, S7, S7I, ZEROS, certificate, never, signature
 from review_model import Log, claimants, kept, questions, review
 from review_runs import answers_text, answers_to, extract_text, frame, is_clean, joined, question_lines, question_text, report_text
 from whole import status_of, whole_text
@@ -60,6 +60,7 @@ FORGED = b' SIGN="AQ=="'
 AGREES = certificate(index=4, fragment=P1[3:9], sign=FORGED)
 OTHER_VER = certificate(ver=b"0121")
 SHORT = certificate(total=20, fragment=P1[:20])
+LATER = signature(B, first=2, gbc=1)
 LISTED = ["ok h s - 1 0 0 1 0"]
 JOINED, DISPUTED = ["session h s - 1 joined", *LISTED], ["session h s - 1 disputed"]
 
@@ -121,8 +122,21 @@ EXAMPLES = [
      [*JOINED, "session h1 s - 1 untrusted", "refused 2", "refused 4", "end 5"]),
     ("a stranger's text", [M1, C, C11, S7, M2], OWN, [P1], [*JOINED, "unlisted 4", "refused 2", "end 5"]),
     ("a spoilt block", [M1, C, certificate(size=3), S7], OWN, [P1], [*JOINED, "spoilt 2 S8", "end 4"]),
+    ("a text that two sessions want, and the option isn't given", [C, C11, S7, CI, S7I, M1], OWN, [],
+     [*DISPUTED, "session i s - 1 joined", "ok i s - 1 0 0 1 5", "refused 0", "refused 1", "refused 2", "end 6"]),
+    ("a text that two sessions want", [C, C11, S7, CI, S7I, M1], OWN, [P1],
+     ["session h s - 1 joined", "ok h s - 1 0 0 1 5", "session i s - 1 joined", "gap i s - 1 0 0 1 lost", "refused 1", "end 6"]),
+    ("a later night", [C, LATER, M2], OWN, [P1],
+     ["session h s - 1 joined", "hole h s - 1 0 0 1 1", "ok h s - 1 0 0 2 2", "end 3"]),
+    ("a later night, and a stranger's copy of a block of the night before", [C, LATER, M2, S7], OWN, [P1],
+     ["session h s - 1 joined", "gap h s - 1 0 0 1 lost", "ok h s - 1 0 0 2 2", "end 4"]),
     ("only strangers", [M1, C11, certificate(fragment=P1, sign=FORGED), S7], OWN, [P1],
      [*DISPUTED, "unlisted 0", "refused 1", "refused 2", "refused 3", "end 4"]),
+]
+# name, messages, answers, known payloads, the places that are carried over
+CARRIED = [
+    ("a block that is left out of a session that is joined", [M1, C, C11, S7], OWN, [P1], [1]),
+    ("a block that is left out of a session that is disputed", [M1, C, C11, CL[0], S7], BOTH, [P1, P2], [0, 1, 2, 3, 4]),
 ]
 # name, messages, known payloads, which payload is asked about and how often
 QUESTIONS = [
@@ -146,6 +160,11 @@ def examples():
         log = Log(messages)
         trusted, valid = answers_to(log, answers, known)
         tell("the model of %s" % name, wanted, report_text(review(log, trusted, valid, known)))
+        cases.append((name, messages, trusted, valid, known))
+    for name, messages, answers, known, wanted in CARRIED:
+        log = Log(messages)
+        trusted, valid = answers_to(log, answers, known)
+        tell("what is carried over: %s" % name, wanted, sorted(carried(Told(log, (trusted, valid, known)))[0]))
         cases.append((name, messages, trusted, valid, known))
     for name, messages, known, wanted in QUESTIONS:
         said = []
