@@ -85,6 +85,9 @@ gives 'wraps, without the option' 0 "$(<"$wraps")" "${all[@]}" <"$wraps"
 gives 'unlisted originals' 1 '3 abd3 abc' --answers "$answers" --unlisted --unwrap < <(frame abd && frame "${wrap}abc" && cat -- "$log")
 gives 'listed messages that are no wraps' 0 "$both" --answers "$answers" --unwrap <"$log"
 gives 'originals as lines' 0 $'abc\nx\n' --place 0 --place 5 --unwrap --lines-out <"$wraps"
+gives 'a wrap of nothing, as it stands' 0 "${#wrap} $wrap" --place 0 --unwrap < <(frame "$wrap")
+run inspect --unwrap < <(frame "$wrap")
+expect 'a wrap of nothing, inspected' 0 $'wrapped-unparsed 0 M1 0\nend 1' ''
 gives 'originals from lines' 0 $'abc\nx\n' --lines --place 0 --place 1 --unwrap --lines-out < <(printf '%sabc\nx\n' "$wrap")
 
 # Of a log of 40 MB only the messages at the places are held: the kernel gives the program no address space past 16 MiB.
