@@ -409,6 +409,13 @@ count $session 0 0 3" ''
 printf '%s\n' "count $session 10000000000" >"$counters"
 rejected 'a block after the last one, at the end' 'ssign: O9' "${going[@]}"
 rejected 'a block after the last one, at a message' 'ssign: O9 0' --count 1 "${going[@]}"
+# of the two blocks that end the log the first one has a GBC and no seal: O9 comes before O6
+{ frame '<13>1 - - - - - - a'; frame '<14>1 - - - - - - b'; } >"$log"
+printf '%s\n' "count $session 9999999999" >"$counters"
+rejected 'of two blocks the second one is after the last one' 'ssign: O9' --groups pri "${going[@]}"
+run sign --groups one "${going[@]}" <"$log"
+expect 'sign: one block, which has no seal' 2 '' 'ssign: O6'
+printf '%s\n' "count $session 10000000000" >"$counters"
 run plan --ahead "${going[@]}" </dev/null
 expect 'spent counters are kept' 0 "count $session 10000000000" ''
 
