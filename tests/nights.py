@@ -383,6 +383,7 @@ BY_HAND = [
      ["joined"], ["listed", "unlisted", "refused"]),
     ("a settled number has another hash later", [[C, M1, ONE], [signature(B, gbc=1)]], ["hash"], ["listed", "gaps", "unlisted"]),
     ("a copy of a settled block, and an equal message", [[C, M1, ONE], [ONE, M1]], ["again"], ["unlisted"]),
+    ("a copy of a settled block, and an equal message a night later", [[C, M1, ONE], [ONE], [M1]], ["again"], ["unlisted"]),
     ("a lost number before a settled one with its hash", [[CI, M1, S7I], [C, ONE]], ["lost"], ["listed", "gaps"]),
     ("a lost number behind a settled one with its hash", [[C, M1, ONE], [CI, S7I]], [], []),
     ("two texts with one SHA-1", [[C, SHA1_TWINS[0], signature(h(SHA1_TWINS[0]))],
