@@ -10,6 +10,7 @@ Prints what is wrong with the pages in FOLDER, a line each. The status is then 1
     rows       each script and helper of tests/ has one row of a table in tests/README.md, and each row its file
     words      words that the glossary gives up stand nowhere but in its own column of them
     crates     each crate of crates.txt has its README, and is named in docs/ARCHITECTURE.md
+    promises   each promise of SECURITY.md names a script of tests/, and what it quotes after one stands in it or its helpers
 
 Blocks of code, which are indented by four spaces, are no text. A heading is found by the name that GitHub gives it.
 """
@@ -27,6 +28,11 @@ GIVEN_UP = ("want of memory", "says of", "is told as", "has it that")
 LINK = re.compile(r"\[[^\]]*\]\(([^()\s]*)\)")
 NAMED_HEADING = re.compile(r"`([\w./-]+\.md)`, \"([^\"]+)\"")
 PATH = re.compile(r"`([\w.*-]+(?:/[\w.*-]+)+\.[a-z]\w*)`(?: \(?of `(ss_?\w+)`)?")
+SECURITY = "SECURITY.md"
+# the headings of SECURITY.md below which each item is a promise
+PROMISES = ("What counts as a weakness", "What is promised", "Which keys are refused")
+# a script, and the check in it that a promise quotes
+SHOWN_BY = re.compile(r"`(tests/[\w-]+\.sh)`(?: \"([^\"]+)\")?")
 # words that stand for any name, and letters
 ANY_NAME = re.compile(r"\b(?:NAME|FUNCTION|COMMAND)\b|(?<=/)[a-z](?=[./])")
 # what a build makes
@@ -140,6 +146,33 @@ class Repository:
                     if word in without_code(line).lower():
                         yield f"{page}:{number}: \"{word}\""
 
+    def promises(self):
+        if not self.is_there(SECURITY):
+            return
+        heading = ""
+        for number, line in prose(self.at(SECURITY)):
+            heading = line.lstrip("# ") if line.startswith("#") else heading
+            if heading not in PROMISES or not line.startswith("- "):
+                continue
+            shown = SHOWN_BY.findall(line)
+            if not shown:
+                yield f"{SECURITY}:{number}: no test is named"
+            for script, check in shown:
+                if check not in self.checks_of(script):
+                    yield f"{SECURITY}:{number}: {script} has no \"{check}\""
+
+    def checks_of(self, script):
+        """The text of a script, and of the helpers that it and they name."""
+        texts, left, seen = [], [os.path.basename(script)], set()
+        while left:
+            name = left.pop()
+            if name in seen or not self.is_there("tests", name):
+                continue
+            seen.add(name)
+            texts.append(text_of(self.at("tests", name)))
+            left += re.findall(r"\w+\.py", texts[-1]) + [f"{it}.py" for it in re.findall(r"(?m)^(?:from|import) (\w+)", texts[-1])]
+        return "\n".join(texts)
+
     def crates_named(self):
         named = set(re.findall("`(\\w+)`", text_of(self.at("docs/ARCHITECTURE.md"))))
         for crate in self.crates:
@@ -158,7 +191,7 @@ def main(kind, folder):
         print("    there are no pages or no crates")
         return 1
     found = {"links": repository.links, "paths": repository.paths, "rows": repository.rows, "words": repository.words,
-             "crates": repository.crates_named}[kind]
+             "crates": repository.crates_named, "promises": repository.promises}[kind]
     faults = list(found())
     for fault in faults:
         print(f"    {fault}")

@@ -1,6 +1,6 @@
 #!/usr/bin/env bash
 # The pages, against what is there: links and headings, paths of the repository, the rows of tests/README.md, words that
-# the glossary gives up, and the crates. pages.py does it. Each kind of fault is planted in a small repository, and found.
+# the glossary gives up, the crates, and the tests that SECURITY.md names. pages.py does it. Each kind of fault is planted in a small repository, and found.
 # shellcheck source=tests/lib.sh disable=SC2016
 . "$(dirname -- "$0")/lib.sh"
 
@@ -9,7 +9,7 @@ faults() {
     local found
     found=$(python3 -B "$root/tests/pages.py" "$1" "$2" 2>&1) || printf '%s\n' "${found:-    pages.py failed}"
 }
-kinds=(links paths rows words crates)
+kinds=(links paths rows words crates promises)
 for kind in "${kinds[@]}"; do
     tell "the $kind of the pages" "$(faults "$kind" "$root")"
 done
@@ -34,7 +34,11 @@ S
     printf '# Tests\n\n| `a.sh`, `b.py` | tests |\n' >"$small/tests/README.md"
     printf '# a\n\nIts `src/one.rt`.\n' >"$small/crates/ss_a/README.md"
     printf '# Each crate\nss_a: itoa\n' >"$small/crates.txt"
-    touch -- "$small"/tests/{a.sh,b.py} "$small/crates/ss_a/src/one.rt"
+    printf '# Security\n\n- no promise\n\n## What is promised\n\n- It is so. Tests: `tests/a.sh`, `tests/a.sh` "it is", `tests/a.sh` "so".\n' \
+        >"$small/SECURITY.md"
+    echo "tell 'it is' # b.py" >"$small/tests/a.sh"
+    echo "tell('so')" >"$small/tests/b.py"
+    touch -- "$small/crates/ss_a/src/one.rt"
 }
 begin
 for kind in "${kinds[@]}"; do
@@ -88,6 +92,14 @@ mkdir -- "$small/crates/ss_b" && touch -- "$small/crates/ss_b/README.md"
 finds 'a crate that the architecture does not name' crates "docs/ARCHITECTURE.md doesn't name \`ss_b\`"
 mkdir -- "$small/crates/ss_b"
 finds 'a folder that is no crate' crates "crates.txt doesn't name crates/ss_b"
+echo '- It is not.' >>"$small/SECURITY.md"
+finds 'a promise without a test' promises 'SECURITY.md:8: no test is named'
+sed -i 's/"so"/"sos"/' "$small/SECURITY.md"
+finds 'a check that no script has' promises 'SECURITY.md:7: tests/a.sh has no "sos"'
+sed -i 's/ # b.py//' "$small/tests/a.sh"
+finds 'a check of another script'\''s helper' promises 'SECURITY.md:7: tests/a.sh has no "so"'
+echo '- It is. Tests: `tests/none.sh`.' >>"$small/SECURITY.md"
+finds 'a test that is not there' paths 'SECURITY.md:8: there is no tests/none.sh'
 echo '# nothing' >"$small/crates.txt"
 finds 'no crates at all' crates 'there are no pages or no crates'
 finish

@@ -231,4 +231,36 @@ for _ in 1 2 3 4; do
 done >sealed
 holds 'each signature has another r' test "$(cut -d ' ' -f 3 sealed | cut -c 1-40 | sort -u | wc -l)" = "$(wc -l <sealed)"
 
+# ---- the private key stands in nothing that is written, whatever comes of the run
+mkdir kept written
+"$keys_program" make kept >written/made 2>&1
+keep() {
+    keys "$@"
+    cat out err >>written/said
+}
+keep sign --key kept/private-key.pem --rsid 1 log
+{ frame 'no syslog' && cat log; } >odd
+keep sign --key kept/private-key.pem --rsid 1 --set-aside written/aside odd
+keep sign --key kept/private-key.pem --rsid 1 --ver 0111 log
+keep sign --key kept/private-key.pem --state written --new-session --host h log
+keep seal kept/private-key.pem --state written/sealed --new-state <wants
+keep seal kept/private-key.pem < <(echo nothing)
+keep answer kept/private-key.pem <wants
+keep verify --key kept/private-key.pem log
+cp kept/payload kept/public-key.pem written
+holds 'the private key stands in nothing that was written' python3 -B - "$root/tests" kept/private-key.pem written <<'P'
+import base64, pathlib, sys
+sys.path.insert(0, sys.argv[1])
+import dsa_model
+x = dsa_model.read_pair(sys.argv[2]).x
+octets = x.to_bytes((x.bit_length() + 7) // 8, "big")
+# in base64 the octets begin at one of three places of a group; what depends on the octets around them is cut off
+spelled = [base64.b64encode(b"\0" * at + octets)[4:-4] for at in range(3)]
+spelled += [octets, octets.hex().encode(), octets.hex().upper().encode(), b"%d" % x]
+def has_it(path):
+    return any(it in path.read_bytes().replace(b"\n", b"") for it in spelled)
+written = [it for it in pathlib.Path(sys.argv[3]).rglob("*") if it.is_file()]
+sys.exit(len(written) < 10 or any(map(has_it, written)) or not has_it(pathlib.Path(sys.argv[2])))
+P
+
 finish

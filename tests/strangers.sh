@@ -111,6 +111,24 @@ expect 'a payload of 99,999,999 octets and 20,000 blocks' 1 '' "$(long_said 6553
 ssign-keys: 0 of 1 payloads are trusted"
 rm -f asked
 
+# ---- a payload of another key: nothing is computed with its numbers
+holds 'only the numbers of a trusted key are computed with' python3 -B - "$root/tools" one/public-key.pem plain <<'P'
+import argparse, sys
+tools, key, asked = sys.argv[1:]
+sys.path.insert(0, tools)
+from ssign_keys import answer, keys, trust
+parser = argparse.ArgumentParser()
+answer.add_arguments(parser)
+given = trust.Trust.from_arguments(parser.parse_args([key]))
+used, check, fault = set(), keys.PublicKey.is_signature, keys.key_fault
+keys.PublicKey.is_signature = lambda self, *words: used.add(self.numbers) or check(self, *words)
+keys.key_fault = lambda *numbers: used.add(keys.Numbers(*numbers)) or fault(*numbers)
+with open(asked, "rb") as file:
+    held = list(answer.answers(file, given, 1))
+with open(key, "rb") as file:
+    sys.exit(not held or used != {it.numbers for it in keys.read_pem_keys(key, file.read())})
+P
+
 # ---- other programs: what they may take in all
 holds 'processes and seconds' make budget "$root/tools"
 if command -v openssl >/dev/null && make authority one/public-key.pem . 2>said; then
