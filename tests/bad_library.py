@@ -3,7 +3,8 @@
 
     bad_library.py HOW NTH WORD..    `ssign-keys WORD..`; the NTH signature is wrong, or none where NTH is 0. By HOW it is
                                      that of other octets (other), has another bit (flipped), its numbers in the other
-                                     order (swapped), no s (zero), or q added to s (order)
+                                     order (swapped), no s (zero), q added to s (order), r with an octet 0 in front that
+                                     DER has no room for (long), or an octet after it (rest)
 """
 from __future__ import annotations
 
@@ -15,6 +16,7 @@ sys.path.insert(0, os.path.join(os.path.dirname(os.path.abspath(__file__)), ".."
 
 from cryptography.hazmat.primitives.asymmetric import dsa  # noqa: E402
 from cryptography.hazmat.primitives.asymmetric.utils import decode_dss_signature, encode_dss_signature  # noqa: E402
+from dsa_model import integer, item  # noqa: E402
 from ssign_keys import cli, keys  # noqa: E402
 
 
@@ -34,8 +36,11 @@ class BadKey:
             return self._key.sign(octets, hashed)
         r, s = decode_dss_signature(self._key.sign(octets + b"x" if self._how == "other" else octets, hashed))
         q = self._key.parameters().parameter_numbers().q
-        numbers = {"other": (r, s), "flipped": (r, s ^ 1), "swapped": (s, r), "zero": (r, 0), "order": (r, s + q)}
-        return encode_dss_signature(*numbers[self._how])
+        if self._how == "long":
+            whole = integer(r)
+            return item(0x30, item(2, b"\0" + whole[2:]) + integer(s))
+        numbers = {"other": (r, s), "flipped": (r, s ^ 1), "swapped": (s, r), "zero": (r, 0), "order": (r, s + q), "rest": (r, s)}
+        return encode_dss_signature(*numbers[self._how]) + b"\0" * (self._how == "rest")
 
 
 def main(how: str, nth: str, *words: str) -> int:

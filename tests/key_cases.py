@@ -210,10 +210,10 @@ def signature(pair: Pair, octets: bytes, version: str) -> bytes:
 def wrong_signatures(pair: Pair, longer: Pair) -> Iterator[Case]:
     """Signatures that are right, and ones that are wrong in one thing."""
     octets, octets_256 = block("0111", "a"), block("0121", "b")
-    # counts of bits that are too small are tried where they ask for as many octets
+    # counts of bits that are too small are tried where they ask for as many octets; 160 is another count than is needed
     while True:
         r, s = dsa_model.sign(pair, octets, b"0111")
-        if r.bit_length() % 8 != 1 and s.bit_length() % 8 != 1:
+        if all(153 < it.bit_length() < 160 for it in (r, s)):
             break
     key = pair.key
     payload = base(b"- K " + base(dsa_model.blob(key)).encode())
@@ -228,8 +228,14 @@ def wrong_signatures(pair: Pair, longer: Pair) -> Iterator[Case]:
     yield case("yes", "a signature over SHA-1", octets, good)
     yield case("yes", "a signature over SHA-256, cut to 160 bits", octets_256, of_256)
     more = [160 - it.bit_length() for it in (r, s)]
+    # as the two blocks that RFC 5848 shows; each other count of bits is refused
     yield case("yes", "numbers that are said to have 160 bits", octets, spell(r, more[0]) + spell(s, more[1]))
-    yield case("yes", "a number with an octet 0 in front", octets, spell(r, 8) + spell(s))
+    yield case("no", "r is said to have 160 bits, and s isn't", octets, spell(r, more[0]) + spell(s))
+    for what, too_many in (("a bit more than 160", more[0] + 1), ("160 bits and an octet 0 in front", more[0] + 8),
+                           ("an octet 0 in front", 8), ("40 octets 0 in front", 320)):
+        yield case("no", f"r is said to have {what}", octets, spell(r, too_many) + spell(s))
+        yield case("no", f"r is said to have {what}, and s 160 bits", octets, spell(r, too_many) + spell(s, more[1]))
+    yield case("no", "s is said to have an octet 0 in front", octets, spell(r) + spell(s, 8))
     yield case("no", "the signature of another block", octets, of_256)
     yield case("no", "the signature of another block, over the other hash", octets_256, good)
     yield case("no", "other octets", octets.replace(b'RSID="1"', b'RSID="2"'), good)
@@ -237,6 +243,9 @@ def wrong_signatures(pair: Pair, longer: Pair) -> Iterator[Case]:
     yield case("no", "another version", octets.replace(b'VER="0111"', b'VER="0121"'), good)
     yield case("no", "the two numbers in the other order", octets, spell(s) + spell(r))
     yield case("no", "the spelling of openssl", octets, der)
+    yield case("no", "the spelling of openssl, with an octet 0 in front of r", octets,
+               dsa_model.item(0x30, dsa_model.item(2, b"\0\0" + r.to_bytes(20, "big")) + dsa_model.integer(s)))
+    yield case("no", "the spelling of openssl, and an octet after it", octets, der + b"\0")
     for number, text in enumerate((b"\0", b"\0\0", b"\0\0\0", b"\0\0\0\0")):
         yield case("no", f"{number + 1} octets 0", octets, text)
     yield case("no", "one number", octets, short_r)

@@ -166,7 +166,7 @@ expect 'but with one of several' 0 "$(<questions)" ''
 
 # What is wrong in one thing
 cases wrong one/private-key.pem other/private-key.pem long/private-key.pem >rows
-holds 'cases that hold and cases that do not' test "$(grep -c '^yes' rows).$(grep -c '^no' rows)" = "13.80"
+holds 'cases that hold and cases that do not' test "$(grep -c '^yes' rows).$(grep -c '^no' rows)" = "12.92"
 judge 'numbers' one/public-key.pem long/public-key.pem
 cp hidden-cases rows
 judge 'hidden' one/public-key.pem

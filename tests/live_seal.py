@@ -28,7 +28,7 @@ import live_runs
 from live_disks import message
 from live_runs import KEYS, ROOT, Process, differ, framed, signer, tell
 
-from ssign_keys import keys, seal, seal_each, sealed_payloads
+from ssign_keys import keys, live_loop, live_outside, seal, seal_each, sealed_payloads
 from ssign_keys.written import read_written
 
 GBC = re.compile(rb'RSID="([0-9]+)".* GBC="([0-9]+)" FMN="([0-9]+)" CNT="([0-9]+)"')
@@ -366,11 +366,85 @@ def cut_answers():
              differ("cuts that weren't tried", left, ""), *it.clean(wanted), "refused" if "was signed already" in run.said else "")
 
 
+# ---- a seal command that spells a signature otherwise; the right ones are those of dsa_model.py, by arithmetic
+ANSWERS = """import base64, os, sys
+sys.path.insert(0, {tests!r})
+import dsa_model
+from dsa_model import integer, item, spell
+pair = dsa_model.read_pair({key!r})
+q = pair.key.q
+for line in sys.stdin.buffer:
+    octets = base64.b64decode(line.split()[1])
+    while True:
+        r, s = dsa_model.sign(pair, octets, b"0121")
+        # so 256 is another count of bits than is needed
+        if r.bit_length() < 256 and s.bit_length() < 256:
+            break
+    full = [256 - it.bit_length() for it in (r, s)]
+    with open({how!r}) as file:
+        made = eval(file.read())
+    print("seal", line.split()[1].decode(), base64.b64encode(made).decode(), flush=True)
+"""
+SPELLED, RANGE = "isn't spelled as two numbers, each with the count of bits that it needs", "has a number that isn't between 0 and q"
+SPELLINGS = (
+    ("r with 40 octets 0 in front", "spell(r, 320) + spell(s)", SPELLED), ("r with an octet 0 in front", "spell(r, 8) + spell(s)", SPELLED),
+    ("one count that is that of q", "spell(r, full[0]) + spell(s)", SPELLED), ("s of 0", "spell(r) + spell(0)", RANGE),
+    ("r of 0", "spell(0) + spell(s)", RANGE), ("r of q", "spell(q) + spell(s)", RANGE), ("the sum of r and q", "spell(r + q) + spell(s)", ""),
+    ("a count of bits that is too small", "(r.bit_length() - 1).to_bytes(2, 'big') + spell(r)[2:] + spell(s)", SPELLED),
+    ("an octet after s", "spell(r) + spell(s) + bytes(1)", SPELLED), ("a third number", "spell(r) + spell(s) + spell(1)", SPELLED),
+    ("DER", "item(0x30, integer(r) + integer(s))", SPELLED),
+    ("DER with an octet 0 too many", "item(0x30, item(2, bytes(2) + spell(r)[2:]) + integer(s))", SPELLED),
+    ("DER and an octet", "item(0x30, integer(r) + integer(s)) + bytes(1)", SPELLED),
+    ("the numbers in the other order", "spell(s) + spell(r)", "isn't valid under the public key"),
+)
+
+
+def spellings():
+    """What verify doesn't take as a signature, `live` doesn't store: it says so at once, and asks again."""
+    with signer("--seconds=0.05") as it:
+        how, command = it.path("how"), it.path("sealer")
+
+        def spell(text):
+            with open(how + ".new", "w", encoding="ascii") as file:
+                file.write(text)
+            os.replace(how + ".new", how)
+
+        with open(command + ".py", "w", encoding="utf-8") as file:
+            file.write(ANSWERS.format(tests=os.path.join(ROOT, "tests"), key=f"{KEYS}/private-key.pem", how=how))
+        it.key = [f"--seal-command={shlex.join([sys.executable, '-B', command + '.py'])}", f"--public={KEYS}/public-key.pem"]
+        good = "spell(r) + spell(s)"
+        def before():
+            live_loop.FIRST_PAUSE = live_loop.LONGEST_PAUSE = 0.2
+            live_outside.STATUS_PAUSE = 0.02
+
+        spell(good)
+        process = it.start(before=before)
+        count, started = 0, it.wait_for(lambda status: status["running"])
+        for what, text, words in SPELLINGS:
+            stored = it.stored()
+            spell(text)
+            process.say(framed([message(count)]))
+            count += 1
+            faults = [started, it.wait_for(lambda status: status["failing"])]
+            failing = it.status()["failing"] or ""
+            there = [each for each in it.stored()[len(stored):] if b"[ssign" in each]
+            spell(good)
+            faults.append(it.wait_for(lambda status, count=count: status["signed"] == count and not status["pending"]))
+            tell(f"a sealer that gives {what}", *faults, differ("blocks that were stored", there, []),
+                 "" if f" gave a signature that {words}" in failing else f"it says {failing!r}")
+        spell("spell(r, full[0]) + spell(s, full[1])")
+        process.say(framed([message(count)]))
+        fault = it.wait_for(lambda status: status["signed"] == count + 1 and not status["pending"])
+        tell("a sealer that gives counts as the blocks of RFC 5848 have them", fault, differ("status", process.end(), 0), *it.clean(
+            [message(n) for n in range(count + 1)]),
+             "" if SPELLED in process.said and process.said.endswith(" (L5)\n") else f"standard error has {process.said!r}")
+
+
 def main():
     """Makes all checks."""
     keys.key_fault = functools.lru_cache(keys.key_fault)
     keys.read_private_key(f"{KEYS}/private-key.pem")
-    for it in (beginnings, together, locked, races, breaks, sizes, names, payloads, kills, full, cut_answers):
+    for it in (beginnings, together, locked, races, breaks, sizes, names, payloads, kills, full, cut_answers, spellings):
         if not sys.argv[3:] or it.__name__ in sys.argv[3:]:
             it()
     print(f"live_seal: {live_runs.passed} passed, {live_runs.failed} failed")

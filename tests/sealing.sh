@@ -214,7 +214,7 @@ stand_in other 0 sign --key long/private-key.pem --rsid 1 log
 expect 'a stand-in that makes no wrong signature' 0 'SOME TEXT' ''
 bad="cryptography made a signature that isn't valid here, so nothing is signed"
 stand_ins=0
-for how in other flipped swapped zero order; do
+for how in other flipped swapped zero order long rest; do
     for nth in 1 3; do
         stand_ins=$((stand_ins + 1))
         stand_in "$how" "$nth" sign --key long/private-key.pem --rsid 1 log

@@ -11,11 +11,10 @@ from .encoding import decode, is_base64
 from .faults import Fault
 from .identity import Finding
 from .schemes import VERSIONS
+from .signatures import LONGEST_TEXT
 from .trust import Trust
 
 TOO_LONG = Finding(None, "its payload is longer than --max-payload allows")
-# The longest text of a signature of DSA: two numbers of 256 bits, each with its count.
-LONGEST_SIGNATURE = 92
 
 
 class Question(NamedTuple):
@@ -137,7 +136,7 @@ def check_block(trust: Trust, question: Question, payload: Optional[bytes]) -> O
     text, _, spelled = question.rest.partition(b" ")
     # each text is decoded once, but one that isn't looked at, or is too long, isn't held
     octets = decode(text) if payload else None
-    signature = decode(spelled) if payload and len(spelled) <= LONGEST_SIGNATURE else None
+    signature = decode(spelled) if payload and len(spelled) <= LONGEST_TEXT else None
     if not (octets or is_base64(text)) or not (signature or is_base64(spelled)):
         raise Fault(no_question(question.line_number))
     if not payload or not octets:

@@ -13,7 +13,7 @@ MOST_LENGTH = 4
 
 
 class Bad(ValueError):
-    """Octets aren't DER of the form that is wanted. The text is a part of a sentence."""
+    """Octets aren't of the form that is wanted. The text is a part of a sentence."""
 
 
 class Item(NamedTuple):

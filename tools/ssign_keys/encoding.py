@@ -33,7 +33,7 @@ def is_base64(text: bytes) -> bool:
 def read_numbers(octets: bytes) -> Optional[List[int]]:
     """The numbers that octets spell (RFC 4880, section 3.2), or None where they spell none to their end.
 
-    A count of bits may be greater than the number needs, as it is in the examples of RFC 5848, which always say 160.
+    A count of bits may be greater than the number needs.
     """
     numbers = []
     place = 0
@@ -56,7 +56,7 @@ def read_exact_numbers(octets: bytes) -> Optional[List[int]]:
     return numbers if numbers is not None and spell_numbers(numbers) == octets else None
 
 
-def spell_numbers(numbers: Sequence[int]) -> bytes:
-    """The octets of these numbers (RFC 4880, section 3.2)."""
-    return b"".join(number.bit_length().to_bytes(2, "big") + number.to_bytes((number.bit_length() + 7) // 8, "big")
-                    for number in numbers)
+def spell_numbers(numbers: Sequence[int], bits: int = 0) -> bytes:
+    """The octets of these numbers (RFC 4880, section 3.2). Where `bits` is given, each count is at least that."""
+    counts = [max(number.bit_length(), bits) for number in numbers]
+    return b"".join(count.to_bytes(2, "big") + number.to_bytes((count + 7) // 8, "big") for number, count in zip(numbers, counts))

@@ -4,7 +4,7 @@ from __future__ import annotations
 import hashlib
 from typing import Any, List, NamedTuple, Optional, Tuple
 
-from .encoding import read_numbers, spell_numbers
+from .der import Bad
 from .faults import Fault
 from .files import pem_parts, read_file
 
@@ -12,13 +12,13 @@ try:
     from cryptography.exceptions import InvalidSignature, UnsupportedAlgorithm
     from cryptography.hazmat.primitives import hashes, serialization
     from cryptography.hazmat.primitives.asymmetric import dsa
-    from cryptography.hazmat.primitives.asymmetric.utils import decode_dss_signature, encode_dss_signature
 except ImportError as missing:
     raise Fault("the Python module cryptography is missing; on Debian and Ubuntu "
                 "`apt-get install python3-cryptography` installs it") from missing
 from .domain import key_fault
 from .kinds import algorithm_of, what_is
 from .schemes import SCHEMES, SHA1, SHA256, USUAL
+from .signatures import read_der, read_sign, spell_der, spell_sign
 
 # The hash of each scheme, as the library has it.
 HASHES = {SHA1.ver: hashes.SHA1, SHA256.ver: hashes.SHA256}
@@ -60,20 +60,23 @@ class PublicKey:
 
     def is_signature(self, octets: bytes, version: bytes, signature: bytes) -> bool:
         """Whether the value of SIGN is this key's signature of the octets, by the hash that VER names."""
+        return self.signature_fault(octets, version, signature) is None
+
+    def signature_fault(self, octets: bytes, version: bytes, signature: bytes) -> Optional[str]:
+        """Why the value of SIGN isn't this key's signature of the octets, as the end of a sentence; None where it is."""
         q = self.numbers.q
         hashed = HASHES[version]
         if q.bit_length() > SCHEMES[version].hash_bits:
-            return False
-        numbers = read_numbers(signature)
-        if numbers is None or len(numbers) != 2 or not all(0 < number < q for number in numbers):
-            return False
+            return "is over a hash that is shorter than the number q of the key"
         try:
-            self._key.verify(encode_dss_signature(numbers[0], numbers[1]), octets, hashed())
+            self._key.verify(spell_der(read_sign(signature, q)), octets, hashed())
+        except Bad as fault:
+            return str(fault)
         except InvalidSignature:
-            return False
+            return "isn't valid under the public key"
         except UnsupportedAlgorithm as fault:
             raise Fault(f"cryptography checks no signature with {hashed.name} here: {fault}") from fault
-        return True
+        return None
 
 
 def library_key(numbers: Numbers) -> dsa.DSAPublicKey:
@@ -144,8 +147,12 @@ class PrivateKey:
             spelled = self._key.sign(octets, hashed())
         except UnsupportedAlgorithm as fault:
             raise Fault(f"cryptography doesn't sign with {hashed.name} here: {fault}") from fault
-        signature = spell_numbers(decode_dss_signature(spelled))
-        if not self.public.is_signature(octets, version, signature):
+        try:
+            signature = spell_sign(read_der(spelled, self.public.numbers.q))
+            is_right = self.public.is_signature(octets, version, signature)
+        except Bad:
+            is_right = False
+        if not is_right:
             raise Fault("cryptography made a signature that isn't valid here, so nothing is signed")
         return signature
 

@@ -188,8 +188,9 @@ class CommandSealer:
         block = None if text is None else read_written(text)
         if word != b"seal" or octets != want or made is None or text is None or block is None:
             raise self._failed("answered something else than the `seal` line of what it was asked")
-        if not self.public.is_signature(text, block.version, made):
-            raise self._failed("gave a signature that isn't valid under the public key")
+        fault = self.public.signature_fault(text, block.version, made)
+        if fault is not None:
+            raise self._failed(f"gave a signature that {fault}")
         self._signatures.append(base64.b64encode(made))
 
     def _ending(self) -> str:
