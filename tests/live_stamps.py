@@ -118,7 +118,7 @@ def right(services):
             verdict = run.answers.read(1 << 20).decode()
             tell(f"the time stamp {at + 1}", differ("openssl", by.returncode, 0), differ("the time", when, there.decode().strip()),
                  differ("of", of, hashlib.sha256(octets_of(counters)).hexdigest()), differ("verify", run.end(), 0), run.said,
-                 "" if f"These counters existed at {when}, by the time stamp of CN=trial TSA" in verdict else verdict[-400:])
+                 "" if f"These counters existed at {when}, within 1 second, by the time stamp of CN=trial TSA" in verdict else verdict[-400:])
         # two times for each number: the first stamp whose counters go past it, and the last one that is numbered before it
         numbers = [int(octets_of(os.path.join(state, each[1][:-len(".tsr")])).split()[-1]) for each in said]
         # 4 messages; then a message about the stamp before, and 4 more
@@ -142,6 +142,8 @@ def wrong(services):
     replay = f"cat > {shlex.quote(old)}.query; cat {shlex.quote(old)}"
     for what, command, words in (("fails", "exit 3", "--stamp-command ended with the status 3"), ("says nothing", ":", "it is empty"),
                                  ("answers another file", replay, "(T1)"), ("is another's", services.command("good", "other"), "(T2)"),
+                                 ("is fast", services.command("early"), "(T4)"), ("is vague", services.command("vague"), "(T4)"),
+                                 ("has a critical extension", services.command("critical"), "(T3)"),
                                  ("writes without end", "yes", "more than"), ("writes errors without end", "yes >&2", "no whole answer")):
         with signer(*OPTIONS, "--tsa-seconds=3") as it:
             switch = it.path("switch")

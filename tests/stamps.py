@@ -41,7 +41,7 @@ certs = ca.pem
 signer_digest = sha256
 default_policy = 1.2.3.4.1
 digests = {digests}
-accuracy = secs:1
+accuracy = {accuracy}
 ordering = yes
 ess_cert_id_alg = sha256
 """
@@ -58,6 +58,9 @@ keyUsage = critical,digitalSignature
 subjectAltName = IP:127.0.0.1
 keyUsage = critical,digitalSignature
 """
+# the file of the configuration of openssl's own service, with what differs: the hashes that it takes, and how exact its time is
+CONFIGS = {"sha256": ("sha256", "secs:1"), "sha512": ("sha512", "secs:1"), "exact": ("sha256", "secs:0, millisecs:2, microsecs:50"),
+           "vague": ("sha256", "secs:2147483647")}
 SHA1, SHA256, SHA512 = "06052b0e03021a", "0609608648016503040201", "0609608648016503040203"
 
 
@@ -74,9 +77,9 @@ def make(folder: str, name: str, digest: str = "sha256") -> None:
     os.makedirs(there)
     with open(os.path.join(there, "req.cnf"), "w", encoding="ascii") as file:
         file.write(CERTIFICATES)
-    for digests in ("sha256", "sha512"):
-        with open(os.path.join(there, f"{digests}.cnf"), "w", encoding="ascii") as file:
-            file.write(CONFIG.format(digests=digests))
+    for config, (digests, accuracy) in CONFIGS.items():
+        with open(os.path.join(there, f"{config}.cnf"), "w", encoding="ascii") as file:
+            file.write(CONFIG.format(digests=digests, accuracy=accuracy))
     openssl("req", "-x509", "-newkey", "rsa:2048", "-nodes", "-keyout", "ca.key", "-out", "ca.pem", "-days", "3650", "-subj",
             f"/CN={name} CA", "-config", "req.cnf", "-extensions", "ca", folder=there)
     for of, subject, by, kind in (("tsa", f"/O=Trial/CN={name} TSA", "ca", "tsa"), ("server", f"/CN={name} server", "ca", "server"),
@@ -137,14 +140,14 @@ def twin(folder: str, issuer: str, path: str) -> None:
 
 # ---- what a service answers
 
-def reply(folder: str, query: bytes, digests: str = "sha256") -> bytes:
+def reply(folder: str, query: bytes, config: str = "sha256") -> bytes:
     """The answer of openssl's own service. It counts in the folder, so each call has one to itself."""
     with tempfile.TemporaryDirectory() as passing:
         there = os.path.join(passing, "tsa")
         shutil.copytree(folder, there)
         with open(os.path.join(there, "query"), "wb") as file:
             file.write(query)
-        done = subprocess.run(["openssl", "ts", "-reply", "-config", f"{digests}.cnf", "-queryfile", "query"], cwd=there,
+        done = subprocess.run(["openssl", "ts", "-reply", "-config", f"{config}.cnf", "-queryfile", "query"], cwd=there,
                               stdout=subprocess.PIPE, stderr=subprocess.DEVNULL)
         return done.stdout
 
@@ -188,6 +191,33 @@ def imprint_of(query: bytes) -> str:
     return values(values(fields)[1][1])[1][1].hex()
 
 
+def accuracy(seconds: int = -1, *more: bytes) -> bytes:
+    """An accuracy (Accuracy of RFC 3161, section 2.4.2)."""
+    return value(0x30, *([] if seconds < 0 else [number(seconds)]), *more)
+
+
+def extension(critical: str = "", name: str = "06082b06010505070103") -> bytes:
+    """An extension (RFC 5280, section 4.1)."""
+    return value(0x30, bytes.fromhex(name), bytes.fromhex(critical), value(4, b"\5\0"))
+
+
+# what may follow the time of a stamp, and what may not (TSTInfo of RFC 3161, section 2.4.2)
+AFTER: Dict[str, List[bytes]] = {
+    "all": [accuracy(1, value(0x80, b"\2"), value(0x81, b"\3")), b"\1\1\xff", number(5), value(0xA1, extension())],
+    "day": [accuracy(86400)], "more": [accuracy(86400, value(0x81, b"\1"))], "century": [accuracy(3155760000)],
+    "long": [accuracy(256 ** 4000)], "none": [accuracy()], "negative": [value(0x30, b"\2\1\xff")],
+    "millis": [accuracy(-1, value(0x80, b"\1\xf4"))],
+    "millis-0": [accuracy(1, value(0x80, b"\0"))], "millis-1000": [accuracy(1, value(0x80, b"\3\xe8"))],
+    "micros-1000": [accuracy(1, value(0x81, b"\3\xe8"))], "micros-first": [accuracy(1, value(0x81, b"\1"), value(0x80, b"\1"))],
+    "not-ordered": [b"\1\1\0"], "ordered-first": [b"\1\1\xff", accuracy(1)], "accuracy-twice": [accuracy(1), accuracy(1)],
+    "unknown": [value(0xA2, number(1))],
+    "other-name": [value(0xA0, value(0xA4, value(0x30, value(0x31, value(0x30, bytes.fromhex("0603550403"), value(12, b"else"))))))],
+    "critical": [value(0xA1, extension("0101ff"))], "critical-second": [value(0xA1, extension(), extension("0101ff", "06022a03"))],
+    "plain": [value(0xA1, extension())], "twice": [value(0xA1, extension(), extension())], "empty": [value(0xA1)],
+    "not-critical": [value(0xA1, extension("010100"))],
+}
+
+
 def token(folder: str, sha256: str, given: Dict[str, str]) -> bytes:
     """An answer that is put together here, and signed by `openssl cms`."""
     algorithm = {"sha1": SHA1, "sha512": SHA512}.get(given.get("imprint", ""), SHA256)
@@ -195,8 +225,10 @@ def token(folder: str, sha256: str, given: Dict[str, str]) -> bytes:
     fields = [number(int(given.get("version", "1"))), bytes.fromhex("06042a030401"),
               value(48, value(48, bytes.fromhex(algorithm), bytes.fromhex("0500")), value(4, bytes.fromhex(sha256))),
               number(7), value(24, when.encode())]
-    if "nonce" in given:
-        fields.append(number(int(given["nonce"])))
+    more = AFTER.get(given.get("after", ""), [])
+    nonce = [number(int(given["nonce"]))] if "nonce" in given else []
+    # an extension stands after the number of the request
+    fields += [*nonce, *more] if more and more[0][0] > 0x30 else [*more, *nonce]
     signer = given.get("signer", "tsa")
     words = ["cms", "-sign", "-binary", "-nodetach", "-econtent_type", given.get("type", "1.2.840.113549.1.9.16.1.4"), "-md",
              given.get("md", "sha256"), "-signer", f"{signer}.pem", "-inkey", f"{signer}.key", "-outform", "DER"]
@@ -224,19 +256,28 @@ def sha512(folder: str, query: bytes) -> bytes:
     return token(folder, imprint_of(query) * 2, {"imprint": "sha512", "nonce": str(nonce_of(query))})
 
 
-def old(folder: str, query: bytes) -> bytes:
-    """A right answer of a clock that is two hours late."""
-    when = datetime.now(timezone.utc) - timedelta(hours=2)
-    return token(folder, imprint_of(query), {"time": when.strftime("%Y%m%d%H%M%SZ"), "nonce": str(nonce_of(query))})
+def put_together(folder: str, query: bytes, **given: str) -> bytes:
+    """An answer that is put together here, with the number of the request."""
+    return token(folder, imprint_of(query), {"nonce": str(nonce_of(query)), **given})
+
+
+def minutes_on(minutes: int) -> str:
+    """The time so many minutes from now."""
+    return (datetime.now(timezone.utc) + timedelta(minutes=minutes)).strftime("%Y%m%d%H%M%SZ")
 
 
 ANSWERS: Dict[str, Callable[[str, bytes], bytes]] = {
     "good": reply,
-    "made": lambda folder, query: token(folder, imprint_of(query), {"nonce": str(nonce_of(query))}),
+    "made": put_together,
     "nonce": other_nonce,
     "no-nonce": lambda folder, query: token(folder, imprint_of(query), {}),
     "sha512": sha512,
-    "old": old,
+    "old": lambda folder, query: put_together(folder, query, time=minutes_on(-120)),
+    "early": lambda folder, query: put_together(folder, query, time=minutes_on(8)),
+    "soon": lambda folder, query: put_together(folder, query, time=minutes_on(3)),
+    "vague": lambda folder, query: reply(folder, query, "vague"),
+    "exact": lambda folder, query: reply(folder, query, "exact"),
+    "critical": lambda folder, query: put_together(folder, query, after="critical"),
     "rejected": lambda folder, query: reply(folder, query, "sha512"),
     "cut": lambda folder, query: reply(folder, query)[:-1],
     "empty": lambda folder, query: b"",
@@ -380,7 +421,7 @@ def flips(tools: str, authority: str, path: str, stamp: str) -> None:
             except Fault as fault:
                 refused += 1
                 code = str(fault)[-4:]
-                assert code in ("(T1)", "(T2)", "(T3)"), fault
+                assert code in ("(T1)", "(T2)", "(T3)", "(T4)"), fault
                 assert str(fault).isprintable(), fault
                 codes[code] = codes.get(code, 0) + 1
                 continue

@@ -73,7 +73,7 @@ holds 'a stamp by a command: status' test "$status" = 0
 holds 'a stamp by a command: openssl finds it valid' openssl ts -verify -data counters -in counters.tsr -CAfile trial/ca.pem
 # the time as openssl prints it
 when=$(date -u -d "$(openssl ts -reply -in counters.tsr -text 2>openssl.log | sed -n 's/^Time stamp: //p')" +%Y-%m-%dT%H:%M:%SZ)
-sentence="existed at $when, by the time stamp of CN=trial TSA,O=Trial."
+sentence="existed at $when, within 1 second, by the time stamp of CN=trial TSA,O=Trial."
 holds 'a stamp by a command: what is printed' test "$(<out)" = "counters $sentence"
 holds 'a stamp by a command: nothing is left' test -z "$(find . -name '.ssign-keys-*')"
 
@@ -84,7 +84,7 @@ holds 'verify: status' test "$status" = 0
 holds 'verify: the verdict' test "$(tail -n 1 out)" = "Verdict: $clean These counters $sentence"
 holds 'verify: nothing else is said' test ! -s err
 keys "${verify[@]}" "${stamped[@]}" --details signed
-holds 'verify: what was checked' grep -qFx "  time stamp: counters.tsr, $(printf "%'d" "$(stat -c %s counters.tsr)" | sed 's/^\([0-9]\)\([0-9]\{3\}\)$/\1,\2/') octets, SHA-256 $(sha256sum <counters.tsr | cut -d ' ' -f 1); of the counters, at $when, by CN=trial TSA,O=Trial; serial number $(openssl ts -reply -in counters.tsr -text 2>openssl.log | sed -n 's/^Serial number: 0x//p'), policy 1.2.3.4.1" out
+holds 'verify: what was checked' grep -qFx "  time stamp: counters.tsr, $(printf "%'d" "$(stat -c %s counters.tsr)" | sed 's/^\([0-9]\)\([0-9]\{3\}\)$/\1,\2/') octets, SHA-256 $(sha256sum <counters.tsr | cut -d ' ' -f 1); of the counters, at $when, within 1 second, by CN=trial TSA,O=Trial; serial number $(openssl ts -reply -in counters.tsr -text 2>openssl.log | sed -n 's/^Serial number: 0x//p'), policy 1.2.3.4.1" out
 holds 'verify: the authority' grep -q '^  key: --tsa-ca trial/ca.pem; certificate CN=trial CA, serial number ' out
 keys "${verify[@]}" "${stamped[@]}" --raw signed
 holds 'verify --raw: the report alone' cmp out <("$program" review --counters counters --answers "$root/examples/signed/signed.answers" <signed)
@@ -93,6 +93,7 @@ keys "${verify[@]}" "${stamped[@]}" --json --html page.html signed
 cp out page.json
 wanted="{\"name\":\"counters.tsr\",\"size\":$(stat -c %s counters.tsr),\"sha256\":\"$(sha256sum <counters.tsr | cut -d ' ' -f 1)\",\"of\":\"counters\",\"time\":\"$when\""
 holds 'verify --json: what was checked' grep -qF "\"stamps\":[$wanted" page.json
+holds 'verify --json: the accuracy' grep -qF '},"accuracy":"1"}]' page.json
 holds 'verify --json: the certificate' grep -qF "\"fingerprint\":\"$(openssl x509 -in trial/tsa.pem -outform DER | sha256sum | cut -d ' ' -f 1)\"" page.json
 holds 'verify --html: the form of the page' python3 -B "$root/tests/page_text.py" form page.html
 holds 'verify --html: the page is what the JSON says' python3 -B "$root/tests/page_text.py" same page.json page.html
@@ -186,6 +187,40 @@ wrong 'a time with a zone' '(T3)' time=20260101000000+0100
 wrong 'a time before 1970' 'its time is before 1970 (T3)' time=19691231235959Z
 wrong 'a time before the certificates' 'openssl says: certificate is not yet valid (T2)' time=20200101000000Z
 wrong 'a time after the certificates' 'openssl says: certificate has expired (T2)' time=20990101000000Z
+# ---- the time that a stamp claims, and how exactly
+in_years=$(($(date -u +%Y) + 5))-06-01T00:00:00Z
+wrong 'a time in the future' "the time stamp made.tsr doesn't show when: its time is $in_years, and the clock of this machine says $(date -u +%Y-)" time="${in_years//[-:T]/}"
+wrong 'a time in the future: code' ': one of the two is wrong (T4)' time="$(date -u -d '+6 minutes' +%Y%m%d%H%M%SZ)"
+trusts 'a time that is a little late' trial/ca.pem time="$(date -u -d '+4 minutes' +%Y%m%d%H%M%SZ)"
+for each in more century long; do
+    wrong "an accuracy of more than a day: $each" "the time stamp made.tsr doesn't show when: its accuracy is worse than one day (T4)" after="$each"
+done
+# exactly WHAT SECONDS: the last verdict has this accuracy.
+exactly() {
+    holds "$1: the verdict" grep -q "These counters existed at [0-9T:-]*Z, within $2, by the time stamp of CN=trial TSA" <(tail -n 1 out)
+}
+trusts 'an accuracy of a day' trial/ca.pem after=day
+exactly 'an accuracy of a day' '86400 seconds'
+trusts 'an accuracy in thousandths' trial/ca.pem after=millis
+exactly 'an accuracy in thousandths' '0.5 seconds'
+trusts 'all that may follow the time' trial/ca.pem after=all
+exactly 'all that may follow the time' '1.002003 seconds'
+trusts 'an accuracy without a part' trial/ca.pem after=none
+for each in negative millis-0 millis-1000 micros-1000; do
+    wrong "an accuracy that is none: $each" 'a part of the accuracy is out of its range (T3)' after="$each"
+done
+wrong 'an accuracy in another order' "the accuracy has a part that isn't known, or not in its place (T3)" after=micros-first
+for each in ordered-first accuracy-twice unknown; do
+    wrong "a part in the wrong place: $each" "the time stamp has a part that isn't known, or not in its place (T3)" after="$each"
+done
+wrong 'an ordering of FALSE' "isn't TRUE, and DER leaves out FALSE (T3)" after=not-ordered
+wrong 'a critical extension' "it has the critical extension 1.3.6.1.5.5.7.1.3, which isn't known here (T3)" after=critical
+wrong 'a critical extension after another one' "it has the critical extension 1.2.3, which isn't known here (T3)" after=critical-second
+wrong 'an extension that is not critical, in other words' "isn't TRUE, and DER leaves out FALSE (T3)" after=not-critical
+wrong 'an extension twice' 'it has an extension twice' after=twice
+wrong 'no extension' 'a list of extensions without one (T3)' after=empty
+trusts 'an extension that is not critical' trial/ca.pem after=plain
+wrong 'the name of another service' 'openssl says: tsa name mismatch (T2)' after=other-name
 # openssl takes names for the same whose letters differ in their case alone, so it might take the other certificate
 stamps twin trial 'TRIAL  ca' twin.pem
 wrong 'two certificates of its signer' 'it holds 2 certificates of its signer, and one is wanted (T3)' more="$scratch/twin.pem"
@@ -262,8 +297,15 @@ refused 'another number than that of the request' '(T2)' "$answer nonce"
 refused 'no number' '(T2)' "$answer no-nonce"
 refused 'another hash' '(T3)' "$answer sha512"
 keys stamp counters --tsa-command "${answer/trial/evil} old" --tsa-ca evil/ca.pem --out new.tsr
-says 'a clock that is wrong' 'which is more than an hour from the clock of this machine'
+says 'a clock that is wrong' ': one of the two is wrong (T4)'
 kept_nothing 'a clock that is wrong' new.tsr
+refused 'a clock that is fast' ': one of the two is wrong (T4)' "$answer early"
+keys stamp counters --tsa-command "$answer soon" --tsa-ca trial/ca.pem --out soon.tsr
+holds 'a clock that is three minutes fast' test "$status" = 0
+keys stamp counters --tsa-command "$answer exact" --tsa-ca trial/ca.pem --out exact.tsr
+holds 'an exact service of openssl' grep -q '^counters existed at [0-9T:-]*Z, within 0.00205 seconds, by the time stamp of CN=trial TSA' out
+refused 'a vague service of openssl' "the time stamp new.tsr doesn't show when: its accuracy is worse than one day (T4)" "$answer vague"
+refused 'a critical extension' "it has the critical extension 1.3.6.1.5.5.7.1.3, which isn't known here (T3)" "$answer critical"
 refused 'a rejection' 'the service gave no time stamp, but rejection, "Message digest algorithm is not supported.", badAlg (T3)' "$answer rejected"
 refused 'an answer that was cut' 'it breaks off (T3)' "$answer cut"
 refused 'no answer' 'it is empty (T3)' "$answer empty"

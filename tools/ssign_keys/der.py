@@ -4,8 +4,9 @@ from __future__ import annotations
 from typing import List, NamedTuple, Tuple
 
 # the tags that are read here
-INTEGER, BIT_STRING, OCTET_STRING, OID, TIME = 0x02, 0x03, 0x04, 0x06, 0x18
-SEQUENCE, SET, FIRST = 0x30, 0x31, 0xA0
+BOOLEAN, INTEGER, BIT_STRING, OCTET_STRING, OID, TIME = 0x01, 0x02, 0x03, 0x04, 0x06, 0x18
+SEQUENCE, SET, FIRST, SECOND = 0x30, 0x31, 0xA0, 0xA1
+TRUE = b"\xff"
 # the low bits of a tag that goes on in further octets
 LONG_TAG = 0x1F
 LONG = 0x80
@@ -83,6 +84,12 @@ def number(item: Item, what: str) -> int:
     if not body or len(body) > 1 and (body[0], body[1] >> 7) in ((0, 0), (0xFF, 1)):
         raise Bad(f"{what} is no number in its shortest form")
     return int.from_bytes(body, "big", signed=True)
+
+
+def truth(item: Item, what: str) -> None:
+    """Refuses what isn't TRUE, because FALSE is left out where nothing means the same."""
+    if want(item, BOOLEAN, what).body != TRUE:
+        raise Bad(f"{what} isn't TRUE, and DER leaves out FALSE")
 
 
 def oid(item: Item, what: str) -> str:

@@ -7,6 +7,7 @@ from __future__ import annotations
 
 import hashlib
 import re
+import time
 from datetime import datetime, timezone
 from typing import Dict, List, NamedTuple, Optional, Sequence, Tuple
 
@@ -18,6 +19,7 @@ from .digests import Digest
 from .faults import Fault
 from .files import read_file
 from .identity import CertificateFacts, certificate_fields, shown_text
+from .payloads import present_stamp
 from .trust import Given
 from .words import grouped, shown_name
 from .workplace import Workplace, finish, put
@@ -37,6 +39,13 @@ STATUSES = {2: "rejection", 3: "waiting", 4: "revocation warning", 5: "revocatio
 FAILURES = {0: "badAlg", 2: "badRequest", 5: "badDataFormat", 14: "timeNotAvailable", 15: "unacceptedPolicy",
             16: "unacceptedExtension", 17: "addInfoNotAvailable", 25: "systemFailure"}
 TIME = re.compile(rb"([0-9]{14})(\.[0-9]{1,9})?Z")
+# the parts of an accuracy: the tag, how many microseconds one is, and the least and the greatest that may stand there
+SECOND = 10 ** 6
+ACCURACY = ((der.INTEGER, SECOND, 0, None), (0x80, 1000, 1, 999), (0x81, 1, 1, 999))
+# by a worse accuracy, in microseconds, nobody could say in which night a file existed
+WORST = 24 * 60 * 60 * SECOND
+# how far a time may be after the clock of this machine, and that of a new stamp before it, in seconds
+EARLY, LATE = 5 * 60, 60 * 60
 # what a verdict calls a file that is stamped
 THESE = {"counters": "These counters", "manifest": "This manifest", "file": "This file"}
 # how many letters of a stranger's text a sentence holds
@@ -52,6 +61,8 @@ class TimeStamp(NamedTuple):
     """When, in UTC, as RFC 5424 spells it."""
     moment: int
     """The same in whole seconds since 1970."""
+    accuracy: Optional[int]
+    """How far from it the real time may be, in microseconds; None where the service doesn't say it."""
     imprint: str
     """The SHA-256 of what was stamped, in hexadecimal digits."""
     serial: str
@@ -60,6 +71,20 @@ class TimeStamp(NamedTuple):
     """The policy of the service, as numbers with dots."""
     signer: Certificate
     """The certificate of the service, as the answer has it."""
+
+    @property
+    def seconds(self) -> Optional[str]:
+        """The accuracy in seconds."""
+        if self.accuracy is None:
+            return None
+        whole, rest = divmod(self.accuracy, SECOND)
+        return f"{whole}.{rest:06}".rstrip("0").rstrip(".")
+
+    @property
+    def when(self) -> str:
+        """The time, with its accuracy."""
+        within = f", within {self.seconds} second{'s' * (self.accuracy != SECOND)}" if self.accuracy else ""
+        return self.time + within
 
 
 class Stamped(NamedTuple):
@@ -78,18 +103,19 @@ class Stamped(NamedTuple):
 
     def sentence(self, what: str = "") -> str:
         """What it shows of a file, as a verdict says it."""
-        return f"{what or THESE[self.of]} existed at {self.stamp.time}, by the time stamp of {self.service}."
+        return f"{what or THESE[self.of]} existed at {self.stamp.when}, by the time stamp of {self.service}."
 
     def words(self) -> str:
         """The same in a line about what was checked."""
         return (f"{shown_name(self.digest.name)}, {grouped(self.digest.size, 'octet')}, SHA-256 {self.digest.sha256}; of the "
-                f"{self.of}, at {self.stamp.time}, by {self.service}; serial number {self.stamp.serial}, policy "
+                f"{self.of}, at {self.stamp.when}, by {self.service}; serial number {self.stamp.serial}, policy "
                 f"{self.stamp.policy}")
 
     def fields(self) -> Dict[str, object]:
         """As JSON has it."""
         return {**self.digest.fields(), "of": self.of, "time": self.stamp.time, "serial": self.stamp.serial,
-                "policy": self.stamp.policy, "certificate": certificate_fields(self.stamp.signer.facts)}
+                "policy": self.stamp.policy, "certificate": certificate_fields(self.stamp.signer.facts),
+                "accuracy": self.stamp.seconds}
 
 
 class Authorities(NamedTuple):
@@ -213,8 +239,8 @@ def letters(octets: bytes) -> bytes:
 
 def read_info(octets: bytes, signer: Certificate) -> TimeStamp:
     """What is stamped, and when (TSTInfo of RFC 3161, section 2.4.2)."""
-    version, policy, imprint, serial, time, *_ = der.parts(der.only(octets, der.SEQUENCE, "the time stamp"), der.SEQUENCE, 5,
-                                                           "the time stamp")
+    version, policy, imprint, serial, when, *rest = der.parts(der.only(octets, der.SEQUENCE, "the time stamp"), der.SEQUENCE, 5,
+                                                              "the time stamp")
     if der.number(version, "the version") != 1:
         raise Bad("the time stamp has another version than 1")
     algorithm, hashed = pair(imprint, "what is stamped")
@@ -222,9 +248,61 @@ def read_info(octets: bytes, signer: Certificate) -> TimeStamp:
     sha256 = der.want(hashed, der.OCTET_STRING, "the hash").body
     if name != SHA256 or len(sha256) != hashlib.sha256().digest_size:
         raise Bad(f"it is of a hash by the algorithm {name}, and not of a SHA-256")
-    text, moment = read_time(der.want(time, der.TIME, "the time").body)
-    return TimeStamp(text, moment, sha256.hex(), hexadecimal(der.number(serial, "the serial number")),
+    text, moment = read_time(der.want(when, der.TIME, "the time").body)
+    return TimeStamp(text, moment, read_rest(rest), sha256.hex(), hexadecimal(der.number(serial, "the serial number")),
                      der.oid(policy, "the policy"), signer)
+
+
+def read_rest(items: Sequence[Item]) -> Optional[int]:
+    """The accuracy in microseconds, from what may follow the time. Raises Bad where anything else stands there than RFC 3161
+    knows, or in another order."""
+    accuracy, ordering, nonce, tsa, extensions = in_order(items, (der.SEQUENCE, der.BOOLEAN, der.INTEGER, der.FIRST, der.SECOND),
+                                                          "the time stamp")
+    if ordering is not None:
+        der.truth(ordering, "the word on the order of time stamps")
+    if nonce is not None:
+        der.number(nonce, "the number of the request")
+    if tsa is not None and len(der.items(tsa.body)) != 1:
+        raise Bad("the name of the service isn't one value")
+    if extensions is not None:
+        refuse_critical(der.items(extensions.body))
+    return None if accuracy is None else read_accuracy(accuracy)
+
+
+def in_order(items: Sequence[Item], tags: Sequence[int], what: str) -> List[Optional[Item]]:
+    """The value with each of these tags, or None, where the values stand in this order and nothing else stands there."""
+    left = list(items)
+    found = [left.pop(0) if left and left[0].tag == tag else None for tag in tags]
+    if left:
+        raise Bad(f"{what} has a part that isn't known, or not in its place")
+    return found
+
+
+def read_accuracy(item: Item) -> int:
+    """How many microseconds an accuracy is."""
+    found = in_order(der.items(item.body), [tag for tag, *_ in ACCURACY], "the accuracy")
+    total = 0
+    for part, (_, unit, least, most) in zip(found, ACCURACY):
+        if part is not None:
+            value = der.number(part._replace(tag=der.INTEGER), "a part of the accuracy")
+            if value < least or most is not None and value > most:
+                raise Bad("a part of the accuracy is out of its range")
+            total += value * unit
+    return total
+
+
+def refuse_critical(items: Sequence[Item]) -> None:
+    """Refuses extensions that have to be known, because none is known here (RFC 5280, section 4.2), and one that comes twice."""
+    names = []
+    for it in items:
+        name, *critical, value = der.parts(it, der.SEQUENCE, 2, "an extension")
+        names.append(der.oid(name, "the name of an extension"))
+        der.want(value, der.OCTET_STRING, "the value of an extension")
+        for word in critical:
+            der.truth(word, "the word that an extension is critical")
+            raise Bad(f"it has the critical extension {names[-1]}, which isn't known here")
+    if len(set(names)) != len(names) or not names:
+        raise Bad("it has an extension twice, or a list of extensions without one")
 
 
 def read_time(octets: bytes) -> Tuple[str, int]:
@@ -255,8 +333,8 @@ def check_stamp(octets: bytes, name: str, wanted: Dict[str, str], authorities: A
     """The time stamp that an answer is, where it is of one of the wanted files, and one of these authorities vouches for it.
 
     `wanted` has the SHA-256 of each file, by a word of THESE. `name` is the file of the answer. `query` is the path of the
-    request that was sent, where that is known. Raises Fault with T1, T2 or T3 (docs/FORMATS.md, "A time
-    stamp").
+    request that was sent, where that is known: the stamp has to be new then. Raises Fault with T1 to T4 (docs/FORMATS.md, "A
+    time stamp").
     """
     shown = shown_name(name)
     try:
@@ -270,7 +348,20 @@ def check_stamp(octets: bytes, name: str, wanted: Dict[str, str], authorities: A
     why = fault_of(octets, stamp, authorities, workplace, query)
     if why is not None:
         raise Fault(f"no authority of --tsa-ca vouches for the time stamp {shown}: {why} (T2)")
+    why = time_fault(stamp, query is not None)
+    if why is not None:
+        raise Fault(f"the time stamp {shown} doesn't show when: {why} (T4)")
     return Stamped(Digest(name, len(octets), hashlib.sha256(octets).hexdigest()), of[0], stamp)
+
+
+def time_fault(stamp: TimeStamp, is_new: bool) -> Optional[str]:
+    """What is wrong with the time of a stamp, or None: it is in the future, of a new stamp also in the past, or too vague."""
+    if stamp.accuracy is not None and stamp.accuracy > WORST:
+        return "its accuracy is worse than one day"
+    now = time.time()
+    if stamp.moment > now + EARLY or is_new and stamp.moment < now - LATE:
+        return f"its time is {stamp.time}, and the clock of this machine says {present_stamp()}: one of the two is wrong"
+    return None
 
 
 def fault_of(octets: bytes, stamp: TimeStamp, authorities: Authorities, workplace: Workplace,

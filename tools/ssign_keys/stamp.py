@@ -6,7 +6,6 @@ import contextlib
 import os
 import secrets
 import stat
-import time
 from typing import NamedTuple
 
 from .commands import ask
@@ -15,16 +14,13 @@ from .faults import Fault
 from .files import reason
 from .numbers import number
 from .page_file import name_new
-from .rfc3161 import LONGEST, Stamped, check_stamp, read_authorities
+from .rfc3161 import LONGEST, check_stamp, read_authorities
 from .rotation_state import sync_folder
 from .stamped import ENDING, MOST_SECONDS, SECONDS
 from .streams import Output
 from .tsa import ask_command, ask_url, read_url
 from .words import shown_name
 from .workplace import Workplace, finish, put
-
-# how far the time of a new stamp may be from the clock of this machine, in seconds
-FARTHEST = 3600
 
 
 def add_arguments(parser: argparse.ArgumentParser) -> None:
@@ -61,7 +57,6 @@ def run(arguments: argparse.Namespace) -> int:
         query = make_query(seen, workplace)
         octets = ask_service(arguments, query, workplace)
         stamped = check_stamp(octets, wanted, {"file": seen.sha256}, authorities, workplace, query)
-        refuse_clock(stamped)
         if look(arguments.file) != seen:
             raise Fault(f"{shown_name(arguments.file)} was changed while it was stamped, so the time stamp isn't kept")
         keep(octets, wanted)
@@ -139,13 +134,6 @@ def ask_service(arguments: argparse.Namespace, query: str, workplace: Workplace)
         return ask_command(arguments.tsa_command, query, arguments.tsa_seconds, workplace)
     with open(query, "rb") as file:
         return ask_url(arguments.tsa, file.read(LONGEST), arguments.tsa_seconds)
-
-
-def refuse_clock(stamped: Stamped) -> None:
-    """Refuses a new stamp whose time is far from now: either it isn't new, or a clock is wrong."""
-    if abs(stamped.stamp.moment - time.time()) > FARTHEST:
-        raise Fault(f"the time stamp says {stamped.stamp.time}, which is more than an hour from the clock of this machine: one of "
-                    "the two is wrong")
 
 
 def keep(octets: bytes, wanted: str) -> None:
