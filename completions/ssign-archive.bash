@@ -58,6 +58,7 @@ _ssign_archive() {
     'review --key') _ssign_archive_offer files ;;
     'review --session-key') ;;
     'review --ca') _ssign_archive_offer files ;;
+    'review --ca-anchor') _ssign_archive_offer files ;;
     'review --cert') _ssign_archive_offer files ;;
     'review --max-len') _ssign_archive_offer text ;;
     'review --max-messages') _ssign_archive_offer text ;;
@@ -73,6 +74,7 @@ _ssign_archive() {
     'prepare --key') _ssign_archive_offer files ;;
     'prepare --session-key') ;;
     'prepare --ca') _ssign_archive_offer files ;;
+    'prepare --ca-anchor') _ssign_archive_offer files ;;
     'prepare --cert') _ssign_archive_offer files ;;
     'prepare --max-len') _ssign_archive_offer text ;;
     'prepare --max-messages') _ssign_archive_offer text ;;
@@ -109,14 +111,14 @@ _ssign_archive_words() {
         ;;
     review)
         if [[ $2 == -* ]]; then
-            _ssign_archive_offer words '--help --results --answers --sshlogin --sessions --key --session-key --ca --cert --at-signing-time --allow-sha1 --lines --max-len --max-messages --max-expanded --max-payload --whole --counters --manifest --from-manifest --findings --json --jobs --ssign'
+            _ssign_archive_offer words '--help --results --answers --sshlogin --sessions --key --session-key --ca --ca-anchor --cert --at-signing-time --allow-sha1 --lines --max-len --max-messages --max-expanded --max-payload --whole --counters --manifest --from-manifest --findings --json --jobs --ssign'
         else
             _ssign_archive_offer folders
         fi
         ;;
     prepare)
         if [[ $2 == -* ]]; then
-            _ssign_archive_offer words '--help --results --answers --key --session-key --ca --cert --at-signing-time --allow-sha1 --lines --max-len --max-messages --max-expanded --max-payload --whole --counters --manifest --from-manifest --ssign'
+            _ssign_archive_offer words '--help --results --answers --key --session-key --ca --ca-anchor --cert --at-signing-time --allow-sha1 --lines --max-len --max-messages --max-expanded --max-payload --whole --counters --manifest --from-manifest --ssign'
         else
             _ssign_archive_offer folders
         fi

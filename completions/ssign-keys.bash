@@ -106,6 +106,7 @@ _ssign_keys() {
     'verify --key') _ssign_keys_offer files ;;
     'verify --session-key') ;;
     'verify --ca') _ssign_keys_offer files ;;
+    'verify --ca-anchor') _ssign_keys_offer files ;;
     'verify --cert') _ssign_keys_offer files ;;
     'verify --tsa-ca') _ssign_keys_offer files ;;
     'verify --max-len') _ssign_keys_offer text ;;
@@ -154,6 +155,7 @@ _ssign_keys() {
     'seal --procid') _ssign_keys_offer text ;;
     'answer --session-key') ;;
     'answer --ca') _ssign_keys_offer files ;;
+    'answer --ca-anchor') _ssign_keys_offer files ;;
     'answer --cert') _ssign_keys_offer files ;;
     'answer --max-payload') _ssign_keys_offer text ;;
     'answer --jobs') _ssign_keys_offer text ;;
@@ -181,7 +183,7 @@ _ssign_keys_words() {
     live) _ssign_keys_offer words '--help --state --out --new-session --keep-session --omprog --transactions --marks --messages --seconds --rotate-size --rotate-daily --heartbeat --wrap --no-wrap --stamp-command --tsa --tsa-seconds --status --key --seal-command --public --tsa-ca --lines --journal --host --app --procid --msgid --pri --payload --ver --groups --count --frag --copies --manifest --ssign' ;;
     verify)
         if [[ $2 == -* ]]; then
-            _ssign_keys_offer words '--help --manifest-seen --key --session-key --ca --cert --at-signing-time --allow-sha1 --ignore-strangers --tsa-ca --lines --frames --max-len --max-messages --max-expanded --max-payload --whole --from --counters --nights --manifest --from-manifest --manifest-last --stamped --findings --details --hostname --raw --json --html --answers-out --counters-out --jobs --ssign'
+            _ssign_keys_offer words '--help --manifest-seen --key --session-key --ca --ca-anchor --cert --at-signing-time --allow-sha1 --ignore-strangers --tsa-ca --lines --frames --max-len --max-messages --max-expanded --max-payload --whole --from --counters --nights --manifest --from-manifest --manifest-last --stamped --findings --details --hostname --raw --json --html --answers-out --counters-out --jobs --ssign'
         else
             _ssign_keys_offer files
         fi
@@ -216,7 +218,7 @@ _ssign_keys_words() {
         ;;
     answer)
         if [[ $2 == -* ]]; then
-            _ssign_keys_offer words '--help --session-key --ca --cert --at-signing-time --max-payload --jobs'
+            _ssign_keys_offer words '--help --session-key --ca --ca-anchor --cert --at-signing-time --max-payload --jobs'
         else
             _ssign_keys_offer files
         fi

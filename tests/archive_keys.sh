@@ -96,9 +96,11 @@ holds 'a key that is not there: nothing is written' test ! -e refused -a ! -s ou
 archive prepare archive --results refused --key "$key" --answers answers
 expect 'a key and answers' 2 '' 'ssign-archive: --answers says which signatures are valid, and so do --key, --session-key, --ca and --cert: give one of the two'
 if command -v openssl >out; then
-    openssl req -x509 -newkey rsa:2048 -nodes -keyout ca.key -out ca.pem -subj /CN=ca -days 30 >out 2>err
+    openssl req -x509 -newkey rsa:2048 -nodes -keyout ca.key -out ca.pem -subj /CN=ca -days 30 \
+        -addext 'keyUsage = critical, keyCertSign' >out 2>err
     cat >extensions <<'END'
 subjectAltName = DNS:alpha
+authorityKeyIdentifier = keyid
 END
     openssl req -new -key key/private-key.pem -out alpha.csr -subj /CN=alpha >out 2>err
     openssl x509 -req -in alpha.csr -CA ca.pem -CAkey ca.key -CAcreateserial -out alpha.pem -days 30 -extfile extensions >out 2>err
@@ -108,6 +110,8 @@ END
         --lines messages >certified/alpha/log 2>err
     review certified --ca ca.pem
     says 'a certificate of a CA' 0 'alpha 1 5 3 0 0 0 0 0 joined 1 clean'
+    review certified --ca-anchor ca.pem
+    says 'a certificate of an anchor' 0 'alpha 1 5 3 0 0 0 0 0 joined 1 clean'
     review certified --key other/public-key.pem
     holds 'a certificate without its CA' test "$status" = 1
     review certified --cert alpha.pem

@@ -109,6 +109,12 @@ def make_authority(public: str, folder: str) -> None:
         builder = x509.CertificateBuilder().subject_name(name(subject)).issuer_name(name("ca")).public_key(its_key)
         builder = builder.serial_number(x509.random_serial_number()).add_extension(
             x509.BasicConstraints(is_authority, None), True)
+        uses = {it: it == ("key_cert_sign" if is_authority else "digital_signature") for it in (
+            "digital_signature", "content_commitment", "key_encipherment", "data_encipherment", "key_agreement", "key_cert_sign",
+            "crl_sign", "encipher_only", "decipher_only")}
+        builder = builder.add_extension(x509.KeyUsage(**uses), True).add_extension(
+            x509.SubjectKeyIdentifier.from_public_key(its_key), False).add_extension(
+            x509.AuthorityKeyIdentifier.from_issuer_public_key(own.public_key()), False)
         return builder.not_valid_before(datetime(2020, 1, 1)).not_valid_after(datetime(2089, 1, 1)).sign(own, hashes.SHA256())
 
     with open(f"{folder}/ca.pem", "wb") as file:

@@ -377,7 +377,7 @@ from ssign_keys import answer, seal
 from ssign_keys.faults import Fault
 from ssign_keys.keys import read_private_key
 from ssign_keys.trust import Trust
-trust = Trust.from_arguments(argparse.Namespace(keys=["one/public-key.pem"], session_key=[], ca=[], cert=[], at_signing_time=False, max_payload=65536))
+trust = Trust.from_arguments(argparse.Namespace(keys=["one/public-key.pem"], session_key=[], ca=[], ca_anchor=[], cert=[], at_signing_time=False, max_payload=65536))
 key = read_private_key("one/private-key.pem")
 for line in sys.argv[3:]:
     octets = line.encode() + b"\n"
@@ -467,9 +467,14 @@ unique_subject = no
 commonName = supplied
 [authority]
 basicConstraints = critical, CA:TRUE
+keyUsage = critical, keyCertSign, digitalSignature
+subjectKeyIdentifier = hash
+authorityKeyIdentifier = keyid
 [leaf]
 basicConstraints = critical, CA:FALSE
 subjectAltName = DNS:h
+subjectKeyIdentifier = hash
+authorityKeyIdentifier = keyid
 [req]
 distinguished_name = name
 [name]
@@ -549,7 +554,10 @@ END
     judge 'an authority between' --ca chain.crt
     judge 'an authority between in a file of its own' --ca ca.crt --ca ca-middle.crt
     sed -i 's/^yes\(\ta certificate: \)/no\1/' rows
-    judge 'an authority between, without the one above' --ca ca-middle.crt
+    judge 'an authority between, without the one above, as an anchor' --ca-anchor ca-middle.crt
+    refuses 'an authority between, without the one above' \
+        "no certificate of --ca is self-issued, so no chain can end: add the root's, or give the file by --ca-anchor" \
+        answer --ca ca-middle.crt
     # an authority that this machine trusts is none of --ca, not even where it has the name of one of them
     row none 'a certificate' "$(certificate leaf)" leaf.pem 0111 'h s - 1' | cases payloads >rows
     mkdir machine
@@ -593,13 +601,13 @@ END
     refuses 'a hash that is shorter than a q of 224 bits' \
         'line 1: VER 0111 has a hash of 160 bits, and the number q of the key has 224: use --ver 0121, or another key' \
         seal odd.pem < <(head -n 1 wants)
-    check_commands_that_fail "$(certificate leaf)"
+    check_commands_that_fail "$(certificate leaf)" leaf.pem 'h s - 1'
 }
 
-# check_commands_that_fail PAYLOAD: what is said without openssl, and with one that checks nothing.
+# check_commands_that_fail PAYLOAD KEY SESSION: what is said without openssl, and with one that checks nothing.
 check_commands_that_fail() {
     local asked
-    asked="trust $(printf '%s' "$1" | base64 -w 0)"
+    asked=$(row both 'a certificate' "$1" "$2" 0111 "$3" | cases payloads | cut -f 3)
     mkdir empty broken
     printf '#!/bin/sh\necho no such thing >&2\nexit 1\n' >broken/openssl
     chmod +x broken/openssl

@@ -62,7 +62,7 @@ def write(path: str, octets: bytes) -> str:
 def trust(**options: object) -> object:
     """What ssign-keys makes of these options."""
     from ssign_keys.trust import Trust
-    given: Dict[str, object] = {"keys": [], "session_key": [], "ca": [], "cert": [], "at_signing_time": False, "max_payload": 65536, **options}
+    given: Dict[str, object] = {"keys": [], "session_key": [], "ca": [], "ca_anchor": [], "cert": [], "at_signing_time": False, "max_payload": 65536, **options}
     return Trust.from_arguments(argparse.Namespace(**given))
 
 

@@ -52,13 +52,13 @@ touch index.txt
 issue() {
     local own=(-cert "$3.crt" -keyfile "$3.pem")
     [[ $1 == "$3" ]] && own=(-selfsign -keyfile "$3.pem")
-    { cat ca.conf && echo '[these]' && tr ';' '\n' <<<"$5"; } >this.conf
+    { cat ca.conf && printf '[these]\nsubjectKeyIdentifier = hash\nauthorityKeyIdentifier = keyid\n' && tr ';' '\n' <<<"$5"; } >this.conf
     openssl req -new -utf8 -key "$4" -subj "$2" -config ca.conf -out request.csr 2>>openssl.said
     openssl ca -batch -utf8 -config this.conf -extensions these "${own[@]}" -startdate "${6-20200101000000Z}" \
         -enddate "${7-20900101000000Z}" -md "${8-sha256}" -in request.csr -out "$1.crt" -notext 2>>openssl.said
     [[ -s $1.crt ]] || tell "openssl issues $1" "$(tail -n 3 openssl.said)"
 }
-is_ca='basicConstraints = critical, CA:TRUE'
+is_ca='basicConstraints = critical, CA:TRUE; keyUsage = critical, keyCertSign'
 for each in ec rsa ed dsa; do
     issue "$each" "/O=Authority/CN=ca of $each" "$each" "$each.pem" "$is_ca"
 done
@@ -146,7 +146,7 @@ holds 'four sessions: one key' cmp <(whose out) <(printf '%s\n' 'a None' "b $spk
 
 # ---- why a certificate isn't trusted
 signed leaf-rsa elsewhere
-not_taken 'another HOSTNAME' "the certificate isn't for this HOSTNAME: it names rsa.example.org, gate" --ca rsa.crt
+not_taken 'another HOSTNAME' "the certificate isn't for this HOSTNAME: it names gate" --ca rsa.crt
 holds 'the state stays' grep -q '^  state: untrusted' out
 keys verify --json --ca rsa.crt log
 holds 'as JSON' grep -Fq '"key":null,"fingerprint":null,"certificate":null,"payload_time":null,"why":"the certificate' out
@@ -163,7 +163,41 @@ not_taken 'an extension that has to be known' 'openssl refuses its certificate: 
 cp rsa.pem old-ca.pem
 issue old-ca '/O=Authority/CN=ca of rsa' old-ca rsa.pem "$is_ca" 20200101000000Z 20210101000000Z
 signed leaf-rsa gate
-not_taken 'an authority that has expired' 'openssl refuses a certificate above its own: ' --ca old-ca.crt
+not_taken 'an authority that has expired' 'openssl refuses O=Authority,CN=ca of rsa above its certificate: certificate has expired; if you know' \
+    --ca old-ca.crt
+
+# ---- what binds an authority whose certificate stands in the file too: all of it, as `openssl verify -CAfile` says
+# bound WHAT WHY ROOT EXTENSIONS LEAF: an authority with these extensions below a root isn't taken to sign for gate.example.org.
+bound() {
+    cp ed.pem between.pem
+    issue between '/CN=between' "$3" between.pem "$is_ca; $4"
+    issue leaf-between /CN=gate.example.org between one/private-key.pem "$5"
+    cat "$3.crt" between.crt >chain.crt
+    signed leaf-between gate.example.org
+    not_taken "$1" "$2" --ca chain.crt
+    [[ ${6-} ]] || holds "$1: openssl refuses it too" test -n "$(openssl verify -CAfile chain.crt -verify_hostname gate.example.org leaf-between.crt 2>&1 >openssl.said)"
+    keys verify --ca-anchor between.crt log
+}
+# one that permits the dNSName evil.example; the words of openssl for it hold a semicolon
+evil="nameConstraints = critical, DER:3012A010300E820C$(printf evil.example | od -An -tx1 | tr -d ' ')"
+bound 'a CN beside a dNSName that an authority may name' "the certificate isn't for this HOSTNAME: it names a.evil.example" rsa "$evil" \
+    'subjectAltName = DNS:a.evil.example'
+bound 'a CN that an authority may not name' 'openssl refuses its certificate: permitted subtree violation' rsa "$evil" 'keyUsage = digitalSignature'
+bound 'an authority for servers' "CN=between above its certificate isn't for signing documents or code, by its extendedKeyUsage" rsa \
+    'extendedKeyUsage = serverAuth' 'subjectAltName = DNS:gate.example.org' alone
+cp rsa.pem short.pem
+issue short '/CN=short' short rsa.pem 'basicConstraints = critical, CA:TRUE, pathlen:0; keyUsage = critical, keyCertSign'
+bound 'an authority below one with pathlen 0' 'openssl refuses CN=short above its certificate: path length constraint exceeded' short \
+    'keyUsage = critical, keyCertSign' 'subjectAltName = DNS:gate.example.org'
+holds 'an authority below one with pathlen 0, as an anchor' test "$status" = 0
+holds 'an anchor: its file is named' grep -q '^  key: between.crt, ' out
+bound 'an authority below one that has expired' 'openssl refuses O=Authority,CN=ca of rsa above its certificate: certificate has expired' old-ca \
+    'keyUsage = critical, keyCertSign' 'subjectAltName = DNS:gate.example.org'
+holds 'an authority below one that has expired, as an anchor' test "$status" = 0
+keys verify --ca between.crt log
+expect 'an authority without the one above it' 2 '' \
+    "ssign-keys: no certificate of --ca is self-issued, so no chain can end: add the root's, or give the file by --ca-anchor"
+
 # what is signed over SHA-1, no openssl can make good: this one finds everything right
 mkdir content
 printf '#!/bin/sh\nexit 0\n' >content/openssl

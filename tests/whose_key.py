@@ -23,6 +23,8 @@ from cryptography.hazmat.primitives.asymmetric import rsa
 from cryptography.x509.oid import ExtendedKeyUsageOID, NameOID
 
 FROM, TO = datetime.datetime(2020, 1, 1), datetime.datetime(2089, 1, 1)
+USES = ("digital_signature", "content_commitment", "key_encipherment", "data_encipherment", "key_agreement", "key_cert_sign",
+        "crl_sign", "encipher_only", "decipher_only")
 failed: List[str] = []
 count = 0
 asked: List[Sequence[str]] = []
@@ -48,17 +50,26 @@ class Authority:
 
     def issue(self, key: Any, subject: x509.Name, extensions: Sequence[Tuple[x509.ExtensionType, bool]],
               dates: Tuple[datetime.datetime, datetime.datetime] = (FROM, TO)) -> x509.Certificate:
-        """A certificate."""
+        """A certificate, with the identifiers and the keyUsage that RFC 5280 wants of an authority."""
         builder = x509.CertificateBuilder().subject_name(subject).issuer_name(self.name).public_key(key)
         builder = builder.serial_number(x509.random_serial_number()).not_valid_before(dates[0]).not_valid_after(dates[1])
         for extension, is_critical in extensions:
             builder = builder.add_extension(extension, is_critical)
-        return builder.sign(self.key, hashes.SHA256())
+            if isinstance(extension, x509.BasicConstraints) and extension.ca:
+                builder = builder.add_extension(key_use("key_cert_sign", "crl_sign"), True)
+        builder = builder.add_extension(x509.SubjectKeyIdentifier.from_public_key(key), False)
+        return builder.add_extension(x509.AuthorityKeyIdentifier.from_issuer_public_key(self.key.public_key()), False).sign(
+            self.key, hashes.SHA256())
 
     def write(self, *others: Authority) -> None:
         """The file of certificates of some authorities."""
         with open(self.path, "wb") as file:
             file.write(b"".join(it.made.public_bytes(serialization.Encoding.PEM) for it in others))
+
+
+def key_use(*uses: str) -> x509.KeyUsage:
+    """A keyUsage."""
+    return x509.KeyUsage(**{it: it in uses for it in USES})
 
 
 def named(*texts: str, oid: x509.ObjectIdentifier = NameOID.COMMON_NAME) -> x509.Name:
@@ -75,7 +86,7 @@ def trust(**options: object) -> Any:
     """What ssign-keys makes of these options."""
     from ssign_keys.trust import Trust
     return Trust.from_arguments(argparse.Namespace(
-        **{"keys": [], "session_key": [], "ca": [], "cert": [], "at_signing_time": False, "max_payload": 65536, **options}))
+        **{"keys": [], "session_key": [], "ca": [], "ca_anchor": [], "cert": [], "at_signing_time": False, "max_payload": 65536, **options}))
 
 
 def why(given: Any, certificate: bytes, host: str = "gate", stamp: str = "-") -> str:
@@ -96,7 +107,8 @@ def try_names(key: Any, ca: Authority) -> None:
         (named("gate "), [], "gate", False), (named("gat"), [], "gate", False), (named("a", "gate"), [], "gate", True),
         (named("other"), [dns("GATE.example.org")], "gate.EXAMPLE.org", True),
         (named("other"), [dns("a"), dns("b"), dns("gate")], "gate", True), (named("other"), [dns("a")], "gate", False),
-        (named("gate"), [dns("a")], "gate", True), (named("*.example.org"), [], "gate.example.org", False),
+        (named("gate"), [dns("a")], "gate", False), (named("gate"), [address("192.0.2.7")], "gate", True),
+        (named("*.example.org"), [], "gate.example.org", False),
         (named("other"), [dns("*.example.org")], "gate.example.org", False), (named("other"), [dns("*")], "gate", False),
         (named("other"), [dns("*.example.org")], "*.example.org", False), (named("*"), [], "*", False),
         (named("other"), [dns(".example.org")], "gate.example.org", False), (named("other"), [dns("gate.")], "gate", False),
@@ -105,7 +117,8 @@ def try_names(key: Any, ca: Authority) -> None:
         (named("other"), [address("192.0.2.7")], "3221225991", False), (named("other"), [address("192.0.2.7")], "192.0.2.07", False),
         (named("other"), [address("2001:db8::7")], "2001:DB8:0:0::7", True),
         (named("other"), [address("2001:db8::7")], "2001:db8::8", False), (named("other"), [address("fe80::1")], "fe80::1%1", False),
-        (named("other"), [address("::ffff:192.0.2.7")], "192.0.2.7", False), (named("192.0.2.7"), [], "192.0.2.7", True),
+        (named("other"), [address("::ffff:192.0.2.7")], "192.0.2.7", False), (named("192.0.2.7"), [], "192.0.2.7", False),
+        (named("other"), [dns("192.0.2.7")], "192.0.2.7", False),
         (named("other"), [x509.IPAddress(ipaddress.ip_network("192.0.2.0/24"))], "192.0.2.7", False),
         (named("other"), [x509.RFC822Name("gate@example.org")], "gate@example.org", False),
         (named("other"), [x509.UniformResourceIdentifier("syslog://gate")], "gate", False),
@@ -126,25 +139,22 @@ def try_names(key: Any, ca: Authority) -> None:
     many = der(ca.issue(key, named("other"), [(x509.SubjectAlternativeName([dns(f"n{it}") for it in range(2000)]), False)]))
     # a payload after which no block is asked about has no session, so no certificate is for it
     tell("no session", given.judge(b"- C " + base64.b64encode(der(ca.issue(key, named("gate"), []))), None).trusted, None)
-    tell("two thousand names", why(given, many), "the certificate isn't for this HOSTNAME: it names other, n0, n1 and 1998 more")
+    tell("two thousand names", why(given, many), "the certificate isn't for this HOSTNAME: it names n0, n1, n2 and 1997 more")
 
 
 def try_uses(key: Any, ca: Authority) -> None:
     """What the key of a certificate is for."""
     oid = x509.ObjectIdentifier
-    words = ("digital_signature", "content_commitment", "key_encipherment", "data_encipherment", "key_agreement",
-             "key_cert_sign", "crl_sign", "encipher_only", "decipher_only")
     no_documents = "the certificate isn't for signing documents or code, by its extendedKeyUsage"
     no_signatures = "the certificate isn't for signatures, by its keyUsage"
     use = lambda *its: x509.ExtendedKeyUsage(its)
-    key_use = lambda *its: x509.KeyUsage(**{it: it in its for it in words})
     given = trust(ca=[ca.path])
     rows = [([use(ExtendedKeyUsageOID.CODE_SIGNING)], ""), ([use(oid("1.3.6.1.5.5.7.3.36"))], ""), ([use(oid("2.5.29.37.0"))], ""),
             ([use(oid("1.3.6.1.4.1.311.10.3.12"))], ""), ([use(ExtendedKeyUsageOID.SERVER_AUTH, ExtendedKeyUsageOID.CODE_SIGNING)], ""),
             ([use(ExtendedKeyUsageOID.SERVER_AUTH, ExtendedKeyUsageOID.CLIENT_AUTH)], no_documents),
             ([use(ExtendedKeyUsageOID.EMAIL_PROTECTION)], no_documents), ([use(ExtendedKeyUsageOID.TIME_STAMPING)], no_documents),
             ([use(ExtendedKeyUsageOID.OCSP_SIGNING)], no_documents), ([use(oid("1.3.6.1.5.5.7.3.3.1"))], no_documents),
-            *(([key_use(it)], "") for it in words[:2]), *(([key_use(it)], no_signatures) for it in words[2:7]),
+            *(([key_use(it)], "") for it in USES[:2]), *(([key_use(it)], no_signatures) for it in USES[2:7]),
             ([key_use("digital_signature", "key_encipherment")], ""), ([key_use("key_cert_sign", "crl_sign")], no_signatures),
             ([key_use("key_agreement"), use(ExtendedKeyUsageOID.CODE_SIGNING)], no_signatures),
             ([key_use("digital_signature"), use(ExtendedKeyUsageOID.SERVER_AUTH)], no_documents)]
@@ -231,7 +241,15 @@ def try_chains(key: Any, folder: str) -> None:
         both.write(*order)
         tell("an authority, and the one above it", why(trust(ca=[both.path]), leaf), "taken")
     middle.write(middle)
-    tell("an authority that is no root", why(trust(ca=[middle.path]), leaf), "taken")
+    tell("an authority that is no root, alone", said_of(ca=[middle.path]), "no certificate of --ca is self-issued, so no chain can "
+         "end: add the root's, or give the file by --ca-anchor")
+    tell("an authority that is no root, beside another", why(trust(ca=[middle.path, other.path]), leaf), "no certificate of --ca has "
+         "the name of the issuer of CN=middle, which is above its certificate: add that, or give CN=middle by --ca-anchor")
+    tell("an anchor that is no root", why(trust(ca_anchor=[middle.path]), leaf), "taken")
+    tell("an authority in a file of its own", why(trust(ca=[middle.path, root.path]), leaf), "taken")
+    given = trust(ca=[middle.path, root.path], ca_anchor=[middle.path]).given
+    tell("what was given", [(it.option, it.file) for it in given],
+         [("--ca", middle.path), ("--ca", root.path), ("--ca-anchor", middle.path)])
     tell("the one above it alone", why(trust(ca=[root.path]), leaf), apart)
     # an intermediate authority that may issue nothing, as its own certificate says
     end = Authority("end", folder, "end.crt")

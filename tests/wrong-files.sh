@@ -141,7 +141,7 @@ says() {
     expect "$*" 2 '' "ssign-keys: $1"
 }
 for each in 'public answer' 'public verify --key' 'private seal' 'private sign --rsid 1 --key' 'certificate verify --ca' \
-    'certificate verify --cert'; do
+    'certificate verify --ca-anchor' 'certificate verify --cert'; do
     read -r -a words <<<"$each"
     kind="a DSA ${words[0]} key in PEM"
     [[ ${words[0]} == certificate ]] && kind='a certificate'
@@ -166,7 +166,7 @@ SSIGN=${SSIGN-$root/ssign}
 export SSIGN
 says 'cut-key breaks off in a public key: its line -----END PUBLIC KEY----- is missing' answer cut-key
 says 'cut-key breaks off in a public key: its line -----END PUBLIC KEY----- is missing' verify --session-key '* * * *' cut-key lines.log
-for each in --ca --cert; do
+for each in --ca --ca-anchor --cert; do
     says 'cut-certificate breaks off in a certificate: its line -----END CERTIFICATE----- is missing' verify $each cut-certificate lines.log
 done
 "$keys_program" answer marked </dev/null >out 2>err

@@ -9,7 +9,7 @@ from .help import Command, Option, Program
 FILES = ("FILE", "IN", "LOG", "PROGRAM", "PUBLIC.pem", "PRIVATE.pem", "CA.pem", "CERT.pem")
 FOLDERS = ("ARCHIVE", "DIR", "FOLDER")
 # options that may be given several times
-REPEATED = ("--place", "--key", "--session-key", "--ca", "--cert", "--sshlogin")
+REPEATED = ("--place", "--key", "--session-key", "--ca", "--ca-anchor", "--cert", "--sshlogin")
 NOTE = "Made by tools/make-pages from what --help says."
 
 

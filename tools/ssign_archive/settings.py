@@ -173,6 +173,8 @@ def add_arguments(parser: argparse.ArgumentParser) -> None:
     parser.add_argument("--ca", action="append", default=[], metavar="CA.pem", help="trust a payload with a "
                         "certificate that "
                         "one of these issued, as `ssign-keys verify` does")
+    parser.add_argument("--ca-anchor", action="append", default=[], metavar="CA.pem", help="the same, but each certificate in "
+                        "the file may end a chain")
     parser.add_argument("--cert", action="append", default=[], metavar="CERT.pem",
                         help="trust a payload with this certificate")
     parser.add_argument("--at-signing-time", action="store_true", help="judge whether a certificate has expired at the "
@@ -195,7 +197,7 @@ def add_arguments(parser: argparse.ArgumentParser) -> None:
 
 
 # the options on keys for ssign-keys, and which of these options name files
-TRUST = ("keys", "session_key", "ca", "cert", "at_signing_time", "max_payload")
+TRUST = ("keys", "session_key", "ca", "ca_anchor", "cert", "at_signing_time", "max_payload")
 
 
 def make(arguments: argparse.Namespace) -> Settings:
@@ -236,9 +238,9 @@ def given_path(path: Optional[str], option: str) -> Optional[str]:
 def trust_of(arguments: argparse.Namespace) -> Tuple[Dict[str, Any], List[str]]:
     """The options about keys, with absolute paths, and the files that they name; nothing where no key is given."""
     given: Dict[str, Any] = {name: getattr(arguments, name) for name in TRUST}
-    paths = {name: [os.path.abspath(it) for it in given[name]] for name in ("keys", "ca", "cert")}
+    paths = {name: [os.path.abspath(it) for it in given[name]] for name in ("keys", "ca", "ca_anchor", "cert")}
     sessions = [[session, os.path.abspath(path)] for session, path in given["session_key"]]
-    files = [*paths["keys"], *paths["ca"], *paths["cert"], *(path for _, path in sessions)]
+    files = [*paths["keys"], *paths["ca"], *paths["ca_anchor"], *paths["cert"], *(path for _, path in sessions)]
     if not files:
         return {}, []
     trust = {**given, **paths, "session_key": sessions}

@@ -4,7 +4,7 @@ from __future__ import annotations
 import hashlib
 from datetime import datetime, timezone
 from ipaddress import IPv4Address, IPv6Address, ip_address
-from typing import List, NamedTuple, Optional, Tuple, Union
+from typing import FrozenSet, List, NamedTuple, Optional, Tuple, Union
 
 from .faults import Fault
 from .files import pem_parts, read_file
@@ -18,9 +18,12 @@ from cryptography.hazmat.primitives.serialization import Encoding
 from cryptography.x509.oid import NameOID
 
 Address = Union[IPv4Address, IPv6Address]
-# A key for one of these signs logs: codeSigning and anyExtendedKeyUsage (RFC 5280, section 4.2.1.12), documentSigning
-# (RFC 9336), and the document signing of Microsoft, which is older.
-SIGNING = frozenset(("1.3.6.1.5.5.7.3.3", "2.5.29.37.0", "1.3.6.1.5.5.7.3.36", "1.3.6.1.4.1.311.10.3.12"))
+# A key for one of these signs logs: codeSigning (RFC 5280, section 4.2.1.12), documentSigning (RFC 9336), and the document
+# signing of Microsoft, which is older. One for TIME_STAMPING signs time stamps, and one for ANY_USE whatever there is.
+SIGNING = frozenset(("1.3.6.1.5.5.7.3.3", "1.3.6.1.5.5.7.3.36", "1.3.6.1.4.1.311.10.3.12"))
+TIME_STAMPING = frozenset(("1.3.6.1.5.5.7.3.8",))
+ANY_USE = "2.5.29.37.0"
+NO_SIGNING = "isn't for signing documents or code, by its extendedKeyUsage"
 # How much of its names a sentence holds.
 SHOWN_NAMES = 3
 SHOWN_LETTERS = 200
@@ -30,24 +33,26 @@ class Names(NamedTuple):
     """Whom a certificate is for."""
 
     texts: Tuple[str, ...]
-    """The values of CN, and the dNSNames."""
+    """The dNSNames, or the values of CN where there is none."""
     addresses: Tuple[Address, ...]
+    are_common: bool
+    """Whether the texts are values of CN."""
 
     def has(self, host: bytes) -> bool:
-        """Whether a HOSTNAME (RFC 5424, section 6.2.4) is one of them: as a text without regard to the case of ASCII
-        letters, or as an address by its value. A name with an asterisk is for whole domains, and so for no host."""
+        """Whether a HOSTNAME (RFC 5424, section 6.2.4) is one of them: an address by its value, and another one as a text
+        without regard to the case of ASCII letters. A name with an asterisk is for whole domains, and so for no host."""
         if host == b"-" or b"*" in host:
             return False
-        wanted = host.lower()
-        return any(it.encode("utf-8", "surrogatepass").lower() == wanted for it in self.texts) \
-            or address_of(host) in self.addresses
+        address, wanted = address_of(host), host.lower()
+        if address is not None:
+            return address in self.addresses
+        return any(it.encode("utf-8", "surrogatepass").lower() == wanted for it in self.texts)
 
     def __str__(self) -> str:
         """Some of them, for a sentence."""
         found = [*self.texts, *map(str, self.addresses)]
         more = f" and {len(found) - SHOWN_NAMES} more" if len(found) > SHOWN_NAMES else ""
-        text = shown_text(", ".join(found[:SHOWN_NAMES]))
-        return f"{text[:SHOWN_LETTERS]}{' ..' if len(text) > SHOWN_LETTERS else ''}{more}" if found else "nobody"
+        return f"{shortened(', '.join(found[:SHOWN_NAMES]))}{more}" if found else "nobody"
 
 
 class Certificate(NamedTuple):
@@ -61,6 +66,10 @@ class Certificate(NamedTuple):
     names: Names
     not_before: datetime
     not_after: datetime
+    uses: FrozenSet[str]
+    """For which of SIGNING and TIME_STAMPING its key is, or may be the key of what it issues."""
+    binds_hosts: bool
+    """Whether its nameConstraints say which host names it may issue certificates for."""
     usage_fault: Optional[str]
     """Why its key is none for signing logs, or None."""
     facts: CertificateFacts
@@ -72,6 +81,22 @@ class Certificate(NamedTuple):
         if moment > self.not_after:
             return f"the certificate expired at {spelled(self.not_after)}"
         return None
+
+    @property
+    def is_self_issued(self) -> bool:
+        """Whether its subject and its issuer are the same (RFC 5280, section 6.1)."""
+        return self.subject == self.issuer
+
+    @property
+    def name(self) -> str:
+        """Its subject, for a sentence."""
+        return shortened(self.facts.subject) or f"the certificate with the serial number {self.facts.serial}"
+
+
+def shortened(text: str) -> str:
+    """A text of a certificate, for a sentence."""
+    text = shown_text(text)
+    return text if len(text) <= SHOWN_LETTERS else f"{text[:SHOWN_LETTERS]} .."
 
 
 def address_of(host: bytes) -> Optional[Address]:
@@ -109,7 +134,7 @@ def certificate(found: x509.Certificate) -> Certificate:
     facts = CertificateFacts(found.subject.rfc4514_string(), serial_of(found), hashlib.sha256(der).hexdigest(),
                              spelled(start), spelled(end))
     return Certificate(der, stated_key(found), found.subject.public_bytes(), found.issuer.public_bytes(), names_of(found),
-                       start, end, usage_fault(found), facts)
+                       start, end, uses_of(found), binds_hosts(found), usage_fault(found), facts)
 
 
 def stated_key(found: x509.Certificate) -> Optional[Numbers]:
@@ -136,14 +161,30 @@ def serial_of(found: x509.Certificate) -> str:
 
 def names_of(found: x509.Certificate) -> Names:
     """Whom a certificate names."""
-    texts = [it.value for it in found.subject.get_attributes_for_oid(NameOID.COMMON_NAME) if isinstance(it.value, str)]
+    common = [it.value for it in found.subject.get_attributes_for_oid(NameOID.COMMON_NAME) if isinstance(it.value, str)]
+    hosts: List[str] = []
     addresses: List[Address] = []
     for extension in found.extensions:
         if isinstance(extension.value, x509.SubjectAlternativeName):
-            texts += extension.value.get_values_for_type(x509.DNSName)
+            hosts += extension.value.get_values_for_type(x509.DNSName)
             addresses += [it for it in extension.value.get_values_for_type(x509.IPAddress)
                           if isinstance(it, (IPv4Address, IPv6Address))]
-    return Names(tuple(texts), tuple(addresses))
+    return Names(tuple(hosts or common), tuple(addresses), not hosts)
+
+
+def uses_of(found: x509.Certificate) -> FrozenSet[str]:
+    """For which of SIGNING and TIME_STAMPING a certificate is (RFC 5280, section 4.2.1.12): all, where nothing says so."""
+    for extension in found.extensions:
+        if isinstance(extension.value, x509.ExtendedKeyUsage):
+            named = {it.dotted_string for it in extension.value}
+            return SIGNING | TIME_STAMPING if ANY_USE in named else (SIGNING | TIME_STAMPING) & named
+    return SIGNING | TIME_STAMPING
+
+
+def binds_hosts(found: x509.Certificate) -> bool:
+    """Whether nameConstraints (RFC 5280, section 4.2.1.10) permit or exclude dNSNames."""
+    return any(isinstance(it, x509.DNSName) for extension in found.extensions if isinstance(extension.value, x509.NameConstraints)
+               for it in (*(extension.value.permitted_subtrees or ()), *(extension.value.excluded_subtrees or ())))
 
 
 def usage_fault(found: x509.Certificate) -> Optional[str]:
@@ -152,9 +193,7 @@ def usage_fault(found: x509.Certificate) -> Optional[str]:
         value = extension.value
         if isinstance(value, x509.KeyUsage) and not (value.digital_signature or value.content_commitment):
             return "the certificate isn't for signatures, by its keyUsage"
-        if isinstance(value, x509.ExtendedKeyUsage) and SIGNING.isdisjoint(it.dotted_string for it in value):
-            return "the certificate isn't for signing documents or code, by its extendedKeyUsage"
-    return None
+    return None if SIGNING & uses_of(found) else f"the certificate {NO_SIGNING}"
 
 
 def read_certificates(path: str, text: bytes) -> List[Certificate]:

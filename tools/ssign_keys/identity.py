@@ -23,7 +23,7 @@ class Identity(NamedTuple):
     """The key that signed a session's blocks."""
 
     file: str
-    """The file that it was given in, as the command line spells it; for a chain the file of --ca."""
+    """The file that it was given in, as the command line spells it; for a chain the file with its anchor."""
     fingerprint: str
     """The SHA-256 of its SubjectPublicKeyInfo in DER, in hexadecimal digits."""
     certificate: Optional[CertificateFacts]

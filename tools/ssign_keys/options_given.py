@@ -8,8 +8,8 @@ from typing import List, Sequence, Tuple
 from .words import shown_name
 
 # options that the verdict, or its form, depends on. The others say where something is kept, or how fast the run is
-VALUED = ("key", "ca", "cert", "max-payload", "max-len", "max-messages", "max-expanded", "counters", "from", "manifest",
-          "manifest-last", "manifest-seen", "stamped", "tsa-ca")
+VALUED = ("key", "ca", "ca-anchor", "cert", "max-payload", "max-len", "max-messages", "max-expanded", "counters", "from",
+          "manifest", "manifest-last", "manifest-seen", "stamped", "tsa-ca")
 FLAGS = ("from-manifest", "at-signing-time", "allow-sha1", "ignore-strangers", "lines", "frames", "whole", "findings", "raw",
          "json", "details", "hostname")
 PAIRS = ("session-key",)
@@ -36,9 +36,9 @@ def given_options(arguments: argparse.Namespace) -> List[str]:
 
 def given_files(arguments: argparse.Namespace, program: str) -> List[str]:
     """The names of all files that a check reads."""
-    named = [*arguments.logs, *arguments.keys, *arguments.ca, *arguments.cert, *(it for _, it in arguments.session_key),
-             *(arguments.counters or []), *(arguments.begin or []), *([arguments.manifest] if arguments.manifest else []),
-             *arguments.stamped, *arguments.tsa_ca, program]
+    named = [*arguments.logs, *arguments.keys, *arguments.ca, *arguments.ca_anchor, *arguments.cert,
+             *(it for _, it in arguments.session_key), *(arguments.counters or []), *(arguments.begin or []),
+             *([arguments.manifest] if arguments.manifest else []), *arguments.stamped, *arguments.tsa_ca, program]
     return [it for it in named if it != "-"]
 
 

@@ -31,7 +31,7 @@ class Trusted(NamedTuple):
     """The key of a session, and whose it is."""
 
     name: str
-    """The file that it was given in, as the command line spells it; for a chain the file of --ca."""
+    """The file that it was given in, as the command line spells it; for a chain the file with its anchor."""
     key: PublicKey
     certificate: Optional[Certificate]
     """The certificate that says so, where one does."""
@@ -71,6 +71,15 @@ class SessionKey(NamedTuple):
         return all(wanted in (ANY, word) for wanted, word in zip(self.pattern, session))
 
 
+class Issued(NamedTuple):
+    """A certificate for which nothing but an authority vouches."""
+
+    certificate: Certificate
+    chains: Sequence[Chain]
+    moment: datetime
+    """When it has to be valid."""
+
+
 class Stated(NamedTuple):
     """What a payload says of its key."""
 
@@ -78,15 +87,15 @@ class Stated(NamedTuple):
     numbers: Optional[Numbers]
     """The key's numbers; None where it has none that are known here."""
     trusted: Optional[Trusted]
-    """The key, where --key, --ca or --cert trusts the payload."""
+    """The key, where --key or --cert trusts the payload."""
     why: str
     """Why it isn't trusted; empty where it is."""
-    is_for_names: bool = False
-    """Whether the key is trusted for those alone whom its certificate names."""
+    issued: Optional[Issued] = None
+    """The certificate, where it is trusted in those sessions alone for whose HOSTNAME an authority issued it."""
 
 
 def add_arguments(parser: argparse.ArgumentParser) -> None:
-    """Says how a reviewer names keys but for --key: --session-key, --ca and --cert.
+    """Says how a reviewer names keys but for --key: --session-key, --ca, --ca-anchor and --cert.
 
     `keys` of the parsed arguments is where the public keys belong: a list of file names.
     """
@@ -94,7 +103,10 @@ def add_arguments(parser: argparse.ArgumentParser) -> None:
                         help="the key of a session, which is named HOST APP PROCID RSID as in a report; * is any word. "
                              "The first that names a session counts, and no other key is trusted for it")
     parser.add_argument("--ca", action="append", default=[], metavar="CA.pem",
-                        help="trust a payload with a certificate that one of these issued for the HOSTNAME of its session")
+                        help="trust a payload with a certificate that a chain to a self-issued one of these makes one for the "
+                             "HOSTNAME of its session; all others in the file may stand between")
+    parser.add_argument("--ca-anchor", action="append", default=[], metavar="CA.pem",
+                        help="the same, but each certificate in the file may end a chain, and what is above it isn't asked")
     parser.add_argument("--cert", action="append", default=[], metavar="CERT.pem",
                         help="trust a payload with this certificate")
     add_max_payload(parser)
@@ -134,16 +146,21 @@ def read_session_key(words: str, path: str) -> SessionKey:
     return SessionKey(Session(*parts), keys[0])
 
 
-def read_certificates(certs: Sequence[str], cas: Sequence[str]) -> Tuple[Dict[bytes, Trusted], List[Authority]]:
-    """What the options --cert and --ca say."""
+def read_certificates(arguments: argparse.Namespace) -> Tuple[Dict[bytes, Trusted], List[Authority]]:
+    """What the options --cert, --ca and --ca-anchor say. Raises Fault where there are authorities, and no anchor."""
     signers: Dict[bytes, Trusted] = {}
-    if not (certs or cas):
+    if not (arguments.cert or arguments.ca or arguments.ca_anchor):
         return signers, []
     from . import authorities, certificates
-    for path in certs:
+    for path in arguments.cert:
         for it in certificates.read_signers(path):
             signers.setdefault(it.certificate.der, Trusted(path, it.key, it.certificate))
-    return signers, [authorities.read_authority(path) for path in cas]
+    found = [*(authorities.read_authority(path, "--ca") for path in arguments.ca),
+             *(authorities.read_authority(path, authorities.ANCHOR) for path in arguments.ca_anchor)]
+    if found and not any(it.is_anchor(certificate) for it in found for these in it.certificates.values() for certificate in these):
+        raise Fault(f"no certificate of --ca is self-issued, so no chain can end: add the root's, or give the file by "
+                    f"{authorities.ANCHOR}")
+    return signers, found
 
 
 class Trust:
@@ -168,12 +185,13 @@ class Trust:
         self._last_payload: Optional[bytes] = None
         self._last_stated: Optional[Stated] = None
         self._last_judged: Optional[Tuple[Stated, Optional[Session], Judged]] = None
-        # what was found of certificates, each at a time
-        self._kept: Dict[Tuple[bytes, datetime], Judged] = {}
+        # what was found of certificates, each at a time and for a HOSTNAME
+        self._kept: Dict[Tuple[bytes, datetime, bytes], Judged] = {}
 
     @classmethod
     def from_arguments(cls, arguments: argparse.Namespace) -> Trust:
-        """What the options `keys`, `session_key`, `ca`, `cert` and `at_signing_time` give. Raises Fault where one is wrong.
+        """What the options `keys`, `session_key`, `ca`, `ca_anchor`, `cert` and `at_signing_time` give. Raises Fault where one is
+        wrong.
 
         A caller without --max-payload looks at payloads of the usual length.
         """
@@ -189,14 +207,14 @@ class Trust:
             first = patterns.setdefault(it.pattern, it)
             if first.trusted.key.numbers != it.trusted.key.numbers:
                 raise Fault(f"the session '{it.pattern}' is given two keys: {first.trusted.name} and {it.trusted.name}")
-        signers, authorities = read_certificates(arguments.cert, arguments.ca)
+        signers, authorities = read_certificates(arguments)
         if not (keys or session_keys or signers or authorities):
             raise Fault("nothing says which key is to be trusted: give a public key, --session-key, --ca or --cert")
         trust = cls(keys, session_keys, authorities, signers, arguments.at_signing_time,
                     getattr(arguments, "max_payload", LONGEST_PAYLOAD))
         given += [given_key("--session-key", it.trusted, str(it.pattern)) for it in session_keys]
         given += [given_key("--cert", it, None) for it in signers.values()]
-        given += [Given("--ca", it.path, None, None, certificate.facts) for it in authorities
+        given += [Given(it.option, it.path, None, None, certificate.facts) for it in authorities
                   for found in it.certificates.values() for certificate in found]
         trust.given = given
         return trust
@@ -256,11 +274,12 @@ class Trust:
             if given.key.numbers != stated.numbers:
                 return Judged(None, f"its payload states another key than {given.name}, which --session-key gives it")
             return self._in_time(given, stated.payload)
-        if stated.trusted and stated.trusted.certificate and stated.is_for_names:
-            names = stated.trusted.certificate.names
-            if session is None or not names.has(session.host):
-                return Judged(None, f"the certificate isn't for this HOSTNAME: it names {names}")
-        return Judged(stated.trusted, stated.why)
+        if stated.issued is None:
+            return Judged(stated.trusted, stated.why)
+        names = stated.issued.certificate.names
+        if session is None or not names.has(session.host):
+            return Judged(None, f"the certificate isn't for this HOSTNAME: it names {names}")
+        return self._judge_issued(stated.issued, session.host)
 
     def _in_time(self, trusted: Trusted, payload: Payload) -> Judged:
         """A key that the reviewer gave, where its certificate, if it has one, is valid at the time that counts."""
@@ -310,38 +329,37 @@ class Trust:
         if given:
             judged = self._in_time(given, payload)
             return Stated(payload, found.numbers, judged.trusted, judged.why)
-        judged = self._issued(found, payload)
-        return Stated(payload, found.numbers, judged.trusted, judged.why, is_for_names=True)
-
-    def _issued(self, found: Certificate, payload: Payload) -> Judged:
-        """The key of a certificate that one of --ca issued. openssl is asked where nothing else stands against it."""
-        from . import authorities
         if not self._authorities:
-            return Judged(None, "neither --cert nor --ca trusts its certificate")
+            return Stated(payload, found.numbers, None, "neither --cert nor --ca trusts its certificate")
+        from . import authorities
         chains, why = authorities.chains(found, self._authorities)
         why = why or found.usage_fault or self._date_fault(found, payload) or ""
         if why:
-            return Judged(None, why)
+            return Stated(payload, found.numbers, None, why)
         moment = (moment_of(payload.stamp) if self._is_at_signing_time else None) or self._now
-        asked = found.der, moment
+        return Stated(payload, found.numbers, None, "", Issued(found, chains, moment))
+
+    def _judge_issued(self, issued: Issued, host: bytes) -> Judged:
+        """The key of a certificate for a HOSTNAME that it names, where a chain holds. openssl is asked once for each HOSTNAME."""
+        asked = issued.certificate.der, issued.moment, host.lower()
         if asked not in self._kept:
             if len(self._kept) >= MOST_KEPT:
                 self._kept.clear()
-            self._kept[asked] = self._judge_chains(found, chains, moment)
+            self._kept[asked] = self._judge_chains(issued, host)
         return self._kept[asked]
 
-    def _judge_chains(self, found: Certificate, chains: Sequence[Chain], moment: datetime) -> Judged:
-        """The key of a certificate to which chains lead from --ca."""
+    def _judge_chains(self, issued: Issued, host: bytes) -> Judged:
+        """The key of a certificate for a HOSTNAME, where one of its chains holds."""
         from . import authorities
-        why = ""
-        for chain in chains:
-            why = authorities.chain_fault(found, chain, moment) or ""
+        found, why = issued.certificate, ""
+        for chain in issued.chains:
+            why = authorities.chain_fault(found, chain, host, issued.moment) or ""
             if not why:
                 break
         if why or not found.numbers:
             return Judged(None, why)
         try:
-            return Judged(Trusted(chain.path, PublicKey(found.numbers), found), "")
+            return Judged(Trusted(chain.authority.path, PublicKey(found.numbers), found), "")
         except NO_KEY as fault:
             return Judged(None, f"the key of its certificate can't be used: {one_line(fault)}")
 
