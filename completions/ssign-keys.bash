@@ -88,6 +88,7 @@ _ssign_keys() {
     'live --seal-command') _ssign_keys_offer text ;;
     'live --public') _ssign_keys_offer files ;;
     'live --tsa-ca') _ssign_keys_offer files ;;
+    'live --tsa-ca-anchor') _ssign_keys_offer files ;;
     'live --journal') _ssign_keys_offer text ;;
     'live --host') _ssign_keys_offer text ;;
     'live --app') _ssign_keys_offer text ;;
@@ -109,6 +110,7 @@ _ssign_keys() {
     'verify --ca-anchor') _ssign_keys_offer files ;;
     'verify --cert') _ssign_keys_offer files ;;
     'verify --tsa-ca') _ssign_keys_offer files ;;
+    'verify --tsa-ca-anchor') _ssign_keys_offer files ;;
     'verify --max-len') _ssign_keys_offer text ;;
     'verify --max-messages') _ssign_keys_offer text ;;
     'verify --max-expanded') _ssign_keys_offer text ;;
@@ -140,6 +142,7 @@ _ssign_keys() {
     'stamp --tsa-seconds') _ssign_keys_offer text ;;
     'stamp --out') _ssign_keys_offer text ;;
     'stamp --tsa-ca') _ssign_keys_offer files ;;
+    'stamp --tsa-ca-anchor') _ssign_keys_offer files ;;
     'rotated --keys') _ssign_keys_offer folders ;;
     'rotated --state') _ssign_keys_offer folders ;;
     'rotated --kept') _ssign_keys_offer folders ;;
@@ -180,10 +183,10 @@ _ssign_keys_words() {
             _ssign_keys_offer files
         fi
         ;;
-    live) _ssign_keys_offer words '--help --state --out --new-session --keep-session --omprog --transactions --marks --messages --seconds --rotate-size --rotate-daily --heartbeat --wrap --no-wrap --stamp-command --tsa --tsa-seconds --status --key --seal-command --public --tsa-ca --lines --journal --host --app --procid --msgid --pri --payload --ver --groups --count --frag --copies --manifest --ssign' ;;
+    live) _ssign_keys_offer words '--help --state --out --new-session --keep-session --omprog --transactions --marks --messages --seconds --rotate-size --rotate-daily --heartbeat --wrap --no-wrap --stamp-command --tsa --tsa-seconds --status --key --seal-command --public --tsa-ca --tsa-ca-anchor --lines --journal --host --app --procid --msgid --pri --payload --ver --groups --count --frag --copies --manifest --ssign' ;;
     verify)
         if [[ $2 == -* ]]; then
-            _ssign_keys_offer words '--help --manifest-seen --key --session-key --ca --ca-anchor --cert --at-signing-time --allow-sha1 --ignore-strangers --tsa-ca --lines --frames --max-len --max-messages --max-expanded --max-payload --whole --from --counters --nights --manifest --from-manifest --manifest-last --stamped --findings --details --hostname --raw --json --html --answers-out --counters-out --jobs --ssign'
+            _ssign_keys_offer words '--help --manifest-seen --key --session-key --ca --ca-anchor --cert --at-signing-time --allow-sha1 --ignore-strangers --tsa-ca --tsa-ca-anchor --lines --frames --max-len --max-messages --max-expanded --max-payload --whole --from --counters --nights --manifest --from-manifest --manifest-last --stamped --findings --details --hostname --raw --json --html --answers-out --counters-out --jobs --ssign'
         else
             _ssign_keys_offer files
         fi
@@ -197,7 +200,7 @@ _ssign_keys_words() {
         ;;
     stamp)
         if [[ $2 == -* ]]; then
-            _ssign_keys_offer words '--help --tsa --tsa-command --tsa-seconds --out --tsa-ca'
+            _ssign_keys_offer words '--help --tsa --tsa-command --tsa-seconds --out --tsa-ca --tsa-ca-anchor'
         else
             _ssign_keys_offer files
         fi

@@ -284,6 +284,8 @@ def mistakes(services):
     """Options that don't go together."""
     for options, words in (((f"--stamp-command={services.command()}",), "--tsa-ca CA.pem"),
                            ((f"--tsa-ca={services.folder}/trial/ca.pem",), "name the service"),
+                           ((f"--tsa-ca-anchor={services.folder}/trial/tsa.pem",), "name the service"),
+                           (("--tsa=http://x", f"--tsa-ca={services.folder}/trial/tsa.pem"), "self-issued"),
                            (("--tsa=ftp://x", f"--tsa-ca={services.folder}/trial/ca.pem"), "no address"),
                            (("--tsa=http://x", f"--tsa-ca={services.folder}/none.pem"), "none.pem"),
                            (("--tsa=http://x", "--stamp-command=x", f"--tsa-ca={services.folder}/trial/ca.pem"), "not allowed with")):

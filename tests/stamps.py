@@ -51,6 +51,13 @@ distinguished_name = none
 [ca]
 basicConstraints = critical,CA:TRUE
 keyUsage = critical,keyCertSign
+[servers]
+basicConstraints = critical,CA:TRUE
+keyUsage = critical,keyCertSign
+extendedKeyUsage = serverAuth
+[tight]
+basicConstraints = critical,CA:TRUE,pathlen:0
+keyUsage = critical,keyCertSign
 [tsa]
 extendedKeyUsage = critical,timeStamping
 keyUsage = critical,digitalSignature
@@ -72,7 +79,8 @@ def openssl(*words: str, octets: bytes = b"", folder: str = ".") -> bytes:
 
 
 def make(folder: str, name: str, digest: str = "sha256") -> None:
-    """An authority, its service, a certificate of it that is for no time stamps, and a service of an authority below it."""
+    """An authority, its service, a certificate of it that is for no time stamps, and services of authorities below it: of one, of
+    one for servers, and of one that is below another with pathlen 0."""
     there = os.path.join(folder, name)
     os.makedirs(there)
     with open(os.path.join(there, "req.cnf"), "w", encoding="ascii") as file:
@@ -83,8 +91,12 @@ def make(folder: str, name: str, digest: str = "sha256") -> None:
     openssl("req", "-x509", "-newkey", "rsa:2048", "-nodes", "-keyout", "ca.key", "-out", "ca.pem", "-days", "3650", "-subj",
             f"/CN={name} CA", "-config", "req.cnf", "-extensions", "ca", folder=there)
     for of, subject, by, kind in (("tsa", f"/O=Trial/CN={name} TSA", "ca", "tsa"), ("server", f"/CN={name} server", "ca", "server"),
-                                  ("inter", f"/CN={name} below", "ca", "ca"), ("under", f"/CN={name} under", "inter", "tsa")):
-        openssl("req", "-newkey", "rsa:2048", "-nodes", "-keyout", f"{of}.key", "-out", f"{of}.csr", "-subj", subject, "-config",
+                                  ("inter", f"/CN={name} below", "ca", "ca"), ("under", f"/CN={name} under", "inter", "tsa"),
+                                  ("servers", f"/CN={name} servers", "ca", "servers"), ("odd", f"/CN={name} odd", "servers", "tsa"),
+                                  ("tight", f"/CN={name} tight", "ca", "tight"), ("deeper", f"/CN={name} deeper", "tight", "ca"),
+                                  ("deep", f"/CN={name} deep", "deeper", "tsa")):
+        kind_of_key = ["rsa:2048"] if of in ("tsa", "server") else ["ec", "-pkeyopt", "ec_paramgen_curve:P-256"]
+        openssl("req", "-newkey", *kind_of_key, "-nodes", "-keyout", f"{of}.key", "-out", f"{of}.csr", "-subj", subject, "-config",
                 "req.cnf", folder=there)
         openssl("x509", "-req", "-in", f"{of}.csr", "-CA", f"{by}.pem", "-CAkey", f"{by}.key", "-CAcreateserial", "-days", "3650",
                 f"-{digest}", "-extfile", "req.cnf", "-extensions", kind, "-out", f"{of}.pem", folder=there)
@@ -406,7 +418,7 @@ def flips(tools: str, authority: str, path: str, stamp: str) -> None:
         sha256 = hashlib.sha256(file.read()).hexdigest()
     with open(stamp, "rb") as file:
         right = file.read()
-    authorities = rfc3161.read_authorities([authority])
+    authorities = rfc3161.read_authorities([authority], [])
     chosen = random.Random(3161)
     taken = refused = 0
     codes: Dict[str, int] = {}

@@ -156,20 +156,35 @@ wrong() {
 stamps token trial "$sum" >made.tsr
 keys "${verify[@]}" --stamped made.tsr --tsa-ca trial/ca.pem signed
 holds 'a stamp that is put together: status' test "$status" = 0
-# whoever is an authority, root or not, and the service itself
-# trusts WHAT CA KEY=VALUE..: a stamp that is put together with these values holds under this authority.
-trusts() {
-    local what=$1 ca=$2
-    shift 2
+# a chain ends with a self-issued certificate of --tsa-ca, or with each of --tsa-ca-anchor; what is between binds, as in openssl
+# judged STATUS WHAT OPTION CA KEY=VALUE..: a stamp that is put together with these values, under this authority.
+judged() {
+    local wanted=$1 what=$2 option=$3 ca=$4
+    shift 4
     stamps token trial "$sum" "$@" >made.tsr
-    keys "${verify[@]}" --stamped made.tsr --tsa-ca "$ca" signed
-    holds "$what: status" test "$status" = 0
+    keys "${verify[@]}" --stamped made.tsr "$option" "$ca" signed
+    holds "$what: status" test "$status" = "$wanted"
 }
-trusts 'the service as its own authority' trial/tsa.pem
-trusts 'an authority below another' trial/inter.pem signer=under
-trusts 'an authority below another, in the stamp' trial/ca.pem signer=under more=inter.pem
+self="no certificate of --tsa-ca is self-issued and may issue those for time stamps, so no chain can end: add the root's, or give the file by --tsa-ca-anchor"
+judged 0 'the service as its own anchor' --tsa-ca-anchor trial/tsa.pem
+judged 2 'the service as its own authority' --tsa-ca trial/tsa.pem
+says 'the service as its own authority' "$self"
+judged 0 'an anchor below another' --tsa-ca-anchor trial/inter.pem signer=under
+judged 2 'an authority below another' --tsa-ca trial/inter.pem signer=under
+says 'an authority below another' "$self"
+judged 0 'an authority below another, in the stamp' --tsa-ca trial/ca.pem signer=under more=inter.pem
 cat trial/ca.pem trial/inter.pem >both.pem
-trusts 'an authority below another, in the file' both.pem signer=under
+judged 0 'an authority below another, in the file' --tsa-ca both.pem signer=under
+cat trial/ca.pem trial/tight.pem trial/deeper.pem >deep.pem
+judged 2 'below one with pathlen 0, in the file' --tsa-ca deep.pem signer=deep
+says 'below one with pathlen 0, in the file' 'openssl says: path length constraint exceeded (T2)'
+judged 0 'below one with pathlen 0, which is an anchor' --tsa-ca-anchor trial/deeper.pem signer=deep
+cat trial/ca.pem trial/servers.pem >odd.pem
+judged 2 'below one for servers, in the file' --tsa-ca odd.pem signer=odd
+says 'below one for servers, in the file' '(T2)'
+judged 2 'below one for servers, which is an anchor' --tsa-ca-anchor trial/servers.pem signer=odd
+judged 2 'below one for servers, in the stamp' --tsa-ca trial/ca.pem signer=odd more=servers.pem
+says 'below one for servers, in the stamp' "it holds the certificate CN=trial servers, which isn't for time stamps, by its extendedKeyUsage (T3)"
 wrong 'an authority below another that is nowhere' '(T2)' signer=under
 wrong 'a certificate that is for no time stamps' '(T2)' signer=server
 wrong 'no word on the certificate' '(T2)' ess=no

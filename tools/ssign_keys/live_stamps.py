@@ -24,7 +24,7 @@ from .identity import shown_text
 from .live_disk import STATE
 from .live_log import Live, heading
 from .numbers import number
-from .stamped import ENDING, MOST_SECONDS, SECONDS
+from .stamped import ENDING, MOST_SECONDS, SECONDS, add_authorities
 
 COUNTERS = ".counters"
 PASSING = ".new"
@@ -48,30 +48,31 @@ def add_arguments(parser: argparse.ArgumentParser) -> None:
                          "command of the shell, which reads the request from standard input and prints the answer; its SHA-256 is "
                          "signed as a message")
     service.add_argument("--tsa", metavar="URL", help="the same, by the time stamp service at this address, by http or https")
-    parser.add_argument("--tsa-ca", action="append", default=[], metavar="CA.pem", help="the authority that vouches for the time "
-                        "stamp service")
+    add_authorities(parser)
     parser.add_argument("--tsa-seconds", type=number(1, MOST_SECONDS), default=SECONDS, metavar="N", help="wait so many seconds "
                         f"for an answer of it (default: {SECONDS})")
 
 
 def words_of(arguments: argparse.Namespace) -> List[str]:
     """The options of `ssign-keys stamp`; none where no stamp is wanted. Raises Fault where they don't go together."""
+    has_authority = arguments.tsa_ca or arguments.tsa_ca_anchor
     if arguments.stamp_command is None and arguments.tsa is None:
-        if arguments.tsa_ca:
+        if has_authority:
             raise Fault("--tsa-ca is the authority of a time stamp service: name the service with --stamp-command or --tsa")
         return []
-    if not arguments.tsa_ca:
+    if not has_authority:
         raise Fault("a time stamp needs the authority of its service: --tsa-ca CA.pem")
     # these take half of the time of a start, so they are loaded where a time stamp is wanted
     from .rfc3161 import read_authorities
     from .tsa import read_url
-    read_authorities(arguments.tsa_ca)
+    read_authorities(arguments.tsa_ca, arguments.tsa_ca_anchor)
     if arguments.tsa is not None:
         read_url(arguments.tsa)
         words = [f"--tsa={arguments.tsa}"]
     else:
         words = [f"--tsa-command={arguments.stamp_command}"]
-    return [*words, *(f"--tsa-ca={it}" for it in arguments.tsa_ca), f"--tsa-seconds={arguments.tsa_seconds}"]
+    return [*words, *(f"--tsa-ca={it}" for it in arguments.tsa_ca), *(f"--tsa-ca-anchor={it}" for it in arguments.tsa_ca_anchor),
+            f"--tsa-seconds={arguments.tsa_seconds}"]
 
 
 @dataclass

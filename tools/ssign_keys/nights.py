@@ -223,7 +223,8 @@ def look_at_keys(files: Sequence[str]) -> None:
 
 def of_each_night(arguments: argparse.Namespace) -> argparse.Namespace:
     """The arguments without those about the manifest."""
-    return argparse.Namespace(**{**vars(arguments), "manifest_last": None, "manifest_seen": None, "stamped": [], "tsa_ca": []})
+    return argparse.Namespace(**{**vars(arguments), "manifest_last": None, "manifest_seen": None, "stamped": [], "tsa_ca": [],
+                                 "tsa_ca_anchor": []})
 
 
 def lines_of(verdict: Verdict, is_json: bool) -> Iterator[str]:

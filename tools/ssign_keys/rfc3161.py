@@ -12,7 +12,7 @@ from datetime import datetime, timezone
 from typing import Dict, List, NamedTuple, Optional, Sequence, Tuple
 
 from . import der
-from .certificates import Certificate, loaded, read_certificate, read_certificates
+from .certificates import TIME_STAMPING, Certificate, loaded, read_certificate, read_certificates
 from .commands import ask
 from .der import Bad, Item
 from .digests import Digest
@@ -123,18 +123,31 @@ class Authorities(NamedTuple):
 
     given: List[Given]
     """Each certificate, for what was checked."""
-    pem: bytes
+    anchors: bytes
+    """Those with which a chain may end, in PEM: the self-issued ones of --tsa-ca, and all of --tsa-ca-anchor."""
+    helpers: bytes
+    """Those that may stand between, in PEM."""
+    is_partial: bool
+    """Whether an anchor is none that issued itself."""
 
 
-def read_authorities(paths: Sequence[str]) -> Authorities:
-    """The certificates in the files of --tsa-ca. Raises Fault where one can't be read."""
-    given: List[Given] = []
-    pem = b""
-    for path in paths:
-        for it in read_certificates(path, read_file(path, "a certificate")):
-            given.append(Given("--tsa-ca", path, None, None, it.facts))
-            pem += loaded(it.der).public_bytes(Encoding.PEM)
-    return Authorities(given, pem)
+def read_authorities(paths: Sequence[str], anchors: Sequence[str]) -> Authorities:
+    """The certificates in the files of --tsa-ca and --tsa-ca-anchor. Raises Fault where one can't be read, or where none of them
+    is an anchor for time stamps.
+
+    One that is for other uses alone is no anchor and no helper, because openssl doesn't look at that above a service.
+    """
+    found = [(option, path, it) for option, these in (("--tsa-ca", paths), ("--tsa-ca-anchor", anchors)) for path in these
+             for it in read_certificates(path, read_file(path, "a certificate"))]
+    pem = {True: b"", False: b""}
+    for option, _, it in found:
+        if TIME_STAMPING <= it.uses:
+            pem[option == "--tsa-ca-anchor" or it.is_self_issued] += loaded(it.der).public_bytes(Encoding.PEM)
+    if not pem[True]:
+        raise Fault("no certificate of --tsa-ca is self-issued and may issue those for time stamps, so no chain can end: add the "
+                    "root's, or give the file by --tsa-ca-anchor")
+    given = [Given(option, path, None, None, it.facts) for option, path, it in found]
+    return Authorities(given, pem[True], pem[False], bool(anchors))
 
 
 def name_of(facts: CertificateFacts) -> str:
@@ -218,12 +231,16 @@ def signer_of(item: Item, held: Sequence[Item]) -> Certificate:
     if algorithm not in HASHES:
         raise Bad(f"it is signed over the hash algorithm {algorithm}: one of 256 bits or more is wanted")
     wanted = der.number(serial, "the serial number of the signer's certificate")
-    found = [it for it in map(read_certificate, (it.whole for it in held)) if it is not None
-             and loaded(it.der).serial_number == wanted]
+    certificates = [it for it in map(read_certificate, (it.whole for it in held)) if it is not None]
+    found = [it for it in certificates if loaded(it.der).serial_number == wanted]
     if len(found) > 1:
         found = [it for it in found if it.issuer == issuer.whole or is_like(it, issuer.whole)]
     if len(found) != 1:
         raise Bad(f"it holds {grouped(len(found), 'certificate')} of its signer, and one is wanted")
+    for it in certificates:
+        # openssl looks at this of the service alone, and not of an authority above it
+        if it is not found[0] and not TIME_STAMPING <= it.uses:
+            raise Bad(f"it holds the certificate {it.name}, which isn't for time stamps, by its extendedKeyUsage")
     return found[0]
 
 
@@ -368,14 +385,14 @@ def fault_of(octets: bytes, stamp: TimeStamp, authorities: Authorities, workplac
              query: Optional[str]) -> Optional[str]:
     """What openssl has against a stamp at the stamp's own time, or None. Nothing that this machine trusts besides is taken."""
     paths = []
-    for what, held in (("stamp", octets), ("authorities", authorities.pem)):
+    for what, held in (("stamp", octets), ("anchors", authorities.anchors), ("helpers", authorities.helpers)):
         with workplace.new_file(what) as file:
             put(file, held)
             finish(file)
         paths.append(workplace.path(what))
-    # level 1 leaves out certificates that are signed by MD5 and SHA-1, and an authority needn't be a root
+    # level 1 leaves out certificates that are signed by MD5 and SHA-1
     words = ["openssl", "ts", "-verify", "-in", paths[0], "-CAfile", paths[1], "-attime", str(stamp.moment), "-auth_level", "1",
-             "-partial_chain"]
+             *(["-untrusted", paths[2]] if authorities.helpers else []), *(["-partial_chain"] if authorities.is_partial else [])]
     said = ask([*words, *(["-digest", stamp.imprint] if query is None else ["-queryfile", query])], b"", "openssl")
     if said.returncode == 0:
         return None

@@ -16,7 +16,7 @@ from .numbers import number
 from .page_file import name_new
 from .rfc3161 import LONGEST, check_stamp, read_authorities
 from .rotation_state import sync_folder
-from .stamped import ENDING, MOST_SECONDS, SECONDS
+from .stamped import ENDING, MOST_SECONDS, SECONDS, add_authorities
 from .streams import Output
 from .tsa import ask_command, ask_url, read_url
 from .words import shown_name
@@ -30,8 +30,7 @@ def add_arguments(parser: argparse.ArgumentParser) -> None:
     service.add_argument("--tsa", metavar="URL", help="ask the time stamp service at this address, by http or https")
     service.add_argument("--tsa-command", metavar="COMMAND", help="ask it by this command of the shell, which reads the request "
                          "from standard input and prints the answer")
-    parser.add_argument("--tsa-ca", action="append", required=True, metavar="CA.pem", help="the authority that vouches for the "
-                        "service; it has to be one that you know by another way")
+    add_authorities(parser)
     parser.add_argument("--tsa-seconds", type=number(1, MOST_SECONDS), default=SECONDS, metavar="N", help="wait so many seconds "
                         f"for an answer (default: {SECONDS})")
     parser.add_argument("--out", metavar="ANSWER", help=f"keep the answer in this file, which may not be there yet (default: "
@@ -51,7 +50,9 @@ def run(arguments: argparse.Namespace) -> int:
     refuse_taken(wanted)
     if arguments.tsa is not None:
         read_url(arguments.tsa)
-    authorities = read_authorities(arguments.tsa_ca)
+    if not (arguments.tsa_ca or arguments.tsa_ca_anchor):
+        raise Fault("a time stamp needs the authority of its service: --tsa-ca CA.pem")
+    authorities = read_authorities(arguments.tsa_ca, arguments.tsa_ca_anchor)
     seen = look(arguments.file)
     with Workplace() as workplace:
         query = make_query(seen, workplace)

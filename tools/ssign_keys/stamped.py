@@ -40,15 +40,24 @@ def add_arguments(parser: argparse.ArgumentParser) -> None:
     parser.add_argument("--stamped", action="append", default=[], metavar="STAMP", help="a time stamp of the file of "
                         "--counters or --manifest, as `ssign-keys stamp` keeps it: the verdict says since when that file exists, "
                         "and a stamp that doesn't hold is refused")
-    parser.add_argument("--tsa-ca", action="append", default=[], metavar="CA.pem", help="the authority that vouches for the "
-                        "service of a time stamp")
+    add_authorities(parser)
+
+
+def add_authorities(parser: argparse.ArgumentParser) -> None:
+    """Says how the authorities of a time stamp service are given."""
+    parser.add_argument("--tsa-ca", action="append", default=[], metavar="CA.pem", help="the authority that vouches for the time "
+                        "stamp service, which you know by another way: a self-issued certificate of the file; all others in it "
+                        "may stand between")
+    parser.add_argument("--tsa-ca-anchor", action="append", default=[], metavar="CA.pem", help="the same, but each certificate in "
+                        "the file may end a chain, also that of the service itself")
 
 
 def refuse_lone(arguments: argparse.Namespace) -> None:
     """Refuses options that say nothing without others, before anything is done."""
-    if arguments.stamped and not arguments.tsa_ca:
+    has_authority = arguments.tsa_ca or arguments.tsa_ca_anchor
+    if arguments.stamped and not has_authority:
         raise Fault("--stamped needs the authority of the time stamp service: --tsa-ca CA.pem")
-    if arguments.tsa_ca and not arguments.stamped:
+    if has_authority and not arguments.stamped:
         raise Fault("--tsa-ca is the authority of a time stamp: name the stamp with --stamped")
     if arguments.stamped and not (arguments.counters or arguments.manifest or arguments.nights):
         raise Fault("--stamped is a time stamp of counters or of a manifest: name them with --counters or --manifest")
@@ -62,7 +71,7 @@ def check_stamps(arguments: argparse.Namespace, counters: Optional[Digest], mani
         return NONE
     # this takes half of the time of a start, so it is loaded where a time stamp is checked
     from .rfc3161 import check_stamp, read_authorities
-    authorities = read_authorities(arguments.tsa_ca)
+    authorities = read_authorities(arguments.tsa_ca, arguments.tsa_ca_anchor)
     wanted = {what: it.sha256 for what, it in (("counters", counters), ("manifest", manifest)) if it is not None}
     return Stamps([check_stamp(read_stamp(it), it, wanted, authorities, workplace) for it in arguments.stamped],
                   authorities.given)
