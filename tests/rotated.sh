@@ -140,6 +140,26 @@ rotated
 expect 'the name is free again: both are signed' 0 '' ''
 holds 'each is a night of one session' test "$(sed 's/.*"name":"\([a-z]*\).*"rsid":\([0-9]*\),.*/\1 \2/' state/kept/manifest.jsonl | tr '\n' ' ')" = 'one 1 two 1 '
 
+# ---- links that the owner of the folder puts there while root signs, or before
+if [[ $EUID == 0 ]]; then
+    holds 'links in the folder of the logs change and show no other file' python3 -B "$root/tests/rotation_links.py" \
+        "$root/tools/ssign-keys" "$program" "$scratch/keys"
+    for folder in state kept; do
+        fresh
+        mkdir -p kept
+        chmod g+w "$folder"
+        rotated --kept kept logs/one
+        expect "root, and others may write to the folder of --$folder" 2 '' \
+            "ssign-keys: the folder $scratch/$folder, which --$folder names, may be written to by others than root: \`chown root\` and \`chmod go-w\` it first"
+        chmod g-w "$folder"
+        rotated --kept kept logs/one
+        expect "root, and nobody else may write to the folder of --$folder" 0 '' ''
+        rm -r kept
+    done
+else
+    echo "$name: skipped what another user does to root, because this isn't root"
+fi
+
 # ---- what was copied is removed, as long as it is what was copied
 fresh
 rotated logs/one

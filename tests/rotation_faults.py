@@ -36,7 +36,7 @@ def counted(name):
             raise OSError(errno.ENOSPC, os.strerror(errno.ENOSPC))
         return real(*words, **more)
     setattr(os, name, call)
-for it in ("fsync", "link", "unlink", "replace", "chmod"):
+for it in ("fsync", "link", "unlink", "replace", "mkdir", "fchmod"):
     counted(it)
 sys.path.insert(0, os.path.dirname(os.path.realpath(sys.argv[1])))
 sys.argv[0:1] = []

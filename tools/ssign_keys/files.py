@@ -10,6 +10,9 @@ from .faults import Fault
 
 # No file of keys or certificates comes near to it.
 LONGEST = 16 * 1024 * 1024
+OTHERS_WRITE = stat.S_IWGRP | stat.S_IWOTH
+IS_LINK = "it is a link"
+NOT_REGULAR = "it is no regular file"
 
 
 def read_file(path: str, wanted: str) -> bytes:
@@ -33,21 +36,40 @@ def read_file(path: str, wanted: str) -> bytes:
     return octets
 
 
+def open_regular(path: str, flags: int = os.O_RDONLY | os.O_NOFOLLOW, mode: int = 0o600) -> int:
+    """Opens a regular file, and gives its number. What else has its name isn't waited for. Raises OSError with a plain reason.
+
+    Without other flags a link isn't followed, so no other file is opened than the one of this name.
+    """
+    try:
+        number = os.open(path, flags | os.O_NONBLOCK | os.O_NOCTTY | os.O_CLOEXEC, mode)
+    except OSError as fault:
+        if fault.errno == errno.ELOOP and flags & os.O_NOFOLLOW:
+            raise OSError(fault.errno, IS_LINK, path) from fault
+        if fault.errno == errno.ENXIO:
+            # a socket, or a device that isn't there
+            raise OSError(fault.errno, NOT_REGULAR, path) from fault
+        raise
+    kind = os.fstat(number).st_mode
+    if not stat.S_ISREG(kind):
+        os.close(number)
+        raise IsADirectoryError(errno.EISDIR, os.strerror(errno.EISDIR), path) if stat.S_ISDIR(kind) else \
+            OSError(errno.EINVAL, NOT_REGULAR, path)
+    return number
+
+
+def is_shared(folder: str) -> bool:
+    """Whether others than root and this user may put files into a folder. Raises OSError."""
+    seen = os.stat(folder)
+    return seen.st_uid not in (0, os.geteuid()) or bool(seen.st_mode & OTHERS_WRITE)
+
+
 def open_lock(path: str) -> int:
     """Opens the file of a lock, which is made where it isn't there. Nothing is written to it.
 
     It is a regular file and no link: what else stands there isn't waited for, and no other file is made. Raises OSError.
     """
-    try:
-        number = os.open(path, os.O_RDWR | os.O_CREAT | os.O_NOFOLLOW | os.O_NONBLOCK | os.O_CLOEXEC, 0o600)
-    except OSError as fault:
-        if fault.errno == errno.ELOOP:
-            raise OSError(fault.errno, "it is a link", path) from fault
-        raise
-    if not stat.S_ISREG(os.fstat(number).st_mode):
-        os.close(number)
-        raise OSError(errno.EINVAL, "it is no regular file", path)
-    return number
+    return open_regular(path, os.O_RDWR | os.O_CREAT | os.O_NOFOLLOW)
 
 
 def reason(fault: Exception) -> str:

@@ -29,23 +29,23 @@ class Seen(NamedTuple):
     """Which processes couldn't be looked at, in words; empty where there is none."""
 
 
-def writers_of(path: str) -> Seen:
-    """The processes that have a file open for writing, each as `NUMBER (NAME)`."""
+def writers_of(number: int) -> Seen:
+    """The processes that have the file of a descriptor open for writing, each as `NUMBER (NAME)`."""
     try:
-        file = os.stat(path)
+        file = os.fstat(number)
         numbers = [it for it in os.listdir(PROCESSES) if it.isdigit()]
     except OSError as fault:
         if fault.filename == PROCESSES:
             return Seen([], f"without {PROCESSES} no process can be looked at")
-        raise Fault("it is gone" if isinstance(fault, FileNotFoundError) else f"it can't be looked at: {reason(fault)}") from fault
+        raise Fault(f"it can't be looked at: {reason(fault)}") from fault
     found: List[str] = []
     unseen: Dict[str, int] = {}
-    for number in numbers:
+    for it in numbers:
         try:
-            if any(os.path.samestat(file, it) for it in open_for_writing(number)):
-                found.append(f"{number} ({name_of(number)})")
+            if any(os.path.samestat(file, seen) for seen in open_for_writing(it)):
+                found.append(f"{it} ({name_of(it)})")
         except PermissionError:
-            user = user_of(number)
+            user = user_of(it)
             if user:
                 unseen[user] = unseen.get(user, 0) + 1
         except OSError:
@@ -100,16 +100,16 @@ def name_of(number: str) -> str:
         return shown(file.read(100).rstrip(b"\n"))
 
 
-def wait_until_closed(path: str, seconds: float) -> str:
-    """Waits until nobody has a file open for writing. Raises Fault where somebody still has, after so many seconds.
+def wait_until_closed(number: int, seconds: float) -> str:
+    """Waits until nobody has the file of a descriptor open for writing. Raises Fault where somebody still has, after so many seconds.
 
     Gives which processes couldn't be looked at, in words. Then it has waited for some seconds more.
     """
     end = time.monotonic() + seconds
-    seen = writers_of(path)
+    seen = writers_of(number)
     while seen.writers and time.monotonic() < end:
         time.sleep(min(PAUSE, max(end - time.monotonic(), 0)))
-        seen = writers_of(path)
+        seen = writers_of(number)
     if seen.writers:
         raise Fault(f"it is still open for writing after {seconds:g} seconds, by the process {seen.writers[0]}")
     if seen.unseen:

@@ -18,16 +18,16 @@ import stat
 import subprocess
 import sys
 from datetime import datetime, timezone
-from typing import BinaryIO, Callable, List, NamedTuple, Optional, Union
+from typing import BinaryIO, Callable, Dict, List, NamedTuple, Optional, Sequence, Union
 
 from .faults import Fault
-from .files import open_lock, reason
+from .files import NOT_REGULAR, is_shared, open_lock, open_regular, reason
 from .manifest import name_for
 from .manifest_file import Appending
 from .manifest_form import Entry, Manifest, Mark, SetAside, read_manifest, read_mark
 from .open_files import wait_until_closed
 from .programs import add_program_argument, find_program
-from .rotation_state import NO_ENTRY, Current, Signed, Trying, read_state, replace, sync_folder, write_state
+from .rotation_state import NO_ENTRY, Current, Signed, Trying, open_folder, read_state, replace, sync_folder, write_state
 from .session_file import START, Ongoing
 from .session_state import has_counters, last_rsid, read_session
 from .streams import Output
@@ -42,8 +42,12 @@ TRIES = 3
 # keep its night unsigned.
 MAX_LEN = 1048576
 PRIVATE, PUBLIC = "private-key.pem", "public-key.pem"
-# how a name ends that a file has until all of its run is done
-NEW = ".new"
+# of what may be done with a log, what may be done with what was made of it
+READABLE = 0o644
+# the folder of files whose run isn't done, in that of the state
+PASSING = "passing"
+# how the name of a copy ends until all of it stands on the disk
+PART = ".part"
 
 
 def add_arguments(parser: argparse.ArgumentParser) -> None:
@@ -146,6 +150,9 @@ class Rotation:
         self._logs = [os.path.abspath(it) for it in arguments.logs]
         self._manifest = os.path.join(self._kept, "manifest.jsonl")
         self._unusual = False
+        # how files are named to a person that have another name, or none, while a log is signed
+        self._shown: Dict[str, str] = {}
+        refuse_shared("--state", self._state_folder)
         if arguments.new_session and arguments.own_sessions:
             raise Fault("--new-session goes with --one-session, and not with --own-sessions")
         self._is_new = arguments.new_session
@@ -205,7 +212,7 @@ class Rotation:
         current = self._state.current
         if current is not None and current.log in self._logs and not os.path.lexists(current.frames):
             # its RSID isn't used up, so nothing of it may stay
-            for it in (*current.files.keys(), *current.files.values()):
+            for it in (*current.files.keys(), *current.files.values(), *(it + PART for it in current.files.values())):
                 with contextlib.suppress(FileNotFoundError):
                     os.unlink(it)
             self._state.current = None
@@ -267,8 +274,9 @@ class Rotation:
     def _sign(self, log: str) -> None:
         """Signs a log, and then what came to it meanwhile."""
         for _ in range(TRIES):
-            unseen = wait_until_closed(log, self._arguments.wait)
             with open_log(log) as source:
+                unseen = wait_until_closed(source.fileno(), self._arguments.wait)
+                check_name(log, source)
                 size = os.fstat(source.fileno()).st_size
                 found = self._state.signed_of(log)
                 start = 0 if found is None else found.size
@@ -301,15 +309,16 @@ class Rotation:
         self._check_manifest()
         before = digest(source, size)
         night = self._next_night()
-        passing = Passing(name, self._kept, night.label)
+        passing = Passing(name, self._kept, night.label, self._make_passing())
         passing.clear()
+        self._show(passing.files())
         self._begin_trying(night)
         try:
             self._run_sign(log, source, start, size, passing, night)
             self._verify(passing, night)
             if digest(source, size) != before or os.fstat(source.fileno()).st_size < size:
                 raise Fault("it was changed while it was signed")
-            current = self._current(log, size, before, passing, night.rsid)
+            current = self._current(log, source, size, before, passing, night.rsid)
         except BaseException:
             passing.clear()
             self._end_vain(night)
@@ -321,8 +330,9 @@ class Rotation:
         self._is_new = False
 
     def _run_sign(self, log: str, source: BinaryIO, start: int, size: int, passing: Passing, night: Night) -> None:
-        """Has the signed log written under a passing name."""
-        what = log
+        """Has the signed log written under a passing name. The log is read by the descriptor that its hash is of."""
+        what = f"/dev/fd/{source.fileno()}"
+        self._shown[what] = shown_name(log)
         if start:
             # a log of late lines has no file of its own
             what = self._workplace.path("late")
@@ -331,14 +341,13 @@ class Rotation:
                 finish(part)
         try:
             with open(passing.frames, "xb") as out:
-                os.chmod(passing.frames, 0o600)
                 status = self._keys_command(
                     ["sign", f"--key={os.path.join(self._keys, PRIVATE)}", *night.words,
                      f"--host={self._arguments.host or os.uname().nodename}", f"--app={self._arguments.app}", "--lines",
-                     f"--max-len={MAX_LEN}", f"--set-aside={passing.aside}", "--", what], out)
+                     f"--max-len={MAX_LEN}", f"--set-aside={passing.aside}", "--", what], out, [source.fileno()])
                 os.fsync(out.fileno())
         except OSError as fault:
-            raise Fault(f"{shown_name(passing.frames)} can't be written: {reason(fault)}") from fault
+            raise Fault(f"{shown_name(passing.final_frames)} can't be written: {reason(fault)}") from fault
         except Fault as fault:
             if not str(fault).endswith("(W1)") and not str(fault).startswith("standard output can't be written"):
                 raise
@@ -366,54 +375,74 @@ class Rotation:
                     raise Fault("what was signed isn't clean when it is verified with the public key: "
                                 f"{line.decode('ascii', 'replace').rstrip()}")
 
-    def _keys_command(self, words: List[str], out: BinaryIO) -> int:
-        """Runs a command of ssign-keys. Gives its status, 0 or 1; raises Fault with its last words where it failed."""
+    def _keys_command(self, words: List[str], out: BinaryIO, handed: Sequence[int] = ()) -> int:
+        """Runs a command of ssign-keys, which has these descriptors too. Gives its status, 0 or 1; raises Fault with its last
+        words where it failed."""
         environment = {**os.environ, "PYTHONPATH": os.path.dirname(os.path.dirname(os.path.realpath(__file__)))}
         said = self._workplace.new_file("said")
         try:
             child = self._workplace.start(
                 [sys.executable, "-B", "-m", "ssign_keys", words[0], f"--ssign={self._program}", *words[1:]],
-                subprocess.DEVNULL, out, said, environment)
+                subprocess.DEVNULL, out, said, environment, handed=handed)
         except OSError as fault:
             raise Fault(f"ssign-keys {words[0]} can't be run: {reason(fault)}") from fault
         status = child.wait()
         said.seek(0)
-        lines = said.read().decode("utf-8", "backslashreplace").splitlines()
+        lines = [self._as_shown(it) for it in said.read().decode("utf-8", "backslashreplace").splitlines()]
         said.close()
         if status in (0, 1):
             for line in lines:
-                notify(line.replace(NEW, ""))
+                notify(line)
             return status
         last = lines[-1] if lines else f"ssign-keys {words[0]} ended with the status {status}"
         raise Fault(last[len("ssign-keys: "):] if last.startswith("ssign-keys: ") else last)
 
-    def _current(self, log: str, size: int, sha256: str, passing: Passing, rsid: int) -> Current:
+    def _show(self, files: Dict[str, str]) -> None:
+        """Has passing files be named as what they become."""
+        self._shown = {shown_name(passing): shown_name(final) for passing, final in files.items()}
+
+    def _as_shown(self, line: str) -> str:
+        """A line as a person reads it: a passing file has the name that it gets. A longer name is replaced first."""
+        for it in sorted(self._shown, key=len, reverse=True):
+            line = line.replace(it, self._shown[it])
+        return line
+
+    def _make_passing(self) -> str:
+        """The folder of passing files, to which nobody else may write."""
+        folder = self.path(PASSING)
+        try:
+            with contextlib.suppress(FileExistsError):
+                os.mkdir(folder, 0o700)
+                sync_folder(self._state_folder)
+        except OSError as fault:
+            raise Fault(f"the folder {shown_name(folder)} can't be made: {reason(fault)}") from fault
+        return folder
+
+    def _current(self, log: str, source: BinaryIO, size: int, sha256: str, passing: Passing, rsid: int) -> Current:
         """What is put in its place next. All of it is on the disk before this is said."""
-        files = {passing.report: passing.final_report, passing.counters: passing.final_counters}
-        set_aside = None
-        if os.path.lexists(passing.aside):
-            files.update({passing.aside: passing.final_aside, passing.places: passing.final_places})
-            set_aside = passing.final_aside
-        files[passing.frames] = passing.final_frames
-        like = os.stat(log)
+        files = passing.files()
+        set_aside = passing.final_aside if os.path.lexists(passing.aside) else None
+        if set_aside is None:
+            del files[passing.aside], files[passing.places]
+        like = os.fstat(source.fileno())
         for it in files:
-            if it not in (passing.report, passing.counters):
-                # whoever may read the log may read what was made of it
-                if os.geteuid() == 0:
-                    os.chown(it, like.st_uid, like.st_gid)
-                os.chmod(it, stat.S_IMODE(like.st_mode))
-            sync_file(it)
-        for folder in sorted({os.path.dirname(it) for it in files}):
-            sync_folder(folder)
+            with open(open_regular(it), "rb") as file:
+                if it not in (passing.report, passing.counters):
+                    # whoever may read the log may read what was made of it
+                    if os.geteuid() == 0:
+                        os.fchown(file.fileno(), like.st_uid, like.st_gid)
+                    os.fchmod(file.fileno(), like.st_mode & READABLE)
+                os.fsync(file.fileno())
+        sync_folder(os.path.dirname(passing.frames))
         return Current(log, size, sha256, rsid, passing.final_frames, passing.final_counters, set_aside, files)
 
     def _publish(self, current: Current) -> None:
         """Gives each file its name, uses up the RSID, and writes the entry. What was done before isn't done again."""
+        self._show(current.files)
+        of_log = (current.frames, current.set_aside, f"{current.set_aside}.places")
         try:
             for passing, final in current.files.items():
-                give_name(passing, final)
-            for folder in sorted({os.path.dirname(it) for it in current.files.values()}):
-                sync_folder(folder)
+                give_name(passing, final, os.geteuid() == 0 and final in of_log)
         except OSError as fault:
             raise Fault(f"{shown_name(current.frames)} can't get its name: {reason(fault)}") from fault
         if self._rsid < current.rsid:
@@ -428,6 +457,9 @@ class Rotation:
         self._state.done(current.log)
         self._state.current = None
         self._save()
+        for it in current.files:
+            with contextlib.suppress(FileNotFoundError):
+                os.unlink(it)
 
     # ---- the number of the session
 
@@ -435,7 +467,7 @@ class Rotation:
         """The number of the last session. Raises Fault where it isn't known, because no RSID may be used twice."""
         path = self.path("rsid")
         try:
-            with open(path, "rb") as file:
+            with open(open_regular(path, os.O_RDONLY), "rb") as file:
                 text = file.read(100)
         except FileNotFoundError as fault:
             raise Fault(f"there is no file {shown_name(path)} with the number of the last session") from fault
@@ -525,6 +557,7 @@ class Rotation:
             os.makedirs(self._kept, 0o750, exist_ok=True)
         except OSError as fault:
             raise Fault(f"the folder {shown_name(self._kept)} can't be made: {reason(fault)}") from fault
+        refuse_shared("--kept", self._kept)
         if os.path.lexists(self._manifest):
             return
         if self._state.manifest != NO_ENTRY:
@@ -553,13 +586,15 @@ class Rotation:
 
     def _add_entry(self, current: Current) -> None:
         """Adds the entry of a signed log, unless a run before did, and remembers which entry is the last."""
-        words = ["manifest", "add", f"--counters={current.counters}", f"--last={self._state.manifest}",
-                 f"--max-len={MAX_LEN}"]
+        # the entry is of what was signed, whatever was put in its place meanwhile
+        passing = {final: it for it, final in current.files.items() if os.path.dirname(it) == self.path(PASSING)}
+        words = ["manifest", "add", f"--counters={passing.get(current.counters, current.counters)}",
+                 f"--last={self._state.manifest}", f"--max-len={MAX_LEN}"]
         if current.set_aside is not None:
-            words.append(f"--set-aside={current.set_aside}")
+            words.append(f"--set-aside={passing.get(current.set_aside, current.set_aside)}")
         if current.left_out is not None:
             words += ["--left-out", *map(self._counters_file, ("left-out-from", "left-out-to"), current.left_out)]
-        words += ["--", self._manifest, current.frames]
+        words += ["--", self._manifest, passing.get(current.frames, current.frames)]
         with self._workplace.new_file("mark") as out:
             self._keys_command(words, out)
             out.seek(0)
@@ -577,24 +612,38 @@ class Rotation:
 # ---- files
 
 class Passing:
-    """The files of a log that is being signed: the names that they have until all is done, and their own."""
+    """The files of a log that is being signed: those of a folder of their own until all is done, and what they become."""
 
-    def __init__(self, name: str, kept: str, label: str) -> None:
+    def __init__(self, name: str, kept: str, label: str, folder: str) -> None:
         """`name` is that of the log, or of its late lines; `label` tells it from the others in what is kept."""
         self.final_frames = name + ".frames"
         self.final_aside = name + ".set-aside.frames"
         self.final_report = os.path.join(kept, f"report-{label}")
         self.final_counters = os.path.join(kept, f"counters-{label}")
+        # each has the name that it gets, because the manifest takes it from there
         self.frames, self.aside, self.report, self.counters = (
-            it + NEW for it in (self.final_frames, self.final_aside, self.final_report, self.final_counters))
+            os.path.join(folder, os.path.basename(it))
+            for it in (self.final_frames, self.final_aside, self.final_report, self.final_counters))
         # sign names the places of what it sets aside after the file of the messages
         self.places, self.final_places = self.aside + ".places", self.final_aside + ".places"
+        self._folder = folder
+
+    def files(self) -> Dict[str, str]:
+        """Which file becomes which, in this order; the last is the signed log."""
+        return {self.report: self.final_report, self.counters: self.final_counters, self.aside: self.final_aside,
+                self.places: self.final_places, self.frames: self.final_frames}
 
     def clear(self) -> None:
-        """Removes what has a passing name."""
-        for it in (self.frames, self.aside, self.places, self.report, self.counters):
-            with contextlib.suppress(FileNotFoundError):
-                os.unlink(it)
+        """Removes all passing files, also those of a run that was stopped."""
+        for it in os.listdir(self._folder):
+            os.unlink(os.path.join(self._folder, it))
+
+
+def refuse_shared(option: str, folder: str) -> None:
+    """Refuses a folder in which others may put a file of theirs in the place of one, where root runs."""
+    if os.geteuid() == 0 and is_shared(folder):
+        raise Fault(f"the folder {shown_name(folder)}, which {option} names, may be written to by others than root: `chown root` and "
+                    "`chmod go-w` it first")
 
 
 def refuse_old(ongoing: Ongoing, manifest: Manifest) -> None:
@@ -629,14 +678,22 @@ def fault_of(path: str, file: Union[Entry, SetAside]) -> str:
 def open_log(log: str) -> BinaryIO:
     """Opens a log, which has to be a regular file that is no link."""
     try:
-        number = os.open(log, os.O_RDONLY | os.O_NOFOLLOW | os.O_NONBLOCK)
+        return open(open_regular(log), "rb")
+    except FileNotFoundError as fault:
+        raise Fault("it is gone") from fault
     except OSError as fault:
-        why = "it is gone" if isinstance(fault, FileNotFoundError) else "it is a link" if fault.errno == errno.ELOOP else reason(fault)
-        raise Fault(f"it can't be read: {why}") from fault
-    if not stat.S_ISREG(os.fstat(number).st_mode):
-        os.close(number)
-        raise Fault("it is no regular file")
-    return os.fdopen(number, "rb")
+        is_other = isinstance(fault, IsADirectoryError) or fault.strerror == NOT_REGULAR
+        raise Fault(NOT_REGULAR if is_other else f"it can't be read: {reason(fault)}") from fault
+
+
+def check_name(log: str, source: BinaryIO) -> None:
+    """Refuses a log whose name another file took meanwhile."""
+    try:
+        is_same = os.path.samestat(os.lstat(log), os.fstat(source.fileno()))
+    except FileNotFoundError as fault:
+        raise Fault("it is gone") from fault
+    if not is_same:
+        raise Fault("another file took its place meanwhile")
 
 
 def check_front(source: BinaryIO, found: Signed) -> None:
@@ -670,26 +727,61 @@ def copy(source: BinaryIO, start: int, end: int, take: Callable[[bytes], object]
         start += len(piece)
 
 
-def give_name(passing: str, final: str) -> None:
-    """Gives a file its own name, which may be taken by itself alone."""
-    if os.path.lexists(passing):
-        # rename(2) would replace a file that came meanwhile
-        with contextlib.suppress(FileExistsError):
-            os.link(passing, final)
-        if not os.path.samefile(passing, final):
-            raise FileExistsError(errno.EEXIST, os.strerror(errno.EEXIST), final)
-        os.unlink(passing)
-    elif not os.path.lexists(final):
-        raise FileNotFoundError(errno.ENOENT, os.strerror(errno.ENOENT), passing)
+def give_name(passing: str, final: str, is_of_log: bool) -> None:
+    """Has a copy of a passing file stand under its own name, whole and on the disk. Such a copy alone may have the name.
 
-
-def sync_file(path: str) -> None:
-    """Has a file stand on the disk."""
-    number = os.open(path, os.O_RDONLY)
+    The folder of the name may be one that others write to. So the copy is made anew in it, and nothing is done to it but by
+    its descriptor. If it is of the log, it gets the owner of the passing file.
+    """
     try:
-        os.fsync(number)
+        source = open(open_regular(passing), "rb")
+    except FileNotFoundError:
+        # a version before named the passing file itself, and may have done so
+        if os.path.lexists(final):
+            return
+        raise
+    folder = open_folder(os.path.dirname(final))
+    name, part = os.path.basename(final), os.path.basename(final) + PART
+    try:
+        with source:
+            with contextlib.suppress(FileNotFoundError):
+                os.unlink(part, dir_fd=folder)
+            if has_copy(source, folder, name):
+                return
+            like = os.fstat(source.fileno())
+            flags = os.O_WRONLY | os.O_CREAT | os.O_EXCL | os.O_NOFOLLOW | os.O_CLOEXEC
+            with open(os.open(part, flags, 0o600, dir_fd=folder), "wb") as made:
+                try:
+                    copy(source, 0, like.st_size, made.write)
+                    made.flush()
+                    if is_of_log:
+                        os.fchown(made.fileno(), like.st_uid, like.st_gid)
+                    os.fchmod(made.fileno(), like.st_mode & READABLE)
+                    os.fsync(made.fileno())
+                    os.link(part, name, src_dir_fd=folder, dst_dir_fd=folder, follow_symlinks=False)
+                finally:
+                    os.unlink(part, dir_fd=folder)
+                if not os.path.samestat(os.stat(name, dir_fd=folder, follow_symlinks=False), os.fstat(made.fileno())):
+                    raise FileExistsError(errno.EEXIST, os.strerror(errno.EEXIST), final)
+            os.fsync(folder)
     finally:
-        os.close(number)
+        os.close(folder)
+
+
+def has_copy(source: BinaryIO, folder: int, name: str) -> bool:
+    """Whether a name in a folder is taken by a copy of a file, as of a run that was stopped. Another file is refused."""
+    try:
+        number = os.open(name, os.O_RDONLY | os.O_NOFOLLOW | os.O_NONBLOCK | os.O_CLOEXEC, dir_fd=folder)
+    except FileNotFoundError:
+        return False
+    except OSError as fault:
+        raise FileExistsError(errno.EEXIST, os.strerror(errno.EEXIST), name) from fault
+    with open(number, "rb") as found:
+        size = os.fstat(source.fileno()).st_size
+        seen = os.fstat(number)
+        if not stat.S_ISREG(seen.st_mode) or seen.st_size != size or digest(found, size) != digest(source, size):
+            raise FileExistsError(errno.EEXIST, os.strerror(errno.EEXIST), name)
+    return True
 
 
 def now() -> str:
