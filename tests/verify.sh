@@ -700,8 +700,10 @@ too_long="ssign-keys: too-long: the length of a frame is over --max-len 65536 wi
 refuses 'a block that is too long' "$too_long"
 keys verify --key keys/public-key.pem signed too-long
 refuses 'a block that is too long, in the second log' "$too_long"
-# a named pipe is read once, by whoever opened it first
+# a pipe is read once, by whoever opened it first. It is given as a descriptor: one with another name is refused
 mkfifo pipe
+patience=10 keys verify --key keys/public-key.pem pipe
+refuses 'a named pipe' 'ssign-keys: the log pipe can'\''t be read: it is no regular file; a pipe is read as /dev/stdin'
 keys verify --key keys/public-key.pem --raw signed
 mv out raw
 for _ in 1 2 3 4 5 6 7 8; do
@@ -710,12 +712,12 @@ for _ in 1 2 3 4 5 6 7 8; do
 log = open("signed", "rb").read()
 pipe = os.open("pipe", os.O_WRONLY)
 os.write(pipe, log)' 2>said &
-    patience=10 keys verify --key keys/public-key.pem --raw pipe
+    patience=10 keys verify --key keys/public-key.pem --raw /dev/stdin <pipe
     wait
     cmp -s out raw || break
 done
-holds 'a named pipe, eight times' cmp out raw
-holds 'a named pipe, eight times: its writer' test ! -s said
+holds 'a pipe, eight times' cmp out raw
+holds 'a pipe, eight times: its writer' test ! -s said
 keys verify --key keys/public-key.pem --session-key 'H s - 1' keys/public-key.pem --raw signed
 holds 'a session that the log has not: it is said' \
     grep -qFx "ssign-keys: the log has no session 'H s - 1', for which --session-key gives a key" err

@@ -172,4 +172,75 @@ done
 "$keys_program" answer marked </dev/null >out 2>err
 status=$?
 expect 'a key after a byte order mark' 0 '' ''
+
+# ---- what would keep a run waiting in the place of a file: a pipe, a socket, a device
+waits=0
+# refused SENTENCE WORD..: at once, with this sentence
+refused() {
+    timeout 20 "$keys_program" "${@:2}" </dev/null >out 2>err
+    status=$?
+    expect "$*" 2 '' "ssign-keys: $1"
+    waits=$((waits + 1))
+}
+"$keys_program" sign --key one/private-key.pem --rsid 1 --lines lines.log >signed 2>err
+"$keys_program" verify --key one/public-key.pem --allow-sha1 --counters-out counters --answers-out answers signed >out 2>err
+: >manifest
+mkfifo pipe
+python3 -c 'import socket; socket.socket(socket.AF_UNIX).bind("socket")'
+none='it is no regular file'
+for each in pipe socket /dev/zero; do
+    given="$none; a pipe is read as /dev/stdin"
+    key=$given
+    refused "the log $each can't be read: $given" verify --key one/public-key.pem "$each"
+    refused "the log $each can't be read: $given" verify --key one/public-key.pem signed "$each"
+    refused "the log $each can't be read: $given" sign --key one/private-key.pem --rsid 1 "$each"
+    refused "the counters file $each can't be read: $given" verify --key one/public-key.pem --counters "$each" signed
+    refused "the counters file $each can't be read: $given" verify --key one/public-key.pem --from "$each" signed
+    refused "$each can't be read: $key" verify --key "$each" signed
+    refused "$each can't be read: $key" verify --ca "$each" signed
+    refused "$each can't be read: $key" sign --key "$each" --rsid 1 lines.log
+    refused "$each can't be read: $key" seal "$each"
+    refused "$each can't be read: $key" answer "$each"
+    refused "the manifest $each is no regular file" verify --key one/public-key.pem --nights "$each" .
+    refused "the manifest $each is no regular file" verify --key one/public-key.pem --manifest "$each" signed
+    refused "the manifest $each is no regular file" manifest check "$each" .
+done
+for each in pipe socket; do
+    refused "the state file $each has to be a plain file with one name" seal one/private-key.pem --state "$each"
+    refused "the state file $each has to be a plain file with one name" seal one/private-key.pem --each --state "$each"
+done
+mkdir state
+for file in session lock; do
+    rm -f "state/$file"
+    mkfifo "state/$file"
+    timeout 20 "$keys_program" sign --key one/private-key.pem --state state lines.log </dev/null >out 2>err
+    status=$?
+    expect "a pipe in the place of the $file of a state" 2 '' 'SOME TEXT'
+    holds "a pipe in the place of the $file of a state: why" grep -q "$none" err
+done
+# what the shell makes of `<(..)` is on purpose, and so is standard input
+"$keys_program" verify --raw --allow-sha1 --key one/public-key.pem --counters counters signed >wanted 2>err
+"$keys_program" verify --raw --allow-sha1 --key <(cat one/public-key.pem) --counters <(cat counters) <(cat signed) >out 2>err
+status=$?
+expect 'a key, counters and a log in pipes of the shell' 0 "$(<wanted)" ''
+"$keys_program" verify --raw --allow-sha1 --key one/public-key.pem --counters counters /dev/stdin < <(cat signed) >out 2>err
+status=$?
+expect 'a log in /dev/stdin' 0 "$(<wanted)" ''
+"$keys_program" seal <(cat one/private-key.pem) </dev/null >out 2>err
+status=$?
+expect 'a private key in a pipe of the shell' 0 '' ''
+"$keys_program" verify --raw --allow-sha1 --key one/public-key.pem --from /dev/null signed >out 2>err
+status=$?
+expect 'no counters before a night' 0 'SOME TEXT' ''
+echo "$name: $waits refusals of what isn't waited for"
+
+# ---- a link in a folder to which others may write: they choose what it leads to
+mkdir -m 777 theirs
+ln -s ../lines.log theirs/log
+refused "the log theirs/log can't be read: it is a link in a folder to which others may write: name the log itself" \
+    sign --key one/private-key.pem --rsid 1 theirs/log
+chmod 755 theirs
+"$keys_program" sign --key one/private-key.pem --rsid 1 theirs/log >out 2>err </dev/null
+status=$?
+expect 'a link in a folder of one'"'"'s own' 0 'SOME TEXT' ''
 finish

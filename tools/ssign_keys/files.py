@@ -3,6 +3,7 @@ from __future__ import annotations
 
 import errno
 import os
+import re
 import stat
 from typing import List
 
@@ -13,6 +14,8 @@ LONGEST = 16 * 1024 * 1024
 OTHERS_WRITE = stat.S_IWGRP | stat.S_IWOTH
 IS_LINK = "it is a link"
 NOT_REGULAR = "it is no regular file"
+# what names a file that this process has open already
+DESCRIPTOR = re.compile(r"/dev/stdin|/(?:dev|proc/self|proc/thread-self)/fd/([0-9]+)")
 
 
 def read_file(path: str, wanted: str) -> bytes:
@@ -20,7 +23,7 @@ def read_file(path: str, wanted: str) -> bytes:
     if not path:
         raise Fault(f"the name of a file is empty: a file with {wanted} is wanted")
     try:
-        with open(path, "rb") as file:
+        with open(open_given(path), "rb") as file:
             mode = os.fstat(file.fileno()).st_mode
             if stat.S_ISCHR(mode) or stat.S_ISBLK(mode):
                 raise Fault(f"{path} is a device: a file with {wanted} is wanted")
@@ -53,8 +56,33 @@ def open_regular(path: str, flags: int = os.O_RDONLY | os.O_NOFOLLOW, mode: int 
     kind = os.fstat(number).st_mode
     if not stat.S_ISREG(kind):
         os.close(number)
-        raise IsADirectoryError(errno.EISDIR, os.strerror(errno.EISDIR), path) if stat.S_ISDIR(kind) else \
-            OSError(errno.EINVAL, NOT_REGULAR, path)
+        raise OSError(errno.EISDIR if stat.S_ISDIR(kind) else errno.EINVAL, NOT_REGULAR, path)
+    return number
+
+
+def open_given(path: str, flags: int = 0) -> int:
+    """Opens a file for reading that the command line names, and gives its number. Raises OSError with a plain reason.
+
+    A pipe or a device counts where its name is that of an open descriptor: so the shell names what it makes of `<(..)`. Under
+    another name somebody may have put it there, and it may keep the run waiting for ever; so it is refused, but for /dev/null.
+    """
+    named = DESCRIPTOR.fullmatch(path)
+    if named is None and path != os.devnull:
+        try:
+            return open_regular(path, flags)
+        except OSError as fault:
+            if fault.strerror == NOT_REGULAR and fault.errno == errno.EISDIR:
+                raise OSError(fault.errno, os.strerror(fault.errno), path) from fault
+            if fault.strerror == NOT_REGULAR:
+                raise OSError(fault.errno, f"{NOT_REGULAR}; a pipe is read as /dev/stdin", path) from fault
+            raise
+    if named is not None and stat.S_ISFIFO(os.stat(path).st_mode):
+        # opened by its name, a pipe whose writer is done would keep the run waiting
+        return os.dup(int(named[1] or 0))
+    number = os.open(path, os.O_RDONLY | os.O_NOCTTY | os.O_CLOEXEC)
+    if stat.S_ISDIR(os.fstat(number).st_mode):
+        os.close(number)
+        raise OSError(errno.EISDIR, os.strerror(errno.EISDIR), path)
     return number
 
 

@@ -10,7 +10,7 @@ from typing import BinaryIO, Dict, Optional, Set, Tuple
 
 from .blocks import Session
 from .faults import Fault
-from .files import reason
+from .files import open_given, reason
 from .words import shown_name
 from .workplace import Workplace, finish, put
 
@@ -81,7 +81,7 @@ def copy_counters(path: str, workplace: Workplace) -> str:
 def copy_file(path: str, copy: BinaryIO) -> None:
     """Copies a counters file into an open one."""
     try:
-        with open(path, "rb") as source:
+        with open(open_given(path), "rb") as source:
             copy_octets(source, copy)
     except (OSError, ValueError) as fault:
         raise Fault(f"the counters file {shown_name(path)} can't be read: {reason(fault)}") from fault

@@ -9,7 +9,7 @@ import subprocess
 from typing import Optional
 
 from .faults import Fault
-from .files import read_file, reason
+from .files import open_lock, read_file, reason
 from .keys import PublicKey, read_pem_keys, read_private_key
 from .live_disk import Disk
 from .live_engine import Engine
@@ -215,7 +215,7 @@ def lock_folder(folder: str) -> int:
     path = os.path.join(folder, "lock")
     lock: Optional[int] = None
     try:
-        lock = os.open(path, os.O_RDWR | os.O_CREAT | os.O_NOFOLLOW | os.O_CLOEXEC, 0o600)
+        lock = open_lock(path)
         fcntl.flock(lock, fcntl.LOCK_EX | fcntl.LOCK_NB)
     except OSError as fault:
         if lock is not None:

@@ -15,7 +15,7 @@ import time
 from typing import Dict, Iterator, List, Optional, Tuple
 
 from .faults import Fault
-from .files import reason
+from .files import open_regular, reason
 from .live_engine import LONGEST
 from .live_input import PIECE, Piece
 from .live_loop import Loop
@@ -254,7 +254,7 @@ class Journal:
 def read_cursor(path: str) -> bytes:
     """The cursor in a file; nothing where it isn't there."""
     try:
-        with open(path, "rb") as file:
+        with open(open_regular(path, os.O_RDONLY), "rb") as file:
             text = file.read(2000)
     except FileNotFoundError:
         return b""

@@ -16,6 +16,7 @@ from typing import BinaryIO, Iterable, Iterator, List, NamedTuple, Optional, Seq
 from .digests import sum_of
 from .expand import FRONT, PIECE, expanded, expanded_zstd, form_of, limited, most_expanded
 from .faults import Fault
+from .files import IS_LINK, is_shared, open_given, reason
 from .form import form_of as form_of_log
 from .frames import LENGTH
 from .progress import Progress
@@ -93,15 +94,16 @@ def look(file: BinaryIO) -> Tuple[int, int, int]:
 
 
 def open_log(names: Sequence[str], named_form: Optional[bool], workplace: Workplace, progress: Progress,
-             max_expanded: Optional[int] = None) -> Log:
+             max_expanded: Optional[int] = None, refuses_links: bool = False) -> Log:
     """Opens the given logs as one. Where nobody says whether they are lines, their first octets do.
 
-    A compressed log grows to so many octets at most, or else to what `most_expanded` allows.
+    A compressed log grows to so many octets at most, or else to what `most_expanded` allows. A link may be refused where it
+    stands in a folder that others may write to: they choose where it leads.
     """
     if list(names).count("-") > 1:
         raise Fault("standard input, `-`, can be given only once")
     if len(names) == 1 and names[0] != "-":
-        file = open_file(names[0])
+        file = open_file(names[0], refuses_links)
         if stat.S_ISREG(os.fstat(file.fileno()).st_mode) and form_of(os.pread(file.fileno(), FRONT, 0)) is None:
             return Log(file, [Part(names[0], 0, 0)], form_of_log(file, [(names[0], 0)], named_form).are_lines, False)
         # whoever writes to a pipe writes to the one that reads it first, so it isn't opened a second time
@@ -122,16 +124,16 @@ def open_log(names: Sequence[str], named_form: Optional[bool], workplace: Workpl
     return Log(spool, parts, form.are_lines, True)
 
 
-def open_file(name: str) -> BinaryIO:
+def open_file(name: str, refuses_links: bool = False) -> BinaryIO:
     """Opens a log that isn't standard input."""
     if not name:
         raise Fault("the name of a log is empty; - is standard input")
     try:
-        file = cast(BinaryIO, open(name, "rb", buffering=0))
+        is_careful = refuses_links and is_shared(os.path.dirname(name) or ".")
+        return cast(BinaryIO, open(open_given(name, os.O_NOFOLLOW if is_careful else 0), "rb", buffering=0))
     except (OSError, ValueError) as error:
-        why = error.strerror if isinstance(error, OSError) else str(error)
-        raise Fault(f"the log {shown_name(name)} can't be read: {why}") from error
-    return file
+        where = " in a folder to which others may write: name the log itself" if reason(error) == IS_LINK else ""
+        raise Fault(f"the log {shown_name(name)} can't be read: {reason(error)}{where}") from error
 
 
 def open_standard_input() -> BinaryIO:

@@ -8,14 +8,13 @@ import hashlib
 import json
 import os
 import re
-import stat
 from dataclasses import dataclass, field
 from datetime import datetime
 from typing import BinaryIO, Dict, List, NamedTuple, Optional, Sequence, Tuple, Union
 
 from .blocks import Session
 from .faults import Fault
-from .files import reason
+from .files import NOT_REGULAR, open_regular, reason
 from .json_text import compact
 from .session_file import Ends, read_ends
 from .words import shown_name
@@ -258,14 +257,13 @@ class Manifest:
 def open_manifest(path: str, flags: int) -> BinaryIO:
     """Opens a manifest, which has to be a regular file that is there."""
     try:
-        number = os.open(path, flags | os.O_NONBLOCK | os.O_CLOEXEC)
+        number = open_regular(path, flags)
     except FileNotFoundError as fault:
         raise Fault(f"the manifest {shown_name(path)} isn't there; to begin one, make an empty file of this name") from fault
     except (OSError, ValueError) as fault:
+        if reason(fault) == NOT_REGULAR:
+            raise Fault(f"the manifest {shown_name(path)} is no regular file") from fault
         raise Fault(f"the manifest {shown_name(path)} can't be opened: {reason(fault)}") from fault
-    if not stat.S_ISREG(os.fstat(number).st_mode):
-        os.close(number)
-        raise Fault(f"the manifest {shown_name(path)} is no regular file")
     return os.fdopen(number, "r+b" if flags & os.O_RDWR else "rb")
 
 

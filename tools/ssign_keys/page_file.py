@@ -10,7 +10,7 @@ from types import TracebackType
 from typing import Optional, Sequence, Tuple, Type
 
 from .faults import Fault
-from .files import reason
+from .files import open_regular, reason
 from .kept_file import NO_LINKS
 from .words import shown_name
 
@@ -69,7 +69,7 @@ class PageFile:
         try:
             seen = os.lstat(wanted)
             if stat.S_ISREG(seen.st_mode):
-                with open(wanted, "rb") as file:
+                with open(open_regular(wanted), "rb") as file:
                     if file.read(len(self._front)) == self._front:
                         return seen.st_dev, seen.st_ino
         except OSError as fault:

@@ -682,8 +682,7 @@ def open_log(log: str) -> BinaryIO:
     except FileNotFoundError as fault:
         raise Fault("it is gone") from fault
     except OSError as fault:
-        is_other = isinstance(fault, IsADirectoryError) or fault.strerror == NOT_REGULAR
-        raise Fault(NOT_REGULAR if is_other else f"it can't be read: {reason(fault)}") from fault
+        raise Fault(NOT_REGULAR if fault.strerror == NOT_REGULAR else f"it can't be read: {reason(fault)}") from fault
 
 
 def check_name(log: str, source: BinaryIO) -> None:

@@ -11,7 +11,7 @@ from dataclasses import asdict, dataclass, field
 from typing import BinaryIO, Dict, List, Optional
 
 from .faults import Fault
-from .files import reason
+from .files import open_regular, reason
 from .manifest_form import FIRST_SUM, read_mark
 from .words import shown_name
 
@@ -106,7 +106,7 @@ class State:
 def read_state(path: str) -> State:
     """The state in a file; an empty one where there is no such file. Raises Fault where it isn't one that was written."""
     try:
-        with open(path, "rb") as file:
+        with open(open_regular(path), "rb") as file:
             text = file.read(LONGEST + 1)
     except FileNotFoundError:
         return State()

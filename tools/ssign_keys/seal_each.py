@@ -12,7 +12,7 @@ from typing import Dict, Iterable, Iterator, Tuple
 
 from .blocks import Session
 from .faults import Fault
-from .files import reason
+from .files import open_regular, reason
 from .sealed import Record, Sealed, Sessions
 from .state import Busy, State
 
@@ -119,7 +119,7 @@ class LastState(State):
     def _end(self) -> bytes:
         """The last line, whose hash says what the file holds."""
         try:
-            with open(self._path, "rb") as file:
+            with open(open_regular(self._path), "rb") as file:
                 file.seek(max(0, file.seek(0, os.SEEK_END) - END))
                 return file.read()
         except OSError as fault:

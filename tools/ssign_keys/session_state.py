@@ -8,13 +8,12 @@ import errno
 import fcntl
 import os
 import re
-import stat
 import time
 from types import TracebackType
 from typing import Optional, Type
 
 from .faults import Fault
-from .files import reason
+from .files import open_lock, open_regular, reason
 from .rotation_state import replace, sync_folder
 from .session_file import MOST_RSID, START, Ends, Ongoing, read_ends, read_ongoing
 from .words import shown_name
@@ -79,7 +78,7 @@ class SessionState:
     def _open_lock(self) -> int:
         """A lock, which ends with this process. Its file stays, because another run may wait to lock it."""
         try:
-            lock = os.open(self.path("lock"), os.O_RDWR | os.O_CREAT | os.O_NOFOLLOW | os.O_CLOEXEC, 0o600)
+            lock = open_lock(self.path("lock"))
         except OSError as fault:
             why = f"{shown_name(self.path('lock'))} is a link" if fault.errno == errno.ELOOP else reason(fault)
             raise Fault(f"the state {self.name} can't be locked: {why}") from fault
@@ -189,15 +188,10 @@ class SessionState:
 def read_plain(path: str) -> Optional[bytes]:
     """What stands in a regular file; None where there is no such file. Raises OSError where it is something else, or too long."""
     try:
-        number = os.open(path, os.O_RDONLY | os.O_NOFOLLOW | os.O_NONBLOCK | os.O_CLOEXEC)
+        number = open_regular(path)
     except FileNotFoundError:
         return None
-    except OSError as fault:
-        raise OSError(fault.errno, "it is a link" if fault.errno == errno.ELOOP else reason(fault)) from fault
-    if not stat.S_ISREG(os.fstat(number).st_mode):
-        os.close(number)
-        raise OSError(errno.EINVAL, "it is no regular file")
-    with os.fdopen(number, "rb") as file:
+    with open(number, "rb") as file:
         text = file.read(LONGEST + 1)
     if len(text) > LONGEST:
         raise OSError(errno.EFBIG, "it is too long")

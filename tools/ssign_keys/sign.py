@@ -76,7 +76,7 @@ def run(arguments: argparse.Namespace) -> int:
                 fill(arguments, key.public)
             else:
                 session = ongoing.settle(arguments, state, key.public)
-            log = open_log([arguments.log], named_form, workplace, progress, arguments.max_expanded)
+            log = open_log([arguments.log], named_form, workplace, progress, arguments.max_expanded, refuses_links=True)
             words = log_words(arguments, log.are_lines)
             warn(arguments.log, log)
             signable = aside.sort_out(program, words, log, workplace, progress)

@@ -16,7 +16,7 @@ from typing import BinaryIO, Iterator, Optional, Type
 
 from .blocks import Session
 from .faults import Fault
-from .files import reason
+from .files import open_lock, open_regular, reason
 from .sealed import Record, Sessions
 from .words import shown_name
 
@@ -84,7 +84,7 @@ class State:
     def _open_lock(self) -> int:
         """A lock, which ends with this process. Its file stays, because another run may wait to lock it."""
         try:
-            lock = os.open(f"{self._path}.lock", os.O_RDWR | os.O_CREAT | os.O_NOFOLLOW | os.O_CLOEXEC, 0o600)
+            lock = open_lock(f"{self._path}.lock")
         except OSError as fault:
             raise Fault(f"the state file {self._name} can't be locked by {self._name}.lock: {reason(fault)}") from fault
         try:
@@ -118,7 +118,7 @@ class State:
     def _read(self) -> None:
         """Takes what stands in the file."""
         try:
-            with open(self._path, "rb") as file:
+            with open(open_regular(self._path), "rb") as file:
                 self._read_lines(file)
         except OSError as fault:
             raise Fault(f"the state file {self._name} can't be read: {reason(fault)}") from fault
