@@ -50,7 +50,7 @@ for it in "${names[@]}"; do
     holds "the name $(printf %q "$it"): nothing else is kept" test "$(find there -mindepth 1 -print0 | tr -cd '\0' | wc -c)" -le 1
     rm -f -- "./$it"
 done
-for it in 022:644 027:640 077:600; do
+for it in 000:644 022:644 027:640 077:600; do
     (umask "${it%:*}" && exec "$keys_program" "${verify[@]}" --answers-out there/kept signed >out)
     holds "umask ${it%:*}" test "$(stat -c %a there/kept)" = "${it#*:}"
     rm -f there/kept

@@ -522,6 +522,18 @@ def put_back(trials: Trials) -> None:
         trials.holds(f"counters that are {octets!r}", said.status == (2 if octets else 0), not octets or "older than counters-7" in said.err)
 
 
+def modes(trials: Trials) -> None:
+    """Nobody else may write to what is made, whatever the umask is."""
+    for umask, mode in ((0, 0o644), (0o022, 0o644), (0o027, 0o640), (0o077, 0o600)):
+        fresh()
+        before = os.umask(umask)
+        trials.sign(1, "--new-session", "--rsid", "7", *NAMES)
+        os.umask(before)
+        found = {name: os.stat(f"S/{name}").st_mode & 0o777 for name in os.listdir("S")}
+        trials.holds(f"modes under the umask {umask:03o}: {found}",
+                     found == {"lock": 0o600, "session": mode, "counters-7": mode}, not os.stat("S").st_mode & 0o022)
+
+
 def odd_files(trials: Trials) -> None:
     """Something else stands where a file of the state is to be put: a pipe, a link, a folder."""
     makes: Dict[str, Callable[[str], None]] = {
@@ -685,7 +697,7 @@ def main(keys_folder: str, program: str, *more: str) -> int:
     chosen: List[Callable[[], None]] = [
         lambda: three_nights(trials), lambda: stops(trials, "all" in more), lambda: two_at_once(trials), lambda: ends(trials),
         lambda: others(trials), lambda: damaged(trials, "all" in more), lambda: full_disk(trials),
-        lambda: put_back(trials), lambda: odd_files(trials), lambda: words_of_options(trials), lambda: limits(trials),
+        lambda: put_back(trials), lambda: modes(trials), lambda: odd_files(trials), lambda: words_of_options(trials), lambda: limits(trials),
         lambda: no_room_for_words(trials)]
     only: Optional[str] = next((it for it in more if it.isdigit()), None)
     for at, it in enumerate(chosen):

@@ -19,6 +19,7 @@ from typing import Dict, NoReturn, Optional, Protocol, Sequence, Tuple, cast
 
 from . import VERSION
 from .faults import Fault
+from .files import OTHERS_WRITE
 from .output import need_standard_files, print_text
 from .words import shown, shown_name
 from .workplace import notify
@@ -147,6 +148,8 @@ def hint(words: Sequence[str]) -> str:
 
 def main(tool: Tool, words: Sequence[str]) -> int:
     """Runs the command that the words name. Gives the status of the process."""
+    # whatever is made here, nobody else may write to it
+    os.umask(os.umask(OTHERS_WRITE) | OTHERS_WRITE)
     try:
         need_standard_files()
         return run(tool, words)
