@@ -17,6 +17,7 @@ import shlex
 import shutil
 import signal
 import socket
+import stat
 import subprocess
 import sys
 import tempfile
@@ -582,12 +583,19 @@ def modes():
     """Only the signer reads its state, and nothing is written through a link."""
     with signer() as it:
         before = os.umask(0)
+        with open(it.path("precious"), "wb") as file:
+            file.write(b"precious")
+        for name in ("status", "status.new"):
+            os.symlink(it.path("precious"), it.path(name))
         it.run(framed([message(0)]))
         os.umask(before)
         found = {name: os.stat(os.path.join(it.path("state"), name)).st_mode & 0o777 for name in os.listdir(it.path("state"))}
         manifest = found.pop("manifest.jsonl")
+        with open(it.path("precious"), "rb") as file:
+            tell("links in the place of --status", differ("what they lead to", file.read(), b"precious"),
+                 differ("its mode", os.lstat(it.path("status")).st_mode, stat.S_IFREG | 0o644))
         tell("modes", differ("the state", os.stat(it.path("state")).st_mode & 0o777, 0o700), differ("its files", set(found.values()), {0o600}),
-             differ("the manifest", manifest & ~0o666, 0),
+             differ("the manifest", manifest, 0o644),
              differ("the output", os.stat(it.path("out")).st_mode & 0o777, 0o750),
              differ("its file", os.stat(os.path.join(it.path("out"), it.files()[0])).st_mode & 0o777, 0o640))
         name = it.files()[0].replace("000001", "000002")

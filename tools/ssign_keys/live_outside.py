@@ -13,6 +13,7 @@ from typing import Dict, List, Optional, Sequence
 
 from .faults import Fault
 from .payloads import present_stamp
+from .rotation_state import open_anew
 from .workplace import notify
 
 # a line of each kind is written once in so many seconds
@@ -135,8 +136,8 @@ class World:
             return None
         passing = f"{self._status}.new"
         try:
-            with open(passing, "w", encoding="ascii") as file:
-                file.write(json.dumps({"time": self.stamp(), **facts}) + "\n")
+            with open_anew(passing) as file:
+                file.write(json.dumps({"time": self.stamp(), **facts}).encode("ascii") + b"\n")
             os.replace(passing, self._status)
         except OSError as fault:
             with contextlib.suppress(OSError):
