@@ -234,6 +234,27 @@ status=$?
 expect 'no counters before a night' 0 'SOME TEXT' ''
 echo "$name: $waits refusals of what isn't waited for"
 
+# ---- a private key that others may change; who may read it isn't asked
+cp one/private-key.pem mine.pem
+for mode in 620 602 622 666 660 777; do
+    chmod $mode mine.pem
+    for each in 'seal mine.pem' 'sign --key mine.pem --rsid 1 lines.log' 'live --key mine.pem --state live --out out.live --lines'; do
+        read -r -a words <<<"$each"
+        refused "others may change the private key mine.pem, by its mode 0$mode: \`chmod go-w mine.pem\`, and see that it is still yours" "${words[@]}"
+    done
+done
+for mode in 400 440 600 640 644 755; do
+    chmod $mode mine.pem
+    "$keys_program" seal mine.pem </dev/null >out 2>err
+    status=$?
+    expect "a private key with the mode $mode" 0 '' ''
+done
+chmod 666 one/public-key.pem
+"$keys_program" answer one/public-key.pem </dev/null >out 2>err
+status=$?
+expect 'a public key that others may change' 0 '' ''
+chmod 644 one/public-key.pem
+
 # ---- a link in a folder to which others may write: they choose what it leads to
 mkdir -m 777 theirs
 ln -s ../lines.log theirs/log

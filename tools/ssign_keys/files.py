@@ -18,8 +18,11 @@ NOT_REGULAR = "it is no regular file"
 DESCRIPTOR = re.compile(r"/dev/stdin|/(?:dev|proc/self|proc/thread-self)/fd/([0-9]+)")
 
 
-def read_file(path: str, wanted: str) -> bytes:
-    """What stands in a file of keys or certificates. `wanted` is what it should hold, with its article."""
+def read_file(path: str, wanted: str, is_private: bool = False) -> bytes:
+    """What stands in a file of keys or certificates. `wanted` is what it should hold, with its article.
+
+    A private one is refused if others may change it: they would choose who signs.
+    """
     if not path:
         raise Fault(f"the name of a file is empty: a file with {wanted} is wanted")
     try:
@@ -27,6 +30,9 @@ def read_file(path: str, wanted: str) -> bytes:
             mode = os.fstat(file.fileno()).st_mode
             if stat.S_ISCHR(mode) or stat.S_ISBLK(mode):
                 raise Fault(f"{path} is a device: a file with {wanted} is wanted")
+            if is_private and stat.S_ISREG(mode) and mode & OTHERS_WRITE:
+                raise Fault(f"others may change the private key {path}, by its mode {mode & 0o7777:04o}: `chmod go-w {path}`, and see "
+                            "that it is still yours")
             octets = file.read(LONGEST + 1)
     except IsADirectoryError as fault:
         raise Fault(f"{path} is a folder: a file with {wanted} is wanted") from fault

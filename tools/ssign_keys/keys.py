@@ -177,7 +177,7 @@ def numbers_of(key: dsa.DSAPublicKey) -> Numbers:
 
 def read_private_key(path: str) -> PrivateKey:
     """The key in a file of PEM. Raises Fault where there is none, or one that is no DSA key or has a passphrase."""
-    text = read_file(path, PRIVATE_KEY)
+    text = read_file(path, PRIVATE_KEY, is_private=True)
     what = what_is(text)
     if "encrypted" in what:
         raise Fault(f"{path} holds {what}: {PRIVATE_KEY} without a passphrase is wanted")
