@@ -438,9 +438,11 @@ if command -v systemd-analyze >out; then
     when=$(sed -n 's/^OnCalendar=//p' "$units/ssign-review.timer")
     holds 'the timer names a time of each day' grep -q 'Normalized form: \*-\*-\* [0-9:]*$' <(systemd-analyze calendar "$when")
     if systemd-analyze --help | grep -q -e --offline; then
-        for unit in ssign-review ssign-seal@ ssign-live; do
-            systemd-analyze security --offline=true --threshold=10 "system/$unit.service" >out 2>&1
-            holds "systemd calls $unit safe, at most 1.0 of 10: $(tail -n 1 out)" test "$?" = 0
+        # sendmail needs root and a network, so its unit is open to more
+        for unit in ssign-review=10 ssign-seal@=10 ssign-live=10 ssign-review-mail=30; do
+            systemd-analyze security --offline=true --threshold="${unit#*=}" "system/${unit%=*}.service" >out 2>&1
+            status=$?
+            holds "systemd calls ${unit%=*} safe, at most ${unit#*=} of 100: $(tail -n 1 out)" test "$status" = 0
         done
     fi
 else
