@@ -234,6 +234,33 @@ status=$?
 expect 'no counters before a night' 0 'SOME TEXT' ''
 echo "$name: $waits refusals of what isn't waited for"
 
+# ---- a command that comes to no end: a plain refusal after a time, which is half a second here
+mkdir hang
+printf '#!/bin/sh\nexec sleep 600\n' >hang/zstd
+chmod 755 hang/zstd
+for each in gpg openssl parallel; do
+    ln hang/zstd "hang/$each"
+done
+# late SENTENCE TOOL WORD..: refused so
+late() {
+    PATH=$scratch/hang:$PATH timeout 20 python3 -B -c 'import importlib, sys
+sys.path.insert(0, sys.argv[1])
+from ssign_keys import commands
+assert commands.PATIENCE == 20
+commands.PATIENCE = 0.5
+sys.exit(importlib.import_module(sys.argv[2] + ".cli").main(sys.argv[3:]))' "$root/tools" "${@:2}" </dev/null >out 2>err
+    status=$?
+    expect "${*:2}" 2 '' "$1"
+}
+printf -- '-----BEGIN PGP PUBLIC KEY BLOCK-----\n' >gpg-key
+printf '\050\265\057\375xxxx' >packed.zst
+mkdir -p archive/part && cp signed archive/part
+late 'ssign-keys: the command gpg came to no end in 0.5 seconds' ssign_keys verify --key gpg-key signed
+late 'ssign-keys: packed.zst is compressed by zstd, and the command zstd was silent for 0.5 seconds' \
+    ssign_keys verify --key one/public-key.pem packed.zst
+late 'ssign-keys: the command openssl came to no end in 0.5 seconds' ssign_keys stamp counters --tsa-command true --tsa-ca rsa.crt
+late "ssign-archive: the command $scratch/hang/parallel came to no end in 0.5 seconds" ssign_archive review archive --results results
+
 # ---- a private key that others may change; who may read it isn't asked
 cp one/private-key.pem mine.pem
 for mode in 620 602 622 666 660 777; do

@@ -11,6 +11,7 @@ import sys
 import sysconfig
 from typing import List
 
+from ssign_keys.commands import ask
 from ssign_keys.faults import Fault
 from ssign_keys.numbers import MOST_JOBS, number
 from ssign_keys.words import shown_name
@@ -60,7 +61,7 @@ def find_parallel() -> str:
     found = shutil.which("parallel")
     if found is None:
         raise Fault("the command parallel is missing; on Debian and Ubuntu `apt-get install parallel` installs it")
-    said = subprocess.run([found, "--version"], stdin=subprocess.DEVNULL, capture_output=True, check=False)
+    said = ask([found, "--version"], b"", "parallel")
     if not said.stdout.startswith(b"GNU parallel"):
         raise Fault(f"{shown_name(found)} isn't GNU parallel; on Debian and Ubuntu `apt-get install parallel` installs it")
     return found

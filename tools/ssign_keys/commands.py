@@ -1,4 +1,4 @@
-"""Commands of other packages, which are run for one short question each."""
+"""Commands of other packages, which are run for one short question each, and how long any of them may be silent."""
 from __future__ import annotations
 
 import contextlib
@@ -16,6 +16,14 @@ class Missing(Fault):
 
 class Spent(Fault):
     """What commands may take in one run is used up."""
+
+
+class Late(Spent):
+    """A command came to no end in time."""
+
+    def __init__(self, command: str) -> None:
+        """The command, as it was called."""
+        super().__init__(f"the command {command} came to no end in {PATIENCE:g} seconds")
 
 
 # A question that takes longer has no answer: a log may hold what a command chokes on.
@@ -62,17 +70,17 @@ BUDGET = Budget()
 
 
 def ask(words: Sequence[str], question: bytes, package: str) -> subprocess.CompletedProcess[bytes]:
-    """Runs a command on these octets. Its status is -1 where it came to no end in time.
+    """Runs a command on these octets.
 
-    Raises Missing where the command isn't here, and Spent where no more may be asked. `package` is the one that has it on
-    Debian and Ubuntu.
+    Raises Missing where the command isn't here, Late where it came to no end in time, and Spent where no more may be asked.
+    `package` is the one that has it on Debian and Ubuntu.
     """
     environment = {**os.environ, "LC_ALL": "C"}
     try:
         with BUDGET.spend(words[0]):
             return subprocess.run(words, input=question, capture_output=True, timeout=PATIENCE, env=environment)
-    except subprocess.TimeoutExpired:
-        return subprocess.CompletedProcess(words, -1, b"", b"")
+    except subprocess.TimeoutExpired as fault:
+        raise Late(words[0]) from fault
     except FileNotFoundError as fault:
         raise Missing(f"the command {words[0]} is missing; on Debian and Ubuntu `apt-get install {package}` installs it") \
             from fault

@@ -3,11 +3,14 @@ from __future__ import annotations
 
 import argparse
 import lzma
+import os
 import re
+import select
 import subprocess
 import zlib
 from typing import BinaryIO, Callable, Dict, Iterator, Optional, Protocol
 
+from . import commands
 from .faults import Fault
 from .sizes import read_size
 from .words import shown, shown_name
@@ -149,6 +152,11 @@ def slices(pieces: Iterator[bytes]) -> Iterator[bytes]:
             yield piece[place:place + SLICE]
 
 
+def silent(name: str) -> Fault:
+    """What is said of a command that neither goes on nor ends."""
+    return Fault(f"{shown_name(name)} is compressed by zstd, and the command zstd was silent for {commands.PATIENCE:g} seconds")
+
+
 def expanded_zstd(name: str, packed: BinaryIO, workplace: Workplace) -> Iterator[bytes]:
     """Expands a file of zstd by its command, which ends with the workplace at the latest."""
     with workplace.new_file("zstd.errors") as errors:
@@ -162,11 +170,17 @@ def expanded_zstd(name: str, packed: BinaryIO, workplace: Workplace) -> Iterator
         assert child.stdout is not None
         with child.stdout as out:
             while True:
-                piece = out.read(PIECE)
+                # how long all of it takes, the log decides
+                if not select.select([out], [], [], commands.PATIENCE)[0]:
+                    raise silent(name)
+                piece = os.read(out.fileno(), PIECE)
                 if not piece:
                     break
                 yield piece
-        status = child.wait()
+        try:
+            status = child.wait(commands.PATIENCE)
+        except subprocess.TimeoutExpired as error:
+            raise silent(name) from error
         errors.seek(0)
         said = errors.read(1000).splitlines()
     if status != 0:

@@ -8,11 +8,10 @@ import subprocess
 from typing import Dict, NamedTuple, Optional
 
 from . import VERSION
+from .commands import PATIENCE
 from .digests import digest_of
 from .words import shown, shown_name
 
-# a program that doesn't answer in time isn't waited for
-PATIENCE = 20
 SCRIPT = b"#!"
 LONGEST = 200
 

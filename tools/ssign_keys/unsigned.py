@@ -5,6 +5,7 @@ import re
 import subprocess
 from typing import Optional
 
+from .commands import PATIENCE
 from .logs import Log
 from .walk import LONGEST, Walk, read_at
 
@@ -13,7 +14,6 @@ UNPARSED = re.compile(rb"unparsed 0 (M[0-9]{1,2}) ([0-9]+)\n")
 PARTS = {b"M1": "PRI", b"M2": "VERSION", b"M3": "TIMESTAMP", b"M4": "HOSTNAME", b"M5": "APP-NAME", b"M6": "PROCID",
          b"M7": "MSGID", b"M8": "STRUCTURED-DATA", b"M9": "the name of an element or parameter",
          b"M10": "the value of a parameter", b"M11": "an SD-ID that stood before", b"M12": "MSG"}
-PATIENCE = 10
 PIECE = 1 << 20
 
 
