@@ -46,10 +46,10 @@ global(workDirectory="{folder}/work")
 module(load="imptcp")
 module(load="omprog")
 input(type="imptcp" path="{folder}/socket" ruleset="sign")
-template(name="raw" type="string" string="%rawmsg%\\n")
+template(name="raw" type="string" string="\\"%rawmsg:::json%\\"\\n")
 ruleset(name="sign" queue.type="LinkedList" queue.dequeueBatchSize="1000" queue.timeoutShutdown="60000" queue.size="500000") {{
     action(type="omprog" binary="{folder}/live" template="raw" confirmMessages="on" useTransactions="on"
-           beginTransactionMark="BEGIN-OURS" commitTransactionMark="COMMIT-OURS" confirmTimeout="60000"
+           confirmTimeout="60000"
            action.resumeRetryCount="-1")
 }}
 """
@@ -92,8 +92,7 @@ def by_rsyslog(key, sealed, count):
     """The seconds for so many messages by rsyslog and omprog, and what it costs."""
     with tempfile.TemporaryDirectory() as folder:
         os.mkdir(f"{folder}/work")
-        words = words_of(folder, key, f"--messages={sealed}", "--omprog", "--transactions", "--marks", "BEGIN-OURS", "COMMIT-OURS",
-                         f"--status={folder}/status")
+        words = words_of(folder, key, f"--messages={sealed}", "--omprog", f"--status={folder}/status")
         with open(f"{folder}/words.json", "w", encoding="ascii") as file:
             json.dump(words, file)
         with open(f"{folder}/live", "w", encoding="ascii") as file:
@@ -156,7 +155,7 @@ def confirmations(key):
         answers, syncs = [], []
         for at in range(CONFIRMATIONS):
             begin = time.monotonic()
-            process.stdin.write(message(at) + b"\n")
+            process.stdin.write(b'"%s"\n' % message(at))
             process.stdin.flush()
             process.stdout.readline()
             answers.append(time.monotonic() - begin)

@@ -34,10 +34,6 @@ _ssign_keys() {
     # --option=value is three words here
     [[ $before == = ]] && before=$second second=
     case "$command $second" in
-    'live --marks')
-        _ssign_keys_offer text
-        return
-        ;;
     'verify --session-key')
         _ssign_keys_offer files
         return
@@ -75,7 +71,6 @@ _ssign_keys() {
     'sign --ssign') _ssign_keys_offer files ;;
     'live --state') _ssign_keys_offer folders ;;
     'live --out') _ssign_keys_offer folders ;;
-    'live --marks') ;;
     'live --messages') _ssign_keys_offer text ;;
     'live --seconds') _ssign_keys_offer text ;;
     'live --rotate-size') _ssign_keys_offer text ;;
@@ -183,7 +178,7 @@ _ssign_keys_words() {
             _ssign_keys_offer files
         fi
         ;;
-    live) _ssign_keys_offer words '--help --state --out --new-session --keep-session --omprog --transactions --marks --messages --seconds --rotate-size --rotate-daily --heartbeat --wrap --no-wrap --stamp-command --tsa --tsa-seconds --status --key --seal-command --public --tsa-ca --tsa-ca-anchor --lines --journal --host --app --procid --msgid --pri --payload --ver --groups --count --frag --copies --manifest --ssign' ;;
+    live) _ssign_keys_offer words '--help --state --out --new-session --keep-session --omprog --messages --seconds --rotate-size --rotate-daily --heartbeat --wrap --no-wrap --stamp-command --tsa --tsa-seconds --status --key --seal-command --public --tsa-ca --tsa-ca-anchor --lines --journal --host --app --procid --msgid --pri --payload --ver --groups --count --frag --copies --manifest --ssign' ;;
     verify)
         if [[ $2 == -* ]]; then
             _ssign_keys_offer words '--help --manifest-seen --key --session-key --ca --ca-anchor --cert --at-signing-time --allow-sha1 --ignore-strangers --tsa-ca --tsa-ca-anchor --lines --frames --max-len --max-messages --max-expanded --max-payload --whole --from --counters --nights --manifest --from-manifest --manifest-last --stamped --findings --details --hostname --raw --json --html --answers-out --counters-out --jobs --ssign'

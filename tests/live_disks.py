@@ -34,6 +34,15 @@ def message(number):
     return b"<13>1 - gate.example.org app %d - - message %d" % (number, number)
 
 
+ESCAPED = {8: b"\\b", 9: b"\\t", 10: b"\\n", 12: b"\\f", 13: b"\\r", 34: b'\\"', 47: b"\\/", 92: b"\\\\"}
+
+
+def string_of(octets):
+    """A message as rsyslog 8.2302 writes it with the option json, for omprog: control characters are escaped, and all else
+    stays, whether it is UTF-8 or not."""
+    return b'"%s"' % b"".join(ESCAPED.get(it) or (b"\\u%04X" % it if it < 32 else bytes([it])) for it in octets)
+
+
 class PowerCut(Exception):
     """The power went before a step."""
 

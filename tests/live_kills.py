@@ -16,7 +16,7 @@ import signal
 import sys
 import tempfile
 
-from live_disks import message, original, used_twice
+from live_disks import message, original, string_of, used_twice
 
 from ssign_keys import cli, keys, live
 from ssign_keys.live_disk import Disk
@@ -131,7 +131,7 @@ class Trial:
         """Sends what isn't confirmed. Gives the status; -9 where it was killed."""
         child, to, answers = begin(
             ["live", f"--key={KEYS}/private-key.pem", f"--state={self.path('state')}", f"--out={self.path('out')}", "--omprog",
-             "--transactions", "--host=gate.example.org", "--count=5", "--messages=5", "--seconds=100", "--rotate-size=7K",
+             "--host=gate.example.org", "--count=5", "--messages=5", "--seconds=100", "--rotate-size=7K",
              f"--ssign={PROGRAM}"], last, is_half, self.path("said"))
 
         def say(line):
@@ -144,7 +144,7 @@ class Trial:
         if answers.readline() == b"OK\n":
             while len(self.confirmed) < len(wanted):
                 part = wanted[len(self.confirmed):][:3]
-                if say(b"BEGIN TRANSACTION") != b"OK\n" or any(say(it) != b"DEFER_COMMIT\n" for it in part):
+                if say(b"BEGIN TRANSACTION") != b"OK\n" or any(say(string_of(it)) != b"DEFER_COMMIT\n" for it in part):
                     break
                 if say(b"COMMIT TRANSACTION") != b"OK\n":
                     break

@@ -12,7 +12,9 @@ import time
 
 sys.path.insert(0, os.path.join(os.path.dirname(os.path.dirname(os.path.realpath(__file__))), "tools"))
 
-from ssign_keys.live_input import Input, NoFrame  # noqa: E402
+from live_disks import string_of  # noqa: E402
+
+from ssign_keys.live_input import Input, NoMessage  # noqa: E402
 
 LONGEST = 1048576
 CASES = 150
@@ -30,9 +32,9 @@ def tell(what, fault):
     print(f"    {fault}")
 
 
-def read_pieces(pieces, are_lines, will_repeat=False):
+def read_pieces(pieces, are_lines, is_omprog=False):
     """The messages that are read of these pieces, each as its octets and whether it is whole; and the seconds that it took."""
-    source, (reader, writer) = Input(are_lines, will_repeat), os.pipe()
+    source, (reader, writer) = Input(are_lines, is_omprog), os.pipe()
     os.dup2(reader, 0)
     os.close(reader)
     found, parts, began = [], b"", time.process_time()
@@ -42,7 +44,7 @@ def read_pieces(pieces, are_lines, will_repeat=False):
         else:
             os.close(writer)
         for it in source.read():
-            parts += it.octets
+            parts += it.octets if it.mark is None else it.mark.value
             if it.is_end:
                 found.append((parts, it.is_whole))
                 parts = b""
@@ -75,24 +77,29 @@ def random_logs(rng):
         frames = b"".join(b"%d %s" % (len(it), it) for it in messages)
         found, _ = read_pieces(cut(frames, rng, most), False)
         tell(f"frames {case}", found != wanted and f"{len(found)} messages, and not {len(wanted)}")
+        strings = b"".join(string_of(it) + b"\n" for it in messages)
+        found, _ = read_pieces(cut(strings, rng, most), False, True)
+        tell(f"strings {case}", found != wanted and f"{len(found)} messages, and not {len(wanted)}")
 
 
 def ends():
     """What stands at the end: a line without its LF is a message, unless the sender repeats it; a part of a frame is none."""
     for most in (1, 3, 100):
         rng = random.Random(most)
-        for what, octets, are_lines, will_repeat, wanted in (
+        for what, octets, are_lines, is_omprog, wanted in (
                 ("a last line", b"one\ntwo", True, False, [(b"one", True), (b"two", True)]),
-                ("a last line that comes again", b"one\ntwo", True, True, [(b"one", True), (b"two", False)]),
+                ("a last line that comes again", b'"one"\n"two"', False, True, [(b"one", True), (b'"two"', False)]),
+                ("marks", b'BEGIN TRANSACTION\n"BEGIN TRANSACTION"\nCOMMIT TRANSACTION\n', False, True,
+                 [(b"BEGIN TRANSACTION", True), (b"BEGIN TRANSACTION", True), (b"COMMIT TRANSACTION", True)]),
                 ("empty lines", b"\n\none\n\n", True, False, [(b"", True), (b"", True), (b"one", True), (b"", True)]),
                 ("a part of a frame", b"3 one5 tw", False, False, [(b"one", True), (b"5 tw", False)]),
                 ("a part of a length", b"3 one55", False, False, [(b"one", True), (b"55", False)])):
-            found, _ = read_pieces(cut(octets, rng, most), are_lines, will_repeat)
+            found, _ = read_pieces(cut(octets, rng, most), are_lines, is_omprog)
             tell(f"{what} in pieces of {most}", found != wanted and f"{found}, and not {wanted}")
         try:
             found, _ = read_pieces(cut(b"3 onex", rng, most), False)
             tell(f"no frame in pieces of {most}", f"{found}")
-        except NoFrame:
+        except NoMessage:
             tell(f"no frame in pieces of {most}", "")
 
 

@@ -1,14 +1,18 @@
 #!/usr/bin/env python3
-"""rsyslog hands messages to `ssign-keys live` by omprog, with confirmations and transactions, and live is killed in full flow.
+"""rsyslog hands messages to `ssign-keys live` by the example for it, while live is killed in full flow, and hostile senders send.
 
     live_rsyslog.py SSIGN KEYS [MESSAGES]
 
-Wanted: each message is listed, in a joined session, with status 0 up to the kept counters; those that weren't confirmed may be
-there twice. The last line is `live_rsyslog: N passed, M failed`.
+Wanted with kills: each message is listed, in a joined session, with status 0 up to the kept counters; those that weren't
+confirmed may be there twice. Wanted of hostile senders over TCP, UDP, RELP and a socket of the machine, with control characters
+kept and escaped: as many messages are stored as were sent, each as rsyslog received it, and no HOSTNAME is one that no frame's
+own header has. The last line is `live_rsyslog: N passed, M failed`.
 """
 import collections
+import glob
 import json
 import os
+import re
 import signal
 import socket
 import subprocess
@@ -23,29 +27,74 @@ KILLS = 3
 SOME = 20000
 ROOT = os.path.dirname(os.path.dirname(os.path.realpath(__file__)))
 PATIENCE = 60.0
-CONFIG = """
-global(workDirectory="{folder}/work")
+EXAMPLE = f"{ROOT}/examples/rsyslog/ssign-live.conf"
+HOST = "gate.example.org"
+INPUTS = """
+global(workDirectory="{folder}/work" maxMessageSize="64k"{more})
 module(load="imptcp")
-module(load="omprog")
-input(type="imptcp" path="{folder}/socket" ruleset="sign")
-template(name="raw" type="string" string="%rawmsg%\\n")
-ruleset(name="sign" queue.type="LinkedList" queue.dequeueBatchSize="100" queue.timeoutShutdown="10000" queue.size="100000"
-        queue.filename="sign" queue.saveOnShutdown="on") {{
-    action(type="omprog" name="sign" binary="{folder}/live" template="raw" confirmMessages="on" useTransactions="on"
-           beginTransactionMark="BEGIN-OURS" commitTransactionMark="COMMIT-OURS"
-           confirmTimeout="60000" closeTimeout="60000" action.resumeRetryCount="-1" action.resumeInterval="1"
-           killUnresponsive="on")
-}}
+input(type="imptcp" path="{folder}/socket" discardTruncatedMsg="on")
 """
+NETWORK = """
+module(load="imtcp" discardTruncatedMsg="on")
+input(type="imtcp" address="127.0.0.1" port="{tcp}")
+module(load="imudp")
+input(type="imudp" address="127.0.0.1" port="{udp}")
+module(load="imuxsock" SysSock.Use="off")
+input(type="imuxsock" Socket="{folder}/dev-log")
+"""
+RELP = """
+module(load="imrelp")
+input(type="imrelp" address="127.0.0.1" port="{relp}")
+"""
+# a daemon that only sends by RELP what it gets
+SENDER = """
+global(workDirectory="{folder}/sender" maxMessageSize="64k" parser.escapeControlCharactersOnReceive="off"
+       parser.dropTrailingLFOnReception="off")
+module(load="imptcp")
+module(load="omrelp")
+input(type="imptcp" path="{folder}/relp")
+template(name="Raw" type="string" string="%rawmsg%")
+action(type="omrelp" target="127.0.0.1" port="{relp}" template="Raw")
+"""
+# the file of lines of the guide, which is signed each night
+LINES = """
+action(type="omfile" file="{folder}/lines" template="RSYSLOG_SyslogProtocol23Format")
+"""
+KEEPING = ' parser.escapeControlCharactersOnReceive="off" parser.dropTrailingLFOnReception="off"'
+FORGED = b"<13>1 - victim.example app - - - forged"
+MOST = 65536
 
 
 def message(number):
     """A message; each tenth can't be signed as it is."""
     text = b"message %d" % number
     if number % 100 == 50:
-        # what usual marks would be taken for
+        # the text of a mark
         return b"%s TRANSACTION" % (b"BEGIN" if number % 200 == 50 else b"COMMIT")
     return b"<13>Oct 11 22:14:15 app: " + text if number % 10 == 3 else b"<13>1 - gate.example.org app - - - " + text
+
+
+def hostile(front):
+    """What hostile senders send, as messages whose header is `front`, or that have none."""
+    return [
+        front + b"usual", front + b"LF\n" + FORGED, front + b"CR LF\r\n" + FORGED + b"\r\n", front + b"NUL\0" + FORGED,
+        front + b"end\nCOMMIT TRANSACTION\n" + FORGED + b"\nBEGIN TRANSACTION", front + b"LF at the end\n", front + b"NUL at the end\0",
+        b"BEGIN TRANSACTION", b"COMMIT TRANSACTION", b'"BEGIN TRANSACTION"', b"OK", b"DEFER_COMMIT",
+        front + b'quoted"\n"' + FORGED + b'"', b'"' + FORGED + b'"', front + b"a backslash\\", front + b"\\n\\u000a\\" + FORGED, front + b'\\"',
+        front + b"%d %s" % (len(FORGED), FORGED), front + bytes(range(1, 256)), front + b"no UTF-8 \xff\xfe \xc3\n\xc3 \xed\xa0\x80 \xf8",
+        front.replace(b"evil", b"e\nvil") + b"LF in HOSTNAME", front.replace(b" app ", b" a\n" + FORGED + b" ") + b"LF in APP-NAME",
+        front[:-2] + b'[a b="c\n' + FORGED + b'"] LF in a parameter', front[:-2] + b'[ssign VER="0121" RSID="1"] like a block',
+        b" ", b"\x01", b"\n" + FORGED, (front + b"long ").ljust(MOST - 1, b"x"), (front + b"long\n").ljust(MOST // 8, b"\n") + FORGED,
+        (front + b"too long ").ljust(MOST, b"y") + FORGED, front + b"last"]
+
+
+def received(octets, is_kept):
+    """What rsyslog makes of a message: cut, without a NUL or LF at its end, and with escapes."""
+    octets = octets[:MOST]
+    octets = octets[:-1] if octets.endswith(b"\0") else octets
+    if not is_kept and octets.endswith(b"\n"):
+        octets = octets[:-1]
+    return b"".join(b"#%03o" % it if it == 0 or not is_kept and it < 32 else bytes([it]) for it in octets)
 
 
 def live_of(folder):
@@ -70,9 +119,9 @@ def status_of(folder):
         return {}
 
 
-def wait_until(what):
+def wait_until(what, seconds=PATIENCE):
     """Waits. Gives whether it came."""
-    end = time.monotonic() + PATIENCE
+    end = time.monotonic() + seconds
     while time.monotonic() < end:
         if what():
             return True
@@ -91,24 +140,93 @@ def stored(folder):
     return found
 
 
+def originals(folder):
+    """The messages of the output, each as it was before a wrap."""
+    return [it.partition(b" wrapped - |")[2] or it for it in stored(folder) if not is_ours(it)]
+
+
+def names_of(messages):
+    """The HOSTNAME of each message that begins as one of RFC 5424."""
+    return {it.split(b" ", 3)[2] for it in messages if re.match(rb"<\d{1,3}>1 \S+ \S+ ", it)}
+
+
+def is_ours(octets):
+    """Whether a message is a block of the signer."""
+    return re.match(rb"<110>1 \S+ %s signer \S+ \S+ \[ssign" % HOST.encode(), octets) is not None
+
+
 def files_of(folder):
     """The files of the output, in their order."""
-    return [os.path.join(folder, "out", it) for it in sorted(os.listdir(os.path.join(folder, "out")))]
-
-
-def main():
-    """Makes all checks."""
-    with tempfile.TemporaryDirectory() as folder:
-        faults = run(folder)
-    for it in faults[:8]:
-        print(f"live_rsyslog: FAILED\n    {it}")
-    print(f"live_rsyslog: {0 if faults else 1} passed, {1 if faults else 0} failed")
-    return 1 if faults else 0
+    out = os.path.join(folder, "out")
+    return [os.path.join(out, it) for it in sorted(os.listdir(out))] if os.path.isdir(out) else []
 
 
 def size_of(folder):
     """How many octets the output has."""
-    return sum(os.path.getsize(it) for it in files_of(folder)) if os.path.isdir(os.path.join(folder, "out")) else 0
+    return sum(os.path.getsize(it) for it in files_of(folder))
+
+
+def free_port(kind=socket.SOCK_STREAM):
+    """A port that nobody uses."""
+    with socket.socket(socket.AF_INET, kind) as it:
+        it.bind(("127.0.0.1", 0))
+        return it.getsockname()[1]
+
+
+def verdict(folder):
+    """The rows of `verify` up to the counters, and what is wrong with its status."""
+    counters = [it for it in os.listdir(f"{folder}/state") if it.startswith("counters-")]
+    words = [f"{ROOT}/tools/ssign-keys", "verify", f"--key={KEYS}/public-key.pem", "--json", f"--ssign={PROGRAM}", "--max-len=1048576",
+             f"--counters={folder}/state/{(counters or ['none'])[0]}", *files_of(folder)]
+    ran = subprocess.run(words, capture_output=True, check=False)
+    rows = [json.loads(it) for it in ran.stdout.splitlines()]
+    if ran.returncode or not rows:
+        return rows, [f"verify has status {ran.returncode}: {rows[-1:]} {ran.stderr.decode()[:300]}"]
+    return rows, []
+
+
+class Daemon:
+    """An rsyslog of our own."""
+
+    def __init__(self, folder, name, config):
+        self.folder, self.name = folder, name
+        with open(f"{folder}/{name}.conf", "w", encoding="utf-8") as file:
+            file.write(config)
+        with open(f"{folder}/{name}.said", "wb") as said:
+            self.process = subprocess.Popen(["rsyslogd", "-n", "-f", f"{folder}/{name}.conf", "-i", f"{folder}/{name}.pid"], stderr=said)
+
+    def fault(self, path):
+        """Waits for its socket. Gives what is wrong."""
+        if wait_until(lambda: os.path.exists(path) or self.process.poll() is not None) and self.process.poll() is None:
+            return []
+        with open(f"{self.folder}/{self.name}.said", encoding="utf-8", errors="replace") as file:
+            return [f"rsyslogd doesn't start: {file.read()[:300]}"]
+
+    def end(self):
+        """Ends it. Gives what is wrong."""
+        self.process.send_signal(signal.SIGTERM)
+        try:
+            self.process.wait(30)
+        except subprocess.TimeoutExpired:
+            self.process.kill()
+            self.process.wait()
+            return ["rsyslogd doesn't end"]
+        return []
+
+
+def example_of(folder, *options):
+    """The example, with other folders."""
+    with open(EXAMPLE, encoding="ascii") as file:
+        example = file.read()
+    words = re.search(r'binary="([^"]*)"', example)[1]
+    ours = words.replace("/usr/bin/ssign-keys", f"{ROOT}/tools/ssign-keys").replace("/etc/ssign", KEYS)
+    ours = ours.replace("/var/lib/ssign/live", f"{folder}/state").replace("/var/log/signed", f"{folder}/out")
+    ours = " ".join([ours, f"--host={HOST}", "--heartbeat=0", f"--status={folder}/status", f"--ssign={PROGRAM}", *options])
+    with open(f"{folder}/live", "w", encoding="ascii") as file:
+        file.write(f"#!/bin/sh\nexec {ours} 2>>{folder}/said\n")
+    os.chmod(f"{folder}/live", 0o755)
+    example = example.replace('queue.dequeueBatchSize="1000"', 'queue.dequeueBatchSize="100" queue.size="100000"')
+    return example.replace(words, f"{folder}/live").replace("action.resumeRetryCount", 'action.resumeInterval="1" action.resumeRetryCount')
 
 
 def kill_one(folder, at, size):
@@ -122,25 +240,18 @@ def kill_one(folder, at, size):
     return []
 
 
-def run(folder):
+def kills(folder):
     """Sends, kills, and reviews. Gives what is wrong."""
     os.mkdir(f"{folder}/work")
-    command = (f"{ROOT}/tools/ssign-keys live --key={KEYS}/private-key.pem --state={folder}/state --out={folder}/out --omprog "
-               "--transactions --marks BEGIN-OURS COMMIT-OURS "
-               f"--host=gate.example.org --rotate-size=300K --heartbeat=0 --status={folder}/status --ssign={PROGRAM}")
-    with open(f"{folder}/live", "w", encoding="ascii") as file:
-        file.write(f"#!/bin/sh\nexec {command} 2>>{folder}/said\n")
-    os.chmod(f"{folder}/live", 0o755)
-    with open(f"{folder}/conf", "w", encoding="ascii") as file:
-        file.write(CONFIG.format(folder=folder))
-    daemon = subprocess.Popen(["rsyslogd", "-n", "-f", f"{folder}/conf", "-i", f"{folder}/pid"], stderr=subprocess.PIPE)
+    daemon = Daemon(folder, "signs", INPUTS.format(folder=folder, more="") + example_of(folder, "--rotate-size=300K"))
     faults = []
     try:
-        if not wait_until(lambda: os.path.exists(f"{folder}/socket") or daemon.poll() is not None) or daemon.poll() is not None:
-            return [f"rsyslogd doesn't start: {daemon.stderr.read().decode()[:300]}"]
+        found = daemon.fault(f"{folder}/socket")
+        if found:
+            return found
         wanted = [message(n) for n in range(COUNT)]
         with socket.socket(socket.AF_UNIX, socket.SOCK_STREAM) as sender:
-            sender.connect(f"{folder}/socket")
+            connect(sender, f"{folder}/socket")
             for at in range(KILLS + 1):
                 # rsyslog starts the process again when it has messages, so some come after each kill
                 part = wanted[at * COUNT // (KILLS + 1):(at + 1) * COUNT // (KILLS + 1)]
@@ -151,38 +262,135 @@ def run(folder):
         lacking = set(wanted)
 
         def are_there():
-            lacking.difference_update(it.partition(b" wrapped - |")[2] or it for it in stored(folder))
+            lacking.difference_update(originals(folder))
             return not lacking
         if not wait_until(are_there):
             faults.append(f"{len(lacking)} messages never came: {sorted(lacking)[:2]}")
     finally:
-        daemon.send_signal(signal.SIGTERM)
-        try:
-            daemon.wait(30)
-        except subprocess.TimeoutExpired:
-            daemon.kill()
-            faults.append("rsyslogd doesn't end")
+        faults += daemon.end()
     wait_until(lambda: live_of(folder) is None)
-    counters = [it for it in os.listdir(f"{folder}/state") if it.startswith("counters-")]
-    words = [f"{ROOT}/tools/ssign-keys", "verify", f"--key={KEYS}/public-key.pem", "--json", f"--ssign={PROGRAM}",
-             f"--counters={folder}/state/{(counters or ['none'])[0]}", *files_of(folder)]
-    ran = subprocess.run(words, capture_output=True, check=False)
-    rows = [json.loads(it) for it in ran.stdout.splitlines()]
-    if ran.returncode or not rows:
-        faults.append(f"verify has status {ran.returncode}: {rows[-1:]} {ran.stderr.decode()[:300]}")
+    rows, found = verdict(folder)
+    faults += found
     places = stored(folder)
     listed = collections.Counter(places[it["place"]].partition(b" wrapped - |")[2] or places[it["place"]] for it in rows
                                  if it["line"] == "ok")
     faults += [f"{it!r} isn't listed" for it in wanted if not listed[it]][:3]
-    said = ""
-    if os.path.exists(f"{folder}/said"):
-        with open(f"{folder}/said", encoding="utf-8", errors="replace") as file:
-            said = file.read()
+    sent = collections.Counter(wanted)
+    faults += [f"{it!r} was never sent" for it in listed if it not in sent][:3]
+    # a mark that is taken for a message, or a message for a mark
+    faults += [f"{it!r} is there {listed[it]} times" for it in listed if listed[it] > sent[it] + KILLS][:3]
     print(f"live_rsyslog: {COUNT} messages, {KILLS} kills, {len(files_of(folder))} files; listed twice, because they weren't "
-          f"confirmed: {sum(listed.values()) - len(listed)}")
-    if faults:
-        faults.append(said[-500:])
+          f"confirmed: {sum(listed.values()) - len(wanted)}")
     return faults
+
+
+def connect(sender, address):
+    """Connects, once somebody listens."""
+    wait_until(lambda: not sender.connect_ex(address))
+
+
+def send(folder, ports, has_relp):
+    """Has hostile senders send by each way. Gives what they sent, and how many messages came by the socket of the machine."""
+    sent = {}
+
+    def front(way):
+        return b"<13>1 - evil-%s.example app - - - " % way
+
+    with socket.socket() as tcp, socket.socket(socket.AF_UNIX) as relp, socket.socket(socket.AF_INET, socket.SOCK_DGRAM) as udp, \
+            socket.socket(socket.AF_UNIX, socket.SOCK_DGRAM) as local:
+        connect(tcp, ("127.0.0.1", ports["tcp"]))
+        local.connect(f"{folder}/dev-log")
+        frames = hostile(front(b"tcp"))
+        tcp.sendall(b"".join(b"%d %s" % (len(it), it) for it in frames))
+        sent["tcp"] = frames
+        if has_relp:
+            connect(relp, f"{folder}/relp")
+            frames = [it for it in hostile(front(b"relp")) if b"\0" not in it and len(it) < MOST]
+            relp.sendall(b"".join(b"%d %s" % (len(it), it) for it in frames))
+            sent["relp"] = frames
+        sent["udp"] = [it for it in hostile(front(b"udp")) if len(it) < MOST - 100]
+        for it in sent["udp"]:
+            udp.sendto(it, ("127.0.0.1", ports["udp"]))
+            time.sleep(.002)
+        # rsyslog wants a PRI here, and drops what has neither a tag nor a text
+        sent["local"] = [it for it in hostile(b"<13>Oct 11 22:14:15 evil: ") if it.startswith(b"<13>Oct 11 22:14:15 evil: ") and len(it) < MOST - 100]
+        for it in sent["local"]:
+            local.send(it)
+        # what is sent by TCP after all else
+        last = front(b"tcp") + b"very last"
+        tcp.sendall(b"%d %s" % (len(last), last))
+        sent["tcp"].append(last)
+        wanted = sum(map(len, sent.values()))
+        wait_until(lambda: len(originals(folder)) >= wanted, 20)
+    return sent
+
+
+def attack(folder, is_kept):
+    """Has hostile senders send, and reviews. Gives what is wrong."""
+    for it in ("work", "sender"):
+        os.mkdir(f"{folder}/{it}")
+    ports = {"tcp": free_port(), "udp": free_port(socket.SOCK_DGRAM), "relp": free_port()}
+    has_relp = bool(glob.glob("/usr/lib/*/rsyslog/omrelp.so"))
+    if not has_relp:
+        print("live_rsyslog: no RELP here (apt-get install rsyslog-relp), so nobody sends by it")
+    inputs = (INPUTS + NETWORK + (RELP if has_relp else "") + ("" if is_kept else LINES)).format(folder=folder, more=KEEPING if is_kept else "", **ports)
+    daemons, faults, sent = [Daemon(folder, "signs", inputs + example_of(folder))], [], {}
+    try:
+        faults += daemons[0].fault(f"{folder}/dev-log")
+        if has_relp and not faults:
+            daemons.append(Daemon(folder, "sends", SENDER.format(folder=folder, **ports)))
+            faults += daemons[1].fault(f"{folder}/relp")
+        if faults:
+            return faults
+        sent = send(folder, ports, has_relp)
+        # while rsyslog runs: a last one that is held up shows
+        found = originals(folder)
+    finally:
+        for it in reversed(daemons):
+            faults += it.end()
+    wait_until(lambda: live_of(folder) is None)
+    rows, more = verdict(folder)
+    faults += more
+    if len(originals(folder)) != len(found):
+        faults.append(f"{len(originals(folder)) - len(found)} messages are stored only once rsyslog ends")
+    count = sum(map(len, sent.values()))
+    if len(found) != count:
+        faults.append(f"{len(found)} messages are stored, and {count} were sent")
+    listed = sum(it["line"] == "ok" for it in rows)
+    if listed != count:
+        faults.append(f"{listed} messages are listed, and {count} were sent")
+    if not is_kept:
+        with open(f"{folder}/lines", "rb") as file:
+            lines = file.read().splitlines(keepends=True)
+        if len(lines) != count or names_of(lines) & names_of([FORGED]):
+            faults.append(f"a file of lines has {len(lines)}, of {names_of(lines)}")
+    wanted = collections.Counter(received(it, is_kept) for way in ("tcp", "udp", "relp") for it in sent.get(way, []))
+    # of the messages of this machine only the header is known
+    there = collections.Counter(it for it in found if b" evil - - - " not in it[:100])
+    faults += [f"isn't stored as it came: {it[:150]!r}" for it in wanted - there][:4]
+    faults += [f"is stored, and wasn't sent: {it[:150]!r}" for it in there - wanted][:4]
+    own = {HOST.encode(), socket.gethostname().partition(".")[0].encode()}
+    faults += [f"no frame's header has the HOSTNAME {it!r}" for it in names_of(stored(folder)) - names_of(wanted) - own]
+    print(f"live_rsyslog: {count} messages of hostile senders by {', '.join(sorted(sent))}, with control characters "
+          f"{'as they came' if is_kept else 'escaped'}")
+    return faults
+
+
+def main():
+    """Makes all checks."""
+    failed = 0
+    checks = (kills, lambda folder: attack(folder, True), lambda folder: attack(folder, False))
+    for check in checks:
+        with tempfile.TemporaryDirectory() as folder:
+            faults = check(folder)
+            for it in faults[:8]:
+                print(f"live_rsyslog: FAILED\n    {it}")
+            if faults and os.path.exists(f"{folder}/said"):
+                with open(f"{folder}/said", encoding="utf-8", errors="replace") as file:
+                    print(file.read()[-500:])
+            failed += bool(faults)
+    print(f"live_rsyslog: {len(checks) - failed} passed, {failed} failed")
+    return 1 if failed else 0
 
 
 if __name__ == "__main__":

@@ -24,7 +24,7 @@ import tempfile
 import threading
 import time
 
-from live_disks import message, original, used_twice
+from live_disks import message, original, string_of, used_twice
 
 from ssign_keys import cli, keys, live, live_disk, live_log, live_loop, live_outside
 from ssign_keys.live_engine import split_frames
@@ -238,6 +238,11 @@ def framed(messages):
 def lined(messages):
     """Messages as lines."""
     return b"".join(it + b"\n" for it in messages)
+
+
+def told(*messages):
+    """Messages as omprog hands them over."""
+    return lined(map(string_of, messages))
 
 
 # ---- input
@@ -461,41 +466,55 @@ def answers():
     with signer("--omprog", "--seconds=1000") as it:
         process = it.start()
         faults = [differ("the first answer", process.answer(), b"OK\n")]
-        sent = [b"BEGIN TRANSACTION", *wanted, b"COMMIT TRANSACTION", b""]
+        # a message with the text of a mark is none, and each octet stays as it came
+        sent = [b"BEGIN TRANSACTION", *wanted, b"COMMIT TRANSACTION", b"", b"one\n<13>1 - victim.example app - - - two\nBEGIN TRANSACTION",
+                bytes(range(256)), b'"\\u0041\\', b"\xff\xfe\xc3 \xed\xa0\x80"]
         for each in sent:
-            process.say(each + b"\n")
+            process.say(told(each))
             faults.append(differ("the answer", process.answer(), b"OK\n"))
             faults.append("" if not each or original(it.stored()[-1]) == each else f"{each} isn't stored")
-        process.say(b"a part")
+        process.say(b'"a part')
         time.sleep(0.1)
         status = process.end()
         tell("omprog, each message alone", *faults, differ("status", status, 0), *it.clean([each for each in sent if each]),
-             differ("aside", it.kept("aside-"), [framed([b"a part"])]))
-    with signer("--omprog", "--transactions", "--seconds=1000", "--marks", "<", ">") as it:
+             differ("aside", it.kept("aside-"), [framed([b'"a part'])]))
+    with signer("--omprog", "--seconds=1000") as it:
         process = it.start()
         faults = [differ("the first answer", process.answer(), b"OK\n")]
-        script = [(b">", b"OK\n"), (b"<", b"OK\n"), (b"one", b"DEFER_COMMIT\n"), (b"<", b"DEFER_COMMIT\n"), (b"", b"DEFER_COMMIT\n"),
-                  (b"two", b"DEFER_COMMIT\n"), (b">", b"OK\n"), (b"three", b"OK\n"), (b"<", b"OK\n"), (b"four", b"DEFER_COMMIT\n")]
-        wanted_now = (b"one", b"two", b"three", b"four")
-        for line, wished in script:
-            process.say(line + b"\n")
-            faults.append(differ(f"the answer to {line}", process.answer(), wished))
+        begin, commit = b"BEGIN TRANSACTION", b"COMMIT TRANSACTION"
+        # the first end is that of a transaction whose process was killed
+        script = [(b"zero", b"OK\n"), (None, commit, b"OK\n"), (None, begin, b"OK\n"), (b"one", b"DEFER_COMMIT\n"),
+                  (begin, b"DEFER_COMMIT\n"), (b"", b"DEFER_COMMIT\n"), (commit, b"DEFER_COMMIT\n"), (b"two", b"DEFER_COMMIT\n"),
+                  (None, begin, b"OK\n"), (b"three", b"DEFER_COMMIT\n"), (None, commit, b"OK\n"), (b"four", b"OK\n"),
+                  (None, begin, b"OK\n"), (b"five", b"DEFER_COMMIT\n")]
+        for each, *mark, wished in script:
+            process.say(lined(mark) or told(each))
+            faults.append(differ(f"the answer to {each} {mark}", process.answer(), wished))
             # rsyslog doesn't send it again once it is answered
-            if line in wanted_now and original(it.stored()[-1]) != line:
-                faults.append(f"{line} is answered, and isn't stored")
+            if each and original(it.stored()[-1]) != each:
+                faults.append(f"{each} is answered, and isn't stored")
         status = process.end(signal.SIGTERM)
-        wished = [b">", b"one", b"<", b"two", b"three", b"four"]
-        tell("omprog, transactions with other marks", *faults, differ("status", status, 0),
-             *it.clean(wished))
+        stored = [it[0] for it in script if it[0]]
+        tell("omprog, transactions", *faults, differ("status", status, 0), *it.clean(stored))
         process = it.start()
         process.answer()
         process.answers.close()
-        process.say(b"five\n")
+        process.say(told(b"six"))
         time.sleep(0.2)
-        process.say(b"six\n")
+        process.say(told(b"seven"))
         time.sleep(0.2)
         status = process.end()
-        tell("omprog, nobody reads the answers", differ("status", status, 0), *it.clean([*wished, b"five", b"six"]))
+        stored += [b"six", b"seven"]
+        tell("omprog, nobody reads the answers", differ("status", status, 0), *it.clean(stored))
+        for line in (b"<13>1 - victim.example app - - - raw", b"", b'"one" "two"', b'"one', b'["one"]', b'"\\ud800"', b'"\\x41"', b'"a\tb"',
+                     b"begin transaction", b"BEGIN TRANSACTION "):
+            process = it.start()
+            process.answer()
+            process.say(told(b"before") + line + b"\n" + told(b"after"))
+            faults = [differ("the answer", process.answer(), b"OK\n"), differ("the next answer", process.answer(), b"")]
+            stored.append(b"before")
+            tell(f"omprog, what is no message: {line}", *faults, differ("status", process.end(), 2), *it.clean(stored),
+                 "no string of JSON" not in process.said and process.said)
 
 
 class WatchedDisk(live_disk.Disk):
@@ -527,21 +546,22 @@ def order():
         live.Disk, live.Loop = WatchedDisk, WatchedLoop
 
     wanted = [message(n) for n in range(24)]
-    for options, marks in (((), False), (("--transactions",), True), (("--no-wrap",), False)):
+    for options, marks in (((), False), ((), True), (("--no-wrap",), False)):
         with signer("--omprog", "--messages=5", "--seconds=1000", *options) as it:
             process = it.start(before=before)
             faults = [differ("the first answer", process.answer(), b"OK\n")]
             for at in range(0, len(wanted), 4):
-                lines = [b"BEGIN TRANSACTION", *wanted[at:at + 4], b"COMMIT TRANSACTION"] if marks else wanted[at:at + 4]
+                lines = [string_of(each) for each in wanted[at:at + 4]]
+                lines = [b"BEGIN TRANSACTION", *lines, b"COMMIT TRANSACTION"] if marks else lines
                 # all at once, so that more than one is read at a time
                 process.say(lined(lines))
                 wished = [b"OK\n", *[b"DEFER_COMMIT\n"] * 4, b"OK\n"] if marks else [b"OK\n"] * 4
                 faults.append(differ("answers", [process.answer() for _ in lines], wished))
             # a block that is set aside is confirmed too
-            process.say(b'<13>1 - h a p - [ssign VER="0121"] no block\n' if "--no-wrap" in options else wanted[0] + b"\n")
+            process.say(told(b'<13>1 - h a p - [ssign VER="0121"] no block' if "--no-wrap" in options else wanted[0]))
             faults.append(differ("the last answer", process.answer(), b"OK\n"))
             status = process.end()
-            tell(f"what is confirmed is on the disk {' '.join(options)}", *faults, differ("status", status, 0),
+            tell(f"what is confirmed is on the disk {' '.join(options)} {marks}", *faults, differ("status", status, 0),
                  process.said if "EARLY" in process.said else "")
 
 
@@ -567,7 +587,7 @@ def failed_sync():
             answers = []
             for each in wanted:
                 with contextlib.suppress(OSError):
-                    process.say(each + b"\n")
+                    process.say(told(each))
                 answers.append(process.answer(5.0))
                 if answers[-1] != b"OK\n":
                     break
@@ -653,13 +673,13 @@ def limits():
                 f"$([ -e {sealed} ] || echo --new-state)")
         put(good)
         it.key = [f"--seal-command={shlex.quote(it.path('sealer'))}", f"--public={KEYS}/public-key.pem"]
-        it.run(wanted[0] + b"\n")
+        it.run(told(wanted[0]))
         put("exit 3")
         process = it.start(before=before)
         process.answer()
         answered = 0
         for each in wanted[1:40]:
-            process.say(each + b"\n")
+            process.say(told(each))
             if process.answer(2.0) is None:
                 break
             answered += 1
@@ -825,13 +845,13 @@ def full():
         process = it.start()
         process.answer()
         for each in wanted[:5]:
-            process.say(each + b"\n")
+            process.say(told(each))
             process.answer()
         size = it.status()["size"]
         resource.prlimit(process.child, resource.RLIMIT_FSIZE, (8000, resource.RLIM_INFINITY))
         confirmed = 5
         while confirmed < 40:
-            process.say(wanted[confirmed] + b"\n")
+            process.say(told(wanted[confirmed]))
             if process.answer(1.0) is None:
                 break
             confirmed += 1
@@ -840,7 +860,7 @@ def full():
         resource.prlimit(process.child, resource.RLIMIT_FSIZE, (resource.RLIM_INFINITY, resource.RLIM_INFINITY))
         faults = [differ("the answer once there is room", process.answer(), b"OK\n")]
         for each in wanted[confirmed + 1:]:
-            process.say(each + b"\n")
+            process.say(told(each))
             faults.append(differ("the answer", process.answer(), b"OK\n"))
         status = process.end()
         lines = [each for each in process.said.splitlines() if "can't be written" in each]
@@ -898,7 +918,7 @@ def sealers():
             process = it.start("--omprog")
             faults = [differ("the first answer", process.answer(), b"OK\n")]
             for one in wanted[at:at + 3]:
-                process.say(one + b"\n")
+                process.say(told(one))
                 faults.append(differ("the answer", process.answer(), b"OK\n"))
             faults.append(it.wait_for(lambda status: status["failing"]) if text != "sleep 100" else "")
             put(good)
@@ -916,7 +936,7 @@ def sealers():
         process = it.start("--omprog")
         process.answer()
         for one in wanted[at:at + 2]:
-            process.say(one + b"\n")
+            process.say(told(one))
             process.answer()
         ended = process.end(signal.SIGTERM)
         tell("an end while nobody signs", differ("status", ended, 2),
@@ -1042,7 +1062,7 @@ def mistakes():
         tell("another session after a damaged state", differ("status", run.status, 0),
              differ("kept", len([each for each in os.listdir(it.path("state")) if each.startswith("damaged-")]), 2),
              *it.clean([message(n) for n in range(4)], 3))
-    for options, words in ((("--transactions",), "--transactions goes with --omprog"), (("--public=x",), "--public goes with"),
+    for options, words in ((("--omprog", "--lines"), "--omprog goes without --lines"), (("--public=x",), "--public goes with"),
                            (("--messages=0",), "no number of messages"), (("--seconds=-1",), "no number of seconds"),
                            (("--host=two words",), "--host")):
         with signer() as it:

@@ -22,7 +22,7 @@ import time
 ROOT = os.path.dirname(os.path.dirname(os.path.realpath(__file__)))
 sys.path.insert(0, os.path.join(ROOT, "tools"))
 
-from live_disks import used_twice
+from live_disks import string_of, used_twice
 
 from ssign_keys.live_engine import split_frames
 
@@ -48,7 +48,7 @@ class Process:
 
     def __init__(self, folder, rng):
         words = [sys.executable, TOOL, "live", f"--key={KEYS}/private-key.pem", f"--state={folder}/state", f"--out={folder}/out",
-                 "--omprog", "--transactions", "--host=gate.example.org", f"--rotate-size={IN_FILE * ON_DISK}",
+                 "--omprog", "--host=gate.example.org", f"--rotate-size={IN_FILE * ON_DISK}",
                  f"--messages={rng.choice((10, 99, 99, 1000))}", f"--seconds={rng.choice((0.05, 1, 5))}", "--heartbeat=2",
                  f"--status={folder}/status", f"--ssign={PROGRAM}"]
         self.said = open(f"{folder}/said", "ab")
@@ -57,7 +57,7 @@ class Process:
 
     def hand_over(self, messages):
         """One transaction, all at once. Gives whether it was confirmed."""
-        lines = b"".join([b"BEGIN TRANSACTION\n", *(it + b"\n" for it in messages), b"COMMIT TRANSACTION\n"])
+        lines = b"".join([b"BEGIN TRANSACTION\n", *(string_of(it) + b"\n" for it in messages), b"COMMIT TRANSACTION\n"])
         writer = threading.Thread(target=self.write, args=(lines,))
         writer.start()
         wanted = [b"OK\n", *[b"DEFER_COMMIT\n"] * len(messages), b"OK\n"]

@@ -16,7 +16,7 @@ from .live_engine import Engine
 from .live_input import Input, Source
 from .live_journal import Journal, JournalLoop
 from .live_log import Live, Terms
-from .live_loop import Loop, Marks, Pace
+from .live_loop import Loop, Pace
 from .live_manifest import Book
 from .live_outside import World
 from .live_sealer import CommandSealer, KeySealer, Sealer
@@ -32,7 +32,6 @@ from .words import shown_name
 # the options of a session, but for those that `live` says by itself
 NAMED = tuple(it for it in OPTIONS if it not in ("rsid", "stamp"))
 DEFAULTS = {"host": "the name of this machine", "app": "signer"}
-MARKS = ("BEGIN TRANSACTION", "COMMIT TRANSACTION")
 
 
 def add_arguments(parser: argparse.ArgumentParser) -> None:
@@ -58,12 +57,8 @@ def add_arguments(parser: argparse.ArgumentParser) -> None:
     parser.add_argument("--lines", action="store_true", help="read one message a line (default: octet-counted frames)")
     parser.add_argument("--journal", metavar="CMD", help="read the journal of systemd, which CMD writes: journalctl, with or without "
                         "options that choose entries, as 'journalctl --unit=ssh.service'")
-    parser.add_argument("--omprog", action="store_true", help="read lines, and answer OK to each once it is on the disk, as omprog "
-                        "of rsyslog wants it with confirmMessages=\"on\"")
-    parser.add_argument("--transactions", action="store_true", help="with --omprog: confirm a transaction as a whole "
-                        "(useTransactions=\"on\")")
-    parser.add_argument("--marks", nargs=2, metavar=("BEGIN", "COMMIT"), default=list(MARKS), help="the lines that begin and end "
-                        "a transaction (default: those of rsyslog)")
+    parser.add_argument("--omprog", action="store_true", help="read strings of JSON, one a line, and answer OK to each message or "
+                        "transaction once it is on the disk, as omprog of rsyslog wants it with confirmMessages=\"on\"")
     add_paces(parser)
     wraps = parser.add_mutually_exclusive_group()
     wraps.add_argument("--wrap", action="store_true", help="sign each message that can't be signed in a wrap, which holds all its "
@@ -110,8 +105,8 @@ def seconds(text: str) -> float:
 
 def run(arguments: argparse.Namespace) -> int:
     """Signs until the input ends, or a signal asks it to end. Status 0."""
-    if arguments.transactions and not arguments.omprog:
-        raise Fault("--transactions goes with --omprog")
+    if arguments.lines and arguments.omprog:
+        raise Fault("--omprog goes without --lines: omprog writes strings of JSON")
     if arguments.journal is not None and (arguments.omprog or arguments.lines):
         raise Fault("--journal goes without --lines and --omprog: no messages are read from standard input then")
     for name in NAMED:
@@ -148,12 +143,11 @@ def run_locked(arguments: argparse.Namespace, sealer: Sealer, program: str, worl
         stamps.begin()
 
     turned()
-    marks = Marks(*(os.fsencode(it) for it in arguments.marks)) if arguments.transactions else None
     journal = None if arguments.journal is None else Journal(arguments.journal, arguments.state)
-    source: Source = journal or Input(arguments.lines or arguments.omprog, arguments.omprog)
+    source: Source = journal or Input(arguments.lines, arguments.omprog)
     pace = Pace(arguments.messages, arguments.seconds, arguments.heartbeat)
     kind = Loop if journal is None else JournalLoop
-    loop = kind(live, source, world, pace, arguments.omprog, marks, turned, starter.next_session, stamps)
+    loop = kind(live, source, world, pace, arguments.omprog, turned, starter.next_session, stamps)
     try:
         if journal is None:
             return loop.run()
