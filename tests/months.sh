@@ -96,6 +96,8 @@ holds 'an entry was taken out: status 1' test "$status" = 1
 keys make other
 keys verify --key other/public-key.pem --jobs 4 --nights manifest logs
 holds 'by another key no night is clean' grep -q '^Verdict: FINDINGS: nights 1 to 30: 0 of 30' out
+nights 'with both keys the verdict names them' 0 "Nights 1 to 30: all 30 clean; $all. Each of these 2 keys could have signed any session \
+that no --session-key names: keys/public-key.pem, other/public-key.pem." --key other/public-key.pem --nights manifest logs
 # a night that can't be judged
 mkdir bad && cp logs/* bad && printf 'x' >bad/night-09.frames
 keys verify --key keys/public-key.pem --jobs 4 --frames --nights manifest bad

@@ -200,7 +200,7 @@ def check_json(report: str, path: str, log: str, status: str, *options: str) -> 
         missing["missing_blocks"] = in_runs(lines, "blocks")
     assert {key: verdict[key] for key in verdict if "missing_" in key} == missing, (verdict, missing)
     assert list(verdict) == ["line", "status", "review_status", "verdict", "sessions", "listed", "missing", "disputed",
-                             "unannounced", *missing, "unlisted", "verified", "unverified", "strangers", "strangers_ignored",
+                             "unannounced", *missing, "unlisted", "verified", "unverified", "strangers", "strangers_ignored", "unbound_keys",
                              "spoilt", *MARKED, "torn", "groups"], list(verdict)
     # blocks of sessions that aren't joined are unverified as well
     assert verdict["strangers"] <= verdict["unverified"] and not verdict["strangers_ignored"], verdict

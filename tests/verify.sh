@@ -87,7 +87,8 @@ says 'a clean log' 0 "$session" "$joined" "$my_key" '  group: SG 0, SPRI 0 (all 
     '    numbers 1 to 10: 10 listed' "$rising" 'Stored messages: 15 (10 listed, 5 verified blocks)' "$all_there" \
     '  session gate signer - 1, SG 0, SPRI 0: known up to message 10 and signature block 3 (GBC 2)'
 keys verify --key others/public-key.pem --key keys/public-key.pem --jobs 2 signed
-says 'two keys, two processes' 0 "$my_key" "$all_there"
+could='Each of these 2 keys could have signed any session that no --session-key names:'
+says 'two keys, two processes' 0 "$my_key" "$all_there $could others/public-key.pem, keys/public-key.pem."
 as_reviewed 'a clean log' signed
 python3 -B "$root/tests/verdicts.py" lines signed >signed.lines
 keys verify --key keys/public-key.pem --lines signed.lines
@@ -238,7 +239,8 @@ says 'a session of another key behind' 1 'Session: HOSTNAME gate, APP-NAME signe
     '  state: untrusted; it states no key that you trust; its signatures were ignored'
 holds 'its blocks and copies' grep -q '^Verdict: FINDINGS: of 10 announced messages 10 are present and unchanged; 10 stored messages are unlisted; . blocks are unverified; 1 session isn.t joined\.$' out
 keys verify --key keys/public-key.pem --key others/public-key.pem both
-says 'both keys' 0 "$my_key" "$other_key" 'Verdict: All 20 announced messages are present and unchanged, and each other stored message is a verified block.'
+says 'both keys' 0 "$my_key" "$other_key" "Verdict: All 20 announced messages are present and unchanged, and each other stored message \
+is a verified block. $could keys/public-key.pem, others/public-key.pem."
 as_reviewed 'a session of another key' both
 keys verify --key others/public-key.pem both
 says 'the key of the session behind alone' 1 "$other_key"

@@ -144,6 +144,44 @@ holds 'four sessions: each key' cmp <(whose out) <(printf '%s\n' "a $spki" "b $s
 keys verify --json --key two/public-key.pem several
 holds 'four sessions: one key' cmp <(whose out) <(printf '%s\n' 'a None' "b $spki_two" 'c None' "d $spki_two")
 
+# ---- several keys, and a log of one's HOSTNAME that the other one signed: the verdict names the key, and says what that means
+"$keys_program" sign --key two/private-key.pem --rsid 1 --host host-of-one --app s --lines --ver 0121 plain >forged
+both=(--key one/public-key.pem --key two/public-key.pem)
+could='Each of these 2 keys could have signed any session that no --session-key names: one/public-key.pem, two/public-key.pem.'
+keys verify "${both[@]}" --html forged.html forged
+holds 'two keys: it is no finding' test "$status" = 0
+holds 'two keys: the key of the session' grep -Fqx "  key: two/public-key.pem, SHA-256 $spki_two" out
+holds 'two keys: the verdict' test "$(tail -n 1 out)" = \
+    "Verdict: The one announced message is present and unchanged, and each other stored message is a verified block. $could"
+holds 'two keys: the page has the verdict' grep -Fq "$could" forged.html
+holds 'two keys: the page has the key' grep -Fq "key: two/public-key.pem, SHA-256 $spki_two" forged.html
+# unbound ARG..: what JSON has of keys that could have signed any session
+unbound() {
+    "$keys_program" verify --json "$@" | tail -n 1 | python3 -B -c 'import json, sys
+verdict = json.load(sys.stdin)
+print(*verdict["unbound_keys"], "could have signed" in verdict["verdict"])'
+}
+holds 'two keys: JSON' test "$(unbound "${both[@]}" forged)" = 'one/public-key.pem two/public-key.pem True'
+holds 'two keys: one of them twice' test "$(unbound "${both[@]}" --key one/public-key.pem forged)" = 'one/public-key.pem two/public-key.pem True'
+holds 'one key' test "$(unbound --key two/public-key.pem forged)" = False
+holds 'one key, given twice' test "$(unbound --key two/public-key.pem --key two/public-key.pem forged)" = False
+holds 'two keys: the session is bound' test "$(unbound "${both[@]}" --session-key 'host-of-one * * *' two/public-key.pem forged)" = False
+holds 'two keys: another session is bound' test "$(unbound "${both[@]}" --session-key 'a * * *' one/public-key.pem several)" = \
+    'one/public-key.pem two/public-key.pem True'
+mkdir three
+keys make three
+holds 'two keys: no session is joined' test "$(unbound --key one/public-key.pem --key three/public-key.pem forged)" = False
+# a session that a page doesn't show in full has its key too
+python3 -B - "$root/tools" verify --ssign "$program" "${both[@]}" --html several.html several >out 2>err <<'END'
+import sys
+sys.path.insert(0, sys.argv.pop(1))
+from ssign_keys import cli, page
+page.MOST_SESSIONS = 1
+sys.exit(cli.main(sys.argv[1:]))
+END
+holds 'a page of four sessions: each key' test "$(grep -o 'key: [a-z]*/public-key.pem, SHA-256 [0-9a-f]*' several.html | sort | uniq -c | tr -s ' ')" = \
+    "$(printf ' 2 key: %s/public-key.pem, SHA-256 %s\n' one "$spki" two "$spki_two")"
+
 # ---- why a certificate isn't trusted
 signed leaf-rsa elsewhere
 not_taken 'another HOSTNAME' "the certificate isn't for this HOSTNAME: it names gate" --ca rsa.crt

@@ -129,7 +129,7 @@ class JsonVerdict(StretchVisitor):
             "sessions": dict(sorted(self.states.items())), "listed": totals.listed, "missing": totals.lost,
             "disputed": totals.disputed, "unannounced": totals.unannounced, **missing, "unlisted": totals.unlisted,
             "verified": survey.verified, "unverified": totals.refused, "strangers": facts.of_strangers,
-            "strangers_ignored": facts.is_ignoring, "spoilt": totals.spoilt,
+            "strangers_ignored": facts.is_ignoring, "unbound_keys": facts.unbound, "spoilt": totals.spoilt,
             **broken_fields(facts.broken), "torn": totals.torn is not None,
             "groups": [self._group(it) for it in survey.reach],
         })

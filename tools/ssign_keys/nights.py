@@ -30,6 +30,7 @@ from .progress import Progress
 from .stamped import check_stamps, refuse_lone
 from .summaries import FEW, Runs
 from .trust import read_public_keys
+from .verdict import unbound
 from .words import grouped, shown, shown_name
 from .workplace import Workplace, finish, put
 
@@ -71,6 +72,8 @@ class Judged:
     listed: Optional[int] = None
     ignored: int = 0
     """How many blocks of strangers were ignored."""
+    unbound: List[str] = field(default_factory=list)
+    """The file of each key that could have signed any session; empty where there is one such key."""
 
     def text(self) -> str:
         """As a line for a person."""
@@ -106,7 +109,9 @@ class Verdict:
         """In one line, with what time stamps show."""
         ignored = sum(it.ignored for it in self.judged)
         strange = [f"{strangers.ignored_words(ignored)}."] if ignored else []
-        return " ".join([self._of_nights(), *strange, *self.stamps])
+        no_keys: List[str] = []
+        keys = max((it.unbound for it in self.judged), key=len, default=no_keys)
+        return " ".join([self._of_nights(), *strange, *unbound(keys), *self.stamps])
 
     def _of_nights(self) -> str:
         """What the nights come to."""
@@ -395,4 +400,7 @@ def judged(night: Night, status: int, file: Dict[str, object], verdict: Dict[str
     found = differs(Stored(shown_name(night.path), entry.name, int(str(size)), str(sha256)), entry.number, entry.size, entry.sha256)
     if found is not None:
         status, said = max(status, 1), f"{found.what}; {said}"
-    return Judged(night.number, entry, status, said, listed, ignored)
+    keys = verdict["unbound_keys"]
+    if not isinstance(keys, list):
+        raise TypeError("no list of keys")
+    return Judged(night.number, entry, status, said, listed, ignored, keys)

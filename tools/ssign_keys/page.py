@@ -214,7 +214,7 @@ class Page(StretchVisitor):
         lines, self._session_lines = self._session_lines, []
         if len(self._sessions) >= MOST_SESSIONS:
             counts = "; ".join(f"{group_words(*key)}: {it.strip.text()}" for key, it in list(drawn.items())[:MOST_ROWS])
-            self._other(self._session, lines[0], counts)
+            self._other(self._session, lines[0], "; ".join([*lines[1:], counts]))
             return
         pieces: List[Child] = [plain("h3", "Session: ", named(session_words(self._session))),
                                listing(*(named(it) for it in lines))]

@@ -3,7 +3,7 @@ from __future__ import annotations
 
 import argparse
 from datetime import datetime, timezone
-from typing import TYPE_CHECKING, Dict, List, NamedTuple, Optional, Sequence, Tuple
+from typing import TYPE_CHECKING, Dict, Iterable, List, NamedTuple, Optional, Sequence, Tuple
 
 from . import openpgp
 from .blocks import Block, Session, read_block
@@ -176,8 +176,12 @@ class Trust:
         self._signers = signers
         self._is_at_signing_time = is_at_signing_time
         self.longest = longest
-        # the keys that may sign in any session that --session-key doesn't name, each once
-        self._any_session = list({it.key.numbers: it.key for it in [*keys.values(), *signers.values()]}.values())
+        # the keys that may sign in any session that --session-key doesn't name, each once, and the files that they came in
+        of_any: Dict[Numbers, Trusted] = {}
+        for it in [*keys.values(), *signers.values()]:
+            of_any.setdefault(it.key.numbers, it)
+        self._any_session = [it.key for it in of_any.values()]
+        self._any_files = [it.name for it in of_any.values()]
         self._now = datetime.now(timezone.utc).replace(microsecond=0)
         # each key and certificate, in the order of the options; whoever makes trust of something else leaves it empty
         self.given: List[Given] = []
@@ -239,6 +243,12 @@ class Trust:
         them."""
         given = next((it.trusted for it in self._session_keys if it.is_for(session)), None)
         return [given.key] if given else self._any_session
+
+    def unbound_files(self, sessions: Iterable[Session]) -> List[str]:
+        """The file of each key that could have signed any session, if there are several, and one of these sessions isn't named
+        by --session-key."""
+        is_open = any(not any(it.is_for(session) for it in self._session_keys) for session in sessions)
+        return self._any_files if is_open and len(self._any_files) > 1 else []
 
     def judge(self, payload: bytes, session: Optional[Session]) -> Judged:
         """The key that is trusted for a session with this payload, or why there is none.

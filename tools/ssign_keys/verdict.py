@@ -5,7 +5,7 @@ Each claim has its condition here. A verdict that isn't the best one never says 
 from __future__ import annotations
 
 from dataclasses import dataclass, field
-from typing import Dict, List, Optional
+from typing import Dict, List, Optional, Sequence
 
 from . import sha1
 from . import strangers
@@ -13,6 +13,7 @@ from .blocks import Session
 from .broken_blocks import Broken
 from .reach import Coverage
 from .report import Totals
+from .summaries import FEW
 from .words import grouped
 
 NOTHING = "Nothing in this log is shown to be authentic. Whatever was signed may have been taken out."
@@ -50,6 +51,8 @@ class Facts:
     are_strangers_ignored: bool = False
     has_others: bool = True
     """Whether the review found something else than unverified blocks."""
+    unbound: List[str] = field(default_factory=list)
+    """The file of each key that could have signed any session, as it is shown; empty where there is one such key."""
 
     @property
     def of_strangers(self) -> int:
@@ -81,7 +84,7 @@ def sentence(facts: Facts) -> str:
         said += f" {NOTHING}"
         if facts.review_status == 0 and "joined" in facts.states and not facts.manifest_findings:
             said += f" {SILENT}"
-    return " ".join([said + covered(facts), *facts.stamps])
+    return " ".join([said + covered(facts), *unbound(facts.unbound), *facts.stamps])
 
 
 def clean(facts: Facts) -> str:
@@ -181,6 +184,14 @@ def covered(facts: Facts) -> str:
     part = ", which cover only a part of this log" if coverage is Coverage.PART else ""
     reach = "between the counters" if facts.is_night else "up to the counters"
     return f" Nothing{other} is missing {reach}{part}."
+
+
+def unbound(files: Sequence[str]) -> List[str]:
+    """What is to be said of several keys that nothing binds to sessions. It is no finding."""
+    if not files:
+        return []
+    named = ", ".join(files[:FEW]) + (f", and {len(files) - FEW:,} more" if len(files) > FEW else "")
+    return [f"Each of these {len(files):,} keys could have signed any session that no --session-key names: {named}."]
 
 
 def are(count: int) -> str:

@@ -147,7 +147,7 @@ class Verification:
             listed = manifest_options.read_listed(arguments)
             log, verifier = self._open(listed, workplace)
             verifier.answer(trust, arguments.jobs)
-            reviewed = verifier.review(listed, arguments, self._stamps)
+            reviewed = verifier.review(listed, arguments, self._stamps, trust)
             if arguments.json or arguments.details or arguments.html is not None:
                 reviewed = reviewed._replace(details=self._details(verifier, reviewed, trust, listed))
             verifier.name_unused(trust)
@@ -280,7 +280,7 @@ class Verifier:
         if (refused.code or "").startswith("F"):
             self._review([])
 
-    def review(self, listed: Optional[Listed], arguments: argparse.Namespace, stamps: Stamps) -> Reviewed:
+    def review(self, listed: Optional[Listed], arguments: argparse.Namespace, stamps: Stamps, trust: Trust) -> Reviewed:
         """Has ssign review the log under the answers that were kept, and sees that all that is known of it agrees."""
         status = self._review([f"--answers={self.answers_path}", *self._known.words, *self.missing.words])
         is_whole, counters, begin = bool(self.missing.words), self.missing.counters, self.missing.begin
@@ -291,7 +291,7 @@ class Verifier:
                       self._broken_blocks(survey), 0 if listed is None else listed.count(self._report, counters, begin),
                       survey.on_sha1, arguments.allow_sha1, begin is not None, stamps.sentences,
                       strangers.count_strangers(self._log, survey.refused, survey.joined, self._progress),
-                      arguments.ignore_strangers, survey.has_others)
+                      arguments.ignore_strangers, survey.has_others, [shown_name(it) for it in trust.unbound_files(survey.joined)])
         finder = Finder(self._log, self._progress)
         return Reviewed(self._log, finder, self._read_notes(), survey, facts, is_whole, counters, begin)
 
