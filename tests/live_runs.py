@@ -948,11 +948,12 @@ def sealers():
 
 def each():
     """`seal --each`: at once, and never a number with other octets."""
-    with tempfile.TemporaryDirectory() as folder:
+    with tempfile.TemporaryDirectory() as folder, open(f"{KEYS}/payload", encoding="ascii") as file:
         state = os.path.join(folder, "sealed")
+        payload = file.read().strip()
 
         def wants(rsid, first, last, start=None):
-            words = [PROGRAM, "plan", "--payload=- N", f"--rsid={rsid}", "--ver=0121", "--count=2", "--host=h", "--app=s"]
+            words = [PROGRAM, "plan", f"--payload={payload}", f"--rsid={rsid}", "--ver=0121", "--count=2", "--host=h", "--app=s"]
             log = framed([b"<13>1 - h a p - - %d" % n for n in range(first, last)])
             if start is not None:
                 counters = os.path.join(folder, "counters")

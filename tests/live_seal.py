@@ -22,14 +22,12 @@ import subprocess
 import sys
 import tempfile
 import time
-import tracemalloc
 
 import live_runs
 from live_disks import message
 from live_runs import KEYS, ROOT, Process, differ, framed, signer, tell
 
-from ssign_keys import keys, live_loop, live_outside, seal, seal_each, sealed_payloads
-from ssign_keys.written import read_written
+from ssign_keys import keys, live_loop, live_outside, seal, seal_each
 
 GBC = re.compile(rb'RSID="([0-9]+)".* GBC="([0-9]+)" FMN="([0-9]+)" CNT="([0-9]+)"')
 CLIENTS, ROUNDS = 4, 15
@@ -49,6 +47,11 @@ def fragment(rsid, total, index, text, host="h"):
     octets = b'<110>1 - %s s - - [ssign-cert VER="0121" RSID="%d" SG="0" SPRI="0" TPBL="%d" INDEX="%d" FLEN="%d" FRAG="%s"]' % (
         host.encode("utf-8"), rsid, total, index, len(text), text)
     return b"want %s\n" % base64.b64encode(octets)
+
+
+def pieces(rsid, text, size=500, host="h"):
+    """The lines `want` of a payload in fragments."""
+    return [fragment(rsid, len(text), at + 1, text[at:at + size], host) for at in range(0, len(text), size)]
 
 
 class Sealing:
@@ -223,12 +226,8 @@ def sizes():
         refused("more signers than one state has", it.ask([block(1, 0, 1, 1, f"h{n}") for n in range(300)]), 256)
         tell("the signers that it has", differ("run", it.ask([block(1, 1, 3, 1, "h0"), block(2, 0, 1, 1, "h255")])[:2], (2, 0)))
     with sealing() as it:
-        refused("a payload that is too long", it.ask([fragment(1, 65537, 1, b"A" * 9999)]))
-        tell("the longest payload", differ("run", it.ask([fragment(1, 65536, 1, b"A" * 9999)])[:2], (1, 0)))
         long_one = block(1, 0, 1, 1, "h" * 255, 99)
-        tell("the longest names and blocks", differ("run", it.ask([long_one, fragment(1, 10000, 1, b"B" * 9999, "h" * 255)])[:2], (2, 0)))
-    with sealing() as it, changed(seal_each, "MOST_FRAGMENTS", 40):
-        refused("more fragments than a payload has", it.ask([fragment(1, 60000, n, b"A") for n in range(1, 50)]), 40)
+        tell("the longest names and blocks", differ("run", it.ask([long_one, *pieces(1, own_payload(), 9999, "h" * 255)])[:2], (2, 0)))
 
 
 @contextlib.contextmanager
@@ -257,32 +256,70 @@ def names():
         refused("another --app", it.ask([block(1, 2, 5, 1, "h")], "--host=h", "--app=signer"))
 
 
+def own_payload(stamp=b"-"):
+    """The payload of KEYS with another time (RFC 5848, section 5.2.1)."""
+    with open(f"{KEYS}/payload", "rb") as file:
+        return stamp + file.read().strip()[len("2009-05-03T14:00:39Z"):]
+
+
 def payloads():
-    """Fragments of a payload with another key are refused, also if a fragment comes twice, and memory doesn't grow."""
-    with sealing() as it, open(f"{KEYS}/payload", "rb") as file:
-        own = file.read().strip()
-        other = own[:-9] + (b"A" if own[-9:-8] != b"A" else b"B") + own[-8:]
-        pieces = lambda rsid, text: [fragment(rsid, len(text), at + 1, text[at:at + 500]) for at in range(0, len(text), 500)]
-        tell("a payload of the key", differ("run", it.ask(pieces(1, own))[:2], (len(pieces(1, own)), 0)))
-        refused("a payload of another key", it.ask(pieces(2, other)), len(pieces(2, other)) - 1)
-        mixed = [*pieces(3, other)[:1], *pieces(3, other)[:1], *pieces(3, other)[1:]]
-        refused("a payload of another key, with a fragment twice", it.ask(mixed), len(mixed) - 1)
+    """No octet of another payload is signed, however its fragments come."""
+    with tempfile.TemporaryDirectory() as folder:
+        subprocess.run([os.path.join(ROOT, "tools", "ssign-keys"), "make", folder], capture_output=True, check=True)
+        with open(f"{folder}/payload", "rb") as file:
+            stranger = file.read().strip()
+    for stamp in (b"-", b"2009-05-03T14:00:39Z", b"2009-05-03T14:00:39.519005+02:00"):
+        own = own_payload(stamp)
+        with sealing() as it:
+            for rsid, size in enumerate((9999, 500, 7), 1):
+                wanted = pieces(rsid, own, size)
+                tell(f"the key's own payload in fragments of {size} octets", differ("run", it.ask(wanted)[:2], (len(wanted), 0)))
+            wanted = pieces(9, own)
+            runs = [it.ask([line])[:2] for line in wanted]
+            tell("fragments in connections of their own", differ("runs", runs, [(1, 0)] * len(wanted)))
+    own = own_payload(b"2009-05-03T14:00:39Z")
+    others = {"of another key": stranger, "of the type N": b"- N", "of the type U": b"- U AAAA", "of the type C": b"- C AAAA", "of the type P": own.replace(b" K ", b" P "),
+              "of the type U with the key": own.replace(b" K ", b" U "), "of the key and more": own + b"AAAA", "without a time": own[20:], "that is cut": own[:-4],
+              "with two times": own[:20] + b" " + own, "with another octet": own[:-9] + (b"A" if own[-9:-8] != b"A" else b"B") + own[-8:]}
+    for what, text in others.items():
+        for size in (9999, 500):
+            wanted, allowed = pieces(1, text, size), pieces(1, own, size)
+            with sealing() as it:
+                # a block that the own payload has as well may be signed
+                sealed = [line for line in wanted if it.ask([line])[0]]
+            tell(f"a payload {what} in fragments of {size} octets", f"{len(sealed)} of {len(wanted)} were signed" if len(sealed) == len(wanted) or not
+                 set(sealed) <= set(allowed) else "")
     with sealing() as it:
-        process = it.connect()
-        faults = []
-        for rsid in range(1, 41):
-            for _ in range(2):
-                line = fragment(rsid, 65000, 1, b"A" * 9999)
-                faults.append("" if is_answer(line, asked(process, line)) else f"RSID {rsid} isn't signed")
-        tell("many sessions in one connection", *faults, differ("status", process.end(), 0),
-             f"the state has {len(it.octets())} octets" if len(it.octets()) > 400 else "")
-    memory = sealed_payloads.LastPayloads(keys.read_private_key(f"{KEYS}/private-key.pem").public)
-    tracemalloc.start()
-    for rsid in range(1, 401):
-        memory.take(read_written(base64.b64decode(fragment(rsid, 65000, 1, b"A" * 9999)[5:])))
-    held, _ = tracemalloc.get_traced_memory()
-    tracemalloc.stop()
-    tell("the payloads of older sessions are forgotten", f"{held} octets are held" if held > 1000000 else "")
+        refused("a payload of another key, with its sentence", it.ask(pieces(1, stranger)))
+        _, _, said = it.ask(pieces(1, stranger))
+        tell("the sentence", differ("said", said, "ssign-keys: line 1: the block has octets of another payload: with --each none is signed but one "
+                                                  "of the type K that states the private key's own public key\n"))
+        refused("a fragment past the payload's end", it.ask([fragment(1, len(own), len(own), b"AA")]))
+
+
+def far():
+    """Whoever may only ask keeps nobody else from signing later: no GBC, number or RSID far after the last one is signed."""
+    last, now = 9999999999, int(time.time())
+    with sealing() as it:
+        tell("a session goes on", differ("run", it.ask([block(now, 0, 1, 1)])[:2], (1, 0)))
+        refused("the greatest GBC", it.ask([block(now, last, 3, 1)]))
+        refused("the greatest number", it.ask([block(now, 1, last - 1, 1)]))
+        refused("the greatest RSID", it.ask([block(last, 0, 1, 1)]))
+        refused("the greatest RSID, with a payload", it.ask(pieces(last, own_payload())))
+        tell("the session still goes on", differ("run", it.ask([block(now, 1, 3, 1)])[:2], (1, 0)))
+        refused("a GBC 10,001 after the last", it.ask([block(now, 10002, 5, 1)]))
+        refused("a number 1,000,001 after the last", it.ask([block(now, 2, 1000004, 1)]))
+        tell("a jump that isn't far", differ("run", it.ask([block(now, 10001, 1000003, 1)])[:2], (1, 0)))
+        tell("another group begins at 1", differ("run", it.ask([block(now, 10002, 1000005, 1)])[:2], (1, 0)))
+        refused("a session that begins far from 0", it.ask([block(now + 1, 10001, 1, 1)]))
+        refused("a session that begins far from the number 1", it.ask([block(now + 1, 0, 1000000, 1)]))
+        refused("a session of the day after tomorrow", it.ask([block(now + 2 * 86400, 0, 1, 1)]))
+        _, _, said = it.ask([block(now + 2 * 86400, 0, 1, 1)])
+        tell("the sentence", "" if re.fullmatch(f"ssign-keys: line 1: the RSID {now + 2 * 86400} is more than a day after the clock of this machine, "
+                                                "which is at [0-9]+: set the clock that is wrong, or name the RSID by --rsid\n", said) else said)
+        tell("a clock that is some hours ahead", differ("run", it.ask([block(now + 80000, 0, 1, 1)])[:2], (1, 0)))
+        tell("an RSID that the command names", differ("run", it.ask([block(last, 0, 1, 1)], f"--rsid={last}")[:2], (1, 0)))
+        tell("which then goes on", differ("run", it.ask([block(last, 1, 3, 1)])[:2], (1, 0)))
 
 
 def kills():
@@ -444,7 +481,7 @@ def main():
     """Makes all checks."""
     keys.key_fault = functools.lru_cache(keys.key_fault)
     keys.read_private_key(f"{KEYS}/private-key.pem")
-    for it in (beginnings, together, locked, races, breaks, sizes, names, payloads, kills, full, cut_answers, spellings):
+    for it in (beginnings, together, locked, races, breaks, sizes, names, payloads, far, kills, full, cut_answers, spellings):
         if not sys.argv[3:] or it.__name__ in sys.argv[3:]:
             it()
     print(f"live_seal: {live_runs.passed} passed, {live_runs.failed} failed")

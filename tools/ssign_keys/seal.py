@@ -17,7 +17,7 @@ from .keys import PrivateKey, read_private_key
 from .output import write_out
 from .seal_each import LONGEST, LastSessions, LastState
 from .sealed import Sessions, record_of
-from .sealed_payloads import LastPayloads, Payloads
+from .sealed_payloads import OwnPayload, Payloads
 from .state import State
 from .streams import Output, input_lines, short_lines
 from .written import Written, read_written
@@ -103,21 +103,17 @@ def seal_each(arguments: argparse.Namespace, key: PrivateKey, wanted: Dict[str, 
     A block stands in the state, on the disk, before its seal is given out. The state is locked for one answer at a time, so a
     connection that hangs keeps nobody from asking.
     """
-    payloads = LastPayloads(key.public)
-    state: Optional[LastState] = None
-    sessions = LastSessions()
+    payload = OwnPayload(key.public)
+    ask = LastSessions().ask
     if arguments.state is not None:
         state = LastState(arguments.state, key.public.fingerprint, arguments.new_state)
         state.begin()
+        ask = state.ask
 
     def check(block: Written, octets: bytes, line: int) -> None:
         refuse_other_session(block.session, wanted)
-        payloads.take(block)
-        record = record_of(block, octets, 0)
-        if state is None:
-            sessions.take(block.session, record)
-        else:
-            state.take(block.session, record)
+        payload.check(block)
+        ask(block.session, record_of(block, octets, 0), "rsid" in wanted)
 
     for line in seals(short_lines(LONGEST), key, check):
         write_out([line])

@@ -20,8 +20,11 @@ from .state import Busy, State
 REMEMBERED = 256
 # no line `want` of a block that can be signed is longer, in octets: a certificate block has at most 9999 octets of a payload
 LONGEST = 1 << 15
-# so many octets of a payload, blocks of it, and signers with names of their own go into one state: who asks could else fill it
-MOST_PAYLOAD, MOST_FRAGMENTS, MOST_NAMES = 1 << 16, 1 << 12, 1 << 8
+# so many signers with names of their own go into one state: who asks could else fill it
+MOST_NAMES = 1 << 8
+# A question goes no further than this: so many blocks past the last one, so many numbers past the last one of the group, and so
+# many seconds past the clock, of which RSIDs are made. Who asks for the greatest values would else end all that comes after.
+MOST_BLOCKS, MOST_NUMBERS, MOST_SECONDS = 10000, 1000000, 86400
 # how long another answer is waited for, in seconds
 PATIENCE = 5.0
 END = len("end \n") + 64
@@ -40,28 +43,47 @@ class LastSessions(Sessions):
             raise Fault(f"blocks of {MOST_NAMES} signers were signed already, and '{session}' is another one: give each a state of "
                         "its own")
         sealed = self._of(session)
-        if record.name not in sealed.records:
-            if record.is_signature:
-                refuse_earlier(session, record, sealed.records.values())
-            else:
-                refuse_large(session, record, sealed)
+        if record.name not in sealed.records and record.is_signature:
+            refuse_earlier(session, record, sealed.records.values())
         super().take(session, record)
         if not record.is_signature:
             self.check_spans()
         forget(sealed)
 
+    def ask(self, session: Session, record: Record, is_bound: bool) -> None:
+        """Takes a block that is wanted now. Raises Fault where it goes too far; any RSID may be wanted where `is_bound` to it."""
+        known = self._sessions.get(session)
+        if known is None and not is_bound:
+            refuse_later(session, int(time.time()))
+        if record.is_signature:
+            refuse_far(session, record, known.records.values() if known is not None else ())
+        self.take(session, record)
 
-def refuse_large(session: Session, record: Record, sealed: Sealed) -> None:
-    """Refuses a certificate block of a payload that is larger than any that a signer has."""
-    if record.number > MOST_PAYLOAD or sum(not it.is_signature for it in sealed.records.values()) >= MOST_FRAGMENTS:
-        raise Fault(f"the payload of the session '{session}' has more than {MOST_PAYLOAD} octets, or {MOST_FRAGMENTS} blocks")
+
+def refuse_later(session: Session, now: int) -> None:
+    """Refuses a session whose RSID no clock gives yet."""
+    if int(session.rsid) > now + MOST_SECONDS:
+        raise Fault(f"the RSID {int(session.rsid)} is more than a day after the clock of this machine, which is at {now}: set the "
+                    "clock that is wrong, or name the RSID by --rsid")
+
+
+def refuse_far(session: Session, record: Record, records: Iterable[Record]) -> None:
+    """Refuses a block whose GBC or numbers lie far after those of all blocks before."""
+    gbc, last = ends(record.group, records)
+    if record.number > gbc + MOST_BLOCKS or record.last > last + MOST_NUMBERS:
+        raise Fault(f"the block with GBC {record.number} and the numbers {record.first} to {record.last} lies more than {MOST_BLOCKS} "
+                    f"blocks or {MOST_NUMBERS} numbers after those that were signed for the session '{session}': begin another session")
+
+
+def ends(group: Tuple[int, ...], records: Iterable[Record]) -> Tuple[int, int]:
+    """The greatest GBC of these blocks, and the greatest number of a group; -1 and 0 where there is none."""
+    before = [it for it in records if it.is_signature]
+    return (max((it.number for it in before), default=-1), max((it.last for it in before if it.group == group), default=0))
 
 
 def refuse_earlier(session: Session, record: Record, records: Iterable[Record]) -> None:
     """Refuses a block whose GBC or numbers aren't after those of all blocks before."""
-    before = [it for it in records if it.is_signature]
-    gbc = max((it.number for it in before), default=-1)
-    last = max((it.last for it in before if it.group == record.group), default=0)
+    gbc, last = ends(record.group, records)
     if record.number <= gbc or record.first <= last:
         raise Fault(f"the block with GBC {record.number} and the numbers {record.first} to {record.last} isn't after the blocks "
                     f"that were signed for the session '{session}', which go to GBC {gbc} and the number {last}")
@@ -88,17 +110,17 @@ class LastState(State):
     def __init__(self, path: str, key: str, is_new: bool) -> None:
         """As that of `seal`."""
         super().__init__(path, key, is_new)
-        self.sessions = LastSessions()
+        self.sessions: LastSessions = LastSessions()
 
     def begin(self) -> None:
         """Begins the file, or reads it."""
         with self._held():
             pass
 
-    def take(self, session: Session, record: Record) -> None:
-        """Has a block that is to be signed stand in the file, on the disk. Raises Fault where it contradicts another one."""
+    def ask(self, session: Session, record: Record, is_bound: bool) -> None:
+        """Has a block that is wanted stand in the file, on the disk. Raises Fault where it goes too far, or contradicts another."""
         with self._held():
-            self.sessions.take(session, record)
+            self.sessions.ask(session, record, is_bound)
             self.write()
 
     @contextlib.contextmanager

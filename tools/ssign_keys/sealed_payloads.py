@@ -1,15 +1,19 @@
 """The payloads of the certificate blocks that a run signs, none of which may state another key."""
 from __future__ import annotations
 
+import re
 from typing import Dict, Optional
 
 from .blocks import Session
 from .faults import Fault
 from .keys import PublicKey
-from .payloads import read_payload
-from .sealed import Names
+from .payloads import read_payload, state_key
 from .stated import refuse_other_key
 from .written import Certificate, Written
+
+# RFC 5424, section 6.2.3: what a TIMESTAMP is made of, and how many octets the longest one has
+OF_STAMP = re.compile(rb"[0-9TZ:.+-]*")
+LONGEST_STAMP = 32
 
 
 class Payloads:
@@ -40,25 +44,26 @@ class Payloads:
             raise Fault(f"{where} is none of RFC 5848, section 5.2.1")
 
 
-class LastPayloads(Payloads):
-    """The payload of the last session with each HOST, APP and PROCID, which is checked once a fragment of it comes."""
+class OwnPayload:
+    """The payload of the type K that states a key. `seal --each` signs each fragment before it has seen the others, so it signs
+    fragments of this payload alone."""
 
     def __init__(self, key: PublicKey) -> None:
-        """None yet, and the key that each has to state."""
-        super().__init__()
-        self._key = key
-        self._last: Dict[Names, Session] = {}
+        """The key. What stands before its type is any time."""
+        self._behind = state_key(key, "")
 
-    def take(self, block: Written) -> None:
-        """Takes a block. What an older session had is forgotten, because nothing of it is signed any more."""
-        names: Names = (block.session.host, block.session.app, block.session.procid)
-        last = self._last.setdefault(names, block.session)
-        if last != block.session:
-            self._fragments.pop(last, None)
-            self._last[names] = block.session
-        super().take(block)
-        if isinstance(block, Certificate):
-            self.check(block.session, self._key)
+    def check(self, block: Written) -> None:
+        """Refuses a certificate block that has other octets than this payload."""
+        if isinstance(block, Certificate) and not self._has(block):
+            raise Fault("the block has octets of another payload: with --each none is signed but one of the type K that states the "
+                        "private key's own public key")
+
+    def _has(self, block: Certificate) -> bool:
+        """Whether the octets stand where they stand in this payload, after a time that is as long as TPBL leaves room for."""
+        stamp = block.total - len(self._behind)
+        in_stamp = max(0, stamp - block.start + 1)
+        return 0 < stamp <= LONGEST_STAMP and OF_STAMP.fullmatch(block.fragment[:in_stamp]) is not None and \
+            self._behind.startswith(block.fragment[in_stamp:], max(0, block.start - 1 - stamp))
 
 
 def joined(fragments: Dict[int, Certificate]) -> Optional[bytes]:
