@@ -1,6 +1,6 @@
 #!/usr/bin/env bash
 # `ssign-keys manifest` and `verify --manifest`: three nights that were signed, their manifest, and each kind of damage to
-# either. The hashes that the manifest has to hold are made by sha256sum.
+# either. The hashes that the manifest has to hold are made by sha256sum. manifest_cases.py has long manifests.
 # shellcheck source=tests/lib.sh
 . "$(dirname -- "$0")/lib.sh"
 need_program
@@ -333,10 +333,38 @@ holds 'check: what was copied may be gone' test "$status" = 0
 rm nights/night-1.frames
 tool manifest check manifest nights --json
 holds 'check: what was not copied may not' test "$status.$(kinds)" = 1.missing:night-1.frames
+# a line about a copy that somebody put there by hand: of a file that no entry before it has
+cp manifest with-copies
+# forged NAME SHA256 [LINES]: such a line after so many lines of the manifest
+forged() {
+    head -n "${3:-99}" whole >manifest
+    printf '{"entry":%s,"previous":"%s","copied":"2026-01-09T04:00:00Z","name":"%s","sha256":"%s","to":"x"}\n' "$(($(wc -l <manifest) + 1))" \
+        "$(tail -n 1 manifest | sha256sum | cut -c 1-64)" "$1" "$2" >>manifest
+    tool manifest check manifest nights --json
+}
+forged night-1.frames "$(sha256sum <nights/night-3.frames | cut -c 1-64)"
+holds 'check: a copy with another SHA-256' test "$status.$(kinds)" = '1.copied:4 missing:night-1.frames missing:night-2.frames missing:aside.frames'
+forged night-7.frames "$(sha256sum <copies/night-1.frames | cut -c 1-64)"
+holds 'check: a copy of another name' test "$status.$(kinds)" = '1.copied:4 missing:night-1.frames missing:night-2.frames missing:aside.frames'
+forged night-2.frames "$(sha256sum <copies/night-2.frames | cut -c 1-64)" 1
+holds 'check: a copy of a file that has no entry yet' test "$status.$(kinds)" = '1.copied:2 unknown:night-3.frames missing:night-1.frames'
+forged night-1.frames "$(sha256sum <copies/night-1.frames | cut -c 1-64)"
+holds 'check: a copy with its name and SHA-256' test "$status.$(kinds)" = '1.missing:night-2.frames missing:aside.frames'
+forged night-1.frames "$(printf '%064d' 7)"
+tool manifest check manifest nights
+finds 'check: the sentence about a copy of nothing' 1 'line 4: copied, no line before it has a file night-1.frames with the SHA-256 of the copy'
+cp with-copies manifest
 sed -i 4d manifest
 tool manifest check manifest nights --json
 holds 'check: the line of a copy taken out' test "$status.$(kinds)" = '1.broken:4 missing:night-1.frames missing:night-2.frames'
 cp copies/night-2.frames copies/aside.frames copies/night-1.frames later/* nights
+
+# ---- long manifests
+python3 -B "$root/tests/manifest_cases.py" >told 2>err
+holds 'the cases run to their end' test "$?" = 0 -a ! -s err
+while read -r word what; do
+    [[ $word == passed ]] && tell "$what" '' || tell "${what%%: *}" "    ${what#*: }"
+done <told
 
 # ---- lines that are no entry: each is refused with its number
 cat >bad-lines.py <<'END'

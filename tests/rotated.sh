@@ -171,6 +171,13 @@ cp "$root/examples/signed/ten-messages.log" logs/one.more
 rotated logs/one.more
 mkdir copies
 cp logs/*.frames copies
+# a line about a copy with another SHA-256, which somebody put there by hand
+cp state/kept/manifest.jsonl manifest-before
+printf '{"entry":%s,"previous":"%s","copied":"2026-01-09T04:00:00Z","name":"one.frames","sha256":"%064d","to":"x"}\n' \
+    "$(($(wc -l <manifest-before) + 1))" "$(tail -n 1 manifest-before | sha256sum | cut -c 1-64)" 7 >>state/kept/manifest.jsonl
+rotated --remove logs/one
+holds 'what was copied by a line of other octets stays' test "$status" = 1 -a -e logs/one.frames
+cp manifest-before state/kept/manifest.jsonl
 for copy in one.frames one.late-1.frames one.more.frames; do
     "$root/tools/ssign-keys" manifest copied state/kept/manifest.jsonl --to elsewhere "copies/$copy" >out 2>err || tell "$copy is copied" "$(<err)"
 done

@@ -101,7 +101,7 @@ class Appending:
 
     def append_copy(self, copy: Copied) -> Copied:
         """Appends that a log was copied, and gives the line; where that stands there already, the line that says it."""
-        for it in self.manifest.copies:
+        for _, it, _ in self.manifest.copies:
             if (it.name, it.sha256, it.to) == (copy.name, copy.sha256, copy.to):
                 return it
         self._refuse_other_end()

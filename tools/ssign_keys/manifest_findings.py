@@ -1,6 +1,7 @@
 """What a manifest shows of logs: each that is missing, cut, changed, renamed or unknown, and what is wrong with itself."""
 from __future__ import annotations
 
+from bisect import bisect_left
 from dataclasses import dataclass
 from typing import Dict, Iterator, List, NamedTuple, Optional, Sequence, Tuple
 
@@ -60,7 +61,8 @@ def bare(name: str) -> str:
 
 
 def of_manifest(manifest: Manifest, kept: Optional[Mark], seen: Optional[Mark] = None) -> List[Found]:
-    """What is wrong with the manifest itself: lines that were changed or cut, entries twice, and RSIDs that were skipped.
+    """What is wrong with the manifest itself: lines that were changed or cut, entries twice, RSIDs that were skipped, and copies of
+    no file that an entry has.
 
     What an entry says was left out is no finding again, up to the entry that was `seen`: an earlier check reported it.
     """
@@ -72,7 +74,7 @@ def of_manifest(manifest: Manifest, kept: Optional[Mark], seen: Optional[Mark] =
         found += not_kept(manifest, kept)
     if seen is not None and seen != kept:
         found += not_kept(manifest, seen)
-    return found + twice(manifest) + skipped(manifest, seen_up_to(manifest, seen))
+    return found + twice(manifest) + skipped(manifest, seen_up_to(manifest, seen)) + copied_from_nothing(manifest)
 
 
 def seen_up_to(manifest: Manifest, seen: Optional[Mark]) -> int:
@@ -100,22 +102,65 @@ def numbered(manifest: Manifest) -> Iterator[Tuple[int, Entry]]:
     return ((line, it) for line, it in enumerate(manifest.lines, 1) if isinstance(it, Entry))
 
 
+class Nights:
+    """The nights of one session, of which each has to go on after all before it."""
+
+    def __init__(self) -> None:
+        """None yet."""
+        # of the GBC, and of each group: the lines at which it got greater, and what it was from then on
+        self._lines: Dict[Optional[Tuple[int, int]], List[int]] = {}
+        self._reached: Dict[Optional[Tuple[int, int]], List[int]] = {}
+
+    def first_against(self, entry: Entry) -> Optional[int]:
+        """The first line whose entry this one doesn't go on after (`Entry.goes_on`), or None where there is none."""
+        if not entry.groups:
+            return None
+        firsts = [self._first(None, entry.gbc), *(self._first((it.sg, it.spri), it.first + 1) for it in entry.groups)]
+        return min((it for it in firsts if it is not None), default=None)
+
+    def _first(self, what: Optional[Tuple[int, int]], least: int) -> Optional[int]:
+        reached = self._reached.get(what, [])
+        at = bisect_left(reached, least)
+        return self._lines[what][at] if at < len(reached) else None
+
+    def add(self, line: int, entry: Entry) -> None:
+        """Takes an entry."""
+        if not entry.groups:
+            return
+        self._reach(None, line, entry.gbc)
+        for sg, spri, number in entry.ends.groups:
+            self._reach((sg, spri), line, number)
+
+    def _reach(self, what: Optional[Tuple[int, int]], line: int, number: int) -> None:
+        reached = self._reached.setdefault(what, [])
+        if not reached or number > reached[-1]:
+            reached.append(number)
+            self._lines.setdefault(what, []).append(line)
+
+
 def twice(manifest: Manifest) -> List[Found]:
     """Entries of one log, one file, or one session whose numbers don't go on."""
     found: List[Found] = []
-    seen: Dict[Tuple[str, object], List[Tuple[int, Entry]]] = {}
+    names: Dict[str, int] = {}
+    sums: Dict[str, Tuple[int, Entry]] = {}
+    sessions: Dict[Session, Nights] = {}
     for line, it in numbered(manifest):
-        for what, key in (("log", it.name), ("file", it.sha256), ("session", it.session)):
-            before = seen.setdefault((what, key), [])
-            first = next((at for at, other in before if not (what == "session" and it.goes_on(other)
-                                                             or what == "file" and it.is_like(other))), None)
-            if first is not None:
-                found.append(Found(f"line {line}", f"twice, the line {first} has this {what} too", it.number))
-                break
-            # a session is compared with each of its nights
-            if what == "session" or not before:
-                before.append((line, it))
+        nights = sessions.setdefault(it.session, Nights())
+        same = sums.setdefault(it.sha256, (line, it))
+        firsts = {"log": names.setdefault(it.name, line), "file": line if it.is_like(same[1]) else same[0],
+                  "session": nights.first_against(it) or line}
+        what = next((what for what, first in firsts.items() if first < line), None)
+        if what is None:
+            nights.add(line, it)
+        else:
+            found.append(Found(f"line {line}", f"twice, the line {firsts[what]} has this {what} too", it.number))
     return found
+
+
+def copied_from_nothing(manifest: Manifest) -> List[Found]:
+    """Lines about copies of files that no entry before them has."""
+    return [Found(f"line {it.line}", f"copied, no line before it has a file {shown_name(it.copied.name)} with the SHA-256 of the copy",
+                  it.copied.number) for it in manifest.copies if not it.is_named]
 
 
 def skipped(manifest: Manifest, seen: int) -> List[Found]:
@@ -216,11 +261,11 @@ def of_logs(manifest: Manifest, logs: Sequence[Stored]) -> List[Found]:
     """What is wrong with all logs that are there, and which are missing. One that was copied away may be gone."""
     names = Names(manifest)
     found = [it for it in map(names.look, logs) if it is not None]
-    here = {it.name for it in logs} | {it.name for it in manifest.copies}
+    here, copied = {it.name for it in logs}, manifest.copied
     for entry in manifest.entries:
-        for name in (entry.name, *(() if entry.set_aside is None else (entry.set_aside.name,))):
-            if name not in here:
-                found.append(Found(shown_name(name), f"missing, entry {entry.number} names it, and it isn't here",
+        for file in (entry, entry.set_aside):
+            if file is not None and file.name not in here and (file.name, file.sha256) not in copied:
+                found.append(Found(shown_name(file.name), f"missing, entry {entry.number} names it, and it isn't here",
                                    entry.number))
     return found
 

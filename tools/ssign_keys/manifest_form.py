@@ -10,7 +10,7 @@ import os
 import re
 from dataclasses import dataclass, field
 from datetime import datetime
-from typing import BinaryIO, Dict, List, NamedTuple, Optional, Sequence, Tuple, Union
+from typing import BinaryIO, Dict, List, NamedTuple, Optional, Sequence, Set, Tuple, Union
 
 from .blocks import Session
 from .faults import Fault
@@ -206,6 +206,16 @@ class Copied:
 Line = Union[Entry, Copied]
 
 
+class Copy(NamedTuple):
+    """A line about a copy."""
+
+    line: int
+    """Its line, from 1."""
+    copied: Copied
+    is_named: bool
+    """Whether an entry before it has a file of this name and SHA-256."""
+
+
 class Mark(NamedTuple):
     """The number and the hash of an entry, which somebody kept apart."""
 
@@ -244,9 +254,23 @@ class Manifest:
         return [it for it in self.lines if isinstance(it, Entry)]
 
     @property
-    def copies(self) -> List[Copied]:
-        """The copies of logs, in the order of their lines."""
-        return [it for it in self.lines if isinstance(it, Copied)]
+    def copies(self) -> List[Copy]:
+        """The copies of files, in the order of their lines."""
+        named: Set[Tuple[str, str]] = set()
+        found = []
+        for number, it in enumerate(self.lines, 1):
+            if isinstance(it, Copied):
+                found.append(Copy(number, it, (it.name, it.sha256) in named))
+                continue
+            named.add((it.name, it.sha256))
+            if it.set_aside is not None:
+                named.add((it.set_aside.name, it.set_aside.sha256))
+        return found
+
+    @property
+    def copied(self) -> Set[Tuple[str, str]]:
+        """The names and SHA-256 of files that were copied and may be gone. A line about a file that no entry has says nothing."""
+        return {(it.copied.name, it.copied.sha256) for it in self.copies if it.is_named}
 
     @property
     def last(self) -> Mark:

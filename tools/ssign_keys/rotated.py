@@ -222,7 +222,7 @@ class Rotation:
     def remove(self) -> int:
         """Removes the signed logs of the given logs that were copied. Status 1 if one stays."""
         read = read_manifest(self._manifest)
-        copied = {it.name for it in read.copies}
+        copied = read.copied
         stays = False
         for log in self._logs:
             folder, name = os.path.split(log)
@@ -230,7 +230,7 @@ class Rotation:
                 path = os.path.join(folder, file.name)
                 if not os.path.lexists(path):
                     continue
-                why = "the manifest doesn't say that it was copied" if file.name not in copied else fault_of(path, file)
+                why = "the manifest doesn't say that it was copied" if (file.name, file.sha256) not in copied else fault_of(path, file)
                 if why:
                     notify(f"ssign-keys: {shown_name(path)} stays: {why}")
                     stays = True
