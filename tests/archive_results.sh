@@ -117,6 +117,28 @@ harmed 'a finding more' 'its file of findings was changed since its review' put 
 harmed 'a report that is cut' 'its report was changed since its review' truncate -s -6 $place/report
 harmed 'a report of nothing' 'its report was changed since its review' put $place/report ''
 harmed 'a report that is gone' 'its report is gone since its review' rm $place/report
+harmed 'a record without the times at which its files were changed' 'nothing shows whether its files were changed since its review' \
+    edit $place/record 'for file in it["files"]: del file["stored"]["ctime_ns"]
+resum()'
+# written COMMAND..: a command writes to a log, which then has its size and its time of before
+one=$(cd archive/gate-2 && printf '%s\n' * | head -n 1)
+# shellcheck disable=SC2317 # called by name
+written() {
+    cp -p "archive/gate-2/$one" time-before
+    "$@"
+    touch -r time-before "archive/gate-2/$one"
+}
+# shellcheck disable=SC2317 # called by name
+same_octets() {
+    cat time-before >"archive/gate-2/$one"
+}
+harmed 'a log that was written anew, with its size and time of before' 'its files were changed since its review' written same_octets
+written one_octet "archive/gate-2/$one" 20
+archive table results
+says 'a log with another octet, and its size and time of before' 2 'gate-2 - - - - - - - - - NOT REVIEWED: its files were changed since its review'
+same_octets
+review_all
+says 'and as it was' 0
 size=$(stat -c %s $place/report)
 for ((octet = 0; octet < size; octet += 251)); do
     harmed "octet $octet of a report" 'its report was changed since its review' one_octet $place/report "$octet"

@@ -104,6 +104,7 @@ def make_file(fields: object) -> Read:
     """What was read of a file."""
     read = pick(fields, stored=dict, place=int, messages=int, sha256=str, plain_size=int, plain_sha256=str,
                 octet=(int, NOTHING), why=str)
-    stored = pick(read["stored"], name=str, size=int, mtime_ns=int)
+    older: Dict[str, object] = {"ctime_ns": 0}
+    stored = pick({**older, **cast(Dict[str, object], read["stored"])}, name=str, size=int, mtime_ns=int, ctime_ns=int)
     rest = {name: value for name, value in read.items() if name != "stored"}
     return Read(stored=Stored(**stored), **rest)  # type: ignore[arg-type]

@@ -282,9 +282,9 @@ def sum_of(path: str) -> str:
 
 
 def look_of(path: str) -> str:
-    """The size and the time of a file that may be long, and may be asked for at each part."""
+    """The size and the times of a file that may be long, and may be asked for at each part."""
     seen = look(path)
-    return f"{seen.size} {seen.mtime_ns}"
+    return f"{seen.size} {seen.mtime_ns} {seen.ctime_ns}"
 
 
 def to_text(settings: Settings) -> str:

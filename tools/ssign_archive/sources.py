@@ -6,7 +6,7 @@ import itertools
 import os
 import stat
 from dataclasses import dataclass
-from typing import BinaryIO, Iterator, List, Optional, Tuple, cast
+from typing import BinaryIO, Iterator, List, Optional, cast
 
 from ssign_keys.expand import FRONT, PIECE, Damaged, expanded, form_of, limited, most_expanded
 from ssign_keys.faults import Fault
@@ -14,7 +14,7 @@ from ssign_keys.files import reason
 from ssign_keys.words import shown_name
 
 from .messages import Cutter, Whole
-from .tree import Stored, look
+from .tree import Stored, look, stored_of
 
 
 @dataclass
@@ -58,7 +58,7 @@ class Reader:
         most = most_expanded(stored.size, self._max_expanded)
         hasher, plain = hashlib.sha256(), hashlib.sha256()
         with open_file(path) as file:
-            seen = look_of_open(path, file, stored)
+            refuse_changed(path, file, stored)
             try:
                 for octets in gathered(plain_pieces(path, hashed(path, file, hasher), most)):
                     plain.update(octets)
@@ -76,7 +76,8 @@ class Reader:
             for _ in hashed(path, file, hasher):
                 pass
             read.sha256, read.plain_sha256 = hasher.hexdigest(), plain.hexdigest()
-            if look_of_open(path, file, stored) != seen or look(path) != stored:
+            refuse_changed(path, file, stored)
+            if look(path) != stored:
                 raise changed(path)
         self.read.append(read)
 
@@ -95,12 +96,10 @@ def open_file(path: str) -> BinaryIO:
     return file
 
 
-def look_of_open(path: str, file: BinaryIO, stored: Stored) -> Tuple[int, int, int]:
-    """What shows that an open file was written to. Raises Fault where it isn't the one that was listed."""
-    seen = os.fstat(file.fileno())
-    if (seen.st_size, seen.st_mtime_ns) != (stored.size, stored.mtime_ns):
+def refuse_changed(path: str, file: BinaryIO, stored: Stored) -> None:
+    """Refuses an open file that isn't the one that was listed, or that was written to since."""
+    if stored_of(path, os.fstat(file.fileno())) != stored:
         raise changed(path)
-    return seen.st_size, seen.st_mtime_ns, seen.st_ctime_ns
 
 
 def changed(path: str) -> Fault:

@@ -22,6 +22,13 @@ class Stored:
     name: str
     size: int
     mtime_ns: int
+    ctime_ns: int
+    """When the system saw it changed last, which no writer can set; 0 in a record of before, which has none."""
+
+
+def stored_of(path: str, seen: os.stat_result) -> Stored:
+    """The file at this path, by what the system says of it."""
+    return Stored(os.path.basename(path), seen.st_size, seen.st_mtime_ns, seen.st_ctime_ns)
 
 
 def look(path: str) -> Stored:
@@ -32,7 +39,7 @@ def look(path: str) -> Stored:
         raise Fault(f"{shown_name(path)} can't be read: {reason(fault)}") from fault
     if not stat.S_ISREG(seen.st_mode):
         raise Fault(f"{shown_name(path)} is no regular file")
-    return Stored(os.path.basename(path), seen.st_size, seen.st_mtime_ns)
+    return stored_of(path, seen)
 
 
 def order(name: str) -> bytes:
