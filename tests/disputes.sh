@@ -217,6 +217,51 @@ found = list(joiner.texts((4000, at + 1, b"%d" % (at % 10)) for at in range(4000
 sys.exit(found != [b"0123456789" * 400] or joiner.is_cut)
 END
 
+# ---- a block that claims to come after all that is verified may be the signer's own, damaged
+# harmed CODE <LOG: the log with these changes of `messages`, whose blocks of signatures are at the places `blocks`; `spoil` damages a SIGN
+harmed() {
+    python3 -B -c 'import sys
+sys.path.insert(0, sys.argv[1])
+from disputes import frames
+from review_runs import frame
+messages = frames(sys.stdin.buffer.read())
+blocks = [at for at, it in enumerate(messages) if b"[ssign VER" in it]
+def spoil(it):
+    return it[:-6] + (b"AAAA" if it[-6:-2] != b"AAAA" else b"BBBB") + it[-2:]
+exec(sys.argv[2])
+sys.stdout.buffer.write(b"".join(map(frame, messages)))' "$root/tests" "$1"
+}
+# the messages that a block announces stand before it
+harmed 'at = blocks[-1]; messages[at - 1:] = [spoil(messages[at])]' <signed >log
+keys verify "${key[@]}" --ignore-strangers log
+holds 'the last block, damaged, and its messages gone: status 1' test "$status" = 1
+holds 'the last block, damaged, and its messages gone: the verdict' test "$(verdict)" = "FINDINGS: of 9 announced messages 9 are present and unchanged; \
+1 block is unverified; 1 of these may be the signer's last one, damaged, so it isn't ignored."
+holds 'the last block, damaged, and its messages gone: its session' grep -qx "  1 block claims this session and isn't validly signed; it was left out, \
+and may be the signer's last one, damaged" out
+harmed 'a, b = blocks[-2:]; messages[a - 3:] = [spoil(messages[a]), spoil(messages[b])]' <signed >log
+keys verify "${key[@]}" --ignore-strangers log
+holds 'the last two blocks, damaged, and their messages gone' test "$status.$(verdict)" = "1.FINDINGS: of 6 announced messages 6 are present and unchanged; \
+2 blocks are unverified; 2 of these may be the signer's last ones, damaged, so they aren't ignored."
+harmed 'messages.append(spoil(messages[blocks[-1]]))' <signed >log
+keys verify "${key[@]}" --ignore-strangers log
+holds 'a damaged copy of the last block: status 0' test "$status" = 0
+harmed 'messages.append(spoil(messages[blocks[1]]).replace(b"GBC=\"1\"", b"GBC=\"5\""))' <signed >log
+keys verify "${key[@]}" --ignore-strangers log
+holds 'a GBC after the last: status 1' test "$status" = 1
+harmed 'messages.append(spoil(messages[blocks[1]]).replace(b"SPRI=\"0\"", b"SPRI=\"7\""))' <signed >log
+keys verify "${key[@]}" --ignore-strangers log
+holds 'another group: status 1' test "$status" = 1
+# the only block of one group, though blocks of others come after it
+signs groups one 1 --payload "$payload" --groups pri
+harmed 'at = blocks[0]
+group = messages[at].split(b"SPRI=\"")[1].split(b"\"")[0]
+messages[at] = spoil(messages[at])
+messages = [it for it in messages if not it.startswith(b"<%s>" % group)]' <groups >log
+keys verify "${key[@]}" --ignore-strangers log
+holds 'the only block of one group, damaged: status 1' test "$status" = 1
+holds 'the only block of one group, damaged: nothing else is found' grep -q 'FINDINGS: of \([0-9]*\) announced messages \1 are present and unchanged; 1 block is unverified; 1 of' <(verdict)
+
 # ---- counters, one night and lines
 disputes total 7 <signed >log
 keys verify "${key[@]}" --counters-out counters signed

@@ -46,6 +46,8 @@ class Block(NamedTuple):
 
     version: bytes
     session: Session
+    end: int = 0
+    """Where its element goes on after RSID; 0 where nobody looked."""
 
 
 def read_block(octets: bytes) -> Optional[Block]:
@@ -57,4 +59,4 @@ def read_block(octets: bytes) -> Optional[Block]:
     element = FIRST_ELEMENT.match(octets, behind) or LATER_ELEMENT.search(octets, behind)
     if not element:
         return None
-    return Block(element[1], Session(header[1], header[2], header[3], element[2]))
+    return Block(element[1], Session(header[1], header[2], header[3], element[2]), element.end())

@@ -12,6 +12,7 @@ from .pairs import Neighbour, Stretch
 from .reach import Reached
 from .report import Group
 from .reviewed import Reviewed
+from .strangers import NO_CLAIMS
 from .stretch_visitor import StretchVisitor
 from .finder import most_shown
 from .verdict import sentence
@@ -51,7 +52,7 @@ class JsonVerdict(StretchVisitor):
         fields: Dict[str, object] = {"line": "session", **names_of(session), "state": state}
         fields.update(identity_fields(finding))
         fields["weakness"] = sha1.weakness(facts, state)
-        fields["strangers"] = self._reviewed.facts.strangers.get(session, 0)
+        fields["strangers"] = self._reviewed.facts.strangers.get(session, NO_CLAIMS).blocks
         fields.update(zip(("first_timestamp", "last_timestamp"), self._reviewed.detailed().times.of_session(session)))
         self._put(fields)
 

@@ -126,8 +126,8 @@ class Page(StretchVisitor):
             lines.append(weakness)
             if self._takes("SHA-1"):
                 self._add("SHA-1", named(short(session)), "", weakness)
-        of_strangers = self._reviewed.facts.strangers.get(session, 0)
-        if of_strangers:
+        of_strangers = self._reviewed.facts.strangers.get(session, strangers.NO_CLAIMS)
+        if of_strangers.blocks:
             lines.append(strangers.words_of(of_strangers))
             if self._takes("strangers"):
                 self._add("strangers", named(short(session)), "", strangers.words_of(of_strangers))

@@ -1,31 +1,62 @@
-"""Blocks that claim a session, and aren't validly signed: strangers can write any number of them, and change nothing.
+"""Blocks that claim a session, and aren't validly signed: strangers can write any number of them.
 
-A block of the originator that was damaged looks the same; what it announced is then missing or unlisted, which is reported. A
-certificate block that the same key signed for an older session looks the same too: it has no fragment of this session's payload.
+A block of the originator that was damaged looks the same. What it announced is missing or unlisted then, which is reported, unless
+it was after all that is verified: so a block that claims to be that is never ignored. A certificate block that the same key signed
+for an older session looks the same too: it has no fragment of this session's payload.
 """
 from __future__ import annotations
 
 import argparse
+import re
 from array import array
-from typing import Dict, Set
+from typing import Dict, NamedTuple, Set, Tuple
 
 from .blocks import Session, read_block
 from .logs import Log
 from .progress import Progress
+from .reach import Reach
 from .walk import Walk
+
+# what follows RSID in the element of a signature block, and of a certificate block (RFC 5848, sections 4.2 and 5.3.2)
+GROUP = rb'SG="([0-3])" SPRI="([0-9]{1,3})" '
+ANNOUNCING = re.compile(GROUP + rb'GBC="([0-9]{1,10})" FMN="([0-9]{1,10})" CNT="([0-9]{1,2})" ')
+CARRYING = re.compile(GROUP + rb'TPBL="')
+
+
+class Claims(NamedTuple):
+    """The unverified blocks that claim a session."""
+
+    blocks: int
+    late: int
+    """How many of them may announce a number or have a GBC after all that is verified of the session."""
+
+
+NO_CLAIMS = Claims(0, 0)
 
 
 def add_arguments(parser: argparse.ArgumentParser) -> None:
     """Says which words the command takes."""
     parser.add_argument("--ignore-strangers", action="store_true", help="let the status be 0 though blocks claim a joined session "
-                        "and aren't validly signed, if nothing else is found: anybody can write them, and they change nothing")
+                        "and aren't validly signed, if nothing else is found and none of them claims to come after the last "
+                        "verified one: anybody can write them, and they change nothing")
 
 
-def words_of(count: int) -> str:
+def words_of(claims: Claims) -> str:
     """What is said of so many of them, below their session."""
-    if count == 1:
-        return "1 block claims this session and isn't validly signed; it was left out and changes nothing"
-    return f"{count:,} blocks claim this session and aren't validly signed; they were left out and change nothing"
+    late = claims.late
+    if claims.blocks == 1:
+        said = "1 block claims this session and isn't validly signed; it was left out"
+        return f"{said}, and may be the signer's last one, damaged" if late else f"{said} and changes nothing"
+    said = f"{claims.blocks:,} blocks claim this session and aren't validly signed; they were left out"
+    return f"{said}, and {late:,} of them may be the signer's last {'one' if late == 1 else 'ones'}, damaged" if late else \
+        f"{said} and change nothing"
+
+
+def late_words(count: int) -> str:
+    """The words of a verdict about so many that aren't ignored; nothing where there is none."""
+    if count < 2:
+        return "1 of these may be the signer's last one, damaged, so it isn't ignored" if count else ""
+    return f"{count:,} of these may be the signer's last ones, damaged, so they aren't ignored"
 
 
 def ignored_words(count: int) -> str:
@@ -35,11 +66,12 @@ def ignored_words(count: int) -> str:
     return f"{count:,} unverified blocks were ignored: they claim joined sessions, aren't validly signed, and change nothing"
 
 
-def count_strangers(log: Log, refused: "array[int]", joined: Set[Session], progress: Progress) -> Dict[Session, int]:
-    """How many of the blocks at these rising places claim each of these sessions."""
-    found: Dict[Session, int] = {}
+def count_strangers(log: Log, refused: "array[int]", joined: Set[Session], reach: Reach, progress: Progress) -> Dict[Session, Claims]:
+    """How many of the blocks at these rising places claim each of these sessions, which go so far."""
+    found: Dict[Session, Claims] = {}
     if not refused or not joined:
         return found
+    gbcs, numbers = reached(reach)
     index, walk = 0, Walk(log.file, log.are_lines)
     for stored in walk.candidates():
         progress.show("looking at unverified blocks", walk.offset, log.size, "octets")
@@ -48,7 +80,28 @@ def count_strangers(log: Log, refused: "array[int]", joined: Set[Session], progr
         if refused[index] != walk.place:
             continue
         index += 1
-        block = read_block(stored if log.are_lines else stored[stored.index(b" ") + 1:])
-        if block is not None and block.session in joined:
-            found[block.session] = found.get(block.session, 0) + 1
+        octets = stored if log.are_lines else stored[stored.index(b" ") + 1:]
+        block = read_block(octets)
+        if block is None or block.session not in joined:
+            continue
+        claims = found.get(block.session, NO_CLAIMS)
+        announcing = ANNOUNCING.match(octets, block.end)
+        if announcing is None:
+            is_late = CARRYING.match(octets, block.end) is None
+        else:
+            sg, spri, gbc, first, count = map(int, announcing.groups())
+            last = numbers.get((block.session, sg, spri), 0)
+            is_late = gbc > gbcs.get(block.session, -1) or first + count - 1 > last
+        found[block.session] = Claims(claims.blocks + 1, claims.late + is_late)
     return found
+
+
+def reached(reach: Reach) -> Tuple[Dict[Session, int], Dict[Tuple[Session, int, int], int]]:
+    """The greatest GBC of each session, and the last number of each group, of verified blocks."""
+    gbcs: Dict[Session, int] = {}
+    numbers: Dict[Tuple[Session, int, int], int] = {}
+    for it in reach:
+        numbers[it.session, it.sg, it.spri] = it.last
+        if it.gbc is not None:
+            gbcs[it.session] = max(it.gbc, gbcs.get(it.session, -1))
+    return gbcs, numbers

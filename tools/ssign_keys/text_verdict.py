@@ -185,12 +185,12 @@ class TextVerdict(StretchVisitor):
         weakness = sha1.weakness(self._facts, state)
         if weakness is not None:
             self._session_heading.append(f"  {weakness}")
-        of_strangers = self._reviewed.facts.strangers.get(session, 0)
-        if of_strangers:
+        of_strangers = self._reviewed.facts.strangers.get(session, strangers.NO_CLAIMS)
+        if of_strangers.blocks:
             self._session_heading.append(f"  {strangers.words_of(of_strangers)}")
         self._left = None
         if state == "joined":
-            is_shown = not self._only_findings or weakness is not None or of_strangers > 0
+            is_shown = not self._only_findings or weakness is not None or of_strangers.blocks > 0
         else:
             states = self._states.setdefault(state, Few())
             is_shown = states.takes()

@@ -13,6 +13,7 @@ from .blocks import Session
 from .broken_blocks import Broken
 from .reach import Coverage
 from .report import Totals
+from .strangers import Claims
 from .summaries import FEW
 from .words import grouped
 
@@ -46,8 +47,8 @@ class Facts:
     """Whether the log is judged from counters on."""
     stamps: List[str] = field(default_factory=list)
     """What time stamps show, each in a sentence."""
-    strangers: Dict[Session, int] = field(default_factory=dict)
-    """How many unverified blocks claim each joined session that has some."""
+    strangers: Dict[Session, Claims] = field(default_factory=dict)
+    """The unverified blocks that claim each joined session that has some."""
     are_strangers_ignored: bool = False
     has_others: bool = True
     """Whether the review found something else than unverified blocks."""
@@ -57,12 +58,17 @@ class Facts:
     @property
     def of_strangers(self) -> int:
         """How many unverified blocks claim joined sessions."""
-        return sum(self.strangers.values())
+        return sum(it.blocks for it in self.strangers.values())
+
+    @property
+    def late(self) -> int:
+        """How many of them may be the signer's last ones, damaged."""
+        return sum(it.late for it in self.strangers.values())
 
     @property
     def is_ignoring(self) -> bool:
-        """Whether the review found nothing but such blocks, which are to be ignored."""
-        return self.are_strangers_ignored and not self.has_others and 0 < self.totals.refused == self.of_strangers
+        """Whether the review found nothing but such blocks, which are to be ignored and come after nothing that is verified."""
+        return self.are_strangers_ignored and not self.has_others and not self.late and 0 < self.totals.refused == self.of_strangers
 
     @property
     def status(self) -> int:
@@ -148,6 +154,7 @@ def other_findings(facts: Facts) -> List[str]:
                 f"signature blocks are missing or unverified, {UNSEEN}"),
         several(totals.unlisted, "stored message is unlisted", "stored messages are unlisted"),
         several(totals.refused, "block is unverified", "blocks are unverified"),
+        strangers.late_words(facts.late) if facts.are_strangers_ignored else "",
         several(totals.spoilt, "message is a spoilt block", "messages are spoilt blocks"),
         several(unjoined, "session isn't joined", "sessions aren't joined"),
         several(absent, "session that the counters name isn't here", "sessions that the counters name aren't here"),

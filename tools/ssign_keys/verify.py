@@ -290,7 +290,7 @@ class Verifier:
         facts = Facts(status, survey.totals, survey.states, survey.missing or 0, survey.reach.coverage(),
                       self._broken_blocks(survey), 0 if listed is None else listed.count(self._report, counters, begin),
                       survey.on_sha1, arguments.allow_sha1, begin is not None, stamps.sentences,
-                      strangers.count_strangers(self._log, survey.refused, survey.joined, self._progress),
+                      strangers.count_strangers(self._log, survey.refused, survey.joined, survey.reach, self._progress),
                       arguments.ignore_strangers, survey.has_others, [shown_name(it) for it in trust.unbound_files(survey.joined)])
         finder = Finder(self._log, self._progress)
         return Reviewed(self._log, finder, self._read_notes(), survey, facts, is_whole, counters, begin)
