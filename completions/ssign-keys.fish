@@ -99,7 +99,7 @@ complete -c ssign-keys -n '__ssign_keys_command verify' -l ca-anchor -r -F -d 't
 complete -c ssign-keys -n '__ssign_keys_command verify' -l cert -r -F -d 'trust a payload with this certificate'
 complete -c ssign-keys -n '__ssign_keys_command verify' -l at-signing-time -d 'judge whether a certificate has expired at the payload\'s time, which its signer states, and not now'
 complete -c ssign-keys -n '__ssign_keys_command verify' -l allow-sha1 -d 'let the status be 0 though a session rests on SHA-1 (VER 0111), for which two texts with one hash can be made'
-complete -c ssign-keys -n '__ssign_keys_command verify' -l ignore-strangers -d 'let the status be 0 though blocks claim a joined session and aren\'t validly signed, if nothing else is found'
+complete -c ssign-keys -n '__ssign_keys_command verify' -l ignore-strangers -d 'let the status be 0 though blocks claim a joined session and aren\'t validly signed, if nothing else is found and none of them claims to come after the last verified one'
 complete -c ssign-keys -n '__ssign_keys_command verify' -l tsa-ca -r -F -d 'the authority that vouches for the time stamp service, which you know by another way'
 complete -c ssign-keys -n '__ssign_keys_command verify' -l tsa-ca-anchor -r -F -d 'the same, but each certificate in the file may end a chain, also that of the service itself'
 complete -c ssign-keys -n '__ssign_keys_command verify' -l lines -d 'the log is one message a line (default where it begins with <)'
