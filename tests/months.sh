@@ -113,6 +113,49 @@ TMPDIR=$scratch/killed keys verify --key keys/public-key.pem --ssign ./killer --
 holds 'a night whose process is killed: status 2' test "$status" = 2
 holds 'a night whose process is killed: its line' grep -qE '^Night ([0-9]+) \(entry \1, .*: not judged: it ended by a signal$' out
 holds 'a night whose process is killed: the others are judged' grep -qE '^Verdict: NOT ALL JUDGED: nights 1 to 30: 29 of 30 nights are clean; not judged: night [0-9]+\.' out
+# ---- two nights of one session, each signed by a key of its own, or under a payload of its own
+[[ -e other/private-key.pem ]] || keys make other
+mkdir two
+for text in one two; do
+    printf '<13>1 2026-01-01T00:00:01Z h app - - - message %s\n' "$text"
+done >messages
+# two_night N KEY PAYLOAD: a night of two messages, which begins with the certificate blocks of its key
+two_night() {
+    local number=$1 key=$2
+    local session=("--payload=$3" --rsid=50 --ver=0121 --host=gate --app=signer)
+    "$program" plan "${session[@]}" <none | "$root/tools/ssign-keys" seal "$key/private-key.pem" >seals
+    "$program" sign "${session[@]}" --answers=seals <none >"two/night-$number"
+    [[ $number == 1 ]] && printf 'count gate signer - 50 0\ncount gate signer - 50 0 0 1\n' >begin
+    "$program" plan "${session[@]}" --resume=begin --lines <messages | "$root/tools/ssign-keys" seal "$key/private-key.pem" >seals
+    "$program" sign "${session[@]}" --resume=begin --answers=seals --lines <messages >>"two/night-$number"
+    printf 'count gate signer - 50 %s\ncount gate signer - 50 0 0 %s\n' "$number" "$((2 * number + 1))" >begin
+    keys manifest add two-nights "two/night-$number" --counters begin
+    [[ $status == 0 ]] || tell "two nights: night $number has an entry" "$(<err)"
+}
+: >none
+# the keys are given both, so each night by itself is clean
+both=(--key other/public-key.pem --nights two-nights two)
+fingerprint() {
+    openssl pkey -pubin -in "$1/public-key.pem" -outform DER 2>fault | sha256sum | cut -d ' ' -f 1
+}
+payload="2026-01-01T00:00:00Z $(cut -d ' ' -f 2- keys/payload)"
+: >two-nights
+two_night 1 keys "$payload"
+two_night 2 keys "$payload"
+nights 'two nights under one payload' 0 'Nights 1 to 2: all 2 clean; numbers 1 to 4 are there, each once, and nothing else is.' "${both[@]}"
+: >two-nights
+two_night 1 keys "$payload"
+two_night 2 other "2026-01-01T00:00:00Z $(cut -d ' ' -f 2- other/payload)"
+nights 'two nights by two keys' 1 'FINDINGS: nights 1 to 2: 1 of 2 nights is clean; with findings: night 2.' "${both[@]}"
+if command -v openssl >fault; then
+    holds 'two nights by two keys: the sentence' grep -qF "Night 2 (entry 2, night-2): its session has another payload than in night 1: one of 2026-01-01T00:00:00Z, key SHA-256 \
+$(fingerprint other); there one of 2026-01-01T00:00:00Z, key SHA-256 $(fingerprint keys); All 2 announced messages are present and unchanged" out
+fi
+: >two-nights
+two_night 1 keys "$payload"
+two_night 2 keys "2026-01-02T00:00:00Z $(cut -d ' ' -f 2- keys/payload)"
+nights 'two nights under two payloads of one key' 1 'FINDINGS: nights 1 to 2: 1 of 2 nights is clean; with findings: night 2.' "${both[@]}"
+
 # ---- one night by itself, in each form
 for it in 3 4 5 6; do
     python3 -B "$root/tests/months.py" ends manifest "$it" >"c$it"

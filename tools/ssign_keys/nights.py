@@ -59,6 +59,22 @@ class Night(NamedTuple):
     """The counters with which it ends."""
 
 
+class Vouched(NamedTuple):
+    """What is known of the payload that vouches for the session of a night."""
+
+    fingerprint: str
+    """That of its key."""
+    certificate: Optional[str]
+    """That of the certificate in it, if it has one."""
+    time: str
+
+    def words(self) -> str:
+        """In words."""
+        certificate = f", certificate SHA-256 {self.certificate}" if self.certificate else ""
+        stated = "without a time" if self.time == "-" else f"of {self.time}"
+        return f"one {stated}, key SHA-256 {self.fingerprint}{certificate}"
+
+
 @dataclass
 class Judged:
     """What is known of a night."""
@@ -74,6 +90,8 @@ class Judged:
     """How many blocks of strangers were ignored."""
     unbound: List[str] = field(default_factory=list)
     """The file of each key that could have signed any session; empty where there is one such key."""
+    vouched: Optional[Vouched] = None
+    """None where its session isn't joined."""
 
     def text(self) -> str:
         """As a line for a person."""
@@ -204,6 +222,7 @@ def run(arguments: argparse.Namespace) -> int:
             run_nights = Nights(["--ssign", program, *words], workplace, progress)
             verdict.judged += run_nights.judge(nights, arguments.jobs)
             verdict.judged.sort(key=lambda it: it.number)
+            compare_payloads(verdict.judged)
             out = workplace.new_file("out")
             for line in lines_of(verdict, arguments.json):
                 put(out, f"{line}\n".encode("ascii" if arguments.json else "utf-8", "backslashreplace"))
@@ -366,24 +385,49 @@ class Nights:
             said = file.read(MOST_SAID).decode("utf-8", "backslashreplace").strip()
         with open(self._workplace.path(self._file("out", night)), "rb") as file:
             first = file.readline()
-            last = last_line(file) if first else b""
+            sessions, last = told_lines(file) if first else ([], b"")
         for what in ("from", "counters", "out", "said"):
             os.remove(self._workplace.path(self._file(what, night)))
         if status not in (0, 1):
             return Judged(night.number, night.entry, 2, "not judged: " + (said.splitlines() or ["it ended by a signal"])[-1])
         try:
             checked, verdict = json.loads(first), json.loads(last)
-            return judged(night, status, checked["files"][0], verdict)
+            it = judged(night, status, checked["files"][0], verdict)
+            it.vouched = vouched_in(sessions, night.entry)
+            return it
         except (ValueError, KeyError, IndexError, TypeError) as fault:
             raise Fault(f"what was said of night {night.number} can't be read") from fault
 
 
-def last_line(file: BinaryIO) -> bytes:
-    """The last line of a passing file, of which other lines may be long and many."""
-    last = b""
-    for line in file:
-        last = line
-    return last
+def told_lines(file: BinaryIO) -> Tuple[List[bytes], bytes]:
+    """The lines of joined sessions and the last line of a passing file, of which other lines may be long and many."""
+    sessions, last = [], b""
+    for last in file:
+        if last.startswith(b'{"line":"session",') and b'"state":"joined",' in last:
+            sessions.append(last)
+    return sessions, last
+
+
+def vouched_in(sessions: Sequence[bytes], entry: Entry) -> Optional[Vouched]:
+    """What vouches for the session of an entry, by these objects of JSON."""
+    host, app, procid, rsid = entry.session
+    for it in map(json.loads, sessions):
+        if [it[name] for name in ("host", "app", "procid", "rsid")] == [shown(host), shown(app), shown(procid), int(rsid)]:
+            certificate = it["certificate"]
+            return Vouched(str(it["fingerprint"]), certificate and str(certificate["fingerprint"]), str(it["payload_time"]))
+    return None
+
+
+def compare_payloads(nights: Sequence[Judged]) -> None:
+    """Has a night not be clean for whose session another payload vouches than in the first night of it."""
+    firsts: Dict[Session, Tuple[int, Vouched]] = {}
+    for it in nights:
+        if it.vouched is None:
+            continue
+        number, first = firsts.setdefault(it.entry.session, (it.number, it.vouched))
+        if it.vouched != first:
+            it.status = max(it.status, 1)
+            it.said = f"its session has another payload than in night {number}: {it.vouched.words()}; there {first.words()}; {it.said}"
 
 
 def judged(night: Night, status: int, file: Dict[str, object], verdict: Dict[str, object]) -> Judged:
