@@ -222,5 +222,61 @@ export CHANGE=$in_place
 keys verify --key keys/public-key.pem --ssign ./changing signed stored
 holds 'a copy of several logs is not changed' test "$status" = 1
 
+# a log that is changed through a map of its pages, which leaves its size and its times as they were: the SHA-256 that is shown, and
+# that a manifest is compared with, are those of the octets that were reviewed
+cp signed mapped
+mkfifo toggle toggled
+cat >mapper.py <<'END'
+"""Maps a log, whose pages are written to once, and changes an octet of its tenth message each time it is asked to."""
+import mmap
+import os
+import sys
+
+with open(sys.argv[1], "r+b") as file, mmap.mmap(file.fileno(), 0) as pages:
+    at = len(pages) - 700
+    own = pages[at]
+    pages[at] = own
+    print(os.fstat(file.fileno()).st_ctime_ns, flush=True)
+    while open("toggle").readline():
+        pages[at] = own if pages[at] != own else own ^ 1
+        with open("toggled", "w") as done:
+            done.write("x")
+END
+python3 -B mapper.py mapped >began &
+mapper=$!
+while [[ ! -s began ]]; do sleep 0.05; done
+toggle() {
+    echo x >toggle
+    cat toggled >fault
+}
+# after the run of ssign whose words are those of the pattern WHEN, the log is changed
+# shellcheck disable=SC2016
+printf '#!/usr/bin/env bash\n%q "$@"\nstatus=$?\n[[ $* != $WHEN ]] || { echo x >toggle; cat toggled >/dev/null; }\nexit $status\n' "$program" >mapping
+chmod +x mapping
+sum=$(sha256sum <signed | cut -d ' ' -f 1)
+for form in --json --details --html=page; do
+    rm -f page
+    WHEN='review *--answers=*' keys verify --key keys/public-key.pem --ssign ./mapping "$form" mapped
+    [[ $form != --html=page ]] || cp page out
+    if [[ $(stat -c %Z mapped) != "$(stat -c %Z signed)" && $status == 2 ]]; then
+        echo "$name: skipped a map of a log, because its ctime moved"
+    else
+        holds "a log that is changed after its review, $form: status" test "$status" = 0
+        holds "a log that is changed after its review, $form: the SHA-256" grep -qF "$sum" out
+        holds "a log that is changed after its review, $form: the log is another one now" test "$(sha256sum <mapped | cut -d ' ' -f 1)" != "$sum"
+    fi
+    toggle
+done
+: >manifest
+keys verify --key keys/public-key.pem --counters-out counters signed
+cp signed listed
+mv mapped kept-mapped && ln kept-mapped signed.mapped
+keys manifest add manifest signed.mapped --counters counters
+holds 'a manifest names the mapped log' test "$status" = 0
+WHEN='questions --once*' keys verify --key keys/public-key.pem --ssign ./mapping --manifest manifest signed.mapped
+refuses 'a log that is changed after it was compared with a manifest' "ssign-keys: the log signed.mapped was changed while it was read: run again, or hand over a copy"
+toggle
+kill "$mapper"
+
 printf '%s: %d runs of ssign-keys\n' "$name" "$tried"
 finish

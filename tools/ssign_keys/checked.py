@@ -5,7 +5,7 @@ import argparse
 import socket
 from typing import TYPE_CHECKING, Dict, List, NamedTuple, Optional, Sequence, Tuple
 
-from .digests import Digest, sum_of
+from .digests import Digest
 from .identity import certificate_fields, certificate_words
 from .logs import Log, Packed
 from .options_given import given_options, quoted
@@ -138,7 +138,7 @@ def checked_logs(log: Log, messages: int) -> List[CheckedLog]:
     places = [*(it.place for it in log.parts[1:]), messages]
     found = []
     for part, end, place in zip(log.parts, offsets, places):
-        plain = Digest(part.name, *sum_of(log.file, part.offset, end))
+        plain = Digest(part.name, *log.sum_of(part.offset, end))
         packed = part.packed
         given = plain if packed is None else Digest(part.name, packed.size, packed.sha256)
         found.append(CheckedLog(given, plain if packed else None, packed, place - part.place, part.place))

@@ -6,6 +6,7 @@ same octets.
 from __future__ import annotations
 
 import bisect
+import hashlib
 import itertools
 import os
 import stat
@@ -51,11 +52,12 @@ class Log:
         self.file = file
         self.parts = parts
         self.are_lines = are_lines
-        self._is_copy = is_copy
+        self.is_copy = is_copy
         self._places = [it.place for it in parts]
         self._offsets = [it.offset for it in parts]
         self._seen = look(file)
         self.size = self._seen[0]
+        self._read: Optional[Tuple[int, str]] = None
 
     def rewind(self) -> BinaryIO:
         """The file, from its front on."""
@@ -66,9 +68,25 @@ class Log:
         """How far whoever reads the file has come, since a child that was given it moves the same position."""
         return os.lseek(self.file.fileno(), 0, os.SEEK_CUR)
 
+    def hashed(self, progress: Progress) -> Iterator[bytes]:
+        """All octets, from the front on. Those that were read last are the ones that `sum_of` is about.
+
+        Whoever maps the file into memory changes it without a trace, so it may hold other octets at each time.
+        """
+        hasher, total = hashlib.sha256(), 0
+        for piece in read_pieces(self.rewind(), self.parts[0].name, "reviewing", progress):
+            hasher.update(piece)
+            total += len(piece)
+            yield piece
+        self._read = total, hasher.hexdigest()
+
+    def sum_of(self, start: int, end: int) -> Tuple[int, str]:
+        """How many octets lie between two, and their SHA-256: of a file that others may write to, as it was read last."""
+        return sum_of(self.file, start, end) if self.is_copy or self._read is None else self._read
+
     def check_unchanged(self) -> None:
         """Refuses a file that somebody wrote to meanwhile, since two runs over it may have read two logs."""
-        if not self._is_copy and look(self.file) != self._seen:
+        if not self.is_copy and look(self.file) != self._seen:
             raise self.changed()
 
     def changed(self) -> Fault:

@@ -78,6 +78,8 @@ class Listed:
         self._kept = kept
         self._entries: List[Entry] = []
         self._labels: Dict[int, str] = {}
+        # the sizes and the SHA-256 of the logs as they were compared
+        self._sums: List[Tuple[int, str]] = []
         self.found: List[Found] = []
 
     @classmethod
@@ -105,9 +107,16 @@ class Listed:
         ends = [*(it.offset for it in log.parts[1:]), log.size]
         for part, end in zip(log.parts, ends):
             size, sha256 = sum_of(log.file, part.offset, end)
+            self._sums.append((size, sha256))
             name = "" if part.name == "-" else bare(part.name.rpartition("/")[2])
             self._take(names, Stored(shown_name(part.name), name, size, sha256))
         return [f"{line}\n".encode("ascii") for it in self._entries for line in it.counters]
+
+    def refuse_other(self, log: Log) -> None:
+        """Refuses a log of which other octets were reviewed than were compared."""
+        ends = [*(it.offset for it in log.parts[1:]), log.size]
+        if self._sums != [log.sum_of(part.offset, end) for part, end in zip(log.parts, ends)]:
+            raise log.changed()
 
     def begin(self) -> bytes:
         """The counters with which the nights begin that the logs are, as lines of a counters file."""

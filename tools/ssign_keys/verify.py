@@ -148,7 +148,7 @@ class Verification:
             log, verifier = self._open(listed, workplace)
             verifier.answer(trust, arguments.jobs)
             reviewed = verifier.review(listed, arguments, self._stamps, trust)
-            if arguments.json or arguments.details or arguments.html is not None:
+            if is_detailed(arguments):
                 reviewed = reviewed._replace(details=self._details(verifier, reviewed, trust, listed))
             verifier.name_unused(trust)
             pieces = verifier.output(reviewed, arguments, listed)
@@ -282,7 +282,10 @@ class Verifier:
 
     def review(self, listed: Optional[Listed], arguments: argparse.Namespace, stamps: Stamps, trust: Trust) -> Reviewed:
         """Has ssign review the log under the answers that were kept, and sees that all that is known of it agrees."""
-        status = self._review([f"--answers={self.answers_path}", *self._known.words, *self.missing.words])
+        status = self._review([f"--answers={self.answers_path}", *self._known.words, *self.missing.words],
+                              not self._log.is_copy and (listed is not None or is_detailed(arguments)))
+        if listed is not None:
+            listed.refuse_other(self._log)
         is_whole, counters, begin = bool(self.missing.words), self.missing.counters, self.missing.begin
         survey = Survey(self._candidates.walked, self._read_notes(), is_whole, counters, begin)
         Reading(survey).read(self._report, self._progress)
@@ -319,11 +322,13 @@ class Verifier:
             self._candidates.run(self._program, words, file).end(lambda: None)
         return self._workplace.path("counted")
 
-    def _review(self, words: List[str]) -> int:
-        """Has ssign review the log, with these words besides."""
+    def _review(self, words: List[str], is_hashed: bool = False) -> int:
+        """Has ssign review the log, with these words besides. Where its SHA-256 is shown, it is that of what ssign is handed."""
         reviewing = Run(self._program, ["review", *words, *self._words], self._workplace, self._progress,
-                        self._log.rewind(), self._report)
+                        subprocess.PIPE if is_hashed else self._log.rewind(), self._report)
         try:
+            if is_hashed:
+                reviewing.feed(self._log.hashed(self._progress))
             status = reviewing.end(self._reading("reviewing"))
         except Refused:
             # a log that was cut meanwhile may be refused for that alone
@@ -385,6 +390,11 @@ class Verifier:
 
     def _reading(self, phase: str) -> Callable[[], None]:
         return lambda: self._progress.show(phase, self._log.position(), self._log.size, "octets")
+
+
+def is_detailed(arguments: argparse.Namespace) -> bool:
+    """Whether it is shown what was checked, with its SHA-256."""
+    return bool(arguments.json or arguments.details) or arguments.html is not None
 
 
 def make_form(out: BinaryIO, reviewed: Reviewed, arguments: argparse.Namespace) -> Union[JsonVerdict, TextVerdict]:
