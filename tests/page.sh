@@ -66,6 +66,24 @@ holds 'as text: times' grep -qx "  listed messages: from 2026-01-15T09:12:44.003
 holds 'as text: the log' grep -qx "  log: signed, 3,002 octets, SHA-256 $(sha256sum <signed | cut -d ' ' -f 1), 15 messages, places 0 to 14" out
 holds 'as text: the counters' grep -qx "  counters: counters, $(stat -c %s counters) octets, SHA-256 $(sha256sum <counters | cut -d ' ' -f 1)" out
 holds 'as text: the program' grep -qx "  program: $("$program" --version), .*, SHA-256 $(sha256sum <"$program" | cut -d ' ' -f 1)" out
+# a program that only calls the usual one, and a copy of it
+printf '#!/bin/sh\nexec %q "$@"\n' "$program" >lying
+cp "$program" same
+chmod +x lying same
+usual=$("$root/ssign" --which 2>fault)
+for way in --ssign=./lying SSIGN=./lying; do
+    naming='the variable SSIGN'
+    [[ $way != --ssign=* ]] || naming=--ssign
+    if [[ $way == SSIGN=* ]]; then SSIGN=./lying keys verify --key key.pem --details --html lying.html signed; else keys verify --key key.pem --details --html lying.html "$way" signed; fi
+    holds "another program by $naming: as text" grep -qx "  program: .*lying (named by $naming, not the one that belongs to ssign-keys), SHA-256 $(sha256sum <lying | cut -d ' ' -f 1)" out
+    holds "another program by $naming: on the page" grep -q "named by $naming, not the one that belongs to ssign-keys" lying.html
+    rm -f lying.html
+done
+if [[ $usual && $(sha256sum <"$usual") == "$(sha256sum <"$program")" ]]; then
+    keys verify --key key.pem --details --ssign ./same signed
+    holds 'a copy of the usual program' test "$(grep -c 'not the one that belongs' out)" = 0
+fi
+keys verify --key key.pem --counters counters --details signed
 holds 'as text: the options' grep -qx '  options: --key key.pem --counters counters --details' out
 holds 'as text: the machine is not named' test "$(grep -c '^  machine: ' out)" = 0
 keys verify --key key.pem --raw --details signed

@@ -129,7 +129,7 @@ def digest_words(digest: Digest) -> str:
 
 def program_words(program: Program) -> str:
     """A program in a line for a person."""
-    return f"{program.version or 'states no version'}, {shown_name(program.path)}, SHA-256 {program.sha256 or 'unknown'}"
+    return f"{program.version or 'states no version'}, {program.place}, SHA-256 {program.sha256 or 'unknown'}"
 
 
 def checked_logs(log: Log, messages: int) -> List[CheckedLog]:

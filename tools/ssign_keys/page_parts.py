@@ -99,7 +99,8 @@ def answers_words(answers: Digest) -> str:
 
 def program_cell(program: Program) -> Markup:
     """A program."""
-    return joined(f"{program.version or 'states no version'}, ", named(shown_name(program.path)), ", SHA-256 ",
+    whose = f" ({program.named})" if program.named else ""
+    return joined(f"{program.version or 'states no version'}, ", named(shown_name(program.path)), f"{whose}, SHA-256 ",
                   code(program.sha256 or "unknown"))
 
 

@@ -5,11 +5,12 @@ import hashlib
 import os
 import shutil
 import subprocess
-from typing import Dict, NamedTuple, Optional
+from typing import Dict, NamedTuple, Optional, Tuple
 
 from . import VERSION
 from .commands import PATIENCE
 from .digests import digest_of
+from .programs import usual_program
 from .words import shown, shown_name
 
 SCRIPT = b"#!"
@@ -22,6 +23,13 @@ class Program(NamedTuple):
     path: str
     version: Optional[str]
     sha256: Optional[str]
+    named: str = ""
+    """Who named it, if it isn't the one that is run where nobody does."""
+
+    @property
+    def place(self) -> str:
+        """Where it lies, and who named it, for a person."""
+        return f"{shown_name(self.path)}{f' ({self.named})' if self.named else ''}"
 
     def fields(self) -> Dict[str, object]:
         """As JSON has it."""
@@ -41,19 +49,27 @@ def said(program: str, word: str) -> Optional[str]:
     return os.fsdecode(line)
 
 
-def ssign_facts(program: str) -> Program:
-    """The program ssign. The script of the repository names the program that it runs."""
-    path = shutil.which(program) or program
+def ssign_facts(program: str, naming: str) -> Program:
+    """The program ssign. `naming` is what named it, if it isn't the one that is run where nobody names one."""
+    path, sha256 = found_at(program)
     version = said(program, "--version")
+    usual = usual_program()
+    is_other = program != usual and (usual is None or sha256 is None or found_at(usual)[1] != sha256)
+    return Program(path, None if version is None else shown(os.fsencode(version))[:LONGEST], sha256,
+                   f"named by {naming}, not the one that belongs to ssign-keys" if is_other else "")
+
+
+def found_at(program: str) -> Tuple[str, Optional[str]]:
+    """Where a program lies, and its SHA-256. The script of the repository names the program that it runs."""
+    path = shutil.which(program) or program
     try:
         with open(path, "rb") as file:
             is_script = file.read(len(SCRIPT)) == SCRIPT
         named = said(program, "--which") if is_script else None
         path = named if named is not None and os.path.isfile(named) else path
-        sha256: Optional[str] = digest_of(path, path).sha256
+        return path, digest_of(path, path).sha256
     except OSError:
-        sha256 = None
-    return Program(path, None if version is None else shown(os.fsencode(version))[:LONGEST], sha256)
+        return path, None
 
 
 def tool_facts(name: str) -> Program:

@@ -51,14 +51,17 @@ def find_program(arguments: argparse.Namespace) -> str:
     named = arguments.ssign or os.environ.get("SSIGN")
     if named:
         return str(named)
-    package = os.path.dirname(os.path.realpath(__file__))
-    for beside in (os.path.normpath(os.path.join(package, name)) for name in BESIDE):
-        if os.path.isfile(beside):
-            return beside
-    found = shutil.which("ssign")
+    found = usual_program()
     if found is None:
         raise Fault("there is no program ssign here: name it with --ssign, or with the variable SSIGN")
     return found
+
+
+def usual_program() -> Optional[str]:
+    """The ssign that is run where nobody names one: the one beside the tool, or else the one of PATH."""
+    package = os.path.dirname(os.path.realpath(__file__))
+    beside = (os.path.normpath(os.path.join(package, name)) for name in BESIDE)
+    return next((it for it in beside if os.path.isfile(it)), None) or shutil.which("ssign")
 
 
 class Run:

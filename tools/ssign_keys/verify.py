@@ -183,7 +183,7 @@ class Verification:
         from .checked import checked_logs, make_checked
         from .details import Details
         from .program_facts import ssign_facts, tool_facts
-        programs = tool_facts(TOOL), ssign_facts(self._program)
+        programs = tool_facts(TOOL), ssign_facts(self._program, "--ssign" if self._arguments.ssign else "the variable SSIGN")
         logs = checked_logs(reviewed.log, reviewed.survey.totals.messages)
         files = verifier.missing.digest, None if listed is None else listed.digest, verifier.missing.begin_digest
         answers = digest_of(self._arguments.answers_out or "", verifier.answers_path)
