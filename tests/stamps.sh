@@ -206,7 +206,7 @@ wrong 'a time after the certificates' 'openssl says: certificate has expired (T2
 in_years=$(($(date -u +%Y) + 5))-06-01T00:00:00Z
 wrong 'a time in the future' "the time stamp made.tsr doesn't show when: its time is $in_years, and the clock of this machine says $(date -u +%Y-)" time="${in_years//[-:T]/}"
 wrong 'a time in the future: code' ': one of the two is wrong (T4)' time="$(date -u -d '+6 minutes' +%Y%m%d%H%M%SZ)"
-trusts 'a time that is a little late' trial/ca.pem time="$(date -u -d '+4 minutes' +%Y%m%d%H%M%SZ)"
+judged 0 'a time that is a little late' --tsa-ca trial/ca.pem time="$(date -u -d '+4 minutes' +%Y%m%d%H%M%SZ)"
 for each in more century long; do
     wrong "an accuracy of more than a day: $each" "the time stamp made.tsr doesn't show when: its accuracy is worse than one day (T4)" after="$each"
 done
@@ -214,13 +214,13 @@ done
 exactly() {
     holds "$1: the verdict" grep -q "These counters existed at [0-9T:-]*Z, within $2, by the time stamp of CN=trial TSA" <(tail -n 1 out)
 }
-trusts 'an accuracy of a day' trial/ca.pem after=day
+judged 0 'an accuracy of a day' --tsa-ca trial/ca.pem after=day
 exactly 'an accuracy of a day' '86400 seconds'
-trusts 'an accuracy in thousandths' trial/ca.pem after=millis
+judged 0 'an accuracy in thousandths' --tsa-ca trial/ca.pem after=millis
 exactly 'an accuracy in thousandths' '0.5 seconds'
-trusts 'all that may follow the time' trial/ca.pem after=all
+judged 0 'all that may follow the time' --tsa-ca trial/ca.pem after=all
 exactly 'all that may follow the time' '1.002003 seconds'
-trusts 'an accuracy without a part' trial/ca.pem after=none
+judged 0 'an accuracy without a part' --tsa-ca trial/ca.pem after=none
 for each in negative millis-0 millis-1000 micros-1000; do
     wrong "an accuracy that is none: $each" 'a part of the accuracy is out of its range (T3)' after="$each"
 done
@@ -234,7 +234,7 @@ wrong 'a critical extension after another one' "it has the critical extension 1.
 wrong 'an extension that is not critical, in other words' "isn't TRUE, and DER leaves out FALSE (T3)" after=not-critical
 wrong 'an extension twice' 'it has an extension twice' after=twice
 wrong 'no extension' 'a list of extensions without one (T3)' after=empty
-trusts 'an extension that is not critical' trial/ca.pem after=plain
+judged 0 'an extension that is not critical' --tsa-ca trial/ca.pem after=plain
 wrong 'the name of another service' 'openssl says: tsa name mismatch (T2)' after=other-name
 # openssl takes names for the same whose letters differ in their case alone, so it might take the other certificate
 stamps twin trial 'TRIAL  ca' twin.pem

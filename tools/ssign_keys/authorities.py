@@ -213,13 +213,13 @@ def openssl_fault(leaf: Certificate, chain: Chain, host: bytes, moment: datetime
     except Spent as fault:
         return f"its certificate wasn't checked: {fault}"
     text = said.stderr.decode(errors="replace").strip()
-    if said.returncode not in (0, 2, -1):
+    if said.returncode not in (0, 2):
         raise Fault(f"openssl checks no certificate with {chain.authority.path}: {text}")
     if said.returncode == 0:
         return None
     lookup = LOOKUP.search(text)
     if lookup is None:
-        return "openssl came to no end with its certificate"
+        return "openssl refuses its certificate, and names no reason"
     what = "its certificate" if lookup[2] == "0" else f"{shortened(lookup[1] or '') or 'one without a name'} above its certificate"
     return f"openssl refuses {what}: {shortened(lookup[3])}; {ELSE}"
 
