@@ -39,6 +39,10 @@ class Counters:
             group = session, numbers[0], numbers[1]
             self._groups[group] = max(numbers[2], self._groups.get(group, 0))
 
+    def are_none(self) -> bool:
+        """Whether there is no counter."""
+        return not self._sessions
+
     def names(self, session: Session) -> bool:
         """Whether a counter is one of this session."""
         return session in self._sessions
@@ -73,9 +77,14 @@ def copy_counters(path: str, workplace: Workplace) -> str:
     with workplace.new_file("counters") as copy:
         copy_file(path, copy)
         if not os.fstat(copy.fileno()).st_size:
-            raise Fault(f"the counters file {shown_name(path)} is empty, so it shows nothing: `ssign counters` writes a line "
-                        "for each joined session, so make it again from a log that is whole")
+            raise nothing_shown(path)
     return workplace.path("counters")
+
+
+def nothing_shown(path: str) -> Fault:
+    """What is said of a counters file without a counter, because whoever gives it believes that it shows something."""
+    return Fault(f"the counters file {shown_name(path)} is empty, so it shows nothing: `ssign counters` writes a line "
+                 "for each joined session, so make it again from a log that is whole")
 
 
 def copy_file(path: str, copy: BinaryIO) -> None:
@@ -90,6 +99,10 @@ def copy_file(path: str, copy: BinaryIO) -> None:
 
 def copy_octets(source: BinaryIO, copy: BinaryIO) -> None:
     """Copies what ssign would read, and an octet more, so that ssign refuses a file that is too long."""
+    if os.fstat(source.fileno()).st_size > LONGEST:
+        # ssign doesn't read a file that is known to be too long
+        copy.truncate(LONGEST + 1)
+        return
     left = LONGEST + 1
     while left:
         piece = source.read(min(PIECE, left))
@@ -104,5 +117,6 @@ def read_counters(path: str) -> Counters:
     counters = Counters()
     with open(path, "rb") as file:
         for line in file:
-            counters.add(line)
+            if not line.startswith(b"end "):
+                counters.add(line)
     return counters

@@ -10,6 +10,7 @@ import subprocess
 from typing import Dict, List, NamedTuple, Sequence, Tuple
 
 from .blocks import Session
+from .counters_file import lines_of
 from .encoding import decode
 from .faults import Fault
 from .frames import frame_at
@@ -87,9 +88,9 @@ class Engine:
 
     def ahead(self, session: Ongoing, start: Ends, log: bytes, stamp: str) -> Ends:
         """The counters with which the messages of these frames are all signed."""
-        said = self._ask(["plan", "--ahead", *words_of(session, stamp), "--resume=@0"], log, [start.lines(session.session)])
+        said = self._ask(["plan", "--ahead", *words_of(session, stamp), "--resume=@0"], log, [start.file(session.session)])
         try:
-            ends = read_ends(said.splitlines(), session.session)
+            ends = read_ends(lines_of(said), session.session)
         except ValueError as fault:
             raise own_mistake(f"no counters of the session: {fault}") from fault
         if not start.is_before(ends):
@@ -98,13 +99,13 @@ class Engine:
 
     def wants(self, session: Ongoing, start: Ends, log: bytes, stamp: str) -> List[bytes]:
         """What has to be signed for the messages of these frames."""
-        return wants_of(self._ask(["plan", *words_of(session, stamp), "--resume=@0"], log, [start.lines(session.session)]))
+        return wants_of(self._ask(["plan", *words_of(session, stamp), "--resume=@0"], log, [start.file(session.session)]))
 
     def blocks(self, session: Ongoing, start: Ends, log: bytes, stamp: str, wants: Sequence[bytes],
                signatures: Sequence[bytes]) -> List[bytes]:
         """The signature blocks of the messages of these frames, with the signatures, in base64, of what was wanted."""
         signed = self._ask(["sign", *words_of(session, stamp), "--resume=@0", "--answers=@1"], log,
-                           [start.lines(session.session), answers_of(wants, signatures)])
+                           [start.file(session.session), answers_of(wants, signatures)])
         return blocks_among(signed, log, wants, signatures)
 
     def certificate_wants(self, session: Ongoing, stamp: str) -> List[bytes]:

@@ -7,6 +7,7 @@ import os
 import re
 from typing import Dict, List, Optional, Tuple
 
+from .counters_file import lines_of
 from .defaults import fill, most_hashes
 from .faults import Fault
 from .keys import PublicKey
@@ -149,7 +150,7 @@ class Starter:
         """How far the counters file of a session goes: nowhere where it isn't as it was written."""
         text = self._read_file(f"counters-{session.rsid}")
         try:
-            return START if text is None else read_ends(text.splitlines(), session.session)
+            return START if text is None else read_ends(lines_of(text), session.session)
         except ValueError:
             return START
 

@@ -9,6 +9,7 @@ from typing import Dict, Iterator, List, Optional, Sequence, Tuple
 
 from . import form as forms
 from .blocks import Session
+from .counters_file import lines_of
 from .digests import sum_of
 from .faults import Fault
 from .json_text import compact
@@ -170,16 +171,23 @@ def read_lines(path: str, workplace: Workplace) -> Tuple[Session, int, Dict[Tupl
     gbcs: List[int] = []
     ends: Dict[Tuple[int, int], int] = {}
     with open(copy_counters(path, workplace), "rb") as file:
-        for count, line in enumerate(file, 1):
-            fields = line.rstrip(b"\n").split(b" ")
-            are_numbers = all(it.isdigit() and len(it) < 12 for it in fields[4:])
-            if len(fields) not in (6, 8) or fields[0] != b"count" or not are_numbers:
-                raise Fault(f"the line {count} of the counters file {name} isn't one that `ssign counters` writes")
-            sessions.add(Session(*fields[1:5]))
-            if len(fields) == 6:
-                gbcs.append(int(fields[5]))
-            else:
-                ends[int(fields[5]), int(fields[6])] = int(fields[7]) - 1
+        text = file.read(MOST_COUNTERS + 1)
+    if len(text) > MOST_COUNTERS:
+        raise Fault(f"the counters file {name} is longer than the counters of one session")
+    try:
+        lines = lines_of(text)
+    except ValueError as fault:
+        raise Fault(f"the counters file {name} isn't whole: {fault}") from fault
+    for count, line in enumerate(lines, 1):
+        fields = line.split(b" ")
+        are_numbers = all(it.isdigit() and len(it) < 12 for it in fields[4:])
+        if len(fields) not in (6, 8) or fields[0] != b"count" or not are_numbers:
+            raise Fault(f"the line {count} of the counters file {name} isn't one that `ssign counters` writes")
+        sessions.add(Session(*fields[1:5]))
+        if len(fields) == 6:
+            gbcs.append(int(fields[5]))
+        else:
+            ends[int(fields[5]), int(fields[6])] = int(fields[7]) - 1
     if len(sessions) != 1 or len(gbcs) != 1:
         raise Fault(f"the counters file {name} has {counted(len(sessions), 'session')} and "
                     f"{counted(len(gbcs), 'line')} with a "

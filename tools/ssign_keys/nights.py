@@ -15,6 +15,7 @@ from . import checked, details, json_verdict, program_facts, strangers, times
 from .blocks import Session
 from .cli import main
 from .commands import BUDGET
+from .counters_file import file_of
 from .digests import Digest
 from .faults import Fault
 from .forked import Forked
@@ -366,7 +367,7 @@ class Nights:
         words = ["verify", "--json", "--findings"]
         for option, lines in (("from", night.begin), ("counters", night.end)):
             with self._workplace.new_file(self._file(option, night)) as file:
-                put(file, lines)
+                put(file, file_of(lines))
                 finish(file)
             words.append(f"--{option}={self._workplace.path(self._file(option, night))}")
         words += [*self._words, "--", night.path if not night.path.startswith("-") else f"./{night.path}"]

@@ -12,6 +12,7 @@ import subprocess
 from typing import BinaryIO, Callable, List, Optional
 
 from .blocks import Session
+from .counters_file import lines_of
 from .defaults import USUAL_FIELDS, fill, most_hashes, only
 from .faults import Fault
 from .frames import frame_at
@@ -186,7 +187,7 @@ class Signing:
     def _resumed(self, words: List[str]) -> List[str]:
         """The words with which a run of ssign goes on from the counters of the session."""
         with self._workplace.new_file("start") as file:
-            put(file, self._ongoing.ends.lines(self._ongoing.session))
+            put(file, self._ongoing.ends.file(self._ongoing.session))
             finish(file)
         return [*words, f"--resume={self._workplace.path('start')}"]
 
@@ -195,7 +196,7 @@ class Signing:
         planning = Run(self._program, ["plan", "--ahead", *words], self._workplace, self._progress, log.rewind(), subprocess.PIPE)
         lines = list(planning.lines(lambda: self._progress.show("counting", log.position(), log.size, "octets")))
         try:
-            return read_ends([it[:-1] for it in lines], self._ongoing.session)
+            return read_ends(lines_of(b"".join(lines)), self._ongoing.session)
         except ValueError as fault:
             raise Fault(f"ssign plan --ahead wrote no counters of the session: {fault}") from fault
 

@@ -321,9 +321,10 @@ def unreadable_counters(case: Case) -> str:
     return f"{counters_name(case)}: reading it failed"
 
 
-def long_counters(case: Case) -> str:
+def cut_counters(case: Case) -> str:
     """C3."""
-    return f"{counters_name(case)}: it has more than 4294967295 octets"
+    return f"{counters_name(case)}: it isn't whole, as where it was cut off: each part of it ends with a line `end N`, N is how " \
+        "many lines `count` stand in it, and it has 4294967295 octets at most"
 
 
 def no_memory_for_counters(case: Case) -> str:
@@ -338,7 +339,7 @@ def no_session(case: Case) -> str:
 
 def other_group(case: Case) -> str:
     """C6."""
-    return f"{counters_name(case)}: line {case.where} counts a group that --groups doesn't have"
+    return f"{counters_name(case)}: the line `count` number {case.where} is of a group that --groups doesn't have"
 
 
 def no_memory_to_review(case: Case) -> str:
@@ -369,7 +370,7 @@ SENTENCES: Dict[str, Callable[[Case], str]] = {
     "O1": payload_too_long, "O2": no_message, "O3": is_block, "O6": no_seal, "O7": long_seal, "O8": used_up, "O9": used_up,
     "O10": no_memory_to_sign, "O11": long_wrap,
     "A1": own_answers, "A2": own_answers, "A3": long_answers, "A4": no_memory_for_answers,
-    "C1": bad_counter, "C2": unreadable_counters, "C3": long_counters, "C4": no_memory_for_counters, "C5": no_session,
+    "C1": bad_counter, "C2": unreadable_counters, "C3": cut_counters, "C4": no_memory_for_counters, "C5": no_session,
     "C6": other_group,
     "V1": no_memory_to_review, "W1": unwritten, "W2": no_memory_to_run,
 }

@@ -20,6 +20,7 @@ import sys
 from datetime import datetime, timezone
 from typing import BinaryIO, Callable, Dict, List, NamedTuple, Optional, Sequence, Union
 
+from .counters_file import file_of
 from .faults import Fault
 from .files import NOT_REGULAR, is_shared, open_lock, open_regular, reason
 from .manifest import name_for
@@ -362,7 +363,7 @@ class Rotation:
                  f"--counters-out={passing.counters}"]
         if night.begin:
             with self._workplace.new_file("begin") as begin:
-                put(begin, night.begin)
+                put(begin, file_of(night.begin))
                 finish(begin)
             words.append(f"--from={self._workplace.path('begin')}")
         with open(passing.report, "xb") as out:
@@ -602,9 +603,9 @@ class Rotation:
 
 
     def _counters_file(self, name: str, lines: List[str]) -> str:
-        """A passing file of these lines."""
+        """A passing counters file of these lines."""
         with self._workplace.new_file(name) as file:
-            put(file, "".join(f"{it}\n" for it in lines).encode("ascii"))
+            put(file, file_of("".join(f"{it}\n" for it in lines).encode("ascii")))
             finish(file)
         return self._workplace.path(name)
 

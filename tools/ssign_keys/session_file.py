@@ -11,6 +11,7 @@ from dataclasses import dataclass
 from typing import Dict, List, NamedTuple, Tuple
 
 from .blocks import Session
+from .counters_file import file_of
 from .encoding import decode
 from .schemes import SCHEMES
 
@@ -34,8 +35,12 @@ class Ends(NamedTuple):
     groups: Tuple[Tuple[int, int, int], ...]
     """SG, SPRI and the next number of each group that has one, by SG and SPRI."""
 
+    def file(self, session: Session) -> bytes:
+        """As a counters file."""
+        return file_of(self.lines(session))
+
     def lines(self, session: Session) -> bytes:
-        """As lines of a counters file."""
+        """As lines of a counters file, without their end."""
         front = f"count {session}"
         lines = [f"{front} {self.gbc}", *(f"{front} {sg} {spri} {number}" for sg, spri, number in self.groups)]
         return "".join(f"{it}\n" for it in lines).encode("ascii")

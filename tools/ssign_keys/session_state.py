@@ -12,6 +12,7 @@ import time
 from types import TracebackType
 from typing import Optional, Type
 
+from .counters_file import lines_of
 from .faults import Fault
 from .files import open_lock, open_regular, reason
 from .rotation_state import replace, sync_folder
@@ -136,7 +137,7 @@ class SessionState:
         path = self.path(name)
         try:
             text = read_plain(path)
-            return START if text is None else read_ends(text.splitlines(), ongoing.session)
+            return START if text is None else read_ends(lines_of(text), ongoing.session)
         except OSError as fault:
             raise Fault(f"the counters {shown_name(path)} can't be read: {reason(fault)}") from fault
         except ValueError:
@@ -182,7 +183,7 @@ class SessionState:
     def _save_counters(self, ongoing: Ongoing) -> None:
         """Has the counters stand in a file of their own. Of a session without certificate blocks nothing was written."""
         if ongoing.certificates:
-            replace(self.path(f"{COUNTERS}{ongoing.rsid}"), ongoing.ends.lines(ongoing.session))
+            replace(self.path(f"{COUNTERS}{ongoing.rsid}"), ongoing.ends.file(ongoing.session))
 
 
 def read_plain(path: str) -> Optional[bytes]:

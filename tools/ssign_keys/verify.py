@@ -20,9 +20,10 @@ from .asking import ONCE, refuse_older
 from .blocks import Session
 from .broken_blocks import Broken, Search
 from .candidates import Candidates
+from .counters_file import file_of
 from .digests import Digest, digest_of
 from .faults import Fault
-from .kept import Counters, copy_begin, copy_counters, is_standard_pipe, read_counters
+from .kept import Counters, copy_begin, copy_counters, is_standard_pipe, nothing_shown, read_counters
 from .kept_file import KeptFile
 from .logs import Log, open_log
 from .numbers import add_jobs
@@ -466,7 +467,10 @@ def find_missing(program: str, arguments: argparse.Namespace, workplace: Workpla
         words.append(f"--counters={path}")
         arguments.read_counters = arguments.counters
         refuse_without(program, words, "--counters", "what is missing up to counters", workplace, progress)
-        missing = missing._replace(counters=read_counters(path), digest=digest_of(arguments.counters[0], path))
+        kept = read_counters(path)
+        if kept.are_none():
+            raise nothing_shown(arguments.counters[0])
+        missing = missing._replace(counters=kept, digest=digest_of(arguments.counters[0], path))
     return missing
 
 
@@ -477,12 +481,8 @@ def add_counters(missing: Missing, lines: List[bytes], program: str, workplace: 
     path = workplace.path("counters")
     if missing.counters is None:
         workplace.new_file("counters").close()
-    with open(path, "r+b") as file:
-        end = file.seek(0, os.SEEK_END)
-        # the last LF of a counters file may be missing
-        if end and os.pread(file.fileno(), 1, end - 1) != b"\n":
-            put(file, b"\n")
-        put(file, b"".join(lines))
+    with open(path, "ab") as file:
+        put(file, file_of(b"".join(lines)))
         finish(file)
     words = [it for it in missing.words if not it.startswith("--counters=")] + [f"--counters={path}"]
     if missing.counters is None:
@@ -493,7 +493,7 @@ def add_counters(missing: Missing, lines: List[bytes], program: str, workplace: 
 def add_begin(missing: Missing, lines: bytes, program: str, workplace: Workplace, progress: Progress) -> Missing:
     """Has the review begin at these counters, which are lines of a counters file; with none the first night begins."""
     with workplace.new_file("begin") as file:
-        put(file, lines)
+        put(file, file_of(lines))
         finish(file)
     path = workplace.path("begin")
     words = [*missing.words, f"--from={path}"]

@@ -1,7 +1,6 @@
--- A line is the text of one counter, and a text of counters is read in one way.
+-- A line is the text of one counter.
 use Rattle.std.proofs.Common.{◌≡◌, inl, ℕ, ◌≤◌, codes, List, [], ◌++◌, sym, refl, ap, ◌∙◌, arith, append_assoc}
 use Rattle.std.specs.Fmt.{decimal}
-use Rattle.std.proofs.lemmas.List.Elements.{recursion_from_All}
 use Rattle.ss_octets.specs.Ascii.{lf}
 use Rattle.ss_message.specs.declared.draft.Field.{Field}
 use Rattle.ss_octets.proofs.Base64Text.{Clear, Clear-append}
@@ -10,11 +9,9 @@ use Rattle.ss_review.specs.declared.counted.counter.Counter.{Counter}
 use Rattle.ss_review.specs.declared.counted.counter.Counts.{Counts}
 use Rattle.ss_review.specs.declared.counted.counter.Counts.TheVariants.{Blocks, Messages}
 use Rattle.ss_review.specs.counted.CounterRange.{IsCounter, IsName, IsNext, IsSession}
-use Rattle.ss_review.specs.counted.CounterText.{counter_line, counter_text, lines_of_counters, field_word, session_words}
-use Rattle.ss_answers.specs.CounterLine.{BadCounterIsDetermined, BeginsWithNoSession, BeginsWithSession, CountersAreDetermined, HasCounters, IsNoCounter, LinesHaveTheirCounters, NoCountersAreGoodAndBad, SpellsCounter, SpellsNext, SpellsNoNext, next_text, session_text}
+use Rattle.ss_review.specs.counted.CounterText.{counter_line, counter_text, field_word, session_words}
+use Rattle.ss_answers.specs.CounterLine.{BeginsWithNoSession, BeginsWithSession, IsNoCounter, SpellsCounter, SpellsNext, SpellsNoNext, next_text, session_text}
 use Rattle.ss_answers.proofs.CounterWords.{Clear-decimal, Clear-text, is_text-word, next_once, session_once}
-use Rattle.ss_answers.proofs.LineLaws as laws
-use Rattle.ss_answers.proofs.LineLaws.{AreSpelt}
 
 -- a line by its words, one after the other
 regroup : (c q h a p r n : List ℕ) → c ++ (q ++ h ++ q ++ a ++ q ++ p ++ (q ++ r)) ++ (q ++ n) ≡ c ++ (q ++ (h ++ (q ++ (a ++ (q ++ (p ++ (q ++ (r ++ (q ++ n)))))))))
@@ -88,45 +85,20 @@ Clear-next (Messages g) next h =
     Clear-append lf (decimal g.sg) _ (Clear-decimal lf g.sg (omega arith) (omega arith))
     (refl, Clear-append lf (decimal g.spri) _ (Clear-decimal lf g.spri (omega arith) (omega arith)) (refl, Clear-decimal lf next (omega arith) (omega arith)))
 
-Clear-line : (c : Counter) → IsCounter c → Clear lf (counter_line c)
+pub Clear-line : (c : Counter) → IsCounter c → Clear lf (counter_line c)
 Clear-line c h =
     rw (line_cut c) (Clear-append lf (codes "count ") _ (refl, (refl, (refl, (refl, (refl, (refl, tt))))))
     (Clear-session c.session _ h.session (Clear-next c.counts c.next h.next)))
-
-line-some : (c : Counter) → [] ≡ counter_line c → ⊥
-line-some c e = let whole = e ∙ line_cut c in cc
 
 same_counter : (a b : Counter) → a.session ≡ b.session → a.counts ≡ b.counts → a.next ≡ b.next → a ≡ b
 same_counter a b session counts next =
     ap (λ s. record { session = s; counts = a.counts; next = a.next }) session
     ∙ (ap (λ c. record { session = b.session; counts = c; next = a.next }) counts ∙ ap (λ n. record { session = b.session; counts = b.counts; next = n }) next)
 
-line-injective : (a b : Counter) → IsCounter a → IsCounter b → counter_line a ≡ counter_line b → a ≡ b
+pub line-injective : (a b : Counter) → IsCounter a → IsCounter b → counter_line a ≡ counter_line b → a ≡ b
 line-injective a b h k e =
     let one = session_of (line_cut a) a h refl in
     let two = session_of (line_cut a) b k e in
     let sessions = session_once one two in
     let nexts = next_once a.counts b.counts (record { in_range = h.next; spelt = refl }) (record { in_range = k.next; spelt = sessions.1 }) in
     same_counter a b sessions.0 nexts.0 nexts.1
-
-are_spelt : AreSpelt IsCounter counter_line
-are_spelt = record { clear = Clear-line; some = line-some; apart = line-injective }
-
-pub no_counters_are_good_and_bad : NoCountersAreGoodAndBad
-no_counters_are_good_and_bad = laws.none_good_and_bad IsCounter counter_line are_spelt
-
-pub counters_are_determined : CountersAreDetermined
-counters_are_determined = laws.lines_are_determined IsCounter counter_line are_spelt
-
-pub bad_counter_is_determined : BadCounterIsDetermined
-bad_counter_is_determined = laws.bad_is_determined IsCounter counter_line are_spelt
-
-pub lines_have_their_counters : LinesHaveTheirCounters
-lines_have_their_counters counters good =
-    let text = lines_of_counters counters in
-    let has : HasCounters text counters = record { fields = recursion_from_All IsCounter counters good; spelt = inl refl } in
-    record {
-      has = has;
-      no_others = λ others h. counters_are_determined text others counters h has;
-      none_bad = λ number bad. no_counters_are_good_and_bad text counters number has bad;
-    }

@@ -20,7 +20,7 @@ cut_clear c (d ∷ a) x (f ∷ b) y h k e =
 pub cut_once : (c : ℕ) (a x b y : List ℕ) → Lacks c a → Lacks c b → a ++ c ∷ x ≡ b ++ c ∷ y → (a ≡ b) × (x ≡ y)
 cut_once c a x b y h k e = cut_clear c a x b y (recursion_from_All _ a h) (recursion_from_All _ b k) e
 
-clear_nowhere : (c : ℕ) (a x : List ℕ) → Clear c (a ++ c ∷ x) → ⊥
+pub clear_nowhere : (c : ℕ) (a x : List ℕ) → Clear c (a ++ c ∷ x) → ⊥
 clear_nowhere c [] x h = eqb-false c c h.0 refl
 clear_nowhere c (d ∷ a) x h = clear_nowhere c a x h.1
 

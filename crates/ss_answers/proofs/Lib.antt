@@ -2,7 +2,9 @@ mod AnswerLaws
 mod AnswerLines
 pub mod Base64Text
 mod CounterLaws
+mod CounterParts
 pub mod CounterWords
+mod CutLaws
 pub mod Cuts
 mod Decoded
 mod EndedLines
@@ -10,6 +12,8 @@ mod FirstOctets
 mod KeptLines
 mod LineLaws
 mod OrderedLines
+mod PartLaws
+mod PartLines
 mod ReadLines
 mod ReadParts
 pub mod Starts

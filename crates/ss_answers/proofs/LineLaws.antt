@@ -15,11 +15,11 @@ pub record AreSpelt {A : Type 0} (good : A → Type 0) (spell : A → List ℕ) 
   pub apart : (a b : A) → good a → good b → spell a ≡ spell b → a ≡ b
 
 -- the text of lines begins with that of the first
-ended-cons : {A : Type 0} (spell : A → List ℕ) (line : A) (lines : List A) → ended spell (line ∷ lines) ≡ spell line ++ lf ∷ ended spell lines
+pub ended-cons : {A : Type 0} (spell : A → List ℕ) (line : A) (lines : List A) → ended spell (line ∷ lines) ≡ spell line ++ lf ∷ ended spell lines
 ended-cons spell line lines = append_assoc (spell line) (lf ∷ []) (ended spell lines)
 
 -- so does a text that goes on after them
-ended-behind : {A : Type 0} (spell : A → List ℕ) (line : A) (lines : List A) (rest : List ℕ)
+pub ended-behind : {A : Type 0} (spell : A → List ℕ) (line : A) (lines : List A) (rest : List ℕ)
     → ended spell (line ∷ lines) ++ rest ≡ spell line ++ lf ∷ (ended spell lines ++ rest)
 ended-behind spell line lines rest =
     ap (λ t. t ++ rest) (ended-cons spell line lines) ∙ append_assoc (spell line) (lf ∷ ended spell lines) rest

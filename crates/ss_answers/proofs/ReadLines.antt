@@ -1,10 +1,9 @@
 -- A step of reading the lines of a text, whatever kind they are of.
-use Rattle.std.proofs.Common.{◌≡◌, ℕ, ◌+◌, ◌<◌, List, [], ◌∷◌, ◌++◌, length, sym, refl, ap, ◌∙◌, inl, inr, arith}
+use Rattle.std.proofs.Common.{◌≡◌, ℕ, List, [], ◌∷◌, ◌++◌, sym, refl, ap, ◌∙◌}
 use Rattle.std.specs.List.{AllByRecursion}
 use Rattle.std.proofs.lemmas.List.{append-nil, append_assoc}
-use Rattle.std.proofs.lemmas.List.Elements.{recursion_from_All}
 use Rattle.ss_octets.specs.Ascii.{lf}
-use Rattle.ss_answers.specs.Lines.{IsCutAfterLine, IsUpTo, Lacks, ended, first_line}
+use Rattle.ss_answers.specs.Lines.{ended, first_line}
 use Rattle.ss_octets.proofs.Base64Text.{Clear}
 
 pub first_clear : (a b : List ℕ) → Clear lf a → first_line (a ++ lf ∷ b) ≡ a
@@ -14,10 +13,6 @@ first_clear (x ∷ a) b h = rw (h.0, first_clear a b h.1) refl
 pub whole_clear : (a : List ℕ) → Clear lf a → first_line a ≡ a
 whole_clear [] h = refl
 whole_clear (x ∷ a) h = rw (h.0, whole_clear a h.1) refl
-
-pub first_line-cut : (text line after : List ℕ) → Lacks lf line → IsCutAfterLine text line after → first_line text ≡ line
-first_line-cut text line after lacks (inl cut) = ap first_line cut ∙ first_clear line after (recursion_from_All _ line lacks)
-first_line-cut text line after lacks (inr cut) = ap first_line cut.0 ∙ whole_clear line (recursion_from_All _ line lacks)
 
 pub ended-push : {A : Type 0} (spell : A → List ℕ) (lines : List A) (line : A)
     → ended spell (lines ++ line ∷ []) ≡ ended spell lines ++ (spell line ++ lf ∷ [])
@@ -30,9 +25,3 @@ pub good-push : {A : Type 0} (good : A → Type 0) (lines : List A) (line : A) �
     → AllByRecursion good (lines ++ line ∷ [])
 good-push good [] line h k = (k, tt)
 good-push good (x ∷ lines) line h k = (h.0, good-push good lines line h.1 k)
-
--- with something left, the text goes on after its lines
-pub reached_some : {A : Type 0} (spell : A → List ℕ) (text : List ℕ) (lines : List A) (rest : List ℕ)
-    → IsUpTo spell text lines rest → 0 < length rest → text ≡ ended spell lines ++ rest
-reached_some spell text lines rest (inl h) some = h
-reached_some spell text lines rest (inr h) some = absurd (omega (arith, ap length h.0))

@@ -2,11 +2,11 @@
 use Rattle.std.specs.Prelude.{ℕ, ◌^◌, ◌<◌, Bool, true, false, List, length, Option, Result, Ok, Err}
 use Rattle.ss_review.specs.declared.counted.counter.Counter.{Counter}
 use Rattle.ss_answers.specs.declared.counters.fault.CounterFault.{CounterFault}
-use Rattle.ss_answers.specs.declared.counters.fault.CounterFault.TheVariants.{BadLine, Read, TooBig, Memory}
+use Rattle.ss_answers.specs.declared.counters.fault.CounterFault.TheVariants.{BadLine, Read, TooBig, NotWhole, Memory}
 use Rattle.ss_answers.specs.declared.input.InputFault.{InputFault}
 use Rattle.ss_answers.specs.declared.input.InputFault.TheVariants as inputs
 use Rattle.ss_answers.specs.Input.{GivesAll, GivesMore}
-use Rattle.ss_answers.specs.CounterLine.{HasCounters, HasFirstBadCounter}
+use Rattle.ss_answers.specs.CounterFile.{HasCounters, HasFirstBadCounter, IsNotWhole}
 
 -- a file that wasn't read gives no counters
 abbrev pub counter_fault : InputFault → CounterFault
@@ -19,6 +19,7 @@ abbrev pub is_read_fault : CounterFault → Bool
 is_read_fault (BadLine line) = false
 is_read_fault Read = true
 is_read_fault TooBig = false
+is_read_fault NotWhole = false
 is_read_fault Memory = false
 
 -- whether an answer is that a read failed
@@ -31,6 +32,7 @@ abbrev pub IsCountersTextFault : List ℕ → CounterFault → Type 0
 IsCountersTextFault text (BadLine line) = HasFirstBadCounter text line
 IsCountersTextFault text Read = ⊥
 IsCountersTextFault text TooBig = ⊥
+IsCountersTextFault text NotWhole = IsNotWhole text
 IsCountersTextFault text Memory = Unit {0}
 
 -- the counters are those of the lines that the reader gave, in their order
@@ -45,11 +47,18 @@ pub record IsBadCounter (old new : Option (List ℕ)) (max : ℕ) (line : ℕ) :
   pub all : GivesAll old new max text
   pub first : HasFirstBadCounter text line
 
+-- what the reader gave isn't whole
+pub record IsNotWholeInput (old new : Option (List ℕ)) (max : ℕ) : Type 0 where
+  pub text : List ℕ
+  pub all : GivesAll old new max text
+  pub not_whole : IsNotWhole text
+
 -- what each fault says; a failed reader is stated apart
 abbrev pub IsCounterFault : Option (List ℕ) → Option (List ℕ) → ℕ → CounterFault → Type 0
 IsCounterFault old new max (BadLine line) = IsBadCounter old new max line
 IsCounterFault old new max Read = Unit {0}
 IsCounterFault old new max TooBig = GivesMore old new max
+IsCounterFault old new max NotWhole = IsNotWholeInput old new max
 IsCounterFault old new max Memory = Unit {0}
 
 -- ---- a file
@@ -65,4 +74,5 @@ abbrev pub IsCountersFileFault : CounterFault → Type 0
 IsCountersFileFault (BadLine line) = (text : List ℕ) × (length text < 2 ^ 32) × HasFirstBadCounter text line
 IsCountersFileFault Read = Unit {0}
 IsCountersFileFault TooBig = Unit {0}
+IsCountersFileFault NotWhole = (text : List ℕ) × (length text < 2 ^ 32) × IsNotWhole text
 IsCountersFileFault Memory = Unit {0}

@@ -1,5 +1,5 @@
--- Files of counters: how a text spells them, and what a line is cut into as it is read.
-use Rattle.std.specs.Prelude.{◌≡◌, ℕ, ◌≤◌, true, List, ◌∷◌, ◌++◌, decimal, All}
+-- A line of a file of counters: what it is cut into as it is read.
+use Rattle.std.specs.Prelude.{◌≡◌, ℕ, ◌≤◌, true, List, ◌∷◌, ◌++◌, decimal}
 use Rattle.ss_octets.specs.Ascii.{sp}
 use Rattle.ss_message.specs.declared.draft.Field.{Field}
 use Rattle.ss_message.specs.Layout.{field_of}
@@ -11,48 +11,14 @@ use Rattle.ss_review.specs.declared.counted.counter.Counter.{Counter}
 use Rattle.ss_review.specs.declared.counted.counter.Counts.{Counts}
 use Rattle.ss_review.specs.declared.counted.counter.Counts.TheVariants.{Blocks, Messages}
 use Rattle.ss_review.specs.counted.CounterRange.{IsSession, IsNext, IsCounter}
-use Rattle.ss_review.specs.counted.CounterText.{counter_line, lines_of_counters, field_word}
+use Rattle.ss_review.specs.counted.CounterText.{counter_line, field_word}
 use Rattle.ss_answers.specs.declared.counters.words.CounterWords.{CounterWords}
 use Rattle.ss_answers.specs.declared.counters.words.SessionWords.{SessionWords}
-use Rattle.ss_answers.specs.Lines.{AreLines, IsFirstBad, SpellsNone}
-
--- a text has these counters; its first line that is none has this number
-abbrev pub HasCounters : List ℕ → List Counter → Type 0
-HasCounters text counters = AreLines IsCounter counter_line text counters
-
-abbrev pub HasFirstBadCounter : List ℕ → ℕ → Type 0
-HasFirstBadCounter text number = IsFirstBad IsCounter counter_line text number
+use Rattle.ss_answers.specs.Lines.{SpellsNone}
 
 -- a text is the spelling of no counter
 abbrev pub IsNoCounter : List ℕ → Type 0
 IsNoCounter text = SpellsNone IsCounter counter_line text
-
--- a text has these counters and no others, and no line of it is bad
-pub record HasOnly (text : List ℕ) (counters : List Counter) : Type 0 where
-  pub has : HasCounters text counters
-  pub no_others : (others : List Counter) → HasCounters text others → others ≡ counters
-  pub none_bad : (number : ℕ) → HasFirstBadCounter text number → ⊥
-
--- ---- laws
-
--- no text has counters and a first bad line
-abbrev pub NoCountersAreGoodAndBad : Type 0
-NoCountersAreGoodAndBad = (text : List ℕ) (counters : List Counter) (number : ℕ)
-    → HasCounters text counters → HasFirstBadCounter text number → ⊥
-
--- a text has its counters in one way
-abbrev pub CountersAreDetermined : Type 0
-CountersAreDetermined = (text : List ℕ) (counters others : List Counter)
-    → HasCounters text counters → HasCounters text others → counters ≡ others
-
--- a text has one first line that is no counter
-abbrev pub BadCounterIsDetermined : Type 0
-BadCounterIsDetermined = (text : List ℕ) (m n : ℕ) → HasFirstBadCounter text m → HasFirstBadCounter text n → m ≡ n
-
--- the lines of counters that are in range are a text that has these counters and no others
-abbrev pub LinesHaveTheirCounters : Type 0
-LinesHaveTheirCounters =
-    (counters : List Counter) → All IsCounter counters → HasOnly (lines_of_counters counters) counters
 
 -- ---- parts of the reading
 

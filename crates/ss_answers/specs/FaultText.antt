@@ -27,6 +27,7 @@ abbrev pub counter_fault_text : CounterFault → List ℕ
 counter_fault_text (counters.BadLine line) = codes "a line isn't a counter, at line " ++ decimal line
 counter_fault_text counters.Read = codes "the counters file couldn't be opened or read"
 counter_fault_text counters.TooBig = codes "the counters file has more octets than allowed"
+counter_fault_text counters.NotWhole = codes "the counters file isn't whole"
 counter_fault_text counters.Memory = no_memory_text
 
 -- its code
@@ -34,16 +35,17 @@ abbrev pub counter_fault_code : CounterFault → List ℕ × Option ℕ
 counter_fault_code (counters.BadLine line) = (codes "C1", Some line)
 counter_fault_code counters.Read = (codes "C2", None)
 counter_fault_code counters.TooBig = (codes "C3", None)
+counter_fault_code counters.NotWhole = (codes "C3", None)
 counter_fault_code counters.Memory = (codes "C4", None)
 
 -- why no originator goes on at counters
 abbrev pub start_fault_text : StartFault → List ℕ
 start_fault_text starts.NoSession = codes "no counter is of the signature blocks of this session"
-start_fault_text (starts.OtherGroup line) = codes "a counter is of a group that isn't there, at line " ++ decimal line
+start_fault_text (starts.OtherGroup counter) = codes "a counter is of a group that isn't there, at counter " ++ decimal counter
 start_fault_text starts.Memory = no_memory_text
 
 -- its code
 abbrev pub start_fault_code : StartFault → List ℕ × Option ℕ
 start_fault_code starts.NoSession = (codes "C5", None)
-start_fault_code (starts.OtherGroup line) = (codes "C6", Some line)
+start_fault_code (starts.OtherGroup counter) = (codes "C6", Some counter)
 start_fault_code starts.Memory = (codes "C4", None)

@@ -7,6 +7,7 @@ pub mod LinesSoFar
 pub mod AnswerInput
 pub mod Seals
 pub mod CounterLine
+pub mod CounterFile
 pub mod CounterInput
 pub mod Start
 pub mod FaultText

@@ -33,14 +33,3 @@ pub record IsFirstBad {A : Type 0} (good : A → Type 0) (spell : A → List ℕ
   pub some : 0 < length rest
   pub place : number ≡ length lines + 1
   pub bad : SpellsNone good spell (first_line rest)
-
--- ---- parts of the reading
-
--- a text begins with these lines, and this is left, or its last line had no line feed
-abbrev pub IsUpTo : {A : Type 0} → (A → List ℕ) → List ℕ → List A → List ℕ → Type 0
-IsUpTo spell text lines rest =
-    (text ≡ ended spell lines ++ rest) ⊎ ((rest ≡ []) × (text ++ lf ∷ [] ≡ ended spell lines))
-
--- a text is a line and what follows its line feed, or a line without one
-abbrev pub IsCutAfterLine : List ℕ → List ℕ → List ℕ → Type 0
-IsCutAfterLine text line after = (text ≡ line ++ lf ∷ after) ⊎ ((text ≡ line) × (after ≡ []))

@@ -66,6 +66,6 @@ pub record IsFirstOther (s : Session) (grouping : Grouping) (cs : List Counter) 
 -- what each fault says
 abbrev pub IsStartFault : Session → Grouping → List Counter → StartFault → Type 0
 IsStartFault s grouping cs NoSession = list_any (is_of_blocks s) cs ≡ false
-IsStartFault s grouping cs (OtherGroup line) =
-    (list_any (is_of_blocks s) cs ≡ true) × IsFirstOther s grouping cs line
+IsStartFault s grouping cs (OtherGroup number) =
+    (list_any (is_of_blocks s) cs ≡ true) × IsFirstOther s grouping cs number
 IsStartFault s grouping cs Memory = Unit {0}

@@ -1,25 +1,13 @@
 //! Cutting a text at its first line feed, and a line at its first space.
 ghost use Rattle.std.specs.Prelude.{◌≡◌, ◌++◌, ◌∷◌, ◌<◌, length, IfSome, MatchOption};
 ghost use Rattle.ss_octets.specs.Ascii.{lf, sp};
-ghost use Rattle.ss_answers.specs.Lines.{IsCutAfterLine, Lacks};
+ghost use Rattle.ss_answers.specs.Lines.{Lacks};
 
 use ss_octets::cut_first;
 
 const LINE_FEED: u8 = b'\n';
 
 const SPACE: u8 = b' ';
-
-/// The first line of a text, and what stands after its line feed.
-pub fn cut_line(text: &[u8]) -> (&[u8], &[u8])
-    ensures lacks { Lacks lf result.0.now }
-    ensures cut { IsCutAfterLine text.now result.0.now result.1.now }
-    ensures shorter { 0 < length text.now → length result.1.now < length text.now }
-{
-    match cut_ended_line(text) {
-        Some(parts) => parts,
-        None => (text, &[]),
-    }
-}
 
 /// What stands before the first line feed, and what stands after it.
 pub fn cut_ended_line(text: &[u8]) -> Option<(&[u8], &[u8])>

@@ -1,8 +1,8 @@
 //! Laws on all texts of answers, and on all texts of counters.
 ghost use Rattle.ss_answers.specs.Answers.{BadLineIsDetermined, LinesAreDetermined, NoTextIsGoodAndBad};
 ghost use Rattle.ss_answers.specs.Answers.{PayloadsAreThoseTrusted};
-ghost use Rattle.ss_answers.specs.CounterLine.{BadCounterIsDetermined, CountersAreDetermined};
-ghost use Rattle.ss_answers.specs.CounterLine.{LinesHaveTheirCounters, NoCountersAreGoodAndBad};
+ghost use Rattle.ss_answers.specs.CounterFile.{BadCounterIsDetermined, CountersAreDetermined, CountersAreWhole};
+ghost use Rattle.ss_answers.specs.CounterFile.{CutsAreSeen, NoCountersAreGoodAndBad, PartsHaveTheirCounters};
 
 /// A text of answers has no bad line, so that a fault of a line comes only where there are no answers.
 pub fn no_text_is_good_and_bad()
@@ -29,6 +29,11 @@ pub fn no_counters_are_good_and_bad()
     ensures { NoCountersAreGoodAndBad }
 {}
 
+/// A text of counters is whole, so that `NotWhole` comes only where there are no counters.
+pub fn counters_are_whole()
+    ensures { CountersAreWhole }
+{}
+
 /// A text has its counters in one way, so that they are determined.
 pub fn counters_are_determined()
     ensures { CountersAreDetermined }
@@ -39,8 +44,14 @@ pub fn bad_counter_is_determined()
     ensures { BadCounterIsDetermined }
 {}
 
-/// The lines of counters that are in range, each ended by a line feed, are a text that has these counters and no
-/// others. None of its lines is bad.
-pub fn lines_have_their_counters()
-    ensures { LinesHaveTheirCounters }
+/// Parts whose counters are in range are, one after the other, a text that has these counters and no others. None of its
+/// lines is bad, and it is whole. So files of counters can be put together.
+pub fn parts_have_their_counters()
+    ensures { PartsHaveTheirCounters }
+{}
+
+/// If a text of counters is cut off anywhere, its front isn't whole, unless the cut is where a part ends. Then the front
+/// has the counters of its own parts.
+pub fn cuts_are_seen()
+    ensures { CutsAreSeen }
 {}

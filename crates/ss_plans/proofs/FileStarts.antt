@@ -20,6 +20,7 @@ use Rattle.ss_answers.specs.Start.{is_of_other, number_if_said, start_of}
 use Rattle.ss_answers.proofs.Starts.{start_fits}
 use Rattle.ss_signing.specs.Accepted.{all_calls}
 use Rattle.ss_signing.specs.GoingOn.{Sent, StartsAfter, GoOn, RunsGoOn, told_ahead}
+use Rattle.ss_answers.specs.CounterFile.{together}
 use Rattle.ss_plans.specs.FileStarts.{StartsByFile, StartsBehind, GoOnByFiles, RunsByFilesGoOn}
 use Rattle.ss_plans.specs.ReadBack.{AheadIsReadAmongOthers, greater, number_of, saved, saved_among, session_of}
 use Rattle.ss_plans.proofs.Greatest.{any_among}
@@ -99,14 +100,16 @@ module _ (stay : CountersStayInRange) (among : AheadIsReadAmongOthers) (s : Sett
       let own = own_session s setting in
       let ends : are_counters grouping k ≡ true = ends_in_range stay s r.start (all_calls r.start r.stamp r.messages) r.emitted r.accepted are in
       let m = among session grouping k f.before f.behind own grouped ends f.before_in_range f.behind_in_range in
-      let all = saved_among session (sg_of grouping) k f.before f.behind in
+      let before = together f.before in
+      let behind = together f.behind in
+      let all = saved_among session (sg_of grouping) k before behind in
       let same : f.counters ≡ all = m.read.no_others f.counters f.read in
       let there : start ≡ resumed (start_of session grouping all) = f.start_is ∙ ap (λ cs. resumed (start_of session grouping cs)) same in
       let ranges = are_in_range grouping k grouped ends in
       let none : list_any (is_of_other session grouping) all ≡ false
-      = any_among (is_of_other session grouping) f.before (saved session (sg_of grouping) k) f.behind (none_saved session grouping k ranges) ∙ f.own_groups in (
-        (greater session grouping k (f.before ++ f.behind), there ∙ ap resumed m.goes_on, greater_is_at_least session grouping k (f.before ++ f.behind)),
-        subst InRange (sym there) (start_fits session grouping all (counters_among session grouping k f.before f.behind own ranges f.before_in_range f.behind_in_range) none),
+      = any_among (is_of_other session grouping) before (saved session (sg_of grouping) k) behind (none_saved session grouping k ranges) ∙ f.own_groups in (
+        (greater session grouping k (before ++ behind), there ∙ ap resumed m.goes_on, greater_is_at_least session grouping k (before ++ behind)),
+        subst InRange (sym there) (start_fits session grouping all (counters_among session grouping k before behind own ranges f.before_in_range f.behind_in_range) none),
       )
 
   goes_on : (runs : List (Sent s)) → GoOnByFiles runs → GoOn runs × ((start : Start) → StartsBehind runs start → StartsAfter runs start × InRange start)

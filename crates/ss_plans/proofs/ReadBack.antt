@@ -6,7 +6,6 @@ use Rattle.std.proofs.lemmas.Bool.{true≢false}
 use Rattle.std.proofs.lemmas.Grind.{flat_map-append}
 use Rattle.std.proofs.lemmas.List.{append_cancel_left}
 use Rattle.std.proofs.lemmas.List.Elements.{All-from_recursion, recursion_from_All}
-use Rattle.ss_octets.specs.Ascii.{lf}
 use Rattle.ss_message.specs.Message.{is_field}
 use Rattle.ss_frame.specs.Output.{WritesWhole}
 use Rattle.ss_frame.specs.Watched.{Sink}
@@ -23,14 +22,13 @@ use Rattle.ss_origin.specs.State.{state, counters_of}
 use Rattle.ss_origin.proofs.Configs.{has_ranges}
 use Rattle.ss_review.specs.declared.counted.counter.Counter.{Counter}
 use Rattle.ss_review.specs.counted.CounterRange.{IsName, IsSession, IsCounter}
-use Rattle.ss_review.specs.counted.CounterText.{counter_line, lines_of_counters}
 use Rattle.ss_review.specs.counted.Kept.{gbc_in, number_in}
 use Rattle.ss_answers.specs.declared.counters.fault.CounterFault.{CounterFault}
 use Rattle.ss_answers.specs.declared.counters.fault.CounterFault.TheVariants as reads
 use Rattle.ss_answers.specs.declared.counters.start_fault.StartFault.{StartFault}
 use Rattle.ss_answers.specs.declared.counters.start_fault.StartFault.TheVariants as starts
 use Rattle.ss_answers.specs.CounterInput.{IsCounterFault}
-use Rattle.ss_answers.specs.CounterLine.{HasCounters, HasFirstBadCounter, HasOnly, LinesHaveTheirCounters}
+use Rattle.ss_answers.specs.CounterFile.{HasCounters, HasFirstBadCounter, HasOnly, IsNotWhole, PartsHaveTheirCounters, part_text, text_of_parts, together}
 use Rattle.ss_answers.specs.Input.{GivesAll, GivesMore}
 use Rattle.ss_answers.specs.Start.{IsStartFault, is_of_other, start_of}
 use Rattle.ss_signing.specs.Accepted.{all_calls, Accepts}
@@ -41,19 +39,21 @@ use Rattle.ss_signing.proofs.Plans.{same_state}
 use Rattle.ss_plans.specs.Known.{Wrote}
 use Rattle.ss_plans.specs.ReadBack.{AheadIsReadAmongOthers, AheadIsReadBack, AreNoGreater, GoesOnAt, IsReadAs, IsReadBack, OlderCountersChangeNothing, RunsAheadAreReadBack, saved, saved_among, session_of, text_among}
 use Rattle.ss_plans.proofs.SavedNumbers.{AreInRange, are_in_range}
-use Rattle.ss_plans.proofs.SavedLines.{saved_are_counters, text_is_lines, text_is_short}
+use Rattle.ss_plans.proofs.SavedLines.{saved_are_counters, text_is_part, text_is_short}
 use Rattle.ss_plans.proofs.SavedStarts.{goes_on_at_greater, greater_is_same, refused_for_others}
 
 -- ---- among others
 
-lines-append : (xs ys : List Counter) → lines_of_counters (xs ++ ys) ≡ lines_of_counters xs ++ lines_of_counters ys
-lines-append xs ys = flat_map-append (λ (c : Counter). counter_line c ++ lf ∷ []) xs ys
+parts_among : (s : Session) (sg : ℕ) (k : Counters) (before behind : List (List Counter)) → text_among s sg k before behind ≡ text_of_parts (before ++ saved s sg k ∷ behind)
+parts_among s sg k before behind =
+    ap (λ text. text_of_parts before ++ (text ++ text_of_parts behind)) (text_is_part s sg k)
+    ∙ sym (flat_map-append part_text before (saved s sg k ∷ behind))
 
-pub lines_among : (s : Session) (sg : ℕ) (k : Counters) (before behind : List Counter) → text_among s sg k before behind ≡ lines_of_counters (saved_among s sg k before behind)
-lines_among s sg k before behind =
-    ap (λ text. lines_of_counters before ++ (text ++ lines_of_counters behind)) (text_is_lines s sg k)
-    ∙ ap (λ text. lines_of_counters before ++ text) (sym (lines-append (saved s sg k) behind))
-    ∙ sym (lines-append before (saved s sg k ++ behind))
+saved_parts : (s : Session) (sg : ℕ) (k : Counters) (before behind : List (List Counter)) → together (before ++ saved s sg k ∷ behind) ≡ saved_among s sg k (together before) (together behind)
+saved_parts s sg k before behind = flat_map-append (λ (cs : List Counter). cs) before (saved s sg k ∷ behind)
+
+parts_some : (before behind : List (List Counter)) (own : List Counter) → 0 < length (before ++ own ∷ behind)
+parts_some before behind own = omega (arith, length-append before (own ∷ behind))
 
 all_append : (xs ys : List Counter) → AllByRecursion IsCounter xs → AllByRecursion IsCounter ys → AllByRecursion IsCounter (xs ++ ys)
 all_append [] ys a b = b
@@ -64,29 +64,34 @@ counters_among s grouping k before behind is ranges b a =
     All-from_recursion IsCounter (saved_among s (sg_of grouping) k before behind)
     (all_append before (saved s (sg_of grouping) k ++ behind) (recursion_from_All IsCounter before b) (all_append (saved s (sg_of grouping) k) behind (saved_are_counters s grouping k is ranges) (recursion_from_All IsCounter behind a)))
 
-pub ahead_is_read_among_others : LinesHaveTheirCounters → AheadIsReadAmongOthers
-ahead_is_read_among_others lines s grouping k before behind is grouped are b a =
+pub ahead_is_read_among_others : PartsHaveTheirCounters → AheadIsReadAmongOthers
+ahead_is_read_among_others law s grouping k before behind is grouped are b a =
     let ranges = are_in_range grouping k grouped are in
-    let all = saved_among s (sg_of grouping) k before behind in
+    let sg = sg_of grouping in
+    let parts = before ++ saved s sg k ∷ behind in
+    let all = saved_among s sg k (together before) (together behind) in
+    let same : together parts ≡ all = saved_parts s sg k before behind in
+    let range : All IsCounter (together parts) = subst (All IsCounter) (sym same) (counters_among s grouping k (together before) (together behind) is ranges b a) in
     record {
-      read = subst (λ text. HasOnly text all) (sym (lines_among s (sg_of grouping) k before behind)) (lines all (counters_among s grouping k before behind is ranges b a));
-      goes_on = goes_on_at_greater s grouping k before behind ranges.rise;
-      refused = refused_for_others s grouping k before behind ranges;
+      read = subst (λ text. HasOnly text all) (sym (parts_among s sg k before behind)) (subst (HasOnly (text_of_parts parts)) same (law parts (parts_some before behind (saved s sg k)) range));
+      goes_on = goes_on_at_greater s grouping k (together before) (together behind) ranges.rise;
+      refused = refused_for_others s grouping k (together before) (together behind) ranges;
     }
 
 pub older_counters_change_nothing : AheadIsReadAmongOthers → OlderCountersChangeNothing
 older_counters_change_nothing among s grouping k before behind is grouped are b a no_greater =
     let ranges = are_in_range grouping k grouped are in
     let m = among s grouping k before behind is grouped are b a in
-    let same : (counters : List Counter) → HasCounters (text_among s (sg_of grouping) k before behind) counters → counters ≡ saved_among s (sg_of grouping) k before behind
+    let others = together before ++ together behind in
+    let same : (counters : List Counter) → HasCounters (text_among s (sg_of grouping) k before behind) counters → counters ≡ saved_among s (sg_of grouping) k (together before) (together behind)
     = λ counters has. m.read.no_others counters has in
     record {
-      there = λ counters has. ap (start_of s grouping) (same counters has) ∙ m.goes_on ∙ greater_is_same s grouping k (before ++ behind) ranges no_greater;
+      there = λ counters has. ap (start_of s grouping) (same counters has) ∙ m.goes_on ∙ greater_is_same s grouping k others ranges no_greater;
       refused = λ counters fault has refuses.
           by fault (m.refused fault (subst (λ cs. IsStartFault s grouping cs fault) (same counters has) refuses)) no_greater.own_groups;
     }
   where
-    by : (fault : StartFault) → (fault ≡ starts.Memory) ⊎ (list_any (is_of_other s grouping) (before ++ behind) ≡ true) → list_any (is_of_other s grouping) (before ++ behind) ≡ false
+    by : (fault : StartFault) → (fault ≡ starts.Memory) ⊎ (list_any (is_of_other s grouping) (together before ++ together behind) ≡ true) → list_any (is_of_other s grouping) (together before ++ together behind) ≡ false
         → fault ≡ starts.Memory
     by fault (inl e) none = e
     by fault (inr other) none = absurd (true≢false (sym other ∙ none))
@@ -121,6 +126,7 @@ module _ (text : List ℕ) (counters : List Counter) (only : HasOnly text counte
   faults after (reads.BadLine line) bad = absurd (only.none_bad line (subst (λ t. HasFirstBadCounter t line) (whole after bad.text bad.all) bad.first))
   faults after reads.Read bad = inl refl
   faults after reads.TooBig bad = absurd (no_more after bad)
+  faults after reads.NotWhole bad = absurd (only.whole (subst IsNotWhole (whole after bad.text bad.all) bad.not_whole))
   faults after reads.Memory bad = inr refl
 
   pub is_read_as : IsReadAs text counters
@@ -135,7 +141,7 @@ ahead_is_read_back among older s grouping k is grouped are =
     let m = among s grouping k [] [] is grouped are no_counters no_counters in
     let only : HasOnly (counters_text s sg k) (saved s sg k) = subst (λ text. HasOnly text (saved s sg k)) alone (subst (HasOnly (text_among s sg k [] [])) all m.read) in
     record {
-      read = is_read_as (counters_text s sg k) (saved s sg k) only (subst (λ text. length text < 2 ^ 32) (sym (text_is_lines s sg k)) (text_is_short s grouping k is ranges));
+      read = is_read_as (counters_text s sg k) (saved s sg k) only (subst (λ text. length text < 2 ^ 32) (sym (text_is_part s sg k)) (text_is_short s grouping k is ranges));
       goes_on = subst (λ text. GoesOnAt s grouping text k) alone (older s grouping k [] [] is grouped are no_counters no_counters (nothing_said s grouping k));
     }
 

@@ -1,5 +1,6 @@
--- The text of saved counters is the lines of the counters that it saves. These are in their ranges, and the text is short.
-use Rattle.std.proofs.Common.{◌≡◌, ℕ, ◌+◌, ◌*◌, ◌<◌, ◌≤◌, ◌^◌, ◌&&◌, codes, List, [], ◌∷◌, ◌++◌, length, map, flat_map, refl, ap, ◌∙◌, arith, append-nil, append_assoc, length-append}
+-- The text of saved counters is a part with the counters that it saves. These are in their ranges, and the text is short.
+use Rattle.std.proofs.Common.{◌≡◌, ℕ, ◌+◌, ◌*◌, ◌<◌, ◌≤◌, ◌^◌, ◌&&◌, codes, List, [], ◌∷◌, ◌++◌, length, map, flat_map, refl, sym, ap, ◌∙◌, arith, append-nil, append_assoc, length-append}
+use Rattle.std.proofs.lemmas.List.{length-map}
 use Rattle.std.specs.Prelude.{decimal, nat_le, nat_lt}
 use Rattle.std.specs.List.{AllByRecursion, list_all}
 use Rattle.std.proofs.lemmas.Bool.{and_parts, leb-true}
@@ -19,11 +20,12 @@ use Rattle.ss_review.specs.declared.counted.counter.Counts.TheVariants.{Blocks, 
 use Rattle.ss_review.specs.counted.CounterRange.{IsName, IsSession, IsCounter}
 use Rattle.ss_review.specs.counted.CounterText as spelling
 use Rattle.ss_review.specs.counted.CounterText.{counter_line, counter_text, lines_of_counters}
-use Rattle.ss_report.specs.runs.Counters.{block_counter, message_counter}
+use Rattle.ss_report.specs.runs.Counters.{block_counter, counters_end, message_counter}
 use Rattle.ss_report.specs.records.Record.{field}
 use Rattle.ss_report.specs.records.Fields.{field_word, session_fields, group_fields}
 use Rattle.ss_report.specs.records.Written.{fields_in, written}
 use Rattle.ss_report.specs.declared.notation.Notation.TheVariants.{Plain}
+use Rattle.ss_answers.specs.CounterFile.{end_line, part_text}
 use Rattle.ss_answers.proofs.CounterWords.{is_text-word}
 use Rattle.ss_signing.specs.Ahead.{counters_text, number_line}
 use Rattle.ss_plans.specs.ReadBack.{number_saved, saved}
@@ -71,8 +73,15 @@ group_lines : (s : Session) (sg : ℕ) (numbers : List NextNumber) → flat_map 
 group_lines s sg [] = refl
 group_lines s sg (n ∷ numbers) = λ i. message_line s (record { sg = sg; spri = n.spri }) n.number i ++ group_lines s sg numbers i
 
-pub text_is_lines : (s : Session) (sg : ℕ) (k : Counters) → counters_text s sg k ≡ lines_of_counters (saved s sg k)
-text_is_lines s sg k = λ i. block_line s k.gbc i ++ group_lines s sg k.groups i
+end_is : (count other : ℕ) → count ≡ other → counters_end Plain count ≡ end_line other ++ lf ∷ []
+unfolding written fields_in field
+end_is count other e = ap (λ t. codes "end " ++ t ++ lf ∷ []) (append-nil (decimal count)) ∙ ap (λ n. end_line n ++ lf ∷ []) e
+
+pub text_is_part : (s : Session) (sg : ℕ) (k : Counters) → counters_text s sg k ≡ part_text (saved s sg k)
+text_is_part s sg k =
+    let count : length k.groups + 1 ≡ length (saved s sg k) = omega (arith, length-map k.groups (number_saved s sg)) in
+    (λ i. block_line s k.gbc i ++ (group_lines s sg k.groups i ++ end_is (length k.groups + 1) (length (saved s sg k)) count i))
+    ∙ sym (append_assoc (counter_text s Blocks k.gbc ++ lf ∷ []) (lines_of_counters (map (number_saved s sg) k.groups)) (end_line (length (saved s sg k)) ++ lf ∷ []))
 
 -- ---- ranges
 
@@ -140,9 +149,16 @@ numbers_length s grouping is (n ∷ numbers) own =
     let both = append_length (counter_line (number_saved s (sg_of grouping) n) ++ lf ∷ []) (lines_of_counters (map (number_saved s (sg_of grouping)) numbers)) 488 (488 * length numbers) line (numbers_length s grouping is numbers own.1) in
     omega (arith, both)
 
-pub text_is_short : (s : Session) (grouping : Grouping) (k : Counters) → IsSession s → AreInRange grouping k → length (lines_of_counters (saved s (sg_of grouping) k)) < 2 ^ 32
+end_length : (count : ℕ) → count ≤ 10000000000 → length (end_line count ++ lf ∷ []) ≤ 16
+end_length count most =
+    let digits = number_length count most in omega (arith, digits, length-append (end_line count) (lf ∷ []))
+
+pub text_is_short : (s : Session) (grouping : Grouping) (k : Counters) → IsSession s → AreInRange grouping k → length (part_text (saved s (sg_of grouping) k)) < 2 ^ 32
 text_is_short s grouping k is ranges =
     let few = few_numbers grouping 0 k.groups (omega arith) ranges.rise ranges.own in
     let first = block_words (codes "count") (spelling.session_words s) (spelling.spaced k.gbc) (codes "\n") refl (session_length s is) (spaced_length k.gbc ranges.gbc) refl in
     let both = append_length (counter_text s Blocks k.gbc ++ lf ∷ []) (lines_of_counters (map (number_saved s (sg_of grouping)) k.groups)) 488 (488 * length k.groups) first (numbers_length s grouping is k.groups ranges.own) in
-    omega (arith, few, both)
+    let many = length-map k.groups (number_saved s (sg_of grouping)) in
+    let end = end_length (length (saved s (sg_of grouping) k)) (omega (arith, few, many)) in
+    let all = append_length (lines_of_counters (saved s (sg_of grouping) k)) (end_line (length (saved s (sg_of grouping) k)) ++ lf ∷ []) (488 + 488 * length k.groups) 16 both end in
+    omega (arith, few, all)

@@ -14,7 +14,7 @@ use Rattle.ss_review.specs.counted.Kept.{gbc_in, kept_gbc, kept_number, number_i
 use Rattle.ss_review.specs.report.Entries.{same_group}
 use Rattle.ss_plans.specs.ReadBack.{number_of, saved}
 use Rattle.ss_plans.specs.SavedRows.{SavedRowsAreThese, newer, number_at, older, own, told, two}
-use Rattle.ss_plans.proofs.SavedLines.{text_is_lines}
+use Rattle.ss_plans.proofs.SavedLines.{text_is_part}
 
 is_own : IsSession own
 unfolding is_text
@@ -60,7 +60,7 @@ saved_rows = record {
   older_in_range = All-from_recursion IsCounter older older_are;
   newer_in_range = All-from_recursion IsCounter newer newer_are;
   no_greater = record { gbc = few_blocks; numbers = λ spri below. small_numbers spri; own_groups = refl };
-  text = text_is_lines own 2 told ∙ refl;
+  text = text_is_part own 2 told ∙ refl;
   alone = refl;
   with_older = refl;
   with_newer = refl;

@@ -1,5 +1,5 @@
 -- Runs of one session that follow one another by files: each writes its counters ahead, and the next one goes on by a
--- counters file that has these lines.
+-- counters file that has these lines and their end.
 use Rattle.std.specs.Prelude.{◌≡◌, false, List, [], ◌∷◌, ◌++◌, map, All}
 use Rattle.std.specs.List.{list_any}
 use Rattle.ss_origin.specs.Ahead.{IsChainAhead}
@@ -8,19 +8,20 @@ use Rattle.ss_origin.specs.Groups.{sg_of}
 use Rattle.ss_origin.specs.Setting.{Setting, IsSetting}
 use Rattle.ss_review.specs.declared.counted.counter.Counter.{Counter}
 use Rattle.ss_review.specs.counted.CounterRange.{IsCounter}
-use Rattle.ss_answers.specs.CounterLine.{HasCounters}
+use Rattle.ss_answers.specs.CounterFile.{HasCounters, together}
 use Rattle.ss_answers.specs.Start.{is_of_other, start_of}
 use Rattle.ss_signing.specs.GoingOn.{Sent, GoOn, life_of, told_ahead}
 use Rattle.ss_plans.specs.ReadBack.{session_of, text_among}
 
--- The originator started by a file that has the lines of what was told ahead of this run. Other counters may stand before
+-- The originator started by a file that has what was told ahead of this run. Parts with other counters may stand before
 -- and after: of other sessions, and of the groups of this one.
 pub record StartsByFile {s : Setting} (r : Sent s) (start : Start) : Type 0 where
-  pub before : List Counter
-  pub behind : List Counter
-  pub before_in_range : All IsCounter before
-  pub behind_in_range : All IsCounter behind
-  pub own_groups : list_any (is_of_other (session_of s.config) s.config.grouping) (before ++ behind) ≡ false
+  pub before : List (List Counter)
+  pub behind : List (List Counter)
+  pub before_in_range : All IsCounter (together before)
+  pub behind_in_range : All IsCounter (together behind)
+  pub own_groups : list_any (is_of_other (session_of s.config) s.config.grouping)
+      (together before ++ together behind) ≡ false
   pub counters : List Counter
   pub read : HasCounters (text_among (session_of s.config) (sg_of s.config.grouping) (told_ahead r) before behind)
       counters

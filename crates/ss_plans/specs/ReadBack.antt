@@ -18,14 +18,13 @@ use Rattle.ss_origin.specs.State.{state, counters_of, spris}
 use Rattle.ss_review.specs.declared.counted.counter.Counter.{Counter}
 use Rattle.ss_review.specs.declared.counted.counter.Counts.TheVariants.{Blocks, Messages}
 use Rattle.ss_review.specs.counted.CounterRange.{IsSession, IsCounter}
-use Rattle.ss_review.specs.counted.CounterText.{lines_of_counters}
 use Rattle.ss_review.specs.counted.Kept.{kept_gbc, kept_number}
 use Rattle.ss_answers.specs.declared.counters.fault.CounterFault.{CounterFault}
 use Rattle.ss_answers.specs.declared.counters.fault.CounterFault.TheVariants as reads
 use Rattle.ss_answers.specs.declared.counters.start_fault.StartFault.{StartFault}
 use Rattle.ss_answers.specs.declared.counters.start_fault.StartFault.TheVariants as starts
 use Rattle.ss_answers.specs.CounterInput.{IsCounterFault}
-use Rattle.ss_answers.specs.CounterLine.{HasCounters, HasOnly}
+use Rattle.ss_answers.specs.CounterFile.{HasCounters, HasOnly, text_of_parts, together}
 use Rattle.ss_answers.specs.Start.{IsStartFault, is_of_other, number_if_said, start_of}
 use Rattle.ss_signing.specs.Accepted.{all_calls}
 use Rattle.ss_signing.specs.Ahead.{counters_text}
@@ -46,8 +45,8 @@ saved s sg k = record { session = s; counts = Blocks; next = k.gbc } ∷ map (nu
 
 -- ---- where an originator goes on by a text
 
--- The text is read as these counters and no others, and none of its lines is refused. It isn't too long for a file. So
--- a file with it is refused only if a read fails, or if memory runs out.
+-- The text is read as these counters and no others, none of its lines is refused, and it is whole. It isn't too long for
+-- a file. So a file with it is refused only if a read fails, or if memory runs out.
 pub record IsReadAs (text : List ℕ) (counters : List Counter) : Type 0 where
   pub only : HasOnly text counters
   pub faults : (after : Option (List ℕ)) (fault : CounterFault)
@@ -73,10 +72,9 @@ AheadIsReadBack =
 
 -- ---- among other counters
 
--- the lines of other counters stand before and after
-abbrev pub text_among : Session → (sg : ℕ) → Counters → (before behind : List Counter) → List ℕ
-text_among s sg k before behind =
-    lines_of_counters before ++ (counters_text s sg k ++ lines_of_counters behind)
+-- parts with other counters stand before and after, as where files are put together
+abbrev pub text_among : Session → (sg : ℕ) → Counters → (before behind : List (List Counter)) → List ℕ
+text_among s sg k before behind = text_of_parts before ++ (counters_text s sg k ++ text_of_parts behind)
 
 abbrev pub saved_among : Session → (sg : ℕ) → Counters → (before behind : List Counter) → List Counter
 saved_among s sg k before behind = before ++ (saved s sg k ++ behind)
@@ -97,18 +95,21 @@ greater s grouping k others = record {
 
 -- A text with other counters too, before and after, is read as all of them. An originator goes on at the greater ones.
 -- It is refused only if one of the others is of a group that it hasn't, or if memory runs out.
-pub record IsReadAmong (s : Session) (grouping : Grouping) (k : Counters) (before behind : List Counter) : Type 0 where
-  pub read : HasOnly (text_among s (sg_of grouping) k before behind) (saved_among s (sg_of grouping) k before behind)
-  pub goes_on : start_of s grouping (saved_among s (sg_of grouping) k before behind)
-      ≡ greater s grouping k (before ++ behind)
-  pub refused : (fault : StartFault) → IsStartFault s grouping (saved_among s (sg_of grouping) k before behind) fault
-      → (fault ≡ starts.Memory) ⊎ (list_any (is_of_other s grouping) (before ++ behind) ≡ true)
+pub record IsReadAmong (s : Session) (grouping : Grouping) (k : Counters) (before behind : List (List Counter))
+    : Type 0 where
+  pub read : HasOnly (text_among s (sg_of grouping) k before behind)
+      (saved_among s (sg_of grouping) k (together before) (together behind))
+  pub goes_on : start_of s grouping (saved_among s (sg_of grouping) k (together before) (together behind))
+      ≡ greater s grouping k (together before ++ together behind)
+  pub refused : (fault : StartFault)
+      → IsStartFault s grouping (saved_among s (sg_of grouping) k (together before) (together behind)) fault
+      → (fault ≡ starts.Memory) ⊎ (list_any (is_of_other s grouping) (together before ++ together behind) ≡ true)
 
 abbrev pub AheadIsReadAmongOthers : Type 0
 AheadIsReadAmongOthers =
-    (s : Session) (grouping : Grouping) (k : Counters) (before behind : List Counter)
+    (s : Session) (grouping : Grouping) (k : Counters) (before behind : List (List Counter))
     → IsSession s → is_grouping grouping ≡ true → are_counters grouping k ≡ true
-    → All IsCounter before → All IsCounter behind → IsReadAmong s grouping k before behind
+    → All IsCounter (together before) → All IsCounter (together behind) → IsReadAmong s grouping k before behind
 
 -- The others are of other sessions, or of the groups of this one and no greater.
 pub record AreNoGreater (s : Session) (grouping : Grouping) (k : Counters) (others : List Counter) : Type 0 where
@@ -120,9 +121,10 @@ pub record AreNoGreater (s : Session) (grouping : Grouping) (k : Counters) (othe
 -- such counters change nothing
 abbrev pub OlderCountersChangeNothing : Type 0
 OlderCountersChangeNothing =
-    (s : Session) (grouping : Grouping) (k : Counters) (before behind : List Counter)
+    (s : Session) (grouping : Grouping) (k : Counters) (before behind : List (List Counter))
     → IsSession s → is_grouping grouping ≡ true → are_counters grouping k ≡ true
-    → All IsCounter before → All IsCounter behind → AreNoGreater s grouping k (before ++ behind)
+    → All IsCounter (together before) → All IsCounter (together behind)
+    → AreNoGreater s grouping k (together before ++ together behind)
     → GoesOnAt s grouping (text_among s (sg_of grouping) k before behind) k
 
 -- ---- what a run writes ahead

@@ -55,7 +55,7 @@ pub record SavedRowsAreThese : Type 0 where
   pub older_in_range : All IsCounter older
   pub newer_in_range : All IsCounter newer
   pub no_greater : AreNoGreater own two told older
-  pub text : counters_text own 2 told ≡ codes "count h s - 1 3\ncount h s - 1 2 10 5\ncount h s - 1 2 191 2\n"
+  pub text : counters_text own 2 told ≡ codes "count h s - 1 3\ncount h s - 1 2 10 5\ncount h s - 1 2 191 2\nend 3\n"
   pub alone : start_of own two (saved own 2 told) ≡ told
   pub with_older : start_of own two (saved_among own 2 told older []) ≡ told
   pub with_newer : start_of own two (saved_among own 2 told older newer)

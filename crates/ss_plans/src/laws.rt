@@ -7,7 +7,7 @@ ghost use Rattle.ss_plans.specs.SavedRows.{SavedRowsAreThese};
 ghost use Rattle.ss_plans.specs.SealedPlans.{SealedPlansAreNotRefused};
 ghost use Rattle.ss_plans.specs.SmallPlan.{SmallPlanIsThis};
 
-use ss_answers::laws::lines_have_their_counters;
+use ss_answers::laws::parts_have_their_counters;
 use ss_frame::laws::calls::units_are_read;
 use ss_frame::laws::readings::one_reading;
 use ss_origin::Seals;
@@ -20,7 +20,7 @@ use ss_signing::laws::runs_go_on;
 pub fn ahead_is_read_among_others()
     ensures { AheadIsReadAmongOthers }
 {
-    lines_have_their_counters();
+    parts_have_their_counters();
 }
 
 /// Other counters in the text change nothing, if they are of other sessions, or of this one and no greater.

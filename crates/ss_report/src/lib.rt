@@ -23,7 +23,9 @@ pub use log::log::{Log, read_log};
 pub use log::output::{end_text, write_whole};
 pub use notation::Notation;
 pub use payloads::Payloads;
-pub use runs::counters::{run_counters, write_block_counter, write_message_counter};
+pub use runs::counters::{
+    run_counters, write_block_counter, write_counters_end, write_message_counter,
+};
 pub use runs::extract::{run_extract, run_extract_as};
 pub use runs::extraction::{ExtractFault, Extraction, Selection};
 pub use runs::inspect::run_inspect;

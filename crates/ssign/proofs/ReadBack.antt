@@ -1,5 +1,7 @@
 -- The text of a log's counters has these counters, and they add nothing to its review.
-use Rattle.std.proofs.Common.{ℕ, List, None, sym, ap, flat_map, subst}
+use Rattle.std.proofs.Common.{ℕ, List, [], ◌∷◌, ◌++◌, None, sym, ap, ◌∙◌, flat_map, subst, arith, append-nil}
+use Rattle.std.specs.Prelude.{All}
+use Rattle.ss_review.specs.counted.CounterRange.{IsCounter}
 use Rattle.ss_review.specs.counted.KeptLaws.{CountersGivenBack, LogCountersAddNothing, LogCountersAreInRange, log_counters}
 use Rattle.ss_review.specs.report.Report.{report}
 use Rattle.ss_review.specs.sessions.Verified.{Answers}
@@ -8,7 +10,7 @@ use Rattle.ss_report.specs.forms.Forms.{line_as}
 use Rattle.ss_report.specs.runs.Jobs.{counting}
 use Rattle.ss_report.specs.lines.Whole.{lines_with, verdict_with}
 use Rattle.ss_report.specs.declared.notation.Notation.TheVariants.{Plain}
-use Rattle.ss_answers.specs.CounterLine.{HasOnly, LinesHaveTheirCounters}
+use Rattle.ss_answers.specs.CounterFile.{HasOnly, PartsHaveTheirCounters, part_text}
 use Rattle.ssign.specs.ReadBack.{ChangeNothing, CountersAreReadBack}
 
 changes_nothing : LogCountersAddNothing → CountersGivenBack
@@ -20,12 +22,13 @@ changes_nothing nothing given_back says log = record {
   missing = given_back says log;
 }
 
-pub read_back : LinesHaveTheirCounters → CountersAreTheLogs → LogCountersAreInRange
+pub read_back : PartsHaveTheirCounters → CountersAreTheLogs → LogCountersAreInRange
     → LogCountersAddNothing → CountersGivenBack → CountersAreReadBack
-read_back lines written in_range nothing given_back says log tail =
+read_back parts written in_range nothing given_back says log tail =
     let own = log_counters says log in
     let read : HasOnly ((counting Plain None says).output log tail) own
-    = subst (λ text. HasOnly text own) (sym (written None says log tail)) (lines own (in_range says log)) in
+    = subst (λ text. HasOnly text own) (append-nil (part_text own) ∙ sym (written None says log tail))
+    (subst (HasOnly (part_text own ++ [])) (append-nil own) (parts (own ∷ []) (omega arith) (subst (All IsCounter) (sym (append-nil own)) (in_range says log)))) in
     record {
       read = read;
       given_back = λ counters has.

@@ -11,7 +11,7 @@ use Rattle.ss_report.specs.runs.Jobs.{counting, reviewing_whole}
 use Rattle.ss_report.specs.declared.forms.report_form.ReportForm.{ReportForm}
 use Rattle.ss_report.specs.declared.lines.detail.Detail.{Detail}
 use Rattle.ss_report.specs.declared.notation.Notation.TheVariants.{Plain}
-use Rattle.ss_answers.specs.CounterLine.{HasCounters, HasOnly}
+use Rattle.ss_answers.specs.CounterFile.{HasCounters, HasOnly}
 
 -- A whole review up to these counters writes what one without counters writes, in each form, and has its verdict. It
 -- has no tail and no absent session, and the missing blocks are those that the log shows by itself.
@@ -24,7 +24,7 @@ pub record ChangeNothing (says : Answers) (log : List (List ℕ)) (counters : Li
       ≡ (reviewing_whole form detail [] None says).verdict log tail
   pub missing : AddNothing (counted_sessions says (blocks (notes log))) (shortfalls_of says log counters)
 
--- A text is read as the counters of a log and as no others. Whatever is read of it changes nothing in the log's review.
+-- A text is read as the counters of a log and as no others, and it is whole. Whatever is read of it changes nothing in the log's review.
 pub record IsReadBack (says : Answers) (log : List (List ℕ)) (text : List ℕ) : Type 0 where
   pub read : HasOnly text (log_counters says log)
   pub given_back : (counters : List Counter) → HasCounters text counters → ChangeNothing says log counters

@@ -6,7 +6,7 @@ ghost use Rattle.ssign.specs.Names.{CommandsHaveTheirNames, OptionsHaveTheirName
 ghost use Rattle.ssign.specs.ReadBack.{CountersAreReadBack};
 
 use crate::refuse_all::RefuseAll;
-use ss_answers::laws::lines_have_their_counters;
+use ss_answers::laws::parts_have_their_counters;
 use ss_report::laws::counters_are_the_logs;
 use ss_review::Judge;
 use ss_review::laws::kept::{
@@ -39,7 +39,7 @@ pub fn commands_are_found_by_name()
 pub fn counters_are_read_back()
     ensures { CountersAreReadBack }
 {
-    lines_have_their_counters();
+    parts_have_their_counters();
     counters_are_the_logs();
     log_counters_are_in_range();
     log_counters_add_nothing();

@@ -11,7 +11,7 @@ use thiserror::Error;
 /// Why a file of counters wasn't read.
 #[derive(Clone, Copy, Debug, Drop, PartialEq, Eq, Error)]
 pub enum CounterFault {
-    /// C1: a line that isn't a counter, an empty one too.
+    /// C1: a line that neither is a counter nor ends a part, an empty one too.
     BadLine {
         /// The number of the first such line, counted from 1.
         line: u32,
@@ -20,6 +20,8 @@ pub enum CounterFault {
     Read,
     /// C3: there are more octets than were allowed.
     TooBig,
+    /// C3 too: a part has no end, or has another number of counters than its end says.
+    NotWhole,
     /// C4: out of memory.
     Memory,
 }
@@ -32,7 +34,7 @@ impl CounterFault {
         let (name, place) = match self {
             CounterFault::BadLine { line } => ("C1", Some(line as u64)),
             CounterFault::Read => ("C2", None),
-            CounterFault::TooBig => ("C3", None),
+            CounterFault::TooBig | CounterFault::NotWhole => ("C3", None),
             CounterFault::Memory => ("C4", None),
         };
         Code { name, place }
@@ -47,6 +49,7 @@ impl fmt::Display for CounterFault {
             CounterFault::BadLine { line } => write!(f, "a line isn't a counter, at line {line}"),
             CounterFault::Read => f.write_str("the counters file couldn't be opened or read"),
             CounterFault::TooBig => f.write_str("the counters file has more octets than allowed"),
+            CounterFault::NotWhole => f.write_str("the counters file isn't whole"),
             CounterFault::Memory => f.write_str("out of memory"),
         }
     }

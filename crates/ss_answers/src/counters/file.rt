@@ -12,8 +12,12 @@ use ss_octets::List;
 use ss_review::Counters;
 use std::alloc::Global;
 use std::fs;
+use std::fs::OpenFile;
 use std::io::Read;
 use std::rt::Files;
+
+/// The most octets that a file may have.
+const MOST_OCTETS: u32 = u32::MAX;
 
 /// The counters that a reader gives, in at most `max` octets, in their order. All is read before a line is looked at,
 /// at most one octet more than `max`, and the reader is one that hasn't failed yet.
@@ -21,7 +25,8 @@ use std::rt::Files;
 /// # Errors
 ///
 /// `Read` exactly where a read failed in the call, an interrupted one too; `TooBig` where there are more than
-/// `max` octets; else `BadLine` with the number, from 1, of the first line that is no counter; `Memory`.
+/// `max` octets; else the first that the text shows: `BadLine` with the number, from 1, of a line that neither is a
+/// counter nor ends a part, or `NotWhole`; `Memory`.
 pub fn read_counters<R: Read>(
     alloc: Global,
     reader: &mut Watched<R>,
@@ -43,7 +48,8 @@ pub fn read_counters<R: Read>(
 ///
 /// # Errors
 ///
-/// `Read` where the file can't be opened, is a folder or can't be read; the others as `read_counters`.
+/// `Read` where the file can't be opened, is a folder or can't be read; the others as `read_counters`. `TooBig` comes
+/// before anything is read where the size of the file is known.
 pub fn open_counters<R: Files + AllocGlobal>(rt: &R, path: &str) -> Result<Counters, CounterFault>
     ensures ok { IfOk result AreCountersOfFile }
     ensures err { IfErr result IsCountersFileFault }
@@ -51,6 +57,12 @@ pub fn open_counters<R: Files + AllocGlobal>(rt: &R, path: &str) -> Result<Count
     let Ok(file) = fs::open(rt, path) else {
         return Err(CounterFault::Read);
     };
+    // A file that is known to be too long isn't read.
+    if let Ok(metadata) = file.metadata()
+        && metadata.len() > MOST_OCTETS as u64
+    {
+        return Err(CounterFault::TooBig);
+    }
     let mut reader = Watched::new(file);
     read_file(rt.alloc(), &mut reader)
 }
@@ -63,5 +75,5 @@ fn read_file<R: Read>(alloc: Global, reader: &mut Watched<R>) -> Result<Counters
     ensures err { IfErr result (λ fault. IsCounterFault (R.remaining (inner_of reader.old))
         (R.remaining (inner_of reader.new)) 4294967295 fault) }
 {
-    read_counters(alloc, reader, u32::MAX)
+    read_counters(alloc, reader, MOST_OCTETS)
 }

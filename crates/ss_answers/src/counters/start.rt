@@ -48,8 +48,8 @@ pub fn start_of(
     if !has_blocks(counters, session) {
         return Err(StartFault::NoSession);
     }
-    if let Some(line) = other_group(counters, session, grouping) {
-        return Err(StartFault::OtherGroup { line });
+    if let Some(counter) = other_group(counters, session, grouping) {
+        return Err(StartFault::OtherGroup { counter });
     }
     let own = own_counters(alloc, counters, session)?;
     let groups = next_numbers(alloc, own.as_slice(), grouping.sg())?;

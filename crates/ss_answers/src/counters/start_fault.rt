@@ -15,21 +15,21 @@ pub enum StartFault {
     NoSession,
     /// C6: one is of the session, and of a group that the grouping hasn't.
     OtherGroup {
-        /// The number of the first such line, counted from 1.
-        line: u64,
+        /// The number of the first such counter in the file, counted from 1.
+        counter: u64,
     },
     /// C4: out of memory.
     Memory,
 }
 
 impl StartFault {
-    /// Its code, for programs. The place is the number of the line.
+    /// Its code, for programs. The place is the number of the counter.
     pub fn code(self) -> Code
         ensures { IsCode result (start_fault_code self) }
     {
         let (name, place) = match self {
             StartFault::NoSession => ("C5", None),
-            StartFault::OtherGroup { line } => ("C6", Some(line)),
+            StartFault::OtherGroup { counter } => ("C6", Some(counter)),
             StartFault::Memory => ("C4", None),
         };
         Code { name, place }
@@ -44,10 +44,10 @@ impl fmt::Display for StartFault {
             StartFault::NoSession => {
                 f.write_str("no counter is of the signature blocks of this session")
             }
-            StartFault::OtherGroup { line } => {
+            StartFault::OtherGroup { counter } => {
                 write!(
                     f,
-                    "a counter is of a group that isn't there, at line {line}"
+                    "a counter is of a group that isn't there, at counter {counter}"
                 )
             }
             StartFault::Memory => f.write_str("out of memory"),

@@ -1,7 +1,8 @@
 -- The counters of the sessions so far, and then those of the next one.
-use Rattle.std.proofs.Common.{◌≡◌, ℕ, ◌+◌, ◌<◌, ◌≤◌, List, [], ◌∷◌, ◌++◌, length, get_or, take, map, flat_map, Option, Some, None, refl, sym, ap, ◌∙◌, subst, arith}
-use Rattle.std.specs.Prelude.{All, zip, min}
-use Rattle.std.proofs.lemmas.List.{take_all}
+use Rattle.std.proofs.Common.{◌≡◌, ℕ, ◌+◌, ◌<◌, ◌≤◌, Bool, true, false, List, [], ◌∷◌, ◌++◌, length, get_or, take, map, flat_map, Option, Some, None, refl, sym, ap, ◌∙◌, subst, arith}
+use Rattle.std.specs.Prelude.{All, zip, min, sum_by, if◌then◌else◌}
+use Rattle.std.proofs.lemmas.List.Sums.{sum_by-cons}
+use Rattle.std.proofs.lemmas.List.{length-append, length-map, take_all}
 use Rattle.std.proofs.lemmas.List.Elements.{All-get_or, All-weaker}
 use Rattle.std.proofs.lemmas.Slice.Zip.{length-zip, get_or-zip}
 use Rattle.ss_block.specs.Ranges.{past_last_number}
@@ -19,11 +20,13 @@ use Rattle.ss_review.specs.sessions.Verified.{Answers}
 use Rattle.ss_review.specs.report.Report.{session_report, report_of, report}
 use Rattle.ss_review.specs.counted.Counted.{counted_session, counted_sessions, next_after, next_number}
 use Rattle.ss_review.specs.counted.CountedLaws.{IsInRange, CountedAreInRange, NextNumbersAreInRange}
+use Rattle.ss_review.specs.counted.KeptLaws.{counters_given, given_beside, group_given, session_given}
+use Rattle.ss_review.specs.report.Verdict.{is_joined}
 use Rattle.ss_review.specs.pinned.Pinned.{blocks_by, counted_by, kept, pinned_contents, report_by}
 use Rattle.ss_review.specs.pinned.Stands.{PinnedReportsAreOfLogs}
 use Rattle.ss_report.specs.log.Writing.{Writes}
 use Rattle.ss_report.specs.declared.notation.Notation.{Notation}
-use Rattle.ss_report.specs.runs.Counters.{AreInRange, counters_of, counter_lines, counters_beside, counter_lines_with}
+use Rattle.ss_report.specs.runs.Counters.{AreInRange, counters_of, counter_lines, counters_beside, counters_end, counter_lines_with, how_many}
 use Rattle.ss_report.proofs.of_reports.PinnedLogs.{of_sessions_by}
 use Rattle.ss_report.proofs.of_writing.Writings.{writes_more, writes_same}
 
@@ -82,7 +85,40 @@ pub counters_are : (notation : Notation) (known : Option (List (List ℕ))) (say
 unfolding report_of counter_lines counter_lines_with
 counters_are notation None says messages =
     let bs = blocks (notes messages) in
-    counters_found notation says (contents (notes messages)) (rows says bs) bs (sessions bs)
+    ap (λ t. t ++ counters_end notation (sum_by how_many (report_by None says (contents (notes messages))).sessions))
+    (counters_found notation says (contents (notes messages)) (rows says bs) bs (sessions bs))
 counters_are notation (Some ps) says messages =
     let bs = kept says ps (blocks (notes messages)) in
-    counters_found notation says (pinned_contents says ps (contents (notes messages))) (rows says bs) bs (sessions bs)
+    ap (λ t. t ++ counters_end notation (sum_by how_many (report_by (Some ps) says (contents (notes messages))).sessions))
+    (counters_found notation says (pinned_contents says ps (contents (notes messages))) (rows says bs) bs (sessions bs))
+
+-- how many counters are found, session by session
+counters-given : (says : Answers) (log : Contents) (rs : List Row) (bs : List BlockMessage) (ss : List Session)
+    → length (flat_map given_beside (zip (map (session_report says log rs) ss) (map (counted_session says bs) ss))) ≡ sum_by how_many (map (session_report says log rs) ss)
+counters-given says log rs bs [] = refl
+counters-given says log rs bs (s ∷ ss) =
+    let r = session_report says log rs s in
+    let c = counted_session says bs s in
+    let others = map (session_report says log rs) ss in
+    omega (
+      arith,
+      length-append (given_beside (r, c)) (flat_map given_beside (zip others (map (counted_session says bs) ss))),
+      counters-given says log rs bs ss,
+      given-many (is_joined r.state) r c,
+      sum_by-cons how_many r others,
+    )
+  where
+    given-many : (b : Bool) (r : SessionReport) (c : CountedSession) → length (if b then session_given r c else []) ≡ (if b then length r.groups + 1 else 0)
+    given-many true r c = omega (arith, length-map r.groups (group_given r.session))
+    given-many false r c = refl
+
+pub counters_many : (known : Option (List (List ℕ))) (says : Answers) (messages : List (List ℕ))
+    → length (counters_given (report_by known says (contents (notes messages))).sessions (counted_by known says (blocks (notes messages))))
+    ≡ sum_by how_many (report_by known says (contents (notes messages))).sessions
+unfolding report_of counters_given
+counters_many None says messages =
+    let bs = blocks (notes messages) in
+    counters-given says (contents (notes messages)) (rows says bs) bs (sessions bs)
+counters_many (Some ps) says messages =
+    let bs = kept says ps (blocks (notes messages)) in
+    counters-given says (pinned_contents says ps (contents (notes messages))) (rows says bs) bs (sessions bs)

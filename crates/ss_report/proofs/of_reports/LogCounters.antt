@@ -1,6 +1,6 @@
 -- The plain text of the counters of a log is the lines of the counters that the log gives.
 use Rattle.std.proofs.Common.{◌≡◌, ℕ, Bool, true, false, codes, List, [], ◌∷◌, ◌++◌, map, flat_map, refl, sym, ap, ◌∙◌, append-nil, append_assoc}
-use Rattle.std.specs.Prelude.{decimal, zip, if◌then◌else◌}
+use Rattle.std.specs.Prelude.{decimal, zip, sum_by, if◌then◌else◌}
 use Rattle.std.proofs.lemmas.Grind.{flat_map-append}
 use Rattle.ss_octets.specs.Ascii.{lf}
 use Rattle.ss_message.specs.declared.draft.Field.{Field}
@@ -21,12 +21,12 @@ use Rattle.ss_review.specs.counted.CounterText.{counter_line, counter_text, line
 use Rattle.ss_review.specs.counted.KeptLaws.{group_given, session_given, given_beside, counters_given}
 use Rattle.ss_review.specs.report.Verdict.{is_joined}
 use Rattle.ss_report.specs.runs.CounterLaws.{CountersAreTheLogs}
-use Rattle.ss_report.specs.runs.Counters.{block_counter, message_counter, group_counter, session_counters, counters_beside, counter_lines_with}
+use Rattle.ss_report.specs.runs.Counters.{block_counter, message_counter, group_counter, session_counters, counters_beside, counters_end, counter_lines_with, how_many}
 use Rattle.ss_report.specs.records.Record.{field}
 use Rattle.ss_report.specs.records.Fields.{field_word, session_fields, group_fields}
 use Rattle.ss_report.specs.records.Written.{fields_in, written}
 use Rattle.ss_report.specs.declared.notation.Notation.TheVariants.{Plain}
-use Rattle.ss_report.proofs.of_reports.CountersWritten.{counters_are}
+use Rattle.ss_report.proofs.of_reports.CountersWritten.{counters_are, counters_many}
 
 -- ---- a line
 
@@ -64,6 +64,10 @@ message_line s g number =
     seven_words (codes "count") (codes " ") (field_word s.host) (field_word s.app) (field_word s.procid) (decimal s.rsid) (decimal g.sg) (decimal g.spri) (decimal number) (codes "\n")
     ∙ ap (λ words. (codes "count" ++ words ++ spelling.group_words g ++ spelling.spaced number) ++ codes "\n") (same_session s)
 
+end_line : (count : ℕ) → counters_end Plain count ≡ codes "end " ++ decimal count ++ lf ∷ []
+unfolding written fields_in field
+end_line count = ap (λ t. codes "end " ++ t ++ lf ∷ []) (append-nil (decimal count))
+
 -- ---- the lines of a log
 
 group_lines : (s : Session) (gs : List GroupReport)
@@ -86,5 +90,9 @@ lines_beside (p ∷ ps) =
 pub counters_are_the_logs : CountersAreTheLogs
 unfolding counter_lines_with counters_given
 counters_are_the_logs known says log tail =
+    let pairs = zip (report_by known says (contents (notes log))).sessions (counted_by known says (blocks (notes log))) in
+    let count = sum_by how_many (report_by known says (contents (notes log))).sessions in
     sym (counters_are Plain known says log)
-    ∙ lines_beside (zip (report_by known says (contents (notes log))).sessions (counted_by known says (blocks (notes log))))
+    ∙ ap (λ t. t ++ counters_end Plain count) (lines_beside pairs)
+    ∙ ap (λ t. lines_of_counters (flat_map given_beside pairs) ++ t)
+    (end_line count ∙ ap (λ n. codes "end " ++ decimal n ++ lf ∷ []) (sym (counters_many known says log)))

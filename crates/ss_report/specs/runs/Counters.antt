@@ -1,6 +1,6 @@
 -- The counters of a log: what comes next in each joined session, after all that its verified blocks state. A line a
--- counter, each a record.
-use Rattle.std.specs.Prelude.{ℕ, ◌≤◌, List, [], ◌++◌, codes, flat_map, zip, All, if◌then◌else◌}
+-- counter, and then how many they are, each a record.
+use Rattle.std.specs.Prelude.{ℕ, ◌+◌, ◌≤◌, List, [], ◌++◌, codes, length, flat_map, zip, sum_by, All, if◌then◌else◌}
 use Rattle.ss_block.specs.declared.block.Group.{Group}
 use Rattle.ss_block.specs.declared.session.Session.{Session}
 use Rattle.ss_block.specs.Ranges.{past_last_number}
@@ -15,6 +15,7 @@ use Rattle.ss_review.specs.counted.Counted.{counted_session, next_after, next_nu
 use Rattle.ss_report.specs.records.Record.{Number, Record, field}
 use Rattle.ss_report.specs.records.Fields.{session_fields, group_fields}
 use Rattle.ss_report.specs.records.Written.{written}
+use Rattle.ss_report.specs.texts.Ending.{number_as}
 use Rattle.ss_report.specs.declared.notation.Notation.{Notation}
 
 -- count HOST APP PROCID RSID GBC
@@ -50,9 +51,18 @@ counters_with notation s c = if is_joined s.state then session_counters notation
 abbrev pub counters_of : Notation → Answers → List BlockMessage → SessionReport → List ℕ
 counters_of notation says bs s = counters_with notation s (counted_session says bs s.session)
 
+-- how many lines a session has
+abbrev pub how_many : SessionReport → ℕ
+how_many s = if is_joined s.state then length s.groups + 1 else 0
+
+-- end N: how many counters stand before it, so that a text that was cut off isn't taken for a whole one
+abbrev pub counters_end : Notation → (count : ℕ) → List ℕ
+counters_end notation count = number_as notation (codes "end") (codes "count") count
+
 -- the whole text about a report on a log with these blocks
 unfoldable pub counter_lines : Notation → Answers → List BlockMessage → Report → List ℕ
-counter_lines notation says bs report = flat_map (counters_of notation says bs) report.sessions
+counter_lines notation says bs report =
+    flat_map (counters_of notation says bs) report.sessions ++ counters_end notation (sum_by how_many report.sessions)
 
 -- ---- the same by the GBC values that were found of each session, in the order of the report
 
@@ -60,7 +70,9 @@ abbrev pub counters_beside : Notation → SessionReport × CountedSession → Li
 counters_beside notation p = counters_with notation p.0 p.1
 
 unfoldable pub counter_lines_with : Notation → Report → List CountedSession → List ℕ
-counter_lines_with notation report counted = flat_map (counters_beside notation) (zip report.sessions counted)
+counter_lines_with notation report counted =
+    flat_map (counters_beside notation) (zip report.sessions counted)
+    ++ counters_end notation (sum_by how_many report.sessions)
 
 -- how far the numbers of these lines go: to the one after the greatest of ten digits
 pub record AreInRange (sessions : List SessionReport) (counted : List CountedSession) : Type 0 where

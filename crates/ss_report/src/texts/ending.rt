@@ -47,7 +47,7 @@ fn write_torn<W: Write>(writer: &mut Watched<W>, tail: Tail, notation: Notation)
 }
 
 /// Writes a line with one number.
-fn write_number_as<W: Write>(
+pub(crate) fn write_number_as<W: Write>(
     writer: &mut Watched<W>,
     kind: &[u8],
     key: &[u8],

@@ -1,4 +1,4 @@
-use Rattle.ss_answers.proofs.CounterLaws as laws
+use Rattle.ss_answers.proofs.PartLaws as laws
 use Rattle.ss_answers.proofs.laws.counters_are_determined.Goals as goal
 
 pub returns : goal.returns

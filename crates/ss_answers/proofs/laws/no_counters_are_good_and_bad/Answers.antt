@@ -1,4 +1,4 @@
-use Rattle.ss_answers.proofs.CounterLaws as laws
+use Rattle.ss_answers.proofs.PartLaws as laws
 use Rattle.ss_answers.proofs.laws.no_counters_are_good_and_bad.Goals as goal
 
 pub returns : goal.returns

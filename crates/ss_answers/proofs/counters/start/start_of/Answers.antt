@@ -11,7 +11,7 @@ use Rattle.ss_answers.proofs.counters.start.start_of.Goals as goal
 pub returns-in-Some-clause-other_group : goal.returns-in-Some-clause-other_group
 returns-in-Some-clause-other_group c =
     let refused : _ → Result Counters StartFault = λ line. Err (OtherGroup line) in
-    λ line has first. ap refused (first_is_one c.args.session.now c.args.grouping.now c.args.counters.now c.in-Some.line line c.in-Some.ensures first)
+    λ line has first. ap refused (first_is_one c.args.session.now c.args.grouping.now c.args.counters.now c.in-Some.counter line c.in-Some.ensures first)
 
 pub returns-clause-other_group : goal.returns-clause-other_group
 returns-clause-other_group c = λ line has first. absurd (none_is_first c.args.session.now c.args.grouping.now c.args.counters.now line c.in_default.ensures first)

@@ -1,10 +1,11 @@
-use Rattle.std.proofs.Common.{◌≡◌, ◌∙◌, refl}
+use Rattle.std.proofs.Common.{◌≡◌, ◌∙◌, ap, refl}
+use Rattle.std.specs.Prelude.{sum_by}
 use Rattle.ss_review.specs.keep.Notes.{notes}
 use Rattle.ss_review.specs.keep.Contents.{blocks, contents}
 use Rattle.ss_review.specs.sessions.Verified.{answers}
 use Rattle.ss_review.specs.pinned.Pinned.{counted_by, report_by}
 use Rattle.ss_report.specs.runs.Run.{given}
-use Rattle.ss_report.specs.runs.Counters.{counter_lines_with}
+use Rattle.ss_report.specs.runs.Counters.{counter_lines_with, how_many}
 use Rattle.ss_report.proofs.of_reports.CountersWritten.{counters_are, report_in_range}
 use Rattle.ss_report.proofs.runs.counters.count_log.Goals as goal
 
@@ -26,4 +27,5 @@ returns-clause-made g c =
         verdict_is = c.end_verdict-verdict.ensures;
       },
       report_in_range c.counted_are_in_range.ensures c.next_numbers_are_in_range.ensures c.pinned_reports_are_of_logs.ensures known says fed.messages counted.report counted.counted told found,
+      c.in-Some.ensures ∙ ap (sum_by how_many) c.as_slice.ensures,
     )
