@@ -25,7 +25,7 @@ from kept import Kept, kept_text, one
 from review_examples import ALL, B, C, C2, D1, F1, F2, K0, K1, K2, M1, M2, NO_TRUST, S, S7, S8, TA, TB, TC, TD, TE
 from review_logs import GROUPS, HOSTS, LAST, PAYLOADS, Maker
 from review_model import Log, review, state
-from review_runs import answers_text, answers_to, frame, is_clean, joined, line, report_text
+from review_runs import answers_text, answers_to, ended, frame, is_clean, joined, line, report_text
 from tally import SINGLES, tally_of
 from whole import FORMS, Program, fault_of_form, names_of
 
@@ -373,10 +373,10 @@ class Nightly:
 
     def keep(self, first, second):
         """The options of these counters."""
-        put(self.first, joined(first))
+        put(self.first, ended(first))
         if second is None:
             return ["--from", self.first]
-        put(self.second, joined(second))
+        put(self.second, ended(second))
         return ["--from", self.first, "--counters", self.second]
 
     def review(self, octets, *words):
@@ -420,7 +420,7 @@ def refusals(nightly):
     messages = [M1, M2, C, S]
     log, options = b"".join(map(frame, messages)), nightly.program.put_answers(answers_text(*answers_to(Log(messages), ALL)))
     fine, bad, none = (os.path.join(nightly.folder, it) for it in ("fine", "bad", "none"))
-    put(fine, joined(AT_1))
+    put(fine, ended(AT_1))
     put(bad, joined(AT_1) + b"count h s - 1\n")
     for words, wanted in ((["--from", bad], "C1 3"), (["--from", none], "C2"), (["--from", nightly.folder], "C2"),
                           (["--from", bad, "--counters", fine], "C1 3"), (["--from", fine, "--counters", bad], "C1 3"),
@@ -432,7 +432,7 @@ def refusals(nightly):
             tell(f"a refusal: {wanted}", "" if said == (2, b"", f"ssign: {wanted}\n".encode()) else f"{words}: {said}")
     said = nightly.review(b"x" + log, "--from", fine, *options)
     tell("a log that is refused", "" if said == (2, b"", b"ssign: F1 0\n") else f"{said}")
-    put(bad, b"")
+    put(bad, b"end 0\n")
     said = nightly.review(log, "--from", bad, *options)
     tell("a file without counters", "" if said == nightly.review(log, "--whole", *options) else f"{said}")
     mistakes = [["review", word] for word in ("--from", "--fro=x", "--from=")]

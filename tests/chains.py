@@ -155,7 +155,10 @@ class Chain:
         elif fate > 0.93:
             lines.insert(dice.randrange(len(lines)), " ".join([*front, dice.choice(("3 0 1", "0 5 1", "1 13 1", "2 7 9"))]))
         dice.shuffle(lines)
-        return "".join(line + "\n" for line in lines).encode()
+        # a file may be several, one after the other
+        cut = dice.randint(0, len(lines)) if dice.random() < 0.3 else 0
+        parts = [lines[:cut], lines[cut:]] if cut else [lines]
+        return "".join(line + "\n" for part in parts for line in [*part, f"end {len(part)}"]).encode()
 
     def raised(self, line):
         """The line with a greater counter, at times with one of the last."""
@@ -198,7 +201,7 @@ class Chain:
             return False
         front = "resumed" if self.counters else "new"
         reached.update([front, *[front + ", no message"] * (texts == []), "copies " + words[words.index("--copies") + 1]])
-        self.counters = wanted[1].decode().splitlines()
+        self.counters = wanted[1].decode().splitlines()[:-1]
         self.signed += signed[1]
         self.messages += texts
         return True
@@ -219,7 +222,7 @@ class Chain:
             back = [text if original(text) is None else original(text) for text in back]
         tell(self.name + ", what is listed", sorted(self.messages), sorted(back))
         told = run(["counters", "--answers", self.path("answers")], self.signed)[1]
-        tell(self.name + ", counters", self.counters, told.decode().splitlines())
+        tell(self.name + ", counters", [*self.counters, f"end {len(self.counters)}"], told.decode().splitlines())
 
 
 def main():

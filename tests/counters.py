@@ -7,7 +7,7 @@
 Of each joined session there is a line `count` with the next GBC: one more than the greatest of its verified signature
 blocks, or 0. Then there is one for each of its groups, with the next number: one more than the greatest that is announced.
 The model takes the verified blocks from review_model.py; the report of that model has to say the same of the numbers. The
-last line is `counters: N passed, M failed`.
+program's last line `end` says how many lines there are. The last line is `counters: N passed, M failed`.
 """
 import collections
 import os
@@ -21,7 +21,7 @@ from review_examples import (
     A, ALL, B, C, C1, C11, C2, CERTIFICATE_ALONE, CI, H1, M1, M2, NO_SIGNATURE, NO_TRUST, S, S7, S8, always, certificate, h, signature)
 from review_logs import LAST
 from review_model import Log, review, state
-from review_runs import answers_text, answers_to, frame, joined, line, read_frames, read_lines, report_text
+from review_runs import answers_text, answers_to, ended, frame, line, read_frames, read_lines, report_text
 
 SEEDS = 2_000
 # how many differences are shown
@@ -174,7 +174,7 @@ class Program:
 def check(program, what, octets, options, wanted, torn=False):
     """One run of the program."""
     said = program.run(["counters", *options], octets)
-    tell(what, "" if said == (int(torn), joined(wanted), b"") else f"{said}\n    and not {wanted}")
+    tell(what, "" if said == (int(torn), ended(wanted), b"") else f"{said}\n    and not {wanted}")
 
 
 def by_hand(program):
@@ -208,9 +208,9 @@ def by_signing(program):
         for end in range(len(messages) + 1):
             octets = b"".join(map(frame, messages[:end]))
             status, out, _ = program.run(["counters", *options], octets)
-            lines = out.decode().splitlines()
+            lines = out.decode().splitlines()[:-1]
             wanted = counters_of_front(messages[:end])
-            tell(f"the first {end} messages, {count} in a block", "" if (status, lines) == (0, wanted) else f"{lines}, and not {wanted}")
+            tell(f"the first {end} messages, {count} in a block", "" if (status, out) == (0, ended(wanted)) else f"{out}, and not {wanted}")
             # each line of a front is there later, with the same number or a greater one
             later = {it.rpartition(" ")[0]: int(it.rpartition(" ")[2]) for it in lines}
             out_of_order = [it for it in before if later.get(it.rpartition(" ")[0], -1) < int(it.rpartition(" ")[2])]

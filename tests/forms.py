@@ -189,7 +189,7 @@ def objects_by_hand():
     wanted = (b'{"line":"payload","payload_index":0,"payload":"%s"}\n' % payload
               + b'{"line":"trust","payload_index":0,%s}\n' % names + b"".join(front + it for it in blocks))
     tell("by hand: questions --once", "" if (status, made) == (0, wanted) else repr(made))
-    wanted = b'{"line":"count",%s,"gbc":1}\n{"line":"count",%s,"sg":0,"spri":0,"number":3}\n' % (names, names)
+    wanted = b'{"line":"count",%s,"gbc":1}\n{"line":"count",%s,"sg":0,"spri":0,"number":3}\n{"line":"end","count":2}\n' % (names, names)
     said = run("counters", log, "--json", "--answers", os.path.join(ROOT, "examples", "four-messages.answers"))
     tell("by hand: counters", "" if said == (0, wanted) else repr(said))
 

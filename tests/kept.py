@@ -15,6 +15,7 @@ import os
 import random
 import sys
 import tempfile
+import time
 
 from counted_logs import make
 from counters import counters_text
@@ -22,7 +23,7 @@ from review_examples import (
     A, ALL, B, C, C2, CERTIFICATE_ALONE, CI, F1, F2, H1, K0, K1, K2, M1, M2, NO_TRUST, S, TOLD, certificate, signature)
 from review_logs import GROUPS, HOSTS, LAST
 from review_model import Log, review, state
-from review_runs import answers_text, answers_to, frame, is_clean, joined, line, read_frames, read_lines, report_text
+from review_runs import answers_text, answers_to, ended, frame, is_clean, joined, line, read_frames, read_lines, report_text
 from whole import ENTRIES, FORMS, Program, fault_of_form, names_of, runs_missing
 
 SEEDS = 10_000
@@ -237,7 +238,7 @@ class Keeper:
 
 def check(keeper, what, octets, options, counters, wanted, forms):
     """The checks of one log: each form with the counters, and one without them."""
-    kept = keeper.keep(joined(counters))
+    kept = keeper.keep(ended(counters))
     for words in forms:
         said = keeper.review(octets, *kept, *words, *options)
         tell(f"{what}: {' '.join(words)}", fault_of_form(words, said, wanted, status_of(wanted)))
@@ -253,11 +254,11 @@ def by_hand(keeper):
         octets = b"".join(map(frame, messages))
         torn = [*wanted[:-1], f"torn {len(octets)}", wanted[-1]]
         check(keeper, f"{name}, torn", octets + b"9 <", options, counters, torn, FORMS)
-        said = keeper.review(octets, *keeper.keep(joined(counters)[:-1] if counters else b""), *options)
-        tell(f"{name}: without the last LF", "" if said == (status, joined(wanted), b"") else f"{said}")
+        said = keeper.review(octets, *keeper.keep(ended(counters)[:-1]), *options)
+        tell(f"{name}: without the last LF", "" if said == (2, b"", b"ssign: C3\n") else f"{said}")
     messages, counters, wanted = OBJECTS
     options = keeper.program.put_answers(answers_text(*answers_to(Log(messages), ALL)))
-    said = keeper.review(b"".join(map(frame, messages)), "--json", *keeper.keep(joined(counters)), *options)
+    said = keeper.review(b"".join(map(frame, messages)), "--json", *keeper.keep(ended(counters)), *options)
     tell("objects by hand", "" if said == (1, wanted, b"") else f"{said}")
 
 
@@ -266,10 +267,10 @@ def by_part(keeper):
     sent = [F1, F2, *TOLD, K0, K1, K2]
     numbers = {TOLD[0]: (13, 1), TOLD[1]: (14, 1), TOLD[2]: (13, 2), TOLD[3]: (14, 2), TOLD[4]: (13, 3)}
     counters = ["count h s - 1 3", "count h s - 1 1 13 4", "count h s - 1 1 14 3"]
-    kept, session = keeper.keep(joined(counters)), (b"h", b"s", b"-", 1)
+    kept, session = keeper.keep(ended(counters)), (b"h", b"s", b"-", 1)
     options = keeper.program.put_answers(answers_text(*answers_to(Log(sent), ALL)))
     given = keeper.program.run(["counters", *options], b"".join(map(frame, sent)))
-    tell("the counters of an originator", "" if given == (0, joined(counters), b"") else f"{given}")
+    tell("the counters of an originator", "" if given == (0, ended(counters), b"") else f"{given}")
     for size in range(len(sent) + 1):
         for some in itertools.combinations(sent, size):
             log, what = Log(list(some)), f"{[sent.index(it) for it in some]} of ten messages"
@@ -306,6 +307,34 @@ GOOD = [b"count " + b"h" * 255 + b" " + b"s" * 48 + b" " + b"p" * 128 + b" 99999
         b"count h s - 1 3 191 10000000000", b"count h s - 1 0 0 1", b'count " \\ ] 1 1', b"count -- a - 1 0", b"count count count count 0 0"]
 
 
+def not_whole(keeper, log, options):
+    """Files that were cut off, at each octet; that have other ends; and several in one. Where they are taken, nothing is missing."""
+    one, two = ended(ONE), ended(["count h s - 1 1"])
+    clean = keeper.review(log, *keeper.keep(one), *options)
+    tell("a whole file", "" if clean[0] == 0 and clean[1] else f"{clean}")
+    for whole in (one, one + two, b"end 0\n" + one, one + b"end 0\n"):
+        borders = {at + 1 for at in range(len(whole)) if whole[:at + 1].endswith(b"\n") and whole[:at].rpartition(b"\n")[2].startswith(b"end ")}
+        for at in range(len(whole) + 1):
+            said = keeper.review(log, *keeper.keep(whole[:at]), *options)
+            wanted = clean if at in borders else (2, b"", b"ssign: C3\n")
+            tell(f"{whole!r} cut off at {at}", "" if said == wanted else f"{said}")
+    lines = joined(ONE)
+    for end in (b"0", b"1", b"3", b"02", b"2 ", b" 2", b"2\r", b"+2", b"", b"x", b"22", b"4294967298", b"18446744073709551618"):
+        for text in (lines + b"end " + end + b"\n", lines + b"end " + end + b"\n" + lines, one + lines + b"end " + end + b"\nx\n"):
+            said = keeper.review(log, *keeper.keep(text), *options)
+            tell(f"an end {end!r}", "" if said == (2, b"", b"ssign: C3\n") else f"{said}")
+    for bad, code in ((lines + b"end\n", "C1 3"), (one + b"End 0\n", "C1 4"), (one + lines + b"x\n", "C1 6"), (lines + b"x\nend 9\n", "C1 3"),
+                      (lines + b"end 9\nx\n", "C3")):
+        said = keeper.review(log, *keeper.keep(bad), *options)
+        tell(f"{bad!r}", "" if said == (2, b"", f"ssign: {code}\n".encode()) else f"{said}")
+    with open(keeper.counters, "wb") as file:
+        # it has no octet on the disk: its size alone is looked at
+        file.truncate(1 << 32)
+    began = time.monotonic()
+    said = keeper.review(log, "--counters", keeper.counters, *options)
+    tell("a file of 4 GiB", "" if said == (2, b"", b"ssign: C3\n") and time.monotonic() - began < 10 else f"{said} {time.monotonic() - began}")
+
+
 def refusals(keeper):
     messages = [M1, M2, C, S]
     log, options = b"".join(map(frame, messages)), keeper.program.put_answers(answers_text(*answers_to(Log(messages), ALL)))
@@ -316,15 +345,16 @@ def refusals(keeper):
             wanted = 2, b"", b"ssign: C1 %d\n" % number
             tell(f"a bad line {bad[:40]!r}", "" if said == wanted else f"{said}, and not {wanted}")
     for good in GOOD:
-        said = keeper.review(log, *keeper.keep(good), *options)
+        said = keeper.review(log, *keeper.keep(good + b"\nend 1\n"), *options)
         tell(f"a good line {good[:40]!r}", "" if said[0] in (0, 1) and not said[2] else f"{said}")
     for words, wanted in ((["--counters", os.path.join(keeper.folder, "none")], "C2"), (["--counters", keeper.folder], "C2")):
         for form in FORMS:
             said = keeper.review(log, *words, *options, *form)
             tell(f"a refusal: {wanted}", "" if said == (2, b"", f"ssign: {wanted}\n".encode()) else f"{said}")
-    said = keeper.review(b"x" + log, *keeper.keep(fine), *options)
+    not_whole(keeper, log, options)
+    said = keeper.review(b"x" + log, *keeper.keep(ended(ONE)), *options)
     tell("a log that is refused", "" if said == (2, b"", b"ssign: F1 0\n") else f"{said}")
-    said = keeper.review(log, *keeper.keep(b""), *options)
+    said = keeper.review(log, *keeper.keep(b"end 0\n"), *options)
     tell("a file without counters", "" if said == keeper.review(log, "--whole", *options) else f"{said}")
     mistakes = [["review", word] for word in ("--counters", "--counter=x", "--counters=")]
     mistakes += [["review", "--counters", keeper.counters, "--counters", keeper.counters]]

@@ -26,7 +26,7 @@ from nights import Told, carried
 from pinned_logs import make
 from review_examples import A, B, C, C11, C9A, C9B, CI, CX, H1, M1, M2, P1, S7, S7I, ZEROS, certificate, never, signature
 from review_model import Log, claimants, kept, questions, review
-from review_runs import answers_text, answers_to, extract_text, frame, is_clean, joined, question_lines, question_text, report_text
+from review_runs import answers_text, answers_to, ended, extract_text, frame, is_clean, joined, question_lines, question_text, report_text
 from whole import status_of, whole_text
 
 LOGS = 10_000
@@ -208,7 +208,7 @@ def runs_of(messages, trusted, valid, known):
         "review": (int(not is_clean(text)), joined(text)),
         "review --whole": (status_of(missing), joined(missing)),
         "extract": (int(not is_clean(text)), extract_text(lines, messages)),
-        "counters": (0, joined(counters_text(part, trusted, valid))),
+        "counters": (0, ended(counters_text(part, trusted, valid))),
         "carry": (0, b"".join(frame(messages[place]) for place in sorted(places))),
         "questions": (0, joined(question_text(questions(log, known)))),
         "questions --once": (0, joined(question_lines(log, ["--once"], known))),

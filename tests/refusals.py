@@ -31,7 +31,7 @@ from kept import kept_text, status_of as kept_status_of
 from nights import Told, carried
 from review_examples import A, A2, ALL, B, C, CX, C9A, C9B, H, M1, M2, P1, READINGS, S, S7, certificate, signature
 from review_model import Log, review
-from review_runs import answers_text, answers_to, frame, joined, line, read_frames, read_lines, report_text, run
+from review_runs import answers_text, answers_to, ended, frame, joined, line, read_frames, read_lines, report_text, run
 from tally import tally_text
 from whole import status_of, whole_text
 
@@ -124,7 +124,7 @@ def counted(octets, answers, of_lines, **limits):
     if said.status == 2:
         return said
     messages, torn = (read_lines if of_lines else read_frames)(octets)
-    return Said(int(torn is not None), joined(counters_text(Log(messages), *answers)), b"")
+    return Said(int(torn is not None), ended(counters_text(Log(messages), *answers)), b"")
 
 
 def carried_over(octets, answers, of_lines, **limits):
@@ -192,15 +192,17 @@ def kept_reviews():
         messages, torn = (read_lines if words else read_frames)(octets)
         wanted = kept_text(Log(messages), *everything, KEPT, torn)
         yield Case("review of everything, up to counters" + ", as lines" * bool(words), ["review", *words], octets,
-                   Said(kept_status_of(wanted), joined(wanted), b""), text, counters=joined(KEPT))
+                   Said(kept_status_of(wanted), joined(wanted), b""), text, counters=ended(KEPT))
     octets = b"".join(map(frame, EXAMPLE))
     text = answers_text(*answers_of(EXAMPLE, ALL))
     own = ["count h s - 1 1", "count h s - 1 0 0 3"]
     wanted = kept_text(Log(EXAMPLE), *answers_of(EXAMPLE, ALL), own)
-    yield Case("review of a clean log, up to its counters", ["review"], octets, Said(0, joined(wanted), b""), text, counters=joined(own))
-    yield Case("review of an empty log, up to counters", ["review"], b"", 1, None, counters=joined(own * 20))
+    yield Case("review of a clean log, up to its counters", ["review"], octets, Said(0, joined(wanted), b""), text, counters=ended(own))
+    yield Case("review of an empty log, up to counters", ["review"], b"", 1, None, counters=ended(own * 20))
     for name, lines in (("an empty line", ["count h s - 1 1", ""]), ("a leading zero", [*own, "count h s - 1 01"])):
         yield Case("counters: " + name, ["review"], octets, refused("C1 %d" % len(lines)), text, counters=joined(lines))
+    yield Case("counters: cut off", ["review"], octets, refused("C3"), text, counters=joined(own))
+    yield Case("counters: none", ["review", "--counters", os.devnull], octets, refused("C3"), text)
     yield Case("counters: a folder", ["review", "--counters", HERE], octets, refused("C2"), text)
     yield Case("counters: a bad line, and one of the answers", ["review"], octets, refused("C1 1"), b"want\n", counters=b"count\n")
 
@@ -219,11 +221,11 @@ def night_reviews():
         for kept in (KEPT, None):
             wanted = between_text(Log(messages), *everything, FIRST, kept, torn)
             yield Case("review of a night of everything" + ", to its end" * (kept is not None) + ", as lines" * bool(words),
-                       ["review", *words], octets, Said(1, joined(wanted), b""), text, counters=kept and joined(kept), first=joined(FIRST))
-    yield Case("review of an empty night", ["review"], b"", 0, None, counters=joined(FIRST * 20), first=joined(FIRST * 20))
-    octets, own = b"".join(map(frame, EXAMPLE)), b"count h s - 1 1\n"
-    yield Case("a night: a bad line", ["review"], octets, refused("C1 2"), text, counters=own, first=own + b"\n")
-    yield Case("a night: a bad line of its end", ["review"], octets, refused("C1 2"), text, counters=own + b"\n", first=own)
+                       ["review", *words], octets, Said(1, joined(wanted), b""), text, counters=kept and ended(kept), first=ended(FIRST))
+    yield Case("review of an empty night", ["review"], b"", 0, None, counters=ended(FIRST * 20), first=ended(FIRST * 20))
+    octets, own = b"".join(map(frame, EXAMPLE)), b"count h s - 1 1\nend 1\n"
+    yield Case("a night: a bad line", ["review"], octets, refused("C1 3"), text, counters=own, first=own + b"\n")
+    yield Case("a night: a bad line of its end", ["review"], octets, refused("C1 3"), text, counters=own + b"\n", first=own)
     yield Case("a night: two bad lines", ["review"], octets, refused("C1 1"), text, counters=own + b"\n", first=b"\n")
     yield Case("a night: a folder", ["review", "--from", HERE], octets, refused("C2"), text, counters=b"count\n")
 
@@ -252,7 +254,7 @@ def tallies():
     wanted = tally_text(report_text(review(Log(EVERYTHING), *everything)))
     yield Case("review --tally of everything", ["review", "--tally"], octets, Said(1, joined(wanted), b""), text)
     for words in (["--tally", "--json", "--whole"], ["--json"], ["--findings", "--json"]):
-        yield Case("review %s of everything" % " ".join(words), ["review", *words], octets, 1, text, counters=joined(KEPT))
+        yield Case("review %s of everything" % " ".join(words), ["review", *words], octets, 1, text, counters=ended(KEPT))
     yield Case("counters --json of everything", ["counters", "--json"], octets, 0, text)
 
 
@@ -378,14 +380,14 @@ def signings():
 
 
 # those of the session, and of others; one twice, and in any order
-STARTS = joined(["count - - - 1 0 0 7", "count - - - 1 3", "count h s - 1 1 13 5", "count - - - 1 9", "count - - - 1 0 0 8"])
+STARTS = ended(["count - - - 1 0 0 7", "count - - - 1 3", "count h s - 1 1 13 5", "count - - - 1 9", "count - - - 1 0 0 8"])
 SPENT = ["count - - - 1 10000000000", "count - - - 1 0 0 10000000000"]
 
 
 def resumed_signings():
     """Originators that go on, the counters with which they end, and refusals of their counters."""
     octets = b"".join(map(frame, TOLD))
-    by_pri = joined(["count - - - 1 3", *("count - - - 1 1 %d 5" % pri for pri in range(191, 0, -10))])
+    by_pri = ended(["count - - - 1 3", *("count - - - 1 1 %d 5" % pri for pri in range(191, 0, -10))])
     for name, words, log, counters in (
             ("one group", [], octets, STARTS), ("no message", [], b"", STARTS), ("new", [], octets, None),
             ("a group for each PRI", ["--groups", "pri", "--count", "1"], octets, by_pri)):
@@ -402,8 +404,9 @@ def resumed_signings():
             ("no number left", [], SPENT, "O8 0"), ("no block left", ["--count", "1"], SPENT[:1], "O9 0")):
         for command in (["plan"], ["plan", "--ahead"], ["sign"]):
             yield Case("%s --resume: %s" % (" ".join(command), name), [*command, *PAYLOAD, *words], octets, refused(code),
-                       b"" if command == ["sign"] else None, counters=joined(lines))
-    yield Case("plan --resume: no block left at the end", ["plan", *PAYLOAD], octets, refused("O9"), counters=joined(SPENT[:1]))
+                       b"" if command == ["sign"] else None, counters=ended(lines))
+    yield Case("plan --resume: no block left at the end", ["plan", *PAYLOAD], octets, refused("O9"), counters=ended(SPENT[:1]))
+    yield Case("plan --resume: cut off", ["plan", *PAYLOAD], octets, refused("C3"), counters=joined(SPENT[:1]))
     yield Case("plan --resume: a folder", ["plan", "--resume", HERE, *PAYLOAD], octets, refused("C2"))
 
 

@@ -196,7 +196,7 @@ enum Kind {
 const RUNS: [(Kind, &[u8], Verdict); 5] = [
     (
         Kind::Counters,
-        b"count h s - 1 1\ncount h s - 1 0 0 3\n",
+        b"count h s - 1 1\ncount h s - 1 0 0 3\nend 2\n",
         Verdict::Clean,
     ),
     (

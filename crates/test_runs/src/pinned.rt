@@ -337,7 +337,7 @@ const ROWS: [Row; 32] = [
         log: LOG,
         known: Some(&[PAYLOAD]),
         who: Who::All,
-        text: b"count h s - 1 1\ncount h s - 1 0 0 2\n",
+        text: b"count h s - 1 1\ncount h s - 1 0 0 2\nend 2\n",
         verdict: Verdict::Clean,
     },
     Row {
@@ -346,7 +346,7 @@ const ROWS: [Row; 32] = [
         log: LOG,
         known: None,
         who: Who::All,
-        text: b"",
+        text: b"end 0\n",
         verdict: Verdict::Clean,
     },
     Row {

@@ -126,7 +126,7 @@ const ANSWER_FAULTS: [(AnswerFault, &str, &str); 4] = [
 ];
 
 /// Each fault of counters in the same way.
-const COUNTER_FAULTS: [(CounterFault, &str, &str); 4] = [
+const COUNTER_FAULTS: [(CounterFault, &str, &str); 5] = [
     (
         CounterFault::BadLine { line: 7 },
         "C1 7",
@@ -142,6 +142,11 @@ const COUNTER_FAULTS: [(CounterFault, &str, &str); 4] = [
         "C3",
         "the counters file has more octets than allowed",
     ),
+    (
+        CounterFault::NotWhole,
+        "C3",
+        "the counters file isn't whole",
+    ),
     (CounterFault::Memory, "C4", "out of memory"),
 ];
 
@@ -153,9 +158,9 @@ const START_FAULTS: [(StartFault, &str, &str); 3] = [
         "no counter is of the signature blocks of this session",
     ),
     (
-        StartFault::OtherGroup { line: 7 },
+        StartFault::OtherGroup { counter: 7 },
         "C6 7",
-        "a counter is of a group that isn't there, at line 7",
+        "a counter is of a group that isn't there, at counter 7",
     ),
     (StartFault::Memory, "C4", "out of memory"),
 ];
@@ -280,11 +285,52 @@ fn sees_seal_on(rt: &(impl Abort + AllocGlobal), answers: &Answers) -> Result<()
     }
 }
 
-const COUNTERS: &[u8] = b"count h s - 1 2\ncount h s - 1 0 0 4\n";
+const COUNTERS: &[u8] = b"count h s - 1 2\ncount h s - 1 0 0 4\nend 2\n";
 
-fn count(alloc: Global) -> Result<usize, CounterFault> {
-    let mut reader = Watched::new(COUNTERS);
+/// Files of counters: how many each has, or its fault, in at most 1,000 octets.
+const FILES: [(&[u8], Result<usize, CounterFault>); 18] = [
+    (COUNTERS, Ok(2)),
+    (b"end 0\n", Ok(0)),
+    (b"end 0\ncount h s - 1 2\nend 1\nend 0\n", Ok(1)),
+    (b"count h s - 1 2\nend 1\ncount h s - 1 2\nend 1\n", Ok(2)),
+    (b"", Err(CounterFault::NotWhole)),
+    (b"count h s - 1 2\n", Err(CounterFault::NotWhole)),
+    (b"count h s - 1 2\nend 1", Err(CounterFault::NotWhole)),
+    (b"count h s - 1 2\nend 0\n", Err(CounterFault::NotWhole)),
+    (b"count h s - 1 2\nend 2\n", Err(CounterFault::NotWhole)),
+    (b"count h s - 1 2\nend 01\n", Err(CounterFault::NotWhole)),
+    (b"count h s - 1 2\nend 1\r\n", Err(CounterFault::NotWhole)),
+    (
+        b"count h s - 1 2\nend 1\ncount h s - 1 2\nend 2\n",
+        Err(CounterFault::NotWhole),
+    ),
+    (
+        b"count h s - 1 2\nend 1\ncount h s - 1 2\n",
+        Err(CounterFault::NotWhole),
+    ),
+    (b"count h s - 1 2\nend 1\nx", Err(CounterFault::NotWhole)),
+    (b"end 1\nx\n", Err(CounterFault::NotWhole)),
+    (b"x\nend 1\n", Err(CounterFault::BadLine { line: 1 })),
+    (
+        b"count h s - 1 2\nend 1\n\n",
+        Err(CounterFault::BadLine { line: 3 }),
+    ),
+    (
+        b"count h s - 1 2\nend\n",
+        Err(CounterFault::BadLine { line: 2 }),
+    ),
+];
+
+fn count(alloc: Global, text: &[u8]) -> Result<usize, CounterFault> {
+    let mut reader = Watched::new(text);
     Ok(read_counters(alloc, &mut reader, 1000)?.as_slice().len())
+}
+
+#[test]
+fn reads_files_of_counters(rt: HostRuntime) {
+    for (text, wanted) in &FILES {
+        assert_eq!(rt; count(rt.alloc(), text), *wanted, "{text:?}");
+    }
 }
 
 /// The session of these counters.
@@ -321,8 +367,8 @@ fn goes_on_after_want_of_memory(rt: HostRuntime) -> Result<(), Fail> {
     sees(&rt, &answers, b"KEY", by_zeros(b"B"), (true, false));
     sees_no_seal(&rt, &answers, b"KEY");
     sees_seal_on(&rt, &answers)?;
-    let counted = match count(rt.alloc()) {
-        Err(CounterFault::Memory) => count(rt.alloc()),
+    let counted = match count(rt.alloc(), COUNTERS) {
+        Err(CounterFault::Memory) => count(rt.alloc(), COUNTERS),
         counted => counted,
     };
     assert_eq!(rt; counted, Ok(2));
@@ -337,6 +383,6 @@ fn goes_on_after_want_of_memory(rt: HostRuntime) -> Result<(), Fail> {
         Err(StartFault::Memory) => start(rt.alloc(), &Grouping::ByPri),
         other => other,
     };
-    assert_eq!(rt; other, Err(StartFault::OtherGroup { line: 2 }));
+    assert_eq!(rt; other, Err(StartFault::OtherGroup { counter: 2 }));
     Ok(())
 }

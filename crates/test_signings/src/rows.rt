@@ -183,7 +183,7 @@ const MADE: [Made; 20] = [
         form: Frames,
         log: b"",
         sizes: DEFAULT,
-        text: b"count h s - 1 7\ncount h s - 1 0 0 5\n",
+        text: b"count h s - 1 7\ncount h s - 1 0 0 5\nend 2\n",
     },
     Made {
         job: Job::Ahead,
@@ -191,7 +191,7 @@ const MADE: [Made; 20] = [
         form: Frames,
         log: b"",
         sizes: DEFAULT,
-        text: b"count h s - 1 0\n",
+        text: b"count h s - 1 0\nend 1\n",
     },
     Made {
         job: SIGN,
@@ -215,7 +215,7 @@ const MADE: [Made; 20] = [
         form: Frames,
         log: FRAMES,
         sizes: DEFAULT,
-        text: b"count h s - 1 8\ncount h s - 1 0 0 7\n",
+        text: b"count h s - 1 8\ncount h s - 1 0 0 7\nend 2\n",
     },
     Made {
         job: Job::Ahead,
@@ -223,7 +223,7 @@ const MADE: [Made; 20] = [
         form: Lines,
         log: LINES,
         sizes: TWICE,
-        text: b"count h s - 1 9\ncount h s - 1 0 0 3\n",
+        text: b"count h s - 1 9\ncount h s - 1 0 0 3\nend 2\n",
     },
     Made {
         job: Job::Ahead,
@@ -231,7 +231,7 @@ const MADE: [Made; 20] = [
         form: Lines,
         log: LINES,
         sizes: TWICE,
-        text: b"count h s - 1 10000000000\ncount h s - 1 0 0 10000000000\n",
+        text: b"count h s - 1 10000000000\ncount h s - 1 0 0 10000000000\nend 2\n",
     },
 ];
 

@@ -16,7 +16,7 @@ const SIGN: Job = Job::Sign(Seal::Zeros);
 const TWO: &[u8] = b"19 <13>1 - - - - - - a19 <14>1 - - - - - - b";
 
 /// The counters with which an originator ends that signs them.
-const AHEAD: &[u8] = b"count h s - 1 1\ncount h s - 1 0 0 3\n";
+const AHEAD: &[u8] = b"count h s - 1 1\ncount h s - 1 0 0 3\nend 2\n";
 
 /// A run over a log, and what it writes.
 const ROWS: [(Job, &[u8], &[u8]); 5] = [

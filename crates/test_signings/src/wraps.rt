@@ -219,7 +219,7 @@ fn has_memory(rt: &(impl Abort + AllocGlobal)) -> bool {
     let done = run(rt.alloc(), &task, Pieces::new(log, 1), Paper::new(1));
     match done.said {
         Ok(()) => {
-            let text = b"count h s - 1 1\ncount h s - 1 0 0 4\n";
+            let text = b"count h s - 1 1\ncount h s - 1 0 0 4\nend 2\n";
             assert_eq!(rt; done.paper.text(), text.as_slice());
             true
         }

@@ -61,10 +61,10 @@ pub static REFUSALS: [Explanation; 32] = [
     },
     Explanation {
         code: "C1",
-        text: "C1 LINE: this line of the counters file has none of the forms count HOST APP PROCID RSID GBC and count \
-            HOST APP PROCID RSID SG SPRI NUMBER, as ssign counters writes them. One space stands between two fields, \
-            and no number has leading zeros. An empty line is wrong too, and so is a CR at the end of a line. Only the \
-            first such line is named: mend it.",
+        text: "C1 LINE: this line of the counters file has none of the forms count HOST APP PROCID RSID GBC, count \
+            HOST APP PROCID RSID SG SPRI NUMBER and end N, as ssign counters writes them. One space stands between two \
+            fields, and no number has leading zeros. An empty line is wrong too, and so is a CR at the end of a line. \
+            Only the first such line is named: mend it.",
     },
     Explanation {
         code: "C2",
@@ -73,8 +73,10 @@ pub static REFUSALS: [Explanation; 32] = [
     },
     Explanation {
         code: "C3",
-        text: "The counters file has more than 4294967295 octets. Of several counters that count the same, keep only \
-            the greatest.",
+        text: "The counters file isn't whole, as where a stop cut it off. It ends with a line end N, and N is how many \
+            lines count stand before it, after the line end before that one. Give a file that is whole: ssign counters \
+            makes one from the log. Files that are whole can be put together by cat. A file of more than 4294967295 \
+            octets is refused too.",
     },
     Explanation {
         code: "C4",
@@ -89,9 +91,10 @@ pub static REFUSALS: [Explanation; 32] = [
     },
     Explanation {
         code: "C6",
-        text: "C6 LINE: this line of the counters file of --resume counts a group of the session that --groups doesn't \
-            have. Its SG is another one, or no group has its SPRI. Only the first such line is named. Give the \
-            --groups with which the session began, or begin a new session: another --rsid, without --resume.",
+        text: "C6 N: in the counters file of --resume, the line count with this number counts a group of the session \
+            that --groups doesn't have. Its SG is another one, or no group has its SPRI. Only the first such line is \
+            named. Give the --groups with which the session began, or begin a new session: another --rsid, without \
+            --resume.",
     },
     Explanation {
         code: "V1",

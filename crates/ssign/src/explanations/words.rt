@@ -145,8 +145,8 @@ pub static WORDS: [Explanation; 44] = [
     },
     Explanation {
         code: "end",
-        text: "Always the last line: how many messages were read, blocks included. Output without this line is \
-            incomplete: don't use it.",
+        text: "Always the last line: how many messages were read, blocks included; of ssign counters, how many lines \
+            count stand before it. Output without this line is incomplete: don't use it.",
     },
     Explanation {
         code: "joined",
