@@ -229,7 +229,8 @@ pub static WORDS: [Explanation; 44] = [
         code: "wrapped-unparsed",
         text: "Only ssign inspect --unwrap writes this line. The message at this place is a wrap. The original in it \
             isn't a message of RFC 5424. M1 to M12 names the first part that fails, and the number after it is the \
-            octet of the original, from 0, where it fails. ssign extract --unwrap writes the original.",
+            octet of the original, from 0, where it fails. ssign extract --unwrap writes the original, unless it has no \
+            octet.",
     },
     Explanation {
         code: "wrapped-signature",
