@@ -93,12 +93,14 @@ wrong() {
 cp nights/night-4.frames $'nights/\xff'
 cp nights/night-2.frames elsewhere.frames
 cp counters-4 two-sessions && cat counters-3 >>two-sessions
-sed 's/5$/6/' counters-4 >./more
-head -n 1 counters-4 >fewer
+sed 's/ 5$/ 6/' counters-4 >./more
+{ head -n 1 counters-4; echo end 1; } >fewer
+head -n 2 counters-4 >cut-counters
 wrong 'the counters of another log' 'the log holds a block of the session gate signer - 4, and the counters are of gate signer - 3' nights/night-4.frames --counters counters-3
 wrong 'counters of two sessions' "the counters file two-sessions has 2 sessions and 2 lines with a GBC: an entry is of one session, which has one" nights/night-4.frames --counters two-sessions
 wrong 'a greater counter' "the counters aren't those of the log: the signature blocks in it go to other numbers" nights/night-4.frames --counters more
 wrong 'a counter less' "the counters aren't those of the log: the signature blocks in it go to other numbers" nights/night-4.frames --counters fewer
+wrong 'counters that were cut off' "the counters file cut-counters isn't whole: its counters have no end, as where the file was cut off" nights/night-4.frames --counters cut-counters
 wrong 'no counter' 'the counters file empty is empty, so it shows nothing: `ssign counters` writes a line for each joined session, so make it again from a log that is whole' nights/night-4.frames --counters empty
 wrong 'no counters' '`manifest add` needs the counters of the log: --counters FILE' nights/night-4.frames
 wrong 'a log without blocks' "the log holds no block, so it isn't a signed log" empty --counters counters-4

@@ -511,15 +511,15 @@ def put_back(trials: Trials) -> None:
     said = trials.sign(2, "--new-session", *NAMES)
     trials.holds("another session may begin then", said.status == 0, b'RSID="7"' not in said.out)
     trials.holds("the counters that go further stay", read("S/counters-7") == kept)
-    # a counters file that is gone or was changed says nothing, and is written again
-    for octets in (None, b"", b"count h s - 7 9\n"):
+    # a counters file that is gone, cut off or changed says nothing, and is written again
+    for octets in (None, b"", b"count h s - 7 9\n", b"count h s - 7 9\nend 1\n"):
         fresh()
         trials.sign(1, "--new-session", "--rsid", "7", *NAMES)
         os.unlink("S/counters-7")
         if octets is not None:
             write("S/counters-7", octets)
-        said = trials.sign(2)
-        trials.holds(f"counters that are {octets!r}", said.status == (2 if octets else 0), not octets or "older than counters-7" in said.err)
+        said, is_whole = trials.sign(2), octets is not None and octets.endswith(b"end 1\n")
+        trials.holds(f"counters that are {octets!r}", said.status == (2 if is_whole else 0), not is_whole or "older than counters-7" in said.err)
 
 
 def modes(trials: Trials) -> None:
@@ -614,7 +614,7 @@ def limits(trials: Trials) -> None:
     trials.holds("the last block, and the last number", said.status == 0, b'GBC="9999999999" FMN="9999999995" CNT="5"' in said.out)
     trials.refused("no number is left", trials.sign(1, count=1), rf"{spent} \(O8\)")
     trials.holds("a log without a message needs none", trials.sign(1, count=0).status == 0)
-    trials.holds("the counters are the last ones", read("S/counters-7") == b"count h s - 7 10000000000\ncount h s - 7 0 0 10000000000\n")
+    trials.holds("the counters are the last ones", read("S/counters-7") == b"count h s - 7 10000000000\ncount h s - 7 0 0 10000000000\nend 2\n")
     real = time.time
     time.time = lambda: real() - 1e9
     try:

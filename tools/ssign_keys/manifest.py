@@ -30,6 +30,8 @@ from .words import counted, shown_name
 from .workplace import Workplace, notify
 
 ACTIONS = ("add", "copied", "check")
+# octets: one session has at most 768 groups, and a line of one less than 500
+MOST_COUNTERS = 1 << 20
 
 
 def add_arguments(parser: argparse.ArgumentParser) -> None:

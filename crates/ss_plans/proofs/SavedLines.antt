@@ -1,5 +1,5 @@
 -- The text of saved counters is a part with the counters that it saves. These are in their ranges, and the text is short.
-use Rattle.std.proofs.Common.{◌≡◌, ℕ, ◌+◌, ◌*◌, ◌<◌, ◌≤◌, ◌^◌, ◌&&◌, codes, List, [], ◌∷◌, ◌++◌, length, map, flat_map, refl, sym, ap, ◌∙◌, arith, append-nil, append_assoc, length-append}
+use Rattle.std.proofs.Common.{◌≡◌, ℕ, ◌+◌, ◌*◌, ◌<◌, ◌≤◌, ◌^◌, ◌&&◌, codes, List, [], ◌∷◌, ◌++◌, length, map, flat_map, refl, ap, ◌∙◌, arith, append-nil, append_assoc, length-append}
 use Rattle.std.proofs.lemmas.List.{length-map}
 use Rattle.std.specs.Prelude.{decimal, nat_le, nat_lt}
 use Rattle.std.specs.List.{AllByRecursion, list_all}
@@ -80,8 +80,7 @@ end_is count other e = ap (λ t. codes "end " ++ t ++ lf ∷ []) (append-nil (de
 pub text_is_part : (s : Session) (sg : ℕ) (k : Counters) → counters_text s sg k ≡ part_text (saved s sg k)
 text_is_part s sg k =
     let count : length k.groups + 1 ≡ length (saved s sg k) = omega (arith, length-map k.groups (number_saved s sg)) in
-    (λ i. block_line s k.gbc i ++ (group_lines s sg k.groups i ++ end_is (length k.groups + 1) (length (saved s sg k)) count i))
-    ∙ sym (append_assoc (counter_text s Blocks k.gbc ++ lf ∷ []) (lines_of_counters (map (number_saved s sg) k.groups)) (end_line (length (saved s sg k)) ++ lf ∷ []))
+    λ i. block_line s k.gbc i ++ group_lines s sg k.groups i ++ end_is (length k.groups + 1) (length (saved s sg k)) count i
 
 -- ---- ranges
 
