@@ -405,7 +405,7 @@ def main(tools: str, pem: str, *words: str) -> None:
                 print(f"{row.what}: {'taken' if theirs else 'refused'} by openssl, {'refused' if why else 'taken'} here"
                       f"{f' because {row.why}' if row.why else ''}{f' ({why})' if why else ''}")
             if row.alone is not None:
-                # the one case in which openssl refuses what is taken here, because it looks at one of two roots
+                # openssl refuses what is taken here, because it looks at one of two roots
                 theirs = not theirs and openssl(folder, replace(row, held=[row.alone], alone=None), "-x509_strict")
                 counts["ssign-keys alone takes"] += 1
                 if why or not theirs:

@@ -40,8 +40,9 @@ class Names(NamedTuple):
 
     def has(self, host: bytes) -> bool:
         """Whether a HOSTNAME (RFC 5424, section 6.2.4) is one of them: an address by its value, and another one as a text
-        without regard to the case of ASCII letters. A name with an asterisk is for whole domains, and so for no host."""
-        if host == b"-" or b"*" in host:
+        without regard to the case of ASCII letters. A name with an asterisk is for whole domains, and so for no host, and one
+        with NUL is nobody's."""
+        if host == b"-" or b"*" in host or b"\0" in host:
             return False
         address, wanted = address_of(host), host.lower()
         if address is not None:
