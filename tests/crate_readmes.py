@@ -28,6 +28,7 @@ TEST_CRATES = {
     "ss_review": "test_runs",
     "ss_between": "test_runs",
     "ss_report": "test_runs",
+    "ss_salvage": "test_salvage",
     "ss_answers": "test_signings",
     "ss_signing": "test_signings",
 }
