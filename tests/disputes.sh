@@ -272,7 +272,7 @@ holds 'up to the counters: status 0' test "$status" = 0
 holds 'up to the counters: the verdict' grep -q ' Nothing is missing up to the counters\.$' <(verdict)
 keys verify "${key[@]}" --whole --ignore-strangers log
 holds 'whole: status 0' test "$status" = 0
-: >none
+echo 'end 0' >none
 keys verify "${key[@]}" --from none --counters counters --ignore-strangers log
 holds 'one night: status 0' test "$status" = 0
 disputes octet 4 <signed | python3 -c 'import sys; sys.path.insert(0, sys.argv[1]); from disputes import frames
