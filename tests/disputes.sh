@@ -260,7 +260,70 @@ messages[at] = spoil(messages[at])
 messages = [it for it in messages if not it.startswith(b"<%s>" % group)]' <groups >log
 keys verify "${key[@]}" --ignore-strangers log
 holds 'the only block of one group, damaged: status 1' test "$status" = 1
-holds 'the only block of one group, damaged: nothing else is found' grep -q 'FINDINGS: of \([0-9]*\) announced messages \1 are present and unchanged; 1 block is unverified; 1 of' <(verdict)
+holds 'the only block of one group, damaged: the verdict' grep -q 'FINDINGS: of \([0-9]*\) announced messages \1 are present and unchanged; 1 signature block is missing or unverified, .*; 1 block is unverified; 1 of' <(verdict)
+
+# ---- a block of which somebody changed what it claims, and took its messages away: no GBC may be missing
+for at in {0..8}; do
+    echo "<$((at < 6 ? 13 : 30))>1 2026-01-01T00:00:0${at}Z h a - - - message $at"
+done >two-groups
+keys sign --key one/private-key.pem --host h --app s --rsid 1 --count 3 --groups pri --lines two-groups
+cp out two-groups
+keys verify "${key[@]}" --counters-out two-groups.counters --ignore-strangers two-groups
+holds 'two groups: status 0' test "$status" = 0
+# of the group 13, numbers 4 to 6 are announced by the GBC 1, and the GBC 2 is that of the group 30
+taken='messages = [it for it in messages if it[-9:] not in (b"message 3", b"message 4", b"message 5")]'
+harmed 'at = blocks[1]; messages[at] = messages[at].replace(b"GBC=\"1\" FMN=\"4\"", b"GBC=\"1\" FMN=\"1\"", 1); '"$taken" <two-groups >log
+holds 'another FMN: one octet and three messages differ' test "$(($(wc -c <two-groups) - $(wc -c <log)))" = \
+    $((3 * $(frame '<13>1 2026-01-01T00:00:03Z h a - - - message 3' | wc -c)))
+keys verify "${key[@]}" --ignore-strangers log
+holds 'another FMN: status 1' test "$status" = 1
+holds 'another FMN: the verdict' test "$(verdict)" = "FINDINGS: of 6 announced messages 6 are present and unchanged; 1 signature block is missing or \
+unverified, so messages may be missing without another line saying so; 1 block is unverified."
+keys verify "${key[@]}" --json --ignore-strangers log
+holds 'another FMN: JSON' grep -q '"missing_blocks":1,.*"strangers":1,"strangers_ignored":false' <(tail -n 1 out)
+harmed 'del messages[blocks[1]]; '"$taken" <two-groups >log
+keys verify "${key[@]}" --ignore-strangers log
+holds 'no such block at all: status 1' test "$status" = 1
+# of the last block in the log, no GBC is missing: only counters show it, as where it was taken out
+taken='messages = [it for it in messages if it[-9:] not in (b"message 6", b"message 7", b"message 8")]'
+while IFS='|' read -r what change; do
+    harmed "at = blocks[2]; messages[at] = $change; $taken" <two-groups >log
+    keys verify "${key[@]}" --counters two-groups.counters --ignore-strangers log
+    holds "$what: up to the counters, status 1" test "$status" = 1
+    holds "$what: up to the counters, the verdict" grep -q '; 3 messages up to the counters are missing; 1 signature block is missing' <(verdict)
+done <<'END'
+another GBC and group|messages[at].replace(b'GBC="2"', b'GBC="1"').replace(b'SPRI="30"', b'SPRI="13"')
+a certificate block|spoil(next(it for it in messages if b"[ssign-cert " in it))
+END
+printf '#!/bin/sh\n[ "$2" != --whole ] || { echo "error: unexpected argument" >&2; exit 2; }\nexec %q "$@"\n' "$program" >older
+chmod +x older
+keys verify "${key[@]}" --ssign ./older --ignore-strangers two-groups
+expect 'an older ssign' 2 '' "error: unexpected argument
+ssign-keys: the program ./older has no \`review --whole\`, so it can't say which signature blocks are missing: name a newer one with --ssign, \
+or leave --ignore-strangers out"
+
+# ---- a block whose RSID somebody changed to that of another session with the same names
+signs third one 3 --payload "$payload"
+cat signed third >whole
+keys verify "${key[@]}" --ignore-strangers whole
+holds 'two sessions: status 0' test "$status.$(grep -c '  state: joined' out)" = 0.2
+harmed 'at = blocks[-1]; messages[at - 1:] = [messages[at].replace(b"RSID=\"1\"", b"RSID=\"3\"", 1)]' <signed | cat - third >log
+keys verify "${key[@]}" --ignore-strangers log
+holds 'the RSID of another session: status 1' test "$status" = 1
+holds 'the RSID of another session: the verdict' test "$(verdict)" = "FINDINGS: of 19 announced messages 19 are present and unchanged; \
+1 block is unverified; 1 of these may be the signer's last one, damaged, so it isn't ignored."
+signs brief one 3 --payload "$payload" --groups pri
+cat signed brief >log
+keys verify "${key[@]}" --ignore-strangers log
+holds 'other groups in each session: status 0' test "$status" = 0
+harmed 'messages.append(spoil(messages[blocks[1]]))' <log >harmless
+keys verify "${key[@]}" --ignore-strangers harmless
+holds 'a group that the other session lacks: status 1' test "$status" = 1
+harmed 'messages += [spoil(messages[at]) for at in blocks]' <whole >log
+disputes octet 5 <log >harmless
+keys verify "${key[@]}" --ignore-strangers harmless
+holds 'two sessions, and damaged copies of all their blocks: status 0' test "$status" = 0
+holds 'two sessions, and damaged copies of all their blocks: the verdict' grep -q ' 13 unverified blocks were ignored: ' <(verdict)
 
 # ---- counters, one night and lines
 disputes total 7 <signed >log

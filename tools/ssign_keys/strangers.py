@@ -1,15 +1,17 @@
 """Blocks that claim a session, and aren't validly signed: strangers can write any number of them.
 
-A block of the originator that was damaged looks the same. What it announced is missing or unlisted then, which is reported, unless
-it was after all that is verified: so a block that claims to be that is never ignored. A certificate block that the same key signed
-for an older session looks the same too: it has no fragment of this session's payload.
+A block of the originator that was damaged looks the same. Where it left a gap in the numbers or GBCs of its session, that is reported.
+One that was after all that is verified leaves none: so a block that claims to be that is never ignored, whichever RSID it has.
+Somebody may also have changed what it claims, GBC and all: then only counters show that it is gone, as where it was taken out. A
+certificate block that the same key signed for an older session looks the same too: it has no fragment of this session's payload.
 """
 from __future__ import annotations
 
 import argparse
 import re
 from array import array
-from typing import Dict, NamedTuple, Set, Tuple
+from collections import Counter
+from typing import Dict, List, NamedTuple, Set, Tuple
 
 from .blocks import Session, read_block
 from .logs import Log
@@ -21,6 +23,8 @@ from .walk import Walk
 GROUP = rb'SG="([0-3])" SPRI="([0-9]{1,3})" '
 ANNOUNCING = re.compile(GROUP + rb'GBC="([0-9]{1,10})" FMN="([0-9]{1,10})" CNT="([0-9]{1,2})" ')
 CARRYING = re.compile(GROUP + rb'TPBL="')
+# HOSTNAME, APP-NAME and PROCID
+Names = Tuple[bytes, bytes, bytes]
 
 
 class Claims(NamedTuple):
@@ -28,7 +32,7 @@ class Claims(NamedTuple):
 
     blocks: int
     late: int
-    """How many of them may announce a number or have a GBC after all that is verified of the session."""
+    """How many of them may announce a number or have a GBC after all that is verified of a session with these names."""
 
 
 NO_CLAIMS = Claims(0, 0)
@@ -38,7 +42,7 @@ def add_arguments(parser: argparse.ArgumentParser) -> None:
     """Says which words the command takes."""
     parser.add_argument("--ignore-strangers", action="store_true", help="let the status be 0 though blocks claim a joined session "
                         "and aren't validly signed, if nothing else is found and none of them claims to come after the last "
-                        "verified one: anybody can write them, and they change nothing")
+                        "verified one; also does what --whole does")
 
 
 def words_of(claims: Claims) -> str:
@@ -71,7 +75,7 @@ def count_strangers(log: Log, refused: "array[int]", joined: Set[Session], reach
     found: Dict[Session, Claims] = {}
     if not refused or not joined:
         return found
-    gbcs, numbers = reached(reach)
+    gbcs, numbers = reached(reach, joined)
     index, walk = 0, Walk(log.file, log.are_lines)
     for stored in walk.candidates():
         progress.show("looking at unverified blocks", walk.offset, log.size, "octets")
@@ -90,18 +94,32 @@ def count_strangers(log: Log, refused: "array[int]", joined: Set[Session], reach
             is_late = CARRYING.match(octets, block.end) is None
         else:
             sg, spri, gbc, first, count = map(int, announcing.groups())
-            last = numbers.get((block.session, sg, spri), 0)
-            is_late = gbc > gbcs.get(block.session, -1) or first + count - 1 > last
+            names = names_of(block.session)
+            is_late = gbc > gbcs[names] or first + count - 1 > numbers.get((names, sg, spri), 0)
         found[block.session] = Claims(claims.blocks + 1, claims.late + is_late)
     return found
 
 
-def reached(reach: Reach) -> Tuple[Dict[Session, int], Dict[Tuple[Session, int, int], int]]:
-    """The greatest GBC of each session, and the last number of each group, of verified blocks."""
-    gbcs: Dict[Session, int] = {}
-    numbers: Dict[Tuple[Session, int, int], int] = {}
+def names_of(session: Session) -> Names:
+    """What sessions of one originator share."""
+    return session.host, session.app, session.procid
+
+
+def reached(reach: Reach, joined: Set[Session]) -> Tuple[Dict[Names, int], Dict[Tuple[Names, int, int], int]]:
+    """The greatest GBC, and the last number of each group, that verified blocks of all joined sessions with the same names reach.
+
+    Which of these sessions a damaged block is of isn't known: its RSID may be what was damaged.
+    """
+    greatest = dict.fromkeys(joined, -1)
+    lasts: Dict[Tuple[Names, int, int], List[int]] = {}
     for it in reach:
-        numbers[it.session, it.sg, it.spri] = it.last
-        if it.gbc is not None:
-            gbcs[it.session] = max(it.gbc, gbcs.get(it.session, -1))
-    return gbcs, numbers
+        if it.session in joined:
+            lasts.setdefault((names_of(it.session), it.sg, it.spri), []).append(it.last)
+            if it.gbc is not None:
+                greatest[it.session] = max(it.gbc, greatest[it.session])
+    gbcs: Dict[Names, int] = {}
+    for session, gbc in greatest.items():
+        names = names_of(session)
+        gbcs[names] = min(gbc, gbcs.get(names, gbc))
+    sessions = Counter(map(names_of, joined))
+    return gbcs, {group: min(numbers) for group, numbers in lasts.items() if len(numbers) == sessions[group[0]]}

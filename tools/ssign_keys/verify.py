@@ -451,10 +451,12 @@ def refuse_one_pipe(begin: Optional[List[str]], counters: Optional[List[str]], l
 
 def find_missing(program: str, arguments: argparse.Namespace, workplace: Workplace, progress: Progress) -> Missing:
     """Refuses what can't be asked, before the log is read: by an older ssign, or up to a bad counters file."""
-    words = ["--whole"] if arguments.whole else []
+    # a damaged block is to be ignored only where no GBC is missing
+    words = ["--whole"] if arguments.whole or arguments.ignore_strangers else []
     missing = Missing(words, None)
     if words and not (arguments.begin or arguments.counters):
-        refuse_without(program, words, "--whole", "which signature blocks are missing", workplace, progress)
+        given = "--whole" if arguments.whole else "--ignore-strangers"
+        refuse_without(program, words, given, "which signature blocks are missing", workplace, progress)
     if arguments.begin:
         path = copy_begin(arguments.begin[0], workplace)
         words.append(f"--from={path}")
@@ -503,11 +505,12 @@ def add_begin(missing: Missing, lines: bytes, program: str, workplace: Workplace
 
 def refuse_without(program: str, words: List[str], option: str, what: str, workplace: Workplace,
                    progress: Progress) -> None:
-    """Refuses an ssign that doesn't know an option, which is the last of these words. An empty log shows it."""
+    """Refuses an ssign that doesn't know the last of these words, which the option of this name needs. An empty log shows it."""
     try:
         Run(program, ["review", *words], workplace, progress, subprocess.DEVNULL, subprocess.DEVNULL).end(lambda: None)
     except Refused as refused:
         if refused.code is not None or "UTF-8" in (refused.mistake or ""):
             raise
-        raise Fault(f"the program {shown_name(program)} has no `review {option}`, so it can't say {what}: name a newer "
+        unknown = words[-1].partition("=")[0]
+        raise Fault(f"the program {shown_name(program)} has no `review {unknown}`, so it can't say {what}: name a newer "
                     f"one with --ssign, or leave {option} out") from refused
