@@ -6,6 +6,8 @@
     stamps.py hostile FOLDER NAME SUBJECT      the same, by the library, with this name of the service
     stamps.py brief FOLDER NAME SECONDS        the same, whose certificates end after so many seconds
     stamps.py twin FOLDER ISSUER FILE          makes a certificate of nobody, with the serial number of the service
+    stamps.py swap STAMP CERTIFICATE..         prints a stamp with these certificates in place of its own, and the last one's issuer
+                                               as that of its signer; with `ber:` before a file, its signature's length is in BER
     stamps.py answer FOLDER KIND               answers the request on standard input; KIND is one of ANSWERS
     stamps.py token FOLDER SHA256 KEY=VALUE..  prints an answer with these values in place of the right ones
     stamps.py serve FOLDER PORT CERTIFICATE    serves the kinds of answers as paths by HTTP, or by HTTPS with a certificate;
@@ -55,6 +57,11 @@ keyUsage = critical,keyCertSign
 basicConstraints = critical,CA:TRUE
 keyUsage = critical,keyCertSign
 extendedKeyUsage = serverAuth
+[unread]
+basicConstraints = critical,CA:TRUE
+keyUsage = critical,keyCertSign
+extendedKeyUsage = codeSigning
+authorityInfoAccess = DER:0500
 [tight]
 basicConstraints = critical,CA:TRUE,pathlen:0
 keyUsage = critical,keyCertSign
@@ -93,6 +100,7 @@ def make(folder: str, name: str, digest: str = "sha256") -> None:
     for of, subject, by, kind in (("tsa", f"/O=Trial/CN={name} TSA", "ca", "tsa"), ("server", f"/CN={name} server", "ca", "server"),
                                   ("inter", f"/CN={name} below", "ca", "ca"), ("under", f"/CN={name} under", "inter", "tsa"),
                                   ("servers", f"/CN={name} servers", "ca", "servers"), ("odd", f"/CN={name} odd", "servers", "tsa"),
+                                  ("unread", f"/CN={name} code", "ca", "unread"), ("hidden", f"/CN={name} hidden", "unread", "tsa"),
                                   ("tight", f"/CN={name} tight", "ca", "tight"), ("deeper", f"/CN={name} deeper", "tight", "ca"),
                                   ("deep", f"/CN={name} deep", "deeper", "tsa")):
         kind_of_key = ["rsa:2048"] if of in ("tsa", "server") else ["ec", "-pkeyopt", "ec_paramgen_curve:P-256"]
@@ -148,6 +156,29 @@ def twin(folder: str, issuer: str, path: str) -> None:
         .sign(key, hashes.SHA256())
     with open(path, "wb") as file:
         file.write(made.public_bytes(serialization.Encoding.PEM))
+
+
+def swap(path: str, *certificates: str) -> bytes:
+    """A stamp with other certificates, and another issuer of its signer. Neither is signed."""
+    with open(path, "rb") as file:
+        (_, body), = values(file.read())
+    status, (_, token) = values(body)
+    kind, (_, wrapped) = values(token)
+    (_, signed), = values(wrapped)
+    *fields, _, (_, signers) = values(signed)
+    (_, signer), = values(signers)
+    version, (_, whose), *rest = values(signer)
+    held = []
+    for it in certificates:
+        (tbs, algorithm, (tag, signature)), = [values(body) for _, body in values(
+            openssl("x509", "-in", it.rpartition(":")[2], "-outform", "DER"))]
+        is_long = it.startswith("ber:")
+        last = bytes((tag, 0x84)) + len(signature).to_bytes(4, "big") + signature if is_long else value(tag, signature)
+        held.append(value(48, value(*tbs), value(*algorithm), last))
+    issuer = values(tbs[1])[3]
+    signer = value(48, value(*version), value(48, value(*issuer), value(*values(whose)[1])), *(value(*it) for it in rest))
+    signed = value(48, *(value(*it) for it in fields), value(0xA0, *held), value(49, signer))
+    return value(48, value(*status), value(48, value(*kind), value(0xA0, signed)))
 
 
 # ---- what a service answers
@@ -486,6 +517,8 @@ def main(command: str, *words: str) -> None:
         make(words[0], words[1], "sha1")
     elif command == "twin":
         twin(*words)
+    elif command == "swap":
+        sys.stdout.buffer.write(swap(*words))
     elif command == "answer":
         sys.stdout.buffer.write(ANSWERS[words[1]](words[0], sys.stdin.buffer.read()))
     elif command == "token":

@@ -236,13 +236,50 @@ wrong 'an extension twice' 'it has an extension twice' after=twice
 wrong 'no extension' 'a list of extensions without one (T3)' after=empty
 judged 0 'an extension that is not critical' --tsa-ca trial/ca.pem after=plain
 wrong 'the name of another service' 'openssl says: tsa name mismatch (T2)' after=other-name
-# openssl takes names for the same whose letters differ in their case alone, so it might take the other certificate
-stamps twin trial 'TRIAL  ca' twin.pem
-wrong 'two certificates of its signer' 'it holds 2 certificates of its signer, and one is wanted (T3)' more="$scratch/twin.pem"
-stamps twin trial 'another CA' far.pem
-stamps token trial "$sum" more="$scratch/far.pem" >made.tsr
-keys "${verify[@]}" --stamped made.tsr --tsa-ca trial/ca.pem signed
-holds 'a certificate of another issuer with this serial number' grep -q 'by the time stamp of CN=trial TSA,O=Trial\.$' <(tail -n 1 out)
+# ---- certificates in a stamp: its signature isn't over them, and openssl reads more of them than the library
+# swapped STATUS WHAT CA CERTIFICATE..: the last stamp that was put together with these certificates, under this authority. It is
+# one that openssl finds valid, so that ssign-keys alone refuses it.
+swapped() {
+    local wanted=$1 what=$2 ca=$3
+    shift 3
+    stamps swap made.tsr "$@" >swapped.tsr
+    holds "$what: openssl finds it valid" openssl ts -verify -data counters -in swapped.tsr -CAfile "$ca" -untrusted "$ca"
+    keys "${verify[@]}" --stamped swapped.tsr --tsa-ca "$ca" signed
+    holds "$what: status" test "$status" = "$wanted"
+}
+unread="it holds a certificate that can't be read, or isn't in DER: number"
+stamps token trial "$sum" signer=odd >made.tsr
+swapped 2 'one for servers in BER' trial/ca.pem ber:trial/servers.pem trial/odd.pem
+says 'one for servers in BER' "$unread 1 of 2 (T3)"
+stamps token trial "$sum" signer=hidden >made.tsr
+swapped 2 'one for code that the library cannot read' trial/ca.pem trial/unread.pem trial/hidden.pem
+says 'one for code that the library cannot read' "$unread 1 of 2 (T3)"
+stamps token trial "$sum" >made.tsr
+swapped 0 'the same certificate' trial/ca.pem trial/tsa.pem
+stamps twin trial 'trial CA' twin.pem
+swapped 2 'the service in BER' trial/ca.pem ber:trial/tsa.pem
+says 'the service in BER' "$unread 1 of 1 (T3)"
+swapped 2 'the service in BER, and a decoy' trial/ca.pem ber:trial/tsa.pem twin.pem
+says 'the service in BER, and a decoy' "$unread 1 of 2 (T3)"
+two="it holds 2 certificates with the serial number of its signer's, and one is wanted (T3)"
+# openssl takes issuers for the same that differ in the case of letters or in spaces
+for each in 'trial CA' 'TRIAL  ca' "$(printf 'trial%41sCA' '')" 'another CA'; do
+    stamps twin trial "$each" twin.pem
+    wrong "a decoy of the issuer $each" "$two" more="$scratch/twin.pem"
+done
+stamps twin trial "$(printf 'trial%41sCA' '')" twin.pem
+stamps token trial "$sum" >made.tsr
+swapped 2 'a decoy whose issuer the stamp names' trial/ca.pem trial/tsa.pem twin.pem
+says 'a decoy whose issuer the stamp names' "$two"
+stamps twin trial 'trial CA' twin.pem
+cat trial/ca.pem trial/tsa.pem >known.pem
+swapped 2 'a decoy of a service that is known' known.pem twin.pem
+says 'a decoy of a service that is known' "a certificate of --tsa-ca has the serial number of the stamp's signer, and is another one (T2)"
+swapped 0 'a service that is known' known.pem trial/tsa.pem
+# anchors aren't asked for the signer's certificate
+stamps swap made.tsr twin.pem >swapped.tsr
+keys "${verify[@]}" --stamped swapped.tsr --tsa-ca-anchor trial/tsa.pem signed
+says 'a decoy of a service that is an anchor' '(T2)'
 stamps token trial "$sum" time="$(date -u +%Y%m%d%H%M%S).25Z" >made.tsr
 keys "${verify[@]}" --stamped made.tsr --tsa-ca trial/ca.pem signed
 holds 'a fraction of a second' grep -q 'These counters existed at [0-9T:-]*\.25Z, by the time stamp' out
@@ -321,6 +358,8 @@ keys stamp counters --tsa-command "$answer exact" --tsa-ca trial/ca.pem --out ex
 holds 'an exact service of openssl' grep -q '^counters existed at [0-9T:-]*Z, within 0.00205 seconds, by the time stamp of CN=trial TSA' out
 refused 'a vague service of openssl' "the time stamp new.tsr doesn't show when: its accuracy is worse than one day (T4)" "$answer vague"
 refused 'a critical extension' "it has the critical extension 1.3.6.1.5.5.7.1.3, which isn't known here (T3)" "$answer critical"
+swap="python3 -B '$root/tests/stamps.py' swap '$scratch/answered.tsr'"
+refused 'the service in BER, and a decoy, in an answer' "$unread 1 of 2 (T3)" "$answer made >'$scratch/answered.tsr'; $swap 'ber:$scratch/trial/tsa.pem' '$scratch/twin.pem'"
 refused 'a rejection' 'the service gave no time stamp, but rejection, "Message digest algorithm is not supported.", badAlg (T3)' "$answer rejected"
 refused 'an answer that was cut' 'it breaks off (T3)' "$answer cut"
 refused 'no answer' 'it is empty (T3)' "$answer empty"

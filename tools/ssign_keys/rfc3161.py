@@ -123,10 +123,10 @@ class Authorities(NamedTuple):
 
     given: List[Given]
     """Each certificate, for what was checked."""
-    anchors: bytes
-    """Those with which a chain may end, in PEM: the self-issued ones of --tsa-ca, and all of --tsa-ca-anchor."""
-    helpers: bytes
-    """Those that may stand between, in PEM."""
+    anchors: List[Certificate]
+    """Those with which a chain may end: the self-issued ones of --tsa-ca, and all of --tsa-ca-anchor."""
+    helpers: List[Certificate]
+    """Those that may stand between."""
     is_partial: bool
     """Whether an anchor is none that issued itself."""
 
@@ -137,17 +137,22 @@ def read_authorities(paths: Sequence[str], anchors: Sequence[str]) -> Authoritie
 
     One that is for other uses alone is no anchor and no helper, because openssl doesn't look at that above a service.
     """
-    found = [(option, path, it) for option, these in (("--tsa-ca", paths), ("--tsa-ca-anchor", anchors)) for path in these
+    found = [(option, path, it) for option, names in (("--tsa-ca", paths), ("--tsa-ca-anchor", anchors)) for path in names
              for it in read_certificates(path, read_file(path, "a certificate"))]
-    pem = {True: b"", False: b""}
+    these: Dict[bool, List[Certificate]] = {True: [], False: []}
     for option, _, it in found:
         if TIME_STAMPING <= it.uses:
-            pem[option == "--tsa-ca-anchor" or it.is_self_issued] += loaded(it.der).public_bytes(Encoding.PEM)
-    if not pem[True]:
+            these[option == "--tsa-ca-anchor" or it.is_self_issued].append(it)
+    if not these[True]:
         raise Fault("no certificate of --tsa-ca is self-issued and may issue those for time stamps, so no chain can end: add the "
                     "root's, or give the file by --tsa-ca-anchor")
     given = [Given(option, path, None, None, it.facts) for option, path, it in found]
-    return Authorities(given, pem[True], pem[False], bool(anchors))
+    return Authorities(given, these[True], these[False], bool(anchors))
+
+
+def pem(these: Sequence[Certificate]) -> bytes:
+    """Certificates as openssl takes them."""
+    return b"".join(loaded(it.der).public_bytes(Encoding.PEM) for it in these)
 
 
 def name_of(facts: CertificateFacts) -> str:
@@ -223,35 +228,29 @@ def read_signed(item: Item) -> TimeStamp:
 def signer_of(item: Item, held: Sequence[Item]) -> Certificate:
     """The certificate of a signer (RFC 5652, section 5.3), which is one of those that are held.
 
-    openssl takes the first whose issuer and serial number fit. So there has to be one alone, or it might be another one.
+    The signature isn't over them, and openssl reads more than the library does: BER, and an issuer that is spelled in another
+    way. So each has to be one that the library reads in DER, and one alone has the serial number.
     """
     _, whose, hashed, *_ = der.parts(item, der.SEQUENCE, 5, "the signature")
-    issuer, serial = pair(whose, "the name of the signer")
+    _, serial = pair(whose, "the name of the signer")
     algorithm = der.oid(der.parts(hashed, der.SEQUENCE, 1, "the hash algorithm")[0], "the hash algorithm")
     if algorithm not in HASHES:
         raise Bad(f"it is signed over the hash algorithm {algorithm}: one of 256 bits or more is wanted")
-    wanted = der.number(serial, "the serial number of the signer's certificate")
-    certificates = [it for it in map(read_certificate, (it.whole for it in held)) if it is not None]
-    found = [it for it in certificates if loaded(it.der).serial_number == wanted]
-    if len(found) > 1:
-        found = [it for it in found if it.issuer == issuer.whole or is_like(it, issuer.whole)]
+    wanted = hexadecimal(der.number(serial, "the serial number of the signer's certificate"))
+    certificates = []
+    for count, part in enumerate(held, 1):
+        read = read_certificate(part.whole)
+        if read is None:
+            raise Bad(f"it holds a certificate that can't be read, or isn't in DER: number {count} of {len(held)}")
+        certificates.append(read)
+    found = [it for it in certificates if it.facts.serial == wanted]
     if len(found) != 1:
-        raise Bad(f"it holds {grouped(len(found), 'certificate')} of its signer, and one is wanted")
+        raise Bad(f"it holds {grouped(len(found), 'certificate')} with the serial number of its signer's, and one is wanted")
     for it in certificates:
         # openssl looks at this of the service alone, and not of an authority above it
         if it is not found[0] and not TIME_STAMPING <= it.uses:
             raise Bad(f"it holds the certificate {it.name}, which isn't for time stamps, by its extendedKeyUsage")
     return found[0]
-
-
-def is_like(certificate: Certificate, issuer: bytes) -> bool:
-    """Whether the name of an issuer may be the same for a reader who looks at letters and digits alone."""
-    return letters(certificate.issuer) == letters(issuer)
-
-
-def letters(octets: bytes) -> bytes:
-    """The letters and digits of ASCII in these octets, in small letters."""
-    return re.sub(rb"[^0-9a-z]", b"", octets.lower())
 
 
 def read_info(octets: bytes, signer: Certificate) -> TimeStamp:
@@ -384,8 +383,11 @@ def time_fault(stamp: TimeStamp, is_new: bool) -> Optional[str]:
 def fault_of(octets: bytes, stamp: TimeStamp, authorities: Authorities, workplace: Workplace,
              query: Optional[str]) -> Optional[str]:
     """What openssl has against a stamp at the stamp's own time, or None. Nothing that this machine trusts besides is taken."""
+    # openssl takes the certificate of the signer from the helpers before it takes that of the stamp
+    if any(it.facts.serial == stamp.signer.facts.serial and it.der != stamp.signer.der for it in authorities.helpers):
+        return "a certificate of --tsa-ca has the serial number of the stamp's signer, and is another one"
     paths = []
-    for what, held in (("stamp", octets), ("anchors", authorities.anchors), ("helpers", authorities.helpers)):
+    for what, held in (("stamp", octets), ("anchors", pem(authorities.anchors)), ("helpers", pem(authorities.helpers))):
         with workplace.new_file(what) as file:
             put(file, held)
             finish(file)
