@@ -247,6 +247,7 @@ def extension(critical: str = "", name: str = "06082b06010505070103") -> bytes:
 # what may follow the time of a stamp, and what may not (TSTInfo of RFC 3161, section 2.4.2)
 AFTER: Dict[str, List[bytes]] = {
     "all": [accuracy(1, value(0x80, b"\2"), value(0x81, b"\3")), b"\1\1\xff", number(5), value(0xA1, extension())],
+    "zero": [accuracy(0)],
     "day": [accuracy(86400)], "more": [accuracy(86400, value(0x81, b"\1"))], "century": [accuracy(3155760000)],
     "long": [accuracy(256 ** 4000)], "none": [accuracy()], "negative": [value(0x30, b"\2\1\xff")],
     "millis": [accuracy(-1, value(0x80, b"\1\xf4"))],

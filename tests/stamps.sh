@@ -196,7 +196,8 @@ wrong 'signed over SHA-1' 'it is signed over the hash algorithm 1.3.14.3.2.26' m
 wrong 'signed data of another kind' 'what is signed is no time stamp (T3)' type=1.2.840.113549.1.7.1
 wrong 'another version' 'another version than 1 (T3)' version=2
 wrong 'rejected' 'the service gave no time stamp, but rejection (T3)' status=2
-wrong 'more octets after it' '(T3)' rest=0500
+wrong 'more octets after it' 'octets follow the answer (T3)' rest=0500
+wrong 'an octet after it' 'octets follow the answer (T3)' rest=05
 wrong 'a time that is none' 'its time is no time in UTC (T3)' time=20260230000000Z
 wrong 'a time with a zone' '(T3)' time=20260101000000+0100
 wrong 'a time before 1970' 'its time is before 1970 (T3)' time=19691231235959Z
@@ -220,7 +221,13 @@ judged 0 'an accuracy in thousandths' --tsa-ca trial/ca.pem after=millis
 exactly 'an accuracy in thousandths' '0.5 seconds'
 judged 0 'all that may follow the time' --tsa-ca trial/ca.pem after=all
 exactly 'all that may follow the time' '1.002003 seconds'
-judged 0 'an accuracy without a part' --tsa-ca trial/ca.pem after=none
+# one of nothing says no more than none
+for each in none zero; do
+    judged 0 "an accuracy of nothing: $each" --tsa-ca trial/ca.pem after=$each
+    holds "an accuracy of nothing: $each: the verdict" grep -q 'existed at [0-9T:-]*Z, by the time stamp' <(tail -n 1 out)
+    keys "${verify[@]}" --stamped made.tsr --tsa-ca trial/ca.pem --json signed
+    holds "an accuracy of nothing: $each: JSON" grep -qF '},"accuracy":null}]' out
+done
 for each in negative millis-0 millis-1000 micros-1000; do
     wrong "an accuracy that is none: $each" 'a part of the accuracy is out of its range (T3)' after="$each"
 done

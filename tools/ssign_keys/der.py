@@ -57,10 +57,10 @@ def item_at(octets: bytes, start: int) -> Tuple[Item, int]:
 
 def only(octets: bytes, tag: int, what: str) -> Item:
     """The one value that these octets are. Raises Bad where they are more, or have another tag."""
-    found = items(octets)
-    if len(found) != 1:
-        raise Bad(f"{what} isn't one value")
-    return want(found[0], tag, what)
+    found, end = item_at(octets, 0)
+    if end != len(octets):
+        raise Bad(f"octets follow {what}")
+    return want(found, tag, what)
 
 
 def want(item: Item, tag: int, what: str) -> Item:

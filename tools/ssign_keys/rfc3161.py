@@ -62,7 +62,7 @@ class TimeStamp(NamedTuple):
     moment: int
     """The same in whole seconds since 1970."""
     accuracy: Optional[int]
-    """How far from it the real time may be, in microseconds; None where the service doesn't say it."""
+    """How far from it the real time may be, in microseconds; None where the service doesn't say it, or says 0."""
     imprint: str
     """The SHA-256 of what was stamped, in hexadecimal digits."""
     serial: str
@@ -83,7 +83,7 @@ class TimeStamp(NamedTuple):
     @property
     def when(self) -> str:
         """The time, with its accuracy."""
-        within = f", within {self.seconds} second{'s' * (self.accuracy != SECOND)}" if self.accuracy else ""
+        within = f", within {self.seconds} second{'s' * (self.accuracy != SECOND)}" if self.accuracy is not None else ""
         return self.time + within
 
 
@@ -270,8 +270,8 @@ def read_info(octets: bytes, signer: Certificate) -> TimeStamp:
 
 
 def read_rest(items: Sequence[Item]) -> Optional[int]:
-    """The accuracy in microseconds, from what may follow the time. Raises Bad where anything else stands there than RFC 3161
-    knows, or in another order."""
+    """The accuracy in microseconds, or None where it is 0 or isn't there, from what may follow the time. Raises Bad where
+    anything else stands there than RFC 3161 knows, or in another order."""
     accuracy, ordering, nonce, tsa, extensions = in_order(items, (der.SEQUENCE, der.BOOLEAN, der.INTEGER, der.FIRST, der.SECOND),
                                                           "the time stamp")
     if ordering is not None:
@@ -282,7 +282,7 @@ def read_rest(items: Sequence[Item]) -> Optional[int]:
         raise Bad("the name of the service isn't one value")
     if extensions is not None:
         refuse_critical(der.items(extensions.body))
-    return None if accuracy is None else read_accuracy(accuracy)
+    return None if accuracy is None else read_accuracy(accuracy) or None
 
 
 def in_order(items: Sequence[Item], tags: Sequence[int], what: str) -> List[Optional[Item]]:
