@@ -247,7 +247,11 @@ harm 'a manifest that was changed' '--manifest manifests' 1 "in beta: manifest, 
 harm 'no manifest for a part' '--manifest manifests' 1 "in beta: manifest, $scratch/harmed/manifests/beta.manifest isn't there, so nobody can say whether a log of this part is missing" -- rm manifests/beta.manifest
 harm 'no counters for a part' '--counters counters' 1 "in beta: counters, there are none in $scratch/harmed/counters/beta.counters, so nobody can say whether the end of this part is missing" -- rm counters/beta.counters
 harm 'empty counters for a part' '--counters counters' 1 "in beta: counters, there are none in $scratch/harmed/counters/beta.counters, so nobody can say whether the end of this part is missing" -- truncate -s 0 counters/beta.counters
-harm 'a bad counter' '--counters counters' 2 'beta - - - - - - - - - NOT REVIEWED: ssign review refuses it: ssign: C1 5' -- bash -c 'echo x >>counters/beta.counters'
+harm 'counters of no session for a part' '--counters counters' 1 "in beta: counters, there are none in $scratch/harmed/counters/beta.counters, so nobody can say whether the end of this part is missing" -- bash -c 'echo end 0 >counters/beta.counters'
+for octets in 1 20; do
+    harm "counters of a part without their last octets: $octets" '--counters counters --manifest manifests' 2 'beta - - - - - - - - - NOT REVIEWED: ssign review refuses it: ssign: C@' -- truncate -s "-$octets" counters/beta.counters
+done
+harm 'a bad counter' '--counters counters' 2 'beta - - - - - - - - - NOT REVIEWED: ssign review refuses it: ssign: C1 7' -- bash -c 'echo x >>counters/beta.counters'
 harm 'compressed logs' '--counters counters --manifest manifests' 0 "$(clean beta)" -- gzip archive/beta/night-1
 harm 'a torn log' '' 1 'beta 2 9 3 0 0 3 0 0 joined 2 4 findings' -- truncate -s -3 archive/beta/night-1
 tell 'no part has a milder verdict than ssign-keys verify' "$([[ $softer == 0 ]] || echo "    $softer")"

@@ -6,6 +6,7 @@ import os
 from typing import Dict, Iterator, List, Optional, Set
 
 from ssign_keys.blocks import Session
+from ssign_keys.counters_file import file_of
 from ssign_keys.faults import Fault
 from ssign_keys.files import reason
 from ssign_keys.manifest_findings import bare
@@ -31,7 +32,7 @@ def unused(given: str, archive: str, parts: List[str], ending: str) -> List[str]
 
 
 def counters_for(own: Optional[str], manifest: Optional[str], names: List[str]) -> Optional[bytes]:
-    """The counters for a part: those of its own file, and those of the entries of its logs. None where there are none."""
+    """The counters file for a part: its own, and then the counters of the entries of its logs. None where there are none."""
     held: List[bytes] = []
     if own is not None and os.path.lexists(own):
         look(own)
@@ -40,24 +41,25 @@ def counters_for(own: Optional[str], manifest: Optional[str], names: List[str]) 
                 octets = file.read()
         except OSError as fault:
             raise Fault(f"the counters file {shown_name(own)} can't be read: {reason(fault)}") from fault
-        held.append(octets if octets.endswith(b"\n") or not octets else octets + b"\n")
+        held.append(octets)
     if manifest is not None and os.path.lexists(manifest):
-        held += lines_of_entries(manifest, {bare(it) for it in names})
+        held += files_of_entries(manifest, {bare(it) for it in names})
     counters = b"".join(held)
-    return counters or None
+    # a file that is whole and without a counter shows nothing
+    return counters if counters.replace(file_of(b""), b"") else None
 
 
-def lines_of_entries(manifest: str, names: Set[str]) -> Iterator[bytes]:
-    """The counters of those entries whose logs have these names."""
+def files_of_entries(manifest: str, names: Set[str]) -> Iterator[bytes]:
+    """The counters of those entries whose logs have these names, as counters files."""
     for it in read_manifest(manifest).entries:
         if it.name in names:
-            yield "".join(f"{line}\n" for line in it.counters).encode("ascii")
+            yield file_of("".join(f"{line}\n" for line in it.counters).encode("ascii"))
 
 
 def begin_for(manifest: Optional[str], names: List[str]) -> bytes:
-    """The counters with which the nights of a part begin: those of the entries of each session before its logs."""
+    """The counters file with which the nights of a part begin: those of the entries of each session before its logs."""
     if manifest is None or not os.path.lexists(manifest):
-        return b""
+        return file_of(b"")
     own = {bare(it) for it in names}
     begun: Set[Session] = set()
     known: Dict[Session, Reached] = {}
@@ -66,7 +68,7 @@ def begin_for(manifest: Optional[str], names: List[str]) -> bytes:
             begun.add(it.session)
         elif it.session not in begun:
             known.setdefault(it.session, Reached()).go_on(it)
-    return b"".join(reached.lines(session) for session, reached in known.items() if session in begun)
+    return file_of(b"".join(reached.lines(session) for session, reached in known.items() if session in begun))
 
 
 def sum_of(octets: bytes) -> str:

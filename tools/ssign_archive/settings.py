@@ -35,10 +35,10 @@ class Bounds(NamedTuple):
     """Those with which its nights begin; None where it begins with 1."""
 
 
-def counters_of(lines: bytes) -> Counters:
+def counters_of(octets: bytes) -> Counters:
     """The counters of a file that ssign didn't refuse."""
     counters = Counters()
-    for line in lines.splitlines():
+    for line in octets.splitlines():
         counters.add(line)
     return counters
 
@@ -106,14 +106,14 @@ class Settings:
         return own_file(self.manifest, self.archive, part, ".manifest")
 
     def counters_given(self, part: str) -> Optional[bytes]:
-        """The counters that the review of a part gets, or None where it gets none."""
+        """The counters file that the review of a part gets, or None where it gets none."""
         if self.counters is None and self.manifest is None:
             return None
         names = [it.name for it in files_of(self.path_of(part))]
         return counters_for(self.counters_of(part), self.manifest_of(part), names)
 
     def begin_given(self, part: str) -> Optional[bytes]:
-        """The counters with which the nights of a part begin, as lines; None where a review begins with 1."""
+        """The counters file with which the nights of a part begin; None where a review begins with 1."""
         if not self.from_manifest:
             return None
         return begin_for(self.manifest_of(part), [it.name for it in files_of(self.path_of(part))])

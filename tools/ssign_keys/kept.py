@@ -29,7 +29,9 @@ class Counters:
         self._sessions: Set[Session] = set()
 
     def add(self, line: bytes) -> None:
-        """Takes a line of a file that ssign didn't refuse."""
+        """Takes a line of a file that ssign didn't refuse. The end of a part says nothing more."""
+        if line.startswith(b"end "):
+            return
         fields = line.rstrip(b"\n").split(b" ")
         session, numbers = Session(*fields[1:5]), [int(it) for it in fields[5:]]
         self._sessions.add(session)
@@ -117,6 +119,5 @@ def read_counters(path: str) -> Counters:
     counters = Counters()
     with open(path, "rb") as file:
         for line in file:
-            if not line.startswith(b"end "):
-                counters.add(line)
+            counters.add(line)
     return counters
