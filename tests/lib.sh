@@ -144,6 +144,12 @@ frame() {
     printf '%d %s' "${#1}" "$1"
 }
 
+# counters_of LINE..: prints a counters file of these lines, each of which follows `count `.
+counters_of() {
+    [[ $# == 0 ]] || printf 'count %s\n' "$@"
+    echo "end $#"
+}
+
 # milliseconds COMMAND..: how long a command takes, of the processors.
 milliseconds() {
     python3 -c 'import os, subprocess, sys

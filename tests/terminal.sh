@@ -158,7 +158,7 @@ refused 'review: a bad line of the first counters' 'C1 1' "The counters file is 
 refused 'review: a folder of first counters' 'C2' 'The counters file is --from "/".' review --counters "$scratch/counters" --from /
 
 # ---- the counters file of an originator that goes on
-printf 'count - - - 1 3\ncount - - - 1 1 13 5\n' >"$scratch/counters"
+counters_of '- - - 1 3' '- - - 1 1 13 5' >"$scratch/counters"
 for command in plan 'plan --ahead' sign; do
     # shellcheck disable=SC2086 # a command and a flag
     {
