@@ -263,7 +263,8 @@ end 8' < <(cat -- "$scratch/first" "$scratch/second")
 # Counters of the two first logs that were kept, and those of the logs whose ends were cut off
 kept() {
     run counters --lines --answers "$scratch/answers"
-    expect "the counters: $1" 0 "$2" ''
+    expect "the counters: $1" 0 "$2
+end $(wc -l <<<"$2")" ''
 }
 accepted week
 kept 'a log as it was signed' 'count gate signer - 7 3

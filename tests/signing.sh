@@ -261,23 +261,29 @@ expect 'A1 is told before F3' 2 '' 'ssign: A1 1'
 # ---- counters: where an originator goes on
 counters=$scratch/counters
 session='h s - 1'
+# count LINE..: these counters are in the file
+count() {
+    counters_of "$@" >"$counters"
+}
 going=(--resume "$counters" "${given[@]}" "${header[@]}")
 : >"$log"
 run plan --ahead "${given[@]}" "${header[@]}" <"$log"
-expect 'a new session ends at GBC 0' 0 "count $session 0" ''
-printf 'count %s 0\n' "$session" >"$counters"
+expect 'a new session ends at GBC 0' 0 "count $session 0
+end 1" ''
+count "$session 0"
 for command in plan sign; do
     run "$command" "${going[@]}" <"$log"
     expect "$command: --resume over an empty log writes nothing" 0 '' ''
 done
 run plan --ahead "${going[@]}" <"$log"
-expect 'plan --ahead over an empty log writes the same counters' 0 "count $session 0" ''
+expect 'plan --ahead over an empty log writes the same counters' 0 "count $session 0
+end 1" ''
 frame '<13>1 - - - - - - a' >"$log"
-printf '%s\n' "count $session 7" "count $session 0 0 5" "count $session 0 0 4" "count $session 6" \
-    'count h s - 2 0 0 90' 'count h s - 2 99' 'count h2 s - 1 1 13 80' "count $session 0 0 1" >"$counters"
+count "$session 7" "$session 0 0 5" "$session 0 0 4" "$session 6" 'h s - 2 0 0 90' 'h s - 2 99' 'h2 s - 1 1 13 80' "$session 0 0 1"
 run plan --ahead "${going[@]}" <"$log"
 expect 'the greatest counter of the session counts' 0 "count $session 8
-count $session 0 0 6" ''
+count $session 0 0 6
+end 2" ''
 run plan "${going[@]}" <"$log"
 seal <"$scratch/out" >"$seals"
 run sign --answers "$seals" "${going[@]}" <"$log"
@@ -308,7 +314,7 @@ both '--wrap and limits' --wrap --max-len $((${#long_one} + 25)) "${given[@]}"
 model plan --ahead --wrap "${given[@]}" <"$log" >"$scratch/wanted"
 run plan --ahead --wrap "${given[@]}" <"$log"
 wrote 'plan --ahead --wrap' "$scratch/wanted"
-printf 'count %s 7\ncount %s 0 0 5\n' "$session" "$session" >"$counters"
+count "$session 7" "$session 0 0 5"
 both '--wrap and --resume' --wrap "${going[@]}"
 refused '--wrap and a wrap that is too long' 'ssign: O11 6' --wrap --max-len $((${#long_one} + 24)) "${given[@]}"
 refused '--wrap and a message that is too long' 'ssign: F2 0' --wrap --max-len 1 "${given[@]}"
@@ -377,51 +383,57 @@ rejected 'a counters file that is not there' 'ssign: C2' --resume "$scratch/no s
 rejected 'a folder for counters' 'ssign: C2' --resume "$root" "${given[@]}"
 printf 'count %s 1\ncount %s 01\n' "$session" "$session" >"$counters"
 rejected 'a line that is no counter' 'ssign: C1 2' "${going[@]}"
-: >"$counters"
+for it in '' "count $session 1"$'\n' "count $session 1"$'\nend 1' "count $session 1"$'\nend 2\n' $'end 0\n'"count $session 1"$'\n'; do
+    printf %s "$it" >"$counters"
+    rejected "a file without its end: ${it@Q}" 'ssign: C3' "${going[@]}"
+done
+count
 rejected 'no counter at all' 'ssign: C5' "${going[@]}"
-printf '%s\n' "count $session 0 0 5" "count h s - 2 7" 'count h - - 1 7' 'count - s - 1 7' 'count h s 1 1 7' >"$counters"
+count "$session 0 0 5" 'h s - 2 7' 'h - - 1 7' '- s - 1 7' 'h s 1 1 7'
 rejected 'no counter of the blocks of the session' 'ssign: C5' "${going[@]}"
-printf '%s\n' 'count h s - 2 1 13 5' "count $session 0 0 5" "count $session 1 13 5" "count $session 2 191 5" \
-    "count $session 7" >"$counters"
+count 'h s - 2 1 13 5' "$session 0 0 5" "$session 1 13 5" "$session 2 191 5" "$session 7"
 rejected 'another SG' 'ssign: C6 3' "${going[@]}"
 rejected 'SG 0, and groups by PRI' 'ssign: C6 2' --groups pri "${going[@]}"
-sed -i 2,3d "$counters"
+count 'h s - 2 1 13 5' "$session 2 191 5" "$session 7"
 rejected 'ranges, and one group' 'ssign: C6 2' "${going[@]}"
-printf '%s\n' "count $session 7" "count $session 0 1 5" >"$counters"
+count "$session 7" "$session 0 1 5"
 rejected 'one group with another SPRI' 'ssign: C6 2' "${going[@]}"
-printf '%s\n' "count $session 7" "count $session 2 100 5" "count $session 2 99 5" >"$counters"
+count "$session 7" "$session 2 100 5" "$session 2 99 5"
 rejected 'an SPRI that is no bound' 'ssign: C6 3' --groups 100,191 "${going[@]}"
-printf '%s\n' "count $session 7" "count $session 3 100 5" >"$counters"
+count "$session 7" "$session 3 100 5"
 rejected 'SG 3' 'ssign: C6 2' --groups pri "${going[@]}"
 
 # ---- counters near their end
 frame '<13>1 - - - - - - a' >"$log"
-printf '%s\n' "count $session 7" "count $session 0 0 9999999999" >"$counters"
+count "$session 7" "$session 0 0 9999999999"
 run plan --ahead "${going[@]}" <"$log"
 expect 'the last number is given' 0 "count $session 8
-count $session 0 0 10000000000" ''
+count $session 0 0 10000000000
+end 2" ''
 { frame '<13>1 - - - - - - a'; frame '<13>1 - - - - - - b'; } >"$log"
 rejected 'a message after the last number' 'ssign: O8 1' "${going[@]}"
-printf '%s\n' "count $session 9999999999" >"$counters"
+count "$session 9999999999"
 run plan --ahead "${going[@]}" <"$log"
 expect 'the last block is sent' 0 "count $session 10000000000
-count $session 0 0 3" ''
-printf '%s\n' "count $session 10000000000" >"$counters"
+count $session 0 0 3
+end 2" ''
+count "$session 10000000000"
 rejected 'a block after the last one, at the end' 'ssign: O9' "${going[@]}"
 rejected 'a block after the last one, at a message' 'ssign: O9 0' --count 1 "${going[@]}"
 # of the two blocks that end the log the first one has a GBC and no seal: O9 comes before O6
 { frame '<13>1 - - - - - - a'; frame '<14>1 - - - - - - b'; } >"$log"
-printf '%s\n' "count $session 9999999999" >"$counters"
+count "$session 9999999999"
 rejected 'of two blocks the second one is after the last one' 'ssign: O9' --groups pri "${going[@]}"
 run sign --groups one "${going[@]}" <"$log"
 expect 'sign: one block, which has no seal' 2 '' 'ssign: O6'
-printf '%s\n' "count $session 10000000000" >"$counters"
+count "$session 10000000000"
 run plan --ahead "${going[@]}" </dev/null
-expect 'spent counters are kept' 0 "count $session 10000000000" ''
+expect 'spent counters are kept' 0 "count $session 10000000000
+end 1" ''
 
 # ---- what comes first: the command line, its texts, the counters, the answers, the log, the originator
 printf 'x' >"$log"
-: >"$counters"
+count
 for command in plan 'plan --ahead' "sign --answers $seals.not-there"; do
     # shellcheck disable=SC2086 # a command and its options
     {
@@ -433,7 +445,7 @@ for command in plan 'plan --ahead' "sign --answers $seals.not-there"; do
         expect "${command%%.*}: C5 comes before A2 and F1" 2 '' 'ssign: C5'
     }
 done
-printf '%s\n' "count $session 10000000000" >"$counters"
+count "$session 10000000000"
 run sign --answers "$seals.not-there" "${going[@]}" <"$log"
 expect 'A2 comes before F1' 2 '' 'ssign: A2'
 frame '<13>1 - - - - - - a' >"$log"
