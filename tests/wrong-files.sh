@@ -229,7 +229,7 @@ expect 'a log in /dev/stdin' 0 "$(<wanted)" ''
 "$keys_program" seal <(cat one/private-key.pem) </dev/null >out 2>err
 status=$?
 expect 'a private key in a pipe of the shell' 0 '' ''
-"$keys_program" verify --raw --allow-sha1 --key one/public-key.pem --from /dev/null signed >out 2>err
+"$keys_program" verify --raw --allow-sha1 --key one/public-key.pem --from <(echo end 0) signed >out 2>err
 status=$?
 expect 'no counters before a night' 0 'SOME TEXT' ''
 echo "$name: $waits refusals of what isn't waited for"
