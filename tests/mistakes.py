@@ -240,8 +240,13 @@ def table():
     yield verify + ["--counters", "empty", "signed"], b"", "the counters file empty " + no_counters
     yield verify + ["--counters", "/dev/null", "signed"], b"", "the counters file /dev/null " + no_counters
     yield verify + ["--counters", "/dev/stdin", "signed"], b"", "the counters file /dev/stdin " + no_counters
+    yield verify + ["--counters", "/dev/stdin", "signed"], b"end 0\n", "the counters file /dev/stdin " + no_counters
     yield verify + ["--counters", "count-x", "signed"], b"", "the counters file count-x: line 1 " + bad_counters
     yield verify + ["--counters", "/dev/stdin", "signed"], b"count h a p 1 1\n\n", "the counters file /dev/stdin: line 2 " + bad_counters
+    cut_counters = "it isn't whole, as where it was cut off: each part of it ends with a line `end N`, N is how many lines `count` " \
+        "stand in it, and it has 4294967295 octets at most (C3)"
+    yield verify + ["--counters", "/dev/stdin", "signed"], b"count h a p 1 1\n", "the counters file /dev/stdin: " + cut_counters
+    yield verify + ["--counters", "/dev/stdin", "signed"], b"count h a p 1 1\nend 2\n", "the counters file /dev/stdin: " + cut_counters
     yield verify + ["--counters", "none", "signed"], b"", "the counters file none can't be read: No such file or directory"
 
     # what is to be signed
