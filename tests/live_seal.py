@@ -28,17 +28,20 @@ from live_disks import message
 from live_runs import KEYS, ROOT, Process, differ, framed, signer, tell
 
 from ssign_keys import keys, live_loop, live_outside, seal, seal_each
+from ssign_keys.blocks import Session
+from ssign_keys.faults import Fault
+from ssign_keys.sealed import Record
 
 GBC = re.compile(rb'RSID="([0-9]+)".* GBC="([0-9]+)" FMN="([0-9]+)" CNT="([0-9]+)"')
 CLIENTS, ROUNDS = 4, 15
 MOST_MEMORY = 120000
 
 
-def block(rsid, gbc, first, text, host="h", count=2):
-    """The line `want` of a signature block, put together by hand (RFC 5848, section 4.2)."""
+def block(rsid, gbc, first, text, host="h", count=2, names="s -"):
+    """The line `want` of a signature block, put together by hand (RFC 5848, section 4.2). `names` are APP-NAME and PROCID."""
     hashes = b" ".join(base64.b64encode(bytes([text, n]) * 16) for n in range(count))
-    octets = b'<110>1 2026-11-27T03:01:30Z %s s - - [ssign VER="0121" RSID="%d" SG="0" SPRI="0" GBC="%d" FMN="%d" CNT="%d" HB="%s"]' % (
-        host.encode("utf-8"), rsid, gbc, first, count, hashes)
+    octets = b'<110>1 2026-11-27T03:01:30Z %s %s - [ssign VER="0121" RSID="%d" SG="0" SPRI="0" GBC="%d" FMN="%d" CNT="%d" HB="%s"]' % (
+        host.encode("utf-8"), names.encode("ascii"), rsid, gbc, first, count, hashes)
     return b"want %s\n" % base64.b64encode(octets)
 
 
@@ -223,8 +226,8 @@ def sizes():
                  "" if re.fullmatch(r"ssign-keys: line [0-9]+ is no line `want OCTETS` of ssign plan\n", process.said) else process.said[:300])
             process.answers.close()
     with sealing() as it:
-        refused("more signers than one state has", it.ask([block(1, 0, 1, 1, f"h{n}") for n in range(300)]), 256)
-        tell("the signers that it has", differ("run", it.ask([block(1, 1, 3, 1, "h0"), block(2, 0, 1, 1, "h255")])[:2], (2, 0)))
+        refused("more signers than one state has", it.ask([block(1, 0, 1, 1, f"h{n}") for n in range(300)]), 16)
+        tell("the signers that it has", differ("run", it.ask([block(1, 1, 3, 1, "h0"), block(2, 0, 1, 1, "h15")])[:2], (2, 0)))
     with sealing() as it:
         long_one = block(1, 0, 1, 1, "h" * 255, 99)
         tell("the longest names and blocks", differ("run", it.ask([long_one, *pieces(1, own_payload(), 9999, "h" * 255)])[:2], (2, 0)))
@@ -295,6 +298,55 @@ def payloads():
         tell("the sentence", differ("said", said, "ssign-keys: line 1: the block has octets of another payload: with --each none is signed but one "
                                                   "of the type K that states the private key's own public key\n"))
         refused("a fragment past the payload's end", it.ask([fragment(1, len(own), len(own), b"AA")]))
+
+
+def pieces_again():
+    """Of a session no payload is signed but one. Its fragments may overlap, and leave no more in the state than its time."""
+    own = own_payload(b"2009-05-03T14:00:39Z")
+    other = b"2009-05-03T14:00:38Z" + own[20:]
+    total = len(own)
+    with sealing() as it:
+        wanted = pieces(1, own, 5)
+        tell("a payload in fragments of five octets", differ("run", it.ask(wanted)[:2], (len(wanted), 0)))
+        tell("what that leaves in the state", "" if len(it.octets()) < 300 else f"{len(it.octets())} octets",
+             "" if b"\nstamp 2009-05-03T14:00:39Z\n" in it.octets() else "not its time")
+        tell("fragments that overlap", differ("run", it.ask([*pieces(1, own, 7), *wanted[::9], *pieces(1, own, 9999)])[:2][1], 0))
+        refused("another time", it.ask(pieces(1, other, 9999)))
+        refused("one octet of another time", it.ask([fragment(1, total, 20 - 1, b"8")]))
+        refused("a shorter time", it.ask(pieces(1, own_payload(), 9999)))
+        refused("a shorter time, in a fragment without it", it.ask(pieces(1, own_payload(), 500)[1:]))
+        _, _, said = it.ask(pieces(1, other, 9999))
+        tell("the sentence", differ("said", said, "ssign-keys: line 1: the payload has another TIMESTAMP than in a block that was signed already for the "
+                                                  "session 'h s - 1'\n"))
+        tell("another session has a time of its own", differ("run", it.ask(pieces(2, other))[:2], (len(pieces(2, other)), 0)))
+        refused("the session before, with its own time", it.ask(pieces(1, own)))
+    with sealing() as it:
+        # the last octets first, and those of the time one by one
+        wanted = [fragment(1, total, at, own[at - 1:at]) for at in (20, 18, 19)]
+        tell("octets of a time one by one", differ("runs", [it.ask([line])[:2] for line in [*pieces(1, own)[1:], *wanted]], [(1, 0)] * (len(pieces(1, own)) + 2)),
+             "" if b"\nstamp ?????????????????39Z\n" in it.octets() else f"the state has {it.octets()!r}")
+        refused("another octet among them", it.ask([fragment(1, total, 18, b"38")]))
+        tell("the same octet, and more", differ("run", it.ask([fragment(1, total, 17, b":39Z K")])[:2], (1, 0)))
+
+
+def largest():
+    """The largest state that whoever asks can make: for each signer 768 groups, and as many blocks as are remembered."""
+    now, names = int(time.time()), 0
+    with sealing() as it:
+        state = seal_each.LastState(it.state, keys.read_private_key(f"{KEYS}/private-key.pem").public.fingerprint, False)
+        with contextlib.suppress(Fault):
+            for names in range(32):
+                session = Session(b"h%d" % names, b"s", b"-", b"%d" % now)
+                for gbc in range(1280):
+                    group = divmod(gbc, 192) if gbc < 768 else (0, 0)
+                    state.sessions.ask(session, Record(group, gbc + 1, gbc + 1, gbc, bytes([255]) * 32, 0), False)
+        state._mode = 0o600
+        state.write()
+        began = time.monotonic()
+        run = it.ask([block(now, 1280, 1281, 1, "h0")])
+        took = time.monotonic() - began
+        tell(f"an answer with the largest state, of {names} signers", differ("run", run[:2], (1, 0)) and run[2], f"it took {took:.1f} s" if took > 4 else "")
+        print(f"live_seal: the largest state has {len(it.octets())} octets, and an answer took {took:.2f} s")
 
 
 def far():
@@ -481,7 +533,7 @@ def main():
     """Makes all checks."""
     keys.key_fault = functools.lru_cache(keys.key_fault)
     keys.read_private_key(f"{KEYS}/private-key.pem")
-    for it in (beginnings, together, locked, races, breaks, sizes, names, payloads, far, kills, full, cut_answers, spellings):
+    for it in (beginnings, together, locked, races, breaks, sizes, largest, names, payloads, pieces_again, far, kills, full, cut_answers, spellings):
         if not sys.argv[3:] or it.__name__ in sys.argv[3:]:
             it()
     print(f"live_seal: {live_runs.passed} passed, {live_runs.failed} failed")

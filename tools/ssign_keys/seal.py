@@ -20,7 +20,7 @@ from .sealed import Sessions, record_of
 from .sealed_payloads import OwnPayload, Payloads
 from .state import State
 from .streams import Output, input_lines, short_lines
-from .written import Written, read_written
+from .written import Certificate, Written, read_written
 
 WANT = b"want "
 # the options that name a session, with the field of the RFC that each is
@@ -112,8 +112,7 @@ def seal_each(arguments: argparse.Namespace, key: PrivateKey, wanted: Dict[str, 
 
     def check(block: Written, octets: bytes, line: int) -> None:
         refuse_other_session(block.session, wanted)
-        payload.check(block)
-        ask(block.session, record_of(block, octets, 0), "rsid" in wanted)
+        ask(block.session, payload.stamp(block) if isinstance(block, Certificate) else record_of(block, octets, 0), "rsid" in wanted)
 
     for line in seals(short_lines(LONGEST), key, check):
         write_out([line])

@@ -3,7 +3,7 @@ from __future__ import annotations
 
 import hashlib
 from dataclasses import dataclass, field
-from typing import Dict, Iterator, List, NamedTuple, Tuple
+from typing import Dict, Iterator, NamedTuple, Tuple
 
 from .blocks import Session
 from .faults import Fault
@@ -52,7 +52,11 @@ class Sealed:
 
     records: Dict[str, Record] = field(default_factory=dict)
     total: int = 0
-    """How many octets the payload has; 0 where no certificate block was signed."""
+    """How many octets the payload has; 0 where no certificate block was signed. With --each nothing has to know it."""
+    stamp: bytes = b""
+    """With --each the TIMESTAMP of the payload, as far as it was signed; empty where no certificate block was."""
+    last: Dict[Tuple[int, ...], Record] = field(default_factory=dict)
+    """With --each the last signature block of each group."""
 
 
 class Sessions:
@@ -104,9 +108,9 @@ class Sessions:
                     line = max(before.line, record.line)
                     raise Fault(f"{f'line {line}: ' if line else ''}{overlap(record)} in the session '{session}'")
 
-    def __iter__(self) -> Iterator[Tuple[Session, List[Record]]]:
-        """Each session, with its blocks."""
-        return ((session, list(sealed.records.values())) for session, sealed in self._sessions.items())
+    def __iter__(self) -> Iterator[Tuple[Session, Sealed]]:
+        """Each session, with what was sealed of it."""
+        return iter(self._sessions.items())
 
 
 def overlap(record: Record) -> str:

@@ -14,6 +14,8 @@ from .written import Certificate, Written
 # RFC 5424, section 6.2.3: what a TIMESTAMP is made of, and how many octets the longest one has
 OF_STAMP = re.compile(rb"[0-9TZ:.+-]*")
 LONGEST_STAMP = 32
+# what stands for an octet of it that isn't known
+UNKNOWN = b"?"
 
 
 class Payloads:
@@ -52,18 +54,18 @@ class OwnPayload:
         """The key. What stands before its type is any time."""
         self._behind = state_key(key, "")
 
-    def check(self, block: Written) -> None:
-        """Refuses a certificate block that has other octets than this payload."""
-        if isinstance(block, Certificate) and not self._has(block):
+    def stamp(self, block: Certificate) -> bytes:
+        """The time in front, as far as the block has it. Raises Fault where it has other octets than this payload.
+
+        The time is as long as TPBL leaves room for.
+        """
+        length = block.total - len(self._behind)
+        found = block.fragment[:max(0, length - block.start + 1)]
+        if not 0 < length <= LONGEST_STAMP or OF_STAMP.fullmatch(found) is None or \
+                not self._behind.startswith(block.fragment[len(found):], max(0, block.start - 1 - length)):
             raise Fault("the block has octets of another payload: with --each none is signed but one of the type K that states the "
                         "private key's own public key")
-
-    def _has(self, block: Certificate) -> bool:
-        """Whether the octets stand where they stand in this payload, after a time that is as long as TPBL leaves room for."""
-        stamp = block.total - len(self._behind)
-        in_stamp = max(0, stamp - block.start + 1)
-        return 0 < stamp <= LONGEST_STAMP and OF_STAMP.fullmatch(block.fragment[:in_stamp]) is not None and \
-            self._behind.startswith(block.fragment[in_stamp:], max(0, block.start - 1 - stamp))
+        return (UNKNOWN * (block.start - 1) + found).ljust(length, UNKNOWN)[:length]
 
 
 def joined(fragments: Dict[int, Certificate]) -> Optional[bytes]:

@@ -164,13 +164,19 @@ class State:
 
     def _take(self, session: Optional[Session], line: bytes, number: int) -> None:
         """Takes the line of a block."""
-        record = read_record(line)
-        if session is None or record is None:
-            raise self._damaged(number)
         try:
-            self.sessions.take(session, record)
+            is_taken = session is not None and self._take_line(session, line)
         except Fault as fault:
             raise Fault(f"the state file {self._name} is damaged: line {number}: {fault}") from fault
+        if not is_taken:
+            raise self._damaged(number)
+
+    def _take_line(self, session: Session, line: bytes) -> bool:
+        """Takes a line of a session, or says that it is none."""
+        record = read_record(line)
+        if record is not None:
+            self.sessions.take(session, record)
+        return record is not None
 
     def _damaged(self, number: int) -> Fault:
         """What is said of a line that is none."""
@@ -210,9 +216,11 @@ class State:
     def _lines(self) -> Iterator[bytes]:
         """The lines but for the last."""
         yield self.heading % self._key
-        for session, records in self.sessions:
+        for session, sealed in self.sessions:
             yield b"session %s\n" % b" ".join(session)
-            for it in records:
+            if sealed.stamp:
+                yield b"stamp %s\n" % sealed.stamp
+            for it in sealed.records.values():
                 yield spell_record(it)
 
 
