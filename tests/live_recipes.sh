@@ -93,7 +93,7 @@ units=$root/examples/systemd
 words() {
     sed -n 's/^ExecStart=//p' "$units/$1" | sed "s:/usr/bin/ssign-keys:$python -B $keys_program:; s:%d/:$scratch/seal/credentials/:; s:/etc/ssign/:$scratch/keys/:
         s:/var/lib/ssign-seal/:$scratch/seal/:; s:/var/lib/ssign-live/:$scratch/live/:; s:/var/log/ssign-live:$scratch/live/out:
-        s:/run/ssign-seal.socket:$scratch/run/socket:; s:--journal journalctl:--journal $scratch/reader:"
+        s:/run/ssign-seal.socket:$scratch/run/socket:; s:--journal journalctl:--journal $scratch/reader:; s:%H:$(uname -n):"
 }
 # by USER COMMAND..: runs a command as one of the users, as systemd would.
 by() {

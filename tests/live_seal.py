@@ -226,8 +226,15 @@ def sizes():
                  "" if re.fullmatch(r"ssign-keys: line [0-9]+ is no line `want OCTETS` of ssign plan\n", process.said) else process.said[:300])
             process.answers.close()
     with sealing() as it:
-        refused("more signers than one state has", it.ask([block(1, 0, 1, 1, f"h{n}") for n in range(300)]), 16)
+        run = it.ask([block(1, 0, 1, 1, f"h{n}") for n in range(300)])
+        refused("more signers than one state has", run, 16)
+        tell("the sentence", differ("said", run[2], "ssign-keys: line 17: blocks of 16 signers were signed already, and 'h16 s - 1' is another one: begin another "
+                                                    "state for it with --new-state, and give --host, --app and --procid\n"))
         tell("the signers that it has", differ("run", it.ask([block(1, 1, 3, 1, "h0"), block(2, 0, 1, 1, "h15")])[:2], (2, 0)))
+        it.state += ".other"
+        own = ("--host=h16", "--app=s", "--procid=-")
+        tell("what the sentence says is done", differ("run", it.ask([block(1, 0, 1, 1, "h16")], "--new-state", *own)[:2], (1, 0)))
+        refused("another signer in a state of one", it.ask([block(1, 0, 1, 1, "h17")], *own))
     with sealing() as it:
         long_one = block(1, 0, 1, 1, "h" * 255, 99)
         tell("the longest names and blocks", differ("run", it.ask([long_one, *pieces(1, own_payload(), 9999, "h" * 255)])[:2], (2, 0)))
@@ -347,6 +354,25 @@ def largest():
         took = time.monotonic() - began
         tell(f"an answer with the largest state, of {names} signers", differ("run", run[:2], (1, 0)) and run[2], f"it took {took:.1f} s" if took > 4 else "")
         print(f"live_seal: the largest state has {len(it.octets())} octets, and an answer took {took:.2f} s")
+
+
+def recipes():
+    """The commands that the guide and the unit give let whoever asks sign under one set of names."""
+    with open(os.path.join(ROOT, "docs", "guide.md"), encoding="utf-8") as file:
+        guide = re.findall(r'^    restrict,command="(ssign-keys seal .*)" ssh-ed25519 ', file.read(), re.MULTILINE)
+    with open(os.path.join(ROOT, "examples", "systemd", "ssign-seal@.service"), encoding="utf-8") as file:
+        unit = re.findall("^ExecStart=(.*)", file.read(), re.MULTILINE)
+    tell("each has one command", differ("counts", (len(guide), len(unit)), (1, 1)))
+    # what `live` has without options, and %H of systemd
+    for what, text, host in (("the guide", guide[0], "gate"), ("the unit", unit[0], os.uname().nodename)):
+        words = shlex.split(text.replace("%H", os.uname().nodename))
+        names = words[words.index("--state") + 2:]
+        with sealing() as it:
+            tell(f"{what}: a block of live", differ("run", it.ask([block(1, 0, 1, 1, host, names="signer -")], *names)[:2], (1, 0)))
+            for field, other in (("HOSTNAME", ("other", "signer -")), ("APP-NAME", (host, "other -")), ("PROCID", (host, "signer 1"))):
+                run = it.ask([block(1, 0, 1, 1, other[0], names=other[1])], *names)
+                refused(f"{what}: another {field}", run)
+                tell(f"{what}: the sentence on another {field}", "" if f"the block has {field} " in run[2] else run[2])
 
 
 def far():
@@ -533,7 +559,7 @@ def main():
     """Makes all checks."""
     keys.key_fault = functools.lru_cache(keys.key_fault)
     keys.read_private_key(f"{KEYS}/private-key.pem")
-    for it in (beginnings, together, locked, races, breaks, sizes, largest, names, payloads, pieces_again, far, kills, full, cut_answers, spellings):
+    for it in (beginnings, together, locked, races, breaks, sizes, largest, names, payloads, pieces_again, recipes, far, kills, full, cut_answers, spellings):
         if not sys.argv[3:] or it.__name__ in sys.argv[3:]:
             it()
     print(f"live_seal: {live_runs.passed} passed, {live_runs.failed} failed")

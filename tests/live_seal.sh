@@ -57,7 +57,7 @@ has_signed() {
 }
 # begin_state NAME: begins the state of whoever seals, and has `sealer` name the words that seal with it.
 begin_state() {
-    sealer="env SSIGN=$program $keys_program seal $scratch/keys/private-key.pem --each --state $scratch/$1.sealed --host gate.example.org --app signer"
+    sealer="env SSIGN=$program $keys_program seal $scratch/keys/private-key.pem --each --state $scratch/$1.sealed --host gate.example.org --app signer --procid -"
     # shellcheck disable=SC2086 # words
     holds "$1: the state of whoever seals is begun" $sealer --new-state </dev/null
 }

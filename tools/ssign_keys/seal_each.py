@@ -76,8 +76,8 @@ class LastSessions(Sessions):
     def _room(self, session: Session) -> Sealed:
         """What was sealed of a session. Raises Fault where there is no room for its names."""
         if session[:3] not in self._last and len(self._last) >= MOST_NAMES:
-            raise Fault(f"blocks of {MOST_NAMES} signers were signed already, and '{session}' is another one: give each a state "
-                        "of its own")
+            raise Fault(f"blocks of {MOST_NAMES} signers were signed already, and '{session}' is another one: begin another state for "
+                        "it with --new-state, and give --host, --app and --procid")
         return self._of(session)
 
 
