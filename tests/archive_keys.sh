@@ -248,8 +248,8 @@ harm 'no manifest for a part' '--manifest manifests' 1 "in beta: manifest, $scra
 harm 'no counters for a part' '--counters counters' 1 "in beta: counters, there are none in $scratch/harmed/counters/beta.counters, so nobody can say whether the end of this part is missing" -- rm counters/beta.counters
 harm 'empty counters for a part' '--counters counters' 1 "in beta: counters, there are none in $scratch/harmed/counters/beta.counters, so nobody can say whether the end of this part is missing" -- truncate -s 0 counters/beta.counters
 harm 'counters of no session for a part' '--counters counters' 1 "in beta: counters, there are none in $scratch/harmed/counters/beta.counters, so nobody can say whether the end of this part is missing" -- bash -c 'echo end 0 >counters/beta.counters'
-for octets in 1 20; do
-    harm "counters of a part without their last octets: $octets" '--counters counters --manifest manifests' 2 'beta - - - - - - - - - NOT REVIEWED: ssign review refuses it: ssign: C@' -- truncate -s "-$octets" counters/beta.counters
+for it in '1 --counters counters' '20 --counters counters' '1 --counters counters --manifest manifests' '6 --counters counters --manifest manifests'; do
+    harm "counters without their last octets: $it" "${it#* }" 2 'beta - - - - - - - - - NOT REVIEWED: ssign review refuses it: ssign: C3' -- truncate -s "-${it%% *}" counters/beta.counters
 done
 harm 'a bad counter' '--counters counters' 2 'beta - - - - - - - - - NOT REVIEWED: ssign review refuses it: ssign: C1 7' -- bash -c 'echo x >>counters/beta.counters'
 harm 'compressed logs' '--counters counters --manifest manifests' 0 "$(clean beta)" -- gzip archive/beta/night-1
