@@ -192,6 +192,7 @@ def ends(manifest: str, last: int) -> int:
                 most[front] = max(most.get(front, 0), int(number))
     for front, number in most.items():
         print(front, number)
+    print("end", len(most))
     return 0
 
 

@@ -125,17 +125,17 @@ two_night() {
     local session=("--payload=$3" --rsid=50 --ver=0121 --host=gate --app=signer)
     "$program" plan "${session[@]}" <none | "$root/tools/ssign-keys" seal "$key/private-key.pem" >seals
     "$program" sign "${session[@]}" --answers=seals <none >"two/night-$number"
-    [[ $number == 1 ]] && printf 'count gate signer - 50 0\ncount gate signer - 50 0 0 1\n' >begin
+    [[ $number == 1 ]] && counters_of 'gate signer - 50 0' 'gate signer - 50 0 0 1' >begin
     "$program" plan "${session[@]}" --resume=begin --lines <messages | "$root/tools/ssign-keys" seal "$key/private-key.pem" >seals
     "$program" sign "${session[@]}" --resume=begin --answers=seals --lines <messages >>"two/night-$number"
-    printf 'count gate signer - 50 %s\ncount gate signer - 50 0 0 %s\n' "$number" "$((2 * number + 1))" >begin
+    counters_of "gate signer - 50 $number" "gate signer - 50 0 0 $((2 * number + 1))" >begin
     keys manifest add two-nights "two/night-$number" --counters begin
     [[ $status == 0 ]] || tell "two nights: night $number has an entry" "$(<err)"
 }
 : >none
 # the keys are given both, so each night by itself is clean
 both=(--key other/public-key.pem --nights two-nights two)
-unbound=' Each of these 2 keys could have signed any session that no --session-key names: keys/public-key.pem, other/public-key.pem.'
+could='Each of these 2 keys could have signed any session that no --session-key names: keys/public-key.pem, other/public-key.pem.'
 fingerprint() {
     openssl pkey -pubin -in "$1/public-key.pem" -outform DER 2>fault | sha256sum | cut -d ' ' -f 1
 }
@@ -143,11 +143,11 @@ payload="2026-01-01T00:00:00Z $(cut -d ' ' -f 2- keys/payload)"
 : >two-nights
 two_night 1 keys "$payload"
 two_night 2 keys "$payload"
-nights 'two nights under one payload' 0 'Nights 1 to 2: all 2 clean; numbers 1 to 4 are there, each once, and nothing else is.'"$unbound" "${both[@]}"
+nights 'two nights under one payload' 0 "Nights 1 to 2: all 2 clean; numbers 1 to 4 are there, each once, and nothing else is. $could" "${both[@]}"
 : >two-nights
 two_night 1 keys "$payload"
 two_night 2 other "2026-01-01T00:00:00Z $(cut -d ' ' -f 2- other/payload)"
-nights 'two nights by two keys' 1 'FINDINGS: nights 1 to 2: 1 of 2 nights is clean; with findings: night 2.'"$unbound" "${both[@]}"
+nights 'two nights by two keys' 1 "FINDINGS: nights 1 to 2: 1 of 2 nights is clean; with findings: night 2. $could" "${both[@]}"
 if command -v openssl >fault; then
     holds 'two nights by two keys: the sentence' grep -qF "Night 2 (entry 2, night-2): its session has another payload than in night 1: one of 2026-01-01T00:00:00Z, key SHA-256 \
 $(fingerprint other); there one of 2026-01-01T00:00:00Z, key SHA-256 $(fingerprint keys); All 2 announced messages are present and unchanged" out
@@ -155,7 +155,7 @@ fi
 : >two-nights
 two_night 1 keys "$payload"
 two_night 2 keys "2026-01-02T00:00:00Z $(cut -d ' ' -f 2- keys/payload)"
-nights 'two nights under two payloads of one key' 1 'FINDINGS: nights 1 to 2: 1 of 2 nights is clean; with findings: night 2.'"$unbound" "${both[@]}"
+nights 'two nights under two payloads of one key' 1 "FINDINGS: nights 1 to 2: 1 of 2 nights is clean; with findings: night 2. $could" "${both[@]}"
 
 # ---- one night by itself, in each form
 for it in 3 4 5 6; do
