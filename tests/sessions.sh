@@ -345,7 +345,7 @@ added() {
 }
 # ends RSID GBC NUMBER: counters
 ends() {
-    printf 'count h signer - %s\n' "$1 $2" "$1 0 0 $3"
+    counters_of "h signer - $1 $2" "h signer - $1 0 0 $3"
 }
 added state/kept/counters-1-1 <(ends 1 2 5)
 holds 'by hand: the entry is the same' test "$status" = 0
@@ -362,7 +362,8 @@ not_added 'counters that go back' "its left_out doesn't go from counters to grea
 not_added 'nothing is left out' "its left_out doesn't go from counters to greater ones" <(ends 1 2 5) <(ends 1 2 5)
 not_added 'an entry goes further' "the entry 1 of the manifest first goes further than the first counters of --left-out" <(ends 1 0 1) <(ends 1 2 5)
 not_added 'another session' 'of --left-out is of another session than the log' state/kept/counters-1-1 <(ends 2 2 5)
-not_added 'no counters' "isn't one that \`ssign counters\` writes" state/kept/counters-1-1 <(echo x)
+not_added 'no counters' "isn't one that \`ssign counters\` writes" state/kept/counters-1-1 <(printf 'x\nend 1\n')
+not_added 'counters that were cut off' "isn't whole: its counters have no end, as where the file was cut off" state/kept/counters-1-1 <(ends 1 2 5 | head -n 2)
 keys manifest check "$manifest" logs --left-out "$manifest" "$manifest"
 expect 'nothing is left out by a check' 2 '' "ssign-keys: --left-out doesn't go with \`manifest check\`"
 added state/kept/counters-1-1 <(ends 1 2 5) --seen "$mark2"
