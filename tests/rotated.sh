@@ -66,6 +66,40 @@ holds 'written to meanwhile: each line is signed once' test "$("$root/tools/ssig
     grep -c '^ok ')" = 11
 holds 'written to meanwhile: each log has an entry' test "$(wc -l <state/kept/manifest.jsonl)" = "$(find logs -name '*.frames' | wc -l)"
 unset WHEN CHANGE
+# whoever mapped the log and closed it changes it while it is signed, and changes it back before it is verified
+fresh
+mkfifo ask said
+python3 -B -c '
+import ctypes, os
+libc = ctypes.CDLL(None, use_errno=True)
+libc.mmap.restype = ctypes.c_void_p
+libc.mmap.argtypes = [ctypes.c_void_p, ctypes.c_size_t, ctypes.c_int, ctypes.c_int, ctypes.c_int, ctypes.c_long]
+number = os.open("logs/one", os.O_RDWR)
+size = os.fstat(number).st_size
+address = libc.mmap(None, size, 3, 1, number, 0)
+os.close(number)
+at = address + ctypes.string_at(address, size).index(b"session opened")
+# a page that was written to gets no new time of change
+ctypes.memmove(at, b"session opened", 14)
+with open("ask") as ask, open("said", "w") as said:
+    for line in ask:
+        ctypes.memmove(at, line.rstrip("\n").encode(), 14)
+        print("done", file=said, flush=True)
+' &
+exec 8<>ask 9<>said
+echo 'session opened' >&8
+read -r _ <&9
+# shellcheck disable=SC2016
+printf '#!/usr/bin/env bash\ncase $1 in plan) to="session FORGED" ;; review) to="session opened" ;; *) exec %q "$@" ;; esac\necho "$to" >%q\nread -r _ <%q\nexec %q "$@"\n' \
+    "$program" "$scratch/ask" "$scratch/said" "$program" >mapped
+chmod +x mapped
+with=./mapped rotated logs/one
+exec 8>&- 9<&-
+wait
+expect 'mapped, changed and changed back: the run' 0 '' ''
+holds 'mapped, changed and changed back: what is signed is what was hashed' test \
+    "$(grep -ac 'session FORGED' logs/one.frames).$(grep -ac 'session opened' logs/one.frames)" = 0.1
+rm ask said
 echo "$name: $changes changes while a log was signed"
 
 # ---- who holds it open, for what

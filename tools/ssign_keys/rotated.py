@@ -18,7 +18,7 @@ import stat
 import subprocess
 import sys
 from datetime import datetime, timezone
-from typing import BinaryIO, Callable, Dict, List, NamedTuple, Optional, Sequence, Union
+from typing import BinaryIO, Callable, Dict, List, NamedTuple, Optional, Union
 
 from .counters_file import file_of
 from .faults import Fault
@@ -293,11 +293,11 @@ class Rotation:
                 if unseen:
                     notify(f"ssign-keys: {shown_name(log)}: {unseen}, so it may still be open for writing. Lines that come after "
                         "this run are signed in the next one, as a log of their own")
-                self._sign_part(log, source, start, size, found)
+                self._sign_part(log, source, size, found)
         # what comes still is for the next run
 
-    def _sign_part(self, log: str, source: BinaryIO, start: int, size: int, found: Optional[Signed]) -> None:
-        """Signs the octets of a log from one to another."""
+    def _sign_part(self, log: str, source: BinaryIO, size: int, found: Optional[Signed]) -> None:
+        """Signs the octets of a log up to a size, after those that were signed before."""
         name = log if found is None else f"{log}.late-{found.late + 1}"
         frames = name + ".frames"
         if os.path.lexists(frames):
@@ -308,18 +308,20 @@ class Rotation:
         # what has no entry can't be missed later, so it gets no name
         name_for(frames)
         self._check_manifest()
-        before = digest(source, size)
         night = self._next_night()
         passing = Passing(name, self._kept, night.label, self._make_passing())
         passing.clear()
-        self._show(passing.files())
-        self._begin_trying(night)
+        self._show({**passing.files(), passing.lines: name})
         try:
-            self._run_sign(log, source, start, size, passing, night)
+            # whoever mapped the log can change it and change it back unseen: so what is signed is what was hashed
+            signed = copy_lines(source, found, size, passing.lines)
+            self._begin_trying(night)
+            self._run_sign(passing, night)
+            os.unlink(passing.lines)
             self._verify(passing, night)
-            if digest(source, size) != before or os.fstat(source.fileno()).st_size < size:
+            if digest(source, size) != signed or os.fstat(source.fileno()).st_size < size:
                 raise Fault("it was changed while it was signed")
-            current = self._current(log, source, size, before, passing, night.rsid)
+            current = self._current(log, source, size, signed, passing, night.rsid)
         except BaseException:
             passing.clear()
             self._end_vain(night)
@@ -330,22 +332,14 @@ class Rotation:
         self._publish(current)
         self._is_new = False
 
-    def _run_sign(self, log: str, source: BinaryIO, start: int, size: int, passing: Passing, night: Night) -> None:
-        """Has the signed log written under a passing name. The log is read by the descriptor that its hash is of."""
-        what = f"/dev/fd/{source.fileno()}"
-        self._shown[what] = shown_name(log)
-        if start:
-            # a log of late lines has no file of its own
-            what = self._workplace.path("late")
-            with self._workplace.new_file("late") as part:
-                copy(source, start, size, lambda piece: put(part, piece))
-                finish(part)
+    def _run_sign(self, passing: Passing, night: Night) -> None:
+        """Has the signed log written under a passing name."""
         try:
             with open(passing.frames, "xb") as out:
                 status = self._keys_command(
                     ["sign", f"--key={os.path.join(self._keys, PRIVATE)}", *night.words,
                      f"--host={self._arguments.host or os.uname().nodename}", f"--app={self._arguments.app}", "--lines",
-                     f"--max-len={MAX_LEN}", f"--set-aside={passing.aside}", "--", what], out, [source.fileno()])
+                     f"--max-len={MAX_LEN}", f"--set-aside={passing.aside}", "--", passing.lines], out)
                 os.fsync(out.fileno())
         except OSError as fault:
             raise Fault(f"{shown_name(passing.final_frames)} can't be written: {reason(fault)}") from fault
@@ -376,15 +370,14 @@ class Rotation:
                     raise Fault("what was signed isn't clean when it is verified with the public key: "
                                 f"{line.decode('ascii', 'replace').rstrip()}")
 
-    def _keys_command(self, words: List[str], out: BinaryIO, handed: Sequence[int] = ()) -> int:
-        """Runs a command of ssign-keys, which has these descriptors too. Gives its status, 0 or 1; raises Fault with its last
-        words where it failed."""
+    def _keys_command(self, words: List[str], out: BinaryIO) -> int:
+        """Runs a command of ssign-keys. Gives its status, 0 or 1; raises Fault with its last words where it failed."""
         environment = {**os.environ, "PYTHONPATH": os.path.dirname(os.path.dirname(os.path.realpath(__file__)))}
         said = self._workplace.new_file("said")
         try:
             child = self._workplace.start(
                 [sys.executable, "-B", "-m", "ssign_keys", words[0], f"--ssign={self._program}", *words[1:]],
-                subprocess.DEVNULL, out, said, environment, handed=handed)
+                subprocess.DEVNULL, out, said, environment)
         except OSError as fault:
             raise Fault(f"ssign-keys {words[0]} can't be run: {reason(fault)}") from fault
         status = child.wait()
@@ -625,6 +618,8 @@ class Passing:
         self.frames, self.aside, self.report, self.counters = (
             os.path.join(folder, os.path.basename(it))
             for it in (self.final_frames, self.final_aside, self.final_report, self.final_counters))
+        # what is signed of the log; no other passing file ends so
+        self.lines = os.path.join(folder, "lines")
         # sign names the places of what it sets aside after the file of the messages
         self.places, self.final_places = self.aside + ".places", self.final_aside + ".places"
         self._folder = folder
@@ -696,10 +691,33 @@ def check_name(log: str, source: BinaryIO) -> None:
         raise Fault("another file took its place meanwhile")
 
 
+def copy_lines(source: BinaryIO, found: Optional[Signed], size: int, path: str) -> str:
+    """Makes a copy of a log up to a size, without what was signed before. Gives the SHA-256 of all of it, as it was read then.
+
+    Raises Fault where what was signed before isn't what it was.
+    """
+    hashed = hashlib.sha256()
+    start = 0 if found is None else found.size
+    copy(source, 0, start, hashed.update)
+    if found is not None and hashed.hexdigest() != found.sha256:
+        raise Fault(changed_front(found))
+    with open(path, "xb") as lines:
+        def take(piece: bytes) -> None:
+            hashed.update(piece)
+            lines.write(piece)
+        copy(source, start, size, take)
+    return hashed.hexdigest()
+
+
+def changed_front(found: Signed) -> str:
+    """What is said of a log whose signed octets aren't what they were."""
+    return f"its first {counted(found.size, 'octet')} were changed after they were signed"
+
+
 def check_front(source: BinaryIO, found: Signed) -> None:
     """Refuses a log whose signed octets aren't what they were."""
     if os.fstat(source.fileno()).st_size < found.size or digest(source, found.size) != found.sha256:
-        raise Fault(f"its first {counted(found.size, 'octet')} were changed after they were signed")
+        raise Fault(changed_front(found))
 
 
 def size_of(path: str) -> int:
