@@ -178,6 +178,28 @@ holds 'each is a night of one session' test "$(sed 's/.*"name":"\([a-z]*\).*"rsi
 if [[ $EUID == 0 ]]; then
     holds 'links in the folder of the logs change and show no other file' python3 -B "$root/tests/rotation_links.py" \
         "$root/tools/ssign-keys" "$program" "$scratch/keys"
+    # the folder of the logs gives an access list in which its owner stands, and the log is root's
+    fresh
+    echo 'no message of RFC 5424' >>logs/one
+    chmod 640 logs/one
+    chown 65534 logs
+    if python3 -c '
+import os, struct, sys
+entries = (1, 7, -1), (2, 7, 65534), (4, 5, -1), (16, 7, -1), (32, 5, -1)
+octets = struct.pack("<I", 2) + b"".join(struct.pack("<HHi", *it) for it in entries)
+os.setxattr("logs", "system.posix_acl_default", octets)
+' 2>/dev/null; then
+        rotated logs/one
+        holds 'a folder with an access list: the status' test "$status" = 1
+        holds 'a folder with an access list: nobody is named in that of a file' python3 -c '
+import os, stat
+for name in ("one.frames", "one.set-aside.frames", "one.set-aside.frames.places"):
+    assert "system.posix_acl_access" not in os.listxattr("logs/" + name), name
+    assert stat.S_IMODE(os.stat("logs/" + name).st_mode) == 0o640, name
+'
+    else
+        echo "$name: skipped a folder with an access list, because the disk here has none"
+    fi
     for folder in state kept; do
         fresh
         mkdir -p kept

@@ -5,7 +5,7 @@ import errno
 import os
 import re
 import stat
-from typing import List
+from typing import List, Union
 
 from .faults import Fault
 
@@ -92,8 +92,8 @@ def open_given(path: str, flags: int = 0) -> int:
     return number
 
 
-def is_shared(folder: str) -> bool:
-    """Whether others than root and this user may put files into a folder. Raises OSError."""
+def is_shared(folder: Union[str, int]) -> bool:
+    """Whether others than root and this user may put files into a folder, or into that of a descriptor. Raises OSError."""
     seen = os.stat(folder)
     return seen.st_uid not in (0, os.geteuid()) or bool(seen.st_mode & OTHERS_WRITE)
 

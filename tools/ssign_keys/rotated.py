@@ -773,6 +773,8 @@ def give_name(passing: str, final: str, is_of_log: bool) -> None:
                     copy(source, 0, like.st_size, made.write)
                     made.flush()
                     if is_of_log:
+                        if is_shared(folder):
+                            drop_acl(made.fileno())
                         os.fchown(made.fileno(), like.st_uid, like.st_gid)
                     os.fchmod(made.fileno(), like.st_mode & READABLE)
                     os.fsync(made.fileno())
@@ -784,6 +786,15 @@ def give_name(passing: str, final: str, is_of_log: bool) -> None:
             os.fsync(folder)
     finally:
         os.close(folder)
+
+
+def drop_acl(number: int) -> None:
+    """Takes from a file what its folder gave it of an access list: the owner of the folder would be named in it."""
+    try:
+        os.removexattr(number, "system.posix_acl_access")
+    except OSError as fault:
+        if fault.errno not in (errno.ENODATA, errno.ENOTSUP):
+            raise
 
 
 def has_copy(source: BinaryIO, folder: int, name: str) -> bool:
