@@ -174,6 +174,20 @@ rotated
 expect 'the name is free again: both are signed' 0 '' ''
 holds 'each is a night of one session' test "$(sed 's/.*"name":"\([a-z]*\).*"rsid":\([0-9]*\),.*/\1 \2/' state/kept/manifest.jsonl | tr '\n' ' ')" = 'one 1 two 1 '
 
+# a log that can't get its name and is forgotten: its owner may have a copy by then, so its number is used up
+fresh
+cp "$root/examples/signed/ten-messages.log" logs/two
+export WHEN=review CHANGE=': >logs/one.frames'
+with=./changing rotated --own-sessions logs/one
+holds 'a log that gets no name: it waits' test "$status.$(<state/rsid)" = 1.1
+rm logs/one.frames
+unset WHEN CHANGE
+rotated --forget logs/one
+rotated --own-sessions logs/two
+expect 'a log that gets no name is forgotten: the next one is signed' 0 '' ''
+holds 'a log that gets no name is forgotten: its number is not given again' test \
+    "$(grep -ao 'RSID="[0-9]*"' logs/two.frames | sort -u).$(<state/rsid)" = 'RSID="2".2'
+
 # ---- links that the owner of the folder puts there while root signs, or before
 if [[ $EUID == 0 ]]; then
     holds 'links in the folder of the logs change and show no other file' python3 -B "$root/tests/rotation_links.py" \

@@ -212,7 +212,7 @@ class Rotation:
             self._state.signed = [signed for signed in self._state.signed if signed.log != it]
         current = self._state.current
         if current is not None and current.log in self._logs and not os.path.lexists(current.frames):
-            # its RSID isn't used up, so nothing of it may stay
+            # nothing of it got its name, so nothing of it stays
             for it in (*current.files.keys(), *current.files.values(), *(it + PART for it in current.files.values())):
                 with contextlib.suppress(FileNotFoundError):
                     os.unlink(it)
@@ -431,17 +431,18 @@ class Rotation:
         return Current(log, size, sha256, rsid, passing.final_frames, passing.final_counters, set_aside, files)
 
     def _publish(self, current: Current) -> None:
-        """Gives each file its name, uses up the RSID, and writes the entry. What was done before isn't done again."""
+        """Uses up the RSID, gives each file its name, and writes the entry. What was done before isn't done again."""
         self._show(current.files)
+        # once a copy is where others may read, its number is theirs too; a run that is stopped here leaves one out at most
+        if self._rsid < current.rsid:
+            replace(self.path("rsid"), b"%d\n" % current.rsid)
+            self._rsid = current.rsid
         of_log = (current.frames, current.set_aside, f"{current.set_aside}.places")
         try:
             for passing, final in current.files.items():
                 give_name(passing, final, os.geteuid() == 0 and final in of_log)
         except OSError as fault:
             raise Fault(f"{shown_name(current.frames)} can't get its name: {reason(fault)}") from fault
-        if self._rsid < current.rsid:
-            replace(self.path("rsid"), b"%d\n" % current.rsid)
-            self._rsid = current.rsid
         self._add_entry(current)
         found = self._state.signed_of(current.log)
         if found is None:
