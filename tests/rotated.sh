@@ -188,6 +188,40 @@ expect 'a log that gets no name is forgotten: the next one is signed' 0 '' ''
 holds 'a log that gets no name is forgotten: its number is not given again' test \
     "$(grep -ao 'RSID="[0-9]*"' logs/two.frames | sort -u).$(<state/rsid)" = 'RSID="2".2'
 
+# ---- whoever may write to the folder above puts a link, or another folder, in the place of the folder of the logs
+chmod g+w .
+for other in link folder; do
+    fresh
+    rm -rf away roots
+    mkdir roots
+    export WHEN=review CHANGE='[[ -e away ]] || { mv logs away; if [[ $OTHER == link ]]; then ln -s roots logs; else mv roots logs; fi; }'
+    OTHER=$other with=./changing rotated logs/one
+    unset WHEN CHANGE
+    holds "a $other in the place of the folder: the status" test "$status" = 1
+    holds "a $other in the place of the folder: nothing is made in it" test -z "$(ls logs/)"
+    if [[ $other == link ]]; then rm logs; else mv logs roots; fi
+    mv away logs
+    rotated
+    expect "a $other in the place of the folder: once it is back, the log is signed" 0 '' ''
+    holds "a $other in the place of the folder: it has its name" test "$(ls logs)" = $'one\none.frames'
+done
+fresh
+rotated logs/one
+mkdir copies
+cp logs/one.frames copies
+"$root/tools/ssign-keys" manifest copied state/kept/manifest.jsonl --to elsewhere copies/one.frames >out 2>err
+mv logs away
+ln -s copies logs
+cp away/one copies
+for option in --remove --own-sessions; do
+    rotated "$option" logs/one
+    holds "a link in the place of the folder, $option: the status" test "$status" = 1
+    holds "a link in the place of the folder, $option: it says so" grep -q 'logs on the way to it is a link that others may have put there' err
+    holds "a link in the place of the folder, $option: the copy stays" test "$(ls copies)" = $'one\none.frames'
+done
+rm -rf logs away roots copies
+chmod g-w .
+
 # ---- links that the owner of the folder puts there while root signs, or before
 if [[ $EUID == 0 ]]; then
     holds 'links in the folder of the logs change and show no other file' python3 -B "$root/tests/rotation_links.py" \

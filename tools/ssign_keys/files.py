@@ -5,7 +5,7 @@ import errno
 import os
 import re
 import stat
-from typing import List, Union
+from typing import List, Optional, Union
 
 from .faults import Fault
 
@@ -45,13 +45,13 @@ def read_file(path: str, wanted: str, is_private: bool = False) -> bytes:
     return octets
 
 
-def open_regular(path: str, flags: int = os.O_RDONLY | os.O_NOFOLLOW, mode: int = 0o600) -> int:
-    """Opens a regular file, and gives its number. What else has its name isn't waited for. Raises OSError with a plain reason.
+def open_regular(path: str, flags: int = os.O_RDONLY | os.O_NOFOLLOW, mode: int = 0o600, folder: Optional[int] = None) -> int:
+    """Opens a regular file, in the folder of a descriptor where one is given, and gives its number. What else has its name isn't waited for. Raises OSError with a plain reason.
 
     Without other flags a link isn't followed, so no other file is opened than the one of this name.
     """
     try:
-        number = os.open(path, flags | os.O_NONBLOCK | os.O_NOCTTY | os.O_CLOEXEC, mode)
+        number = os.open(path, flags | os.O_NONBLOCK | os.O_NOCTTY | os.O_CLOEXEC, mode, dir_fd=folder)
     except OSError as fault:
         if fault.errno == errno.ELOOP and flags & os.O_NOFOLLOW:
             raise OSError(fault.errno, IS_LINK, path) from fault
@@ -96,6 +96,29 @@ def is_shared(folder: Union[str, int]) -> bool:
     """Whether others than root and this user may put files into a folder, or into that of a descriptor. Raises OSError."""
     seen = os.stat(folder)
     return seen.st_uid not in (0, os.geteuid()) or bool(seen.st_mode & OTHERS_WRITE)
+
+
+def open_straight(path: str) -> int:
+    """Opens a folder by its absolute path, and follows no link on the way that others than root and this user may have put
+    there. Raises OSError with a plain reason."""
+    number = os.open(os.sep, os.O_PATH | os.O_DIRECTORY | os.O_CLOEXEC)
+    names = [it for it in path.split(os.sep) if it] or [os.curdir]
+    try:
+        for left, name in enumerate(names, 1 - len(names)):
+            flags = os.O_DIRECTORY | os.O_CLOEXEC | (os.O_PATH if left else os.O_RDONLY)
+            is_others = is_shared(number)
+            try:
+                found = os.open(name, flags | (os.O_NOFOLLOW if is_others else 0), dir_fd=number)
+            except OSError as fault:
+                if is_others and stat.S_ISLNK(os.stat(name, dir_fd=number, follow_symlinks=False).st_mode):
+                    raise OSError(fault.errno, f"{name} on the way to it is a link that others may have put there", path) from fault
+                raise
+            os.close(number)
+            number = found
+        return number
+    except BaseException:
+        os.close(number)
+        raise
 
 
 def open_lock(path: str) -> int:

@@ -18,17 +18,17 @@ import stat
 import subprocess
 import sys
 from datetime import datetime, timezone
-from typing import BinaryIO, Callable, Dict, List, NamedTuple, Optional, Union
+from typing import BinaryIO, Callable, Dict, Iterator, List, NamedTuple, Optional, Union
 
 from .counters_file import file_of
 from .faults import Fault
-from .files import NOT_REGULAR, is_shared, open_lock, open_regular, reason
+from .files import NOT_REGULAR, is_shared, open_lock, open_regular, open_straight, reason
 from .manifest import name_for
 from .manifest_file import Appending
 from .manifest_form import Entry, Manifest, Mark, SetAside, read_manifest, read_mark
 from .open_files import wait_until_closed
 from .programs import add_program_argument, find_program
-from .rotation_state import NO_ENTRY, Current, Signed, Trying, open_folder, read_state, replace, sync_folder, write_state
+from .rotation_state import NO_ENTRY, Current, Signed, Trying, read_state, replace, sync_folder, write_state
 from .session_file import START, Ongoing
 from .session_state import has_counters, last_rsid, read_session
 from .streams import Output
@@ -212,8 +212,8 @@ class Rotation:
             self._state.signed = [signed for signed in self._state.signed if signed.log != it]
         current = self._state.current
         if current is not None and current.log in self._logs and not os.path.lexists(current.frames):
-            # nothing of it got its name, so nothing of it stays
-            for it in (*current.files.keys(), *current.files.values(), *(it + PART for it in current.files.values())):
+            # what stands in the folder of the log already is left to its owner
+            for it in (*current.files, *(it for it in current.files.values() if os.path.dirname(it) == self._kept)):
                 with contextlib.suppress(FileNotFoundError):
                     os.unlink(it)
             self._state.current = None
@@ -231,14 +231,15 @@ class Rotation:
                 path = os.path.join(folder, file.name)
                 if not os.path.lexists(path):
                     continue
-                why = "the manifest doesn't say that it was copied" if (file.name, file.sha256) not in copied else fault_of(path, file)
-                if why:
+                try:
+                    if (file.name, file.sha256) not in copied:
+                        raise Fault("the manifest doesn't say that it was copied")
+                    with folder_of(path) as number:
+                        remove_file(number, file)
+                except (Fault, OSError) as fault:
+                    why = str(fault) if isinstance(fault, Fault) else f"it can't be removed: {reason(fault)}"
                     notify(f"ssign-keys: {shown_name(path)} stays: {why}")
                     stays = True
-                    continue
-                os.unlink(path)
-                with contextlib.suppress(FileNotFoundError):
-                    os.unlink(path + ".places")
         return 1 if stays else 0
 
     def sign_all(self) -> int:
@@ -275,9 +276,9 @@ class Rotation:
     def _sign(self, log: str) -> None:
         """Signs a log, and then what came to it meanwhile."""
         for _ in range(TRIES):
-            with open_log(log) as source:
+            with folder_of(log) as folder, open_log(folder, os.path.basename(log)) as source:
                 unseen = wait_until_closed(source.fileno(), self._arguments.wait)
-                check_name(log, source)
+                check_name(folder, os.path.basename(log), source)
                 size = os.fstat(source.fileno()).st_size
                 found = self._state.signed_of(log)
                 start = 0 if found is None else found.size
@@ -293,10 +294,10 @@ class Rotation:
                 if unseen:
                     notify(f"ssign-keys: {shown_name(log)}: {unseen}, so it may still be open for writing. Lines that come after "
                         "this run are signed in the next one, as a log of their own")
-                self._sign_part(log, source, size, found)
+                self._sign_part(log, folder, source, size, found)
         # what comes still is for the next run
 
-    def _sign_part(self, log: str, source: BinaryIO, size: int, found: Optional[Signed]) -> None:
+    def _sign_part(self, log: str, folder: int, source: BinaryIO, size: int, found: Optional[Signed]) -> None:
         """Signs the octets of a log up to a size, after those that were signed before."""
         name = log if found is None else f"{log}.late-{found.late + 1}"
         frames = name + ".frames"
@@ -321,7 +322,7 @@ class Rotation:
             self._verify(passing, night)
             if digest(source, size) != signed or os.fstat(source.fileno()).st_size < size:
                 raise Fault("it was changed while it was signed")
-            current = self._current(log, source, size, signed, passing, night.rsid)
+            current = self._current(log, folder, source, size, signed, passing, night.rsid)
         except BaseException:
             passing.clear()
             self._end_vain(night)
@@ -412,7 +413,7 @@ class Rotation:
             raise Fault(f"the folder {shown_name(folder)} can't be made: {reason(fault)}") from fault
         return folder
 
-    def _current(self, log: str, source: BinaryIO, size: int, sha256: str, passing: Passing, rsid: int) -> Current:
+    def _current(self, log: str, folder: int, source: BinaryIO, size: int, sha256: str, passing: Passing, rsid: int) -> Current:
         """What is put in its place next. All of it is on the disk before this is said."""
         files = passing.files()
         set_aside = passing.final_aside if os.path.lexists(passing.aside) else None
@@ -428,7 +429,8 @@ class Rotation:
                     os.fchmod(file.fileno(), like.st_mode & READABLE)
                 os.fsync(file.fileno())
         sync_folder(os.path.dirname(passing.frames))
-        return Current(log, size, sha256, rsid, passing.final_frames, passing.final_counters, set_aside, files)
+        return Current(log, size, sha256, rsid, passing.final_frames, passing.final_counters, set_aside, files,
+                       folder=identity_of(folder))
 
     def _publish(self, current: Current) -> None:
         """Uses up the RSID, gives each file its name, and writes the entry. What was done before isn't done again."""
@@ -440,7 +442,17 @@ class Rotation:
         of_log = (current.frames, current.set_aside, f"{current.set_aside}.places")
         try:
             for passing, final in current.files.items():
-                give_name(passing, final, os.geteuid() == 0 and final in of_log)
+                if final not in of_log:
+                    with folder_of(final) as folder:
+                        give_name(passing, folder, os.path.basename(final), False)
+            with folder_of(current.frames) as folder:
+                if current.folder not in (None, identity_of(folder)):
+                    raise Fault("another folder took the place of the one that the log was read in")
+                for passing, final in current.files.items():
+                    if final in of_log:
+                        give_name(passing, folder, os.path.basename(final), os.geteuid() == 0)
+        except Fault as fault:
+            raise Fault(f"{shown_name(current.frames)} can't get its name: {fault}") from fault
         except OSError as fault:
             raise Fault(f"{shown_name(current.frames)} can't get its name: {reason(fault)}") from fault
         self._add_entry(current)
@@ -661,31 +673,54 @@ def files_of(read: Manifest, name: str) -> List[Union[Entry, SetAside]]:
     return found
 
 
-def fault_of(path: str, file: Union[Entry, SetAside]) -> str:
-    """Why a file isn't the one that the manifest names; nothing where it is."""
-    try:
-        with open_log(path) as source:
-            if os.fstat(source.fileno()).st_size != file.size or digest(source, file.size) != file.sha256:
-                return "it isn't what the manifest says"
-    except Fault as fault:
-        return str(fault)
-    return ""
+def remove_file(folder: int, file: Union[Entry, SetAside]) -> None:
+    """Removes a file of a folder, and the places of what was set aside. Raises Fault where it isn't the one of the manifest."""
+    with open_log(folder, file.name) as source:
+        if os.fstat(source.fileno()).st_size != file.size or digest(source, file.size) != file.sha256:
+            raise Fault("it isn't what the manifest says")
+        check_name(folder, file.name, source)
+    os.unlink(file.name, dir_fd=folder)
+    if isinstance(file, SetAside):
+        with contextlib.suppress(FileNotFoundError):
+            os.unlink(f"{file.name}.places", dir_fd=folder)
 
 
-def open_log(log: str) -> BinaryIO:
-    """Opens a log, which has to be a regular file that is no link."""
+@contextlib.contextmanager
+def folder_of(path: str) -> Iterator[int]:
+    """The folder of a file, by a descriptor: whatever is renamed meanwhile, all is done in this one."""
+    folder = os.path.dirname(path)
     try:
-        return open(open_regular(log), "rb")
+        number = open_straight(folder)
+    except FileNotFoundError as fault:
+        raise Fault("it is gone") from fault
+    except OSError as fault:
+        raise Fault(f"the folder {shown_name(folder)} can't be opened: {reason(fault)}") from fault
+    try:
+        yield number
+    finally:
+        os.close(number)
+
+
+def identity_of(folder: int) -> List[int]:
+    """The device and the inode of a folder."""
+    seen = os.fstat(folder)
+    return [seen.st_dev, seen.st_ino]
+
+
+def open_log(folder: int, name: str) -> BinaryIO:
+    """Opens a log in a folder, which has to be a regular file that is no link."""
+    try:
+        return open(open_regular(name, folder=folder), "rb")
     except FileNotFoundError as fault:
         raise Fault("it is gone") from fault
     except OSError as fault:
         raise Fault(NOT_REGULAR if fault.strerror == NOT_REGULAR else f"it can't be read: {reason(fault)}") from fault
 
 
-def check_name(log: str, source: BinaryIO) -> None:
+def check_name(folder: int, name: str, source: BinaryIO) -> None:
     """Refuses a log whose name another file took meanwhile."""
     try:
-        is_same = os.path.samestat(os.lstat(log), os.fstat(source.fileno()))
+        is_same = os.path.samestat(os.stat(name, dir_fd=folder, follow_symlinks=False), os.fstat(source.fileno()))
     except FileNotFoundError as fault:
         raise Fault("it is gone") from fault
     if not is_same:
@@ -746,47 +781,42 @@ def copy(source: BinaryIO, start: int, end: int, take: Callable[[bytes], object]
         start += len(piece)
 
 
-def give_name(passing: str, final: str, is_of_log: bool) -> None:
-    """Has a copy of a passing file stand under its own name, whole and on the disk. Such a copy alone may have the name.
+def give_name(passing: str, folder: int, name: str, is_of_log: bool) -> None:
+    """Has a copy of a passing file stand under its own name in a folder, whole and on the disk. Such a copy alone may have it.
 
-    The folder of the name may be one that others write to. So the copy is made anew in it, and nothing is done to it but by
-    its descriptor. If it is of the log, it gets the owner of the passing file.
+    The folder may be one that others write to. So the copy is made anew in it, and nothing is done to it but by its
+    descriptor. If it is of the log, it gets the owner of the passing file.
     """
+    part = name + PART
     try:
         source = open(open_regular(passing), "rb")
     except FileNotFoundError:
         # a version before named the passing file itself, and may have done so
-        if os.path.lexists(final):
+        os.stat(name, dir_fd=folder, follow_symlinks=False)
+        return
+    with source:
+        with contextlib.suppress(FileNotFoundError):
+            os.unlink(part, dir_fd=folder)
+        if has_copy(source, folder, name):
             return
-        raise
-    folder = open_folder(os.path.dirname(final))
-    name, part = os.path.basename(final), os.path.basename(final) + PART
-    try:
-        with source:
-            with contextlib.suppress(FileNotFoundError):
+        like = os.fstat(source.fileno())
+        flags = os.O_WRONLY | os.O_CREAT | os.O_EXCL | os.O_NOFOLLOW | os.O_CLOEXEC
+        with open(os.open(part, flags, 0o600, dir_fd=folder), "wb") as made:
+            try:
+                copy(source, 0, like.st_size, made.write)
+                made.flush()
+                if is_of_log:
+                    if is_shared(folder):
+                        drop_acl(made.fileno())
+                    os.fchown(made.fileno(), like.st_uid, like.st_gid)
+                os.fchmod(made.fileno(), like.st_mode & READABLE)
+                os.fsync(made.fileno())
+                os.link(part, name, src_dir_fd=folder, dst_dir_fd=folder, follow_symlinks=False)
+            finally:
                 os.unlink(part, dir_fd=folder)
-            if has_copy(source, folder, name):
-                return
-            like = os.fstat(source.fileno())
-            flags = os.O_WRONLY | os.O_CREAT | os.O_EXCL | os.O_NOFOLLOW | os.O_CLOEXEC
-            with open(os.open(part, flags, 0o600, dir_fd=folder), "wb") as made:
-                try:
-                    copy(source, 0, like.st_size, made.write)
-                    made.flush()
-                    if is_of_log:
-                        if is_shared(folder):
-                            drop_acl(made.fileno())
-                        os.fchown(made.fileno(), like.st_uid, like.st_gid)
-                    os.fchmod(made.fileno(), like.st_mode & READABLE)
-                    os.fsync(made.fileno())
-                    os.link(part, name, src_dir_fd=folder, dst_dir_fd=folder, follow_symlinks=False)
-                finally:
-                    os.unlink(part, dir_fd=folder)
-                if not os.path.samestat(os.stat(name, dir_fd=folder, follow_symlinks=False), os.fstat(made.fileno())):
-                    raise FileExistsError(errno.EEXIST, os.strerror(errno.EEXIST), final)
-            os.fsync(folder)
-    finally:
-        os.close(folder)
+            if not os.path.samestat(os.stat(name, dir_fd=folder, follow_symlinks=False), os.fstat(made.fileno())):
+                raise FileExistsError(errno.EEXIST, os.strerror(errno.EEXIST), name)
+        os.fsync(folder)
 
 
 def drop_acl(number: int) -> None:

@@ -60,6 +60,8 @@ class Current:
     """Which passing file becomes which, in this order; the last is the signed log."""
     left_out: Optional[List[List[str]]] = None
     """The counters before and after runs that were stopped, and left numbers out, as lines."""
+    folder: Optional[List[int]] = None
+    """The device and the inode of the folder that the log was read in."""
 
 
 @dataclass
@@ -138,7 +140,7 @@ def state_of(spelled: object) -> State:
     if state.current is not None:
         it = state.current
         check(it.log, it.sha256, it.frames, it.counters, it.set_aside or "", *it.files.keys(), *it.files.values())
-        check_numbers(it.size, it.rsid)
+        check_numbers(it.size, it.rsid, *it.folder or ())
         for lines in it.left_out or []:
             check(*lines)
     if trying is not None:
