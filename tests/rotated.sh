@@ -174,6 +174,49 @@ rotated
 expect 'the name is free again: both are signed' 0 '' ''
 holds 'each is a night of one session' test "$(sed 's/.*"name":"\([a-z]*\).*"rsid":\([0-9]*\),.*/\1 \2/' state/kept/manifest.jsonl | tr '\n' ' ')" = 'one 1 two 1 '
 
+# a log that can't get its name in its folder keeps no other from being signed, in this run and in each later one
+for option in --one-session --own-sessions; do
+    fresh
+    mkdir logs/other
+    cp logs/one logs/other/two
+    cp logs/one logs/other/one.more
+    mkdir logs/one.frames.part
+    rotated "$option" logs/one logs/other/two
+    holds "a log that gets no name, $option: the other is signed" test "$status.$(ls logs/other)" = $'1.one.more\ntwo\ntwo.frames'
+    holds "a log that gets no name, $option: it says so" grep -q "logs/one waits, though it is signed: .*logs/one.frames can't get its name: " err
+    rotated "$option" logs/other/one.more
+    holds "a log that gets no name, $option: a later one is signed" test "$status" = 1 -a -e logs/other/one.more.frames
+    rotated --pending
+    holds "a log that gets no name, $option: it alone waits" test "$status.$(wc -l <out).$(grep -c "logs/one: since .*logs/one.frames can't get its name" out)" = 1.1.1
+    echo '<13>1 - h late - - - more' >>logs/one
+    rmdir logs/one.frames.part
+    rotated
+    holds "a log that gets no name, $option: it gets it later" test "$status" = 1 -a -e logs/one.frames -a -e logs/one.late-1.frames
+    mv logs/other/* logs
+    rmdir logs/other
+    "$root/tools/ssign-keys" manifest check state/kept/manifest.jsonl logs --logs '*.frames' >out 2>err
+    status=$?
+    holds "a log that gets no name, $option: the manifest is clean in the end" test "$status.$(wc -l <state/kept/manifest.jsonl)" = 0.4
+    holds "a log that gets no name, $option: no passing file is left" test -z "$(find state/passing -type f)"
+done
+# its folder is gone for good: it waits until it is forgotten
+fresh
+mkdir logs/other
+cp logs/one logs/other/two
+export WHEN=review CHANGE='mv logs/other away'
+with=./changing rotated logs/other/two
+unset WHEN CHANGE
+rotated logs/one
+holds 'a folder that is gone: another log is signed' test "$status" = 1 -a -e logs/one.frames
+rotated --forget logs/other/two
+holds 'a folder that is gone: the log is forgotten' test "$status" = 0 -a -z "$(find state/passing -type f)"
+mv away logs/other
+rotated logs/other/two
+holds 'a log that has an entry is refused before it is signed' grep -q 'the entry 1 of the manifest .* has this log already' err
+rotated --forget logs/other/two
+rotated
+expect 'a log that was forgotten: nothing waits' 0 '' ''
+
 # a log that can't get its name and is forgotten: its owner may have a copy by then, so its number is used up
 fresh
 cp "$root/examples/signed/ten-messages.log" logs/two

@@ -210,12 +210,17 @@ class Rotation:
         for it in self._logs:
             self._state.done(it)
             self._state.signed = [signed for signed in self._state.signed if signed.log != it]
+        for unnamed in [it for it in self._state.unnamed if it.log in self._logs]:
+            self._state.unnamed.remove(unnamed)
+            self._discard(unnamed)
+            notify(f"ssign-keys: {shown_name(unnamed.log)}: its signed log is removed, and its entry in the manifest stays")
         current = self._state.current
         if current is not None and current.log in self._logs and not os.path.lexists(current.frames):
             # what stands in the folder of the log already is left to its owner
-            for it in (*current.files, *(it for it in current.files.values() if os.path.dirname(it) == self._kept)):
+            for it in (it for it in current.files.values() if os.path.dirname(it) == self._kept):
                 with contextlib.suppress(FileNotFoundError):
                     os.unlink(it)
+            self._discard(current)
             self._state.current = None
         self._save()
         return 0
@@ -244,6 +249,8 @@ class Rotation:
 
     def sign_all(self) -> int:
         """Signs each log that is given, that waits, or to which lines came. One that fails keeps no other from it."""
+        for it in list(self._state.unnamed):
+            self._name_again(it)
         for log in self._to_sign():
             try:
                 self._sign(log)
@@ -257,8 +264,8 @@ class Rotation:
 
     def _to_sign(self) -> List[str]:
         """The logs that wait, in the order in which they came, and those to which lines came since they were signed."""
-        late = [it.log for it in self._state.signed if size_of(it.log) > it.size]
-        waiting = [it.log for it in self._state.pending]
+        late = [it.log for it in self._state.signed if size_of(it.log) > it.size and not self._state.is_unnamed(it.log)]
+        waiting = [it.log for it in self._state.pending if not self._state.is_unnamed(it.log)]
         return waiting + [it for it in late if it not in waiting]
 
     def _prune(self) -> None:
@@ -295,6 +302,8 @@ class Rotation:
                     notify(f"ssign-keys: {shown_name(log)}: {unseen}, so it may still be open for writing. Lines that come after "
                         "this run are signed in the next one, as a log of their own")
                 self._sign_part(log, folder, source, size, found)
+            if self._state.is_unnamed(log):
+                return
         # what comes still is for the next run
 
     def _sign_part(self, log: str, folder: int, source: BinaryIO, size: int, found: Optional[Signed]) -> None:
@@ -307,11 +316,10 @@ class Rotation:
             # a log that got no name in this run is the first to get one
             self._publish(self._state.current)
         # what has no entry can't be missed later, so it gets no name
-        name_for(frames)
-        self._check_manifest()
+        self._check_manifest(name_for(frames))
         night = self._next_night()
-        passing = Passing(name, self._kept, night.label, self._make_passing())
-        passing.clear()
+        self._clear_passing()
+        passing = Passing(name, self._kept, night.label, self._make_passing(night.label))
         self._show({**passing.files(), passing.lines: name})
         try:
             # whoever mapped the log can change it and change it back unseen: so what is signed is what was hashed
@@ -324,7 +332,7 @@ class Rotation:
                 raise Fault("it was changed while it was signed")
             current = self._current(log, folder, source, size, signed, passing, night.rsid)
         except BaseException:
-            passing.clear()
+            self._clear_passing()
             self._end_vain(night)
             raise
         current.left_out = self._left_out(night)
@@ -402,16 +410,38 @@ class Rotation:
             line = line.replace(it, self._shown[it])
         return line
 
-    def _make_passing(self) -> str:
-        """The folder of passing files, to which nobody else may write."""
-        folder = self.path(PASSING)
+    def _make_passing(self, label: str) -> str:
+        """The folder of the passing files of a log, to which nobody else may write."""
+        folder = os.path.join(self.path(PASSING), label)
         try:
-            with contextlib.suppress(FileExistsError):
-                os.mkdir(folder, 0o700)
-                sync_folder(self._state_folder)
+            for it in (self.path(PASSING), folder):
+                with contextlib.suppress(FileExistsError):
+                    os.mkdir(it, 0o700)
+                    sync_folder(os.path.dirname(it))
         except OSError as fault:
             raise Fault(f"the folder {shown_name(folder)} can't be made: {reason(fault)}") from fault
         return folder
+
+    def _clear_passing(self) -> None:
+        """Removes all passing files, also those of a run that was stopped, but those of signed logs that wait for their names."""
+        kept = {it for unnamed in self._state.unnamed for it in unnamed.files}
+        for folder, folders, names in os.walk(self.path(PASSING), topdown=False):
+            for it in names:
+                if os.path.join(folder, it) not in kept:
+                    os.unlink(os.path.join(folder, it))
+            for it in folders:
+                with contextlib.suppress(OSError):
+                    os.rmdir(os.path.join(folder, it))
+
+    def _discard(self, current: Current) -> None:
+        """Removes the passing files of a log, and their folder."""
+        for it in current.files:
+            with contextlib.suppress(FileNotFoundError):
+                os.unlink(it)
+        folder = os.path.dirname(next(iter(current.files)))
+        if os.path.dirname(folder) == self.path(PASSING):
+            with contextlib.suppress(OSError):
+                os.rmdir(folder)
 
     def _current(self, log: str, folder: int, source: BinaryIO, size: int, sha256: str, passing: Passing, rsid: int) -> Current:
         """What is put in its place next. All of it is on the disk before this is said."""
@@ -439,34 +469,39 @@ class Rotation:
         if self._rsid < current.rsid:
             replace(self.path("rsid"), b"%d\n" % current.rsid)
             self._rsid = current.rsid
-        of_log = (current.frames, current.set_aside, f"{current.set_aside}.places")
         try:
             for passing, final in current.files.items():
-                if final not in of_log:
+                if not is_of_log(current, final):
                     with folder_of(final) as folder:
                         give_name(passing, folder, os.path.basename(final), False)
-            with folder_of(current.frames) as folder:
-                if current.folder not in (None, identity_of(folder)):
-                    raise Fault("another folder took the place of the one that the log was read in")
-                for passing, final in current.files.items():
-                    if final in of_log:
-                        give_name(passing, folder, os.path.basename(final), os.geteuid() == 0)
-        except Fault as fault:
-            raise Fault(f"{shown_name(current.frames)} can't get its name: {fault}") from fault
         except OSError as fault:
             raise Fault(f"{shown_name(current.frames)} can't get its name: {reason(fault)}") from fault
+        why = name_in_folder(current)
         self._add_entry(current)
         found = self._state.signed_of(current.log)
         if found is None:
             self._state.signed.append(Signed(current.log, current.size, current.sha256))
         elif found.size < current.size:
             found.size, found.sha256, found.late = current.size, current.sha256, found.late + 1
-        self._state.done(current.log)
         self._state.current = None
+        self._state.unnamed.append(current)
+        self._end_naming(current, why)
+
+    def _name_again(self, current: Current) -> None:
+        """Gives a signed log its name that couldn't get it before."""
+        self._end_naming(current, name_in_folder(current))
+
+    def _end_naming(self, current: Current, why: str) -> None:
+        """Forgets a signed log that has its name. Else it waits for that, and keeps no other log from being signed."""
+        if why:
+            self._state.wait(current.log, now(), why)
+            self._save()
+            notify(f"ssign-keys: {shown_name(current.log)} waits, though it is signed: {why}")
+            return
+        self._state.done(current.log)
+        self._state.unnamed.remove(current)
         self._save()
-        for it in current.files:
-            with contextlib.suppress(FileNotFoundError):
-                os.unlink(it)
+        self._discard(current)
 
     # ---- the number of the session
 
@@ -579,9 +614,12 @@ class Rotation:
             self._state.manifest = str_mark(mark)
             self._save()
 
-    def _check_manifest(self) -> None:
-        """Raises Fault where no entry can be added, before anything is signed that would have none."""
+    def _check_manifest(self, name: str) -> None:
+        """Raises Fault where no entry of this name can be added, before anything is signed that would have none."""
         self._check_end(read_mark(self._state.manifest))
+        for it in read_manifest(self._manifest).entries:
+            if it.name == name:
+                raise Fault(f"the entry {it.number} of the manifest {shown_name(self._manifest)} has this log already")
 
     def _check_end(self, mark: Mark) -> None:
         """Raises Fault where the manifest doesn't end with an entry, or with copies after it."""
@@ -594,7 +632,7 @@ class Rotation:
     def _add_entry(self, current: Current) -> None:
         """Adds the entry of a signed log, unless a run before did, and remembers which entry is the last."""
         # the entry is of what was signed, whatever was put in its place meanwhile
-        passing = {final: it for it, final in current.files.items() if os.path.dirname(it) == self.path(PASSING)}
+        passing = {final: it for it, final in current.files.items() if it.startswith(self.path(PASSING) + os.sep)}
         words = ["manifest", "add", f"--counters={passing.get(current.counters, current.counters)}",
                  f"--last={self._state.manifest}", f"--max-len={MAX_LEN}"]
         if current.set_aside is not None:
@@ -635,17 +673,11 @@ class Passing:
         self.lines = os.path.join(folder, "lines")
         # sign names the places of what it sets aside after the file of the messages
         self.places, self.final_places = self.aside + ".places", self.final_aside + ".places"
-        self._folder = folder
 
     def files(self) -> Dict[str, str]:
         """Which file becomes which, in this order; the last is the signed log."""
         return {self.report: self.final_report, self.counters: self.final_counters, self.aside: self.final_aside,
                 self.places: self.final_places, self.frames: self.final_frames}
-
-    def clear(self) -> None:
-        """Removes all passing files, also those of a run that was stopped."""
-        for it in os.listdir(self._folder):
-            os.unlink(os.path.join(self._folder, it))
 
 
 def refuse_shared(option: str, folder: str) -> None:
@@ -779,6 +811,26 @@ def copy(source: BinaryIO, start: int, end: int, take: Callable[[bytes], object]
             raise Fault("it was cut while it was read")
         take(piece)
         start += len(piece)
+
+
+def is_of_log(current: Current, final: str) -> bool:
+    """Whether a file stands in the folder of the log, and not in that of what is kept."""
+    return final in (current.frames, current.set_aside, f"{current.set_aside}.places")
+
+
+def name_in_folder(current: Current) -> str:
+    """Gives what was made of a log its names, in the folder that the log was read in. Gives why that can't be; empty where it is."""
+    try:
+        with folder_of(current.frames) as folder:
+            if current.folder not in (None, identity_of(folder)):
+                raise Fault("another folder took the place of the one that the log was read in")
+            for passing, final in current.files.items():
+                if is_of_log(current, final):
+                    give_name(passing, folder, os.path.basename(final), os.geteuid() == 0)
+    except (Fault, OSError) as fault:
+        why = str(fault) if isinstance(fault, Fault) else reason(fault)
+        return f"{shown_name(current.frames)} can't get its name: {why}"
+    return ""
 
 
 def give_name(passing: str, folder: int, name: str, is_of_log: bool) -> None:

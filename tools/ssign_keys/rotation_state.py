@@ -83,6 +83,8 @@ class State:
     manifest: str = NO_ENTRY
     """The last entry of the manifest, as `manifest add` prints it."""
     trying: Optional[Trying] = None
+    unnamed: List[Current] = field(default_factory=list)
+    """Signed logs that have their entries, and can't get their names in the folders of the logs."""
 
     def signed_of(self, log: str) -> Optional[Signed]:
         """What was signed of a log."""
@@ -91,6 +93,10 @@ class State:
     def pending_of(self, log: str) -> Optional[Pending]:
         """What is said of a log that waits."""
         return next((it for it in self.pending if it.log == log), None)
+
+    def is_unnamed(self, log: str) -> bool:
+        """Whether a log is signed, and what was made of it waits for its name."""
+        return any(it.log == log for it in self.unnamed)
 
     def wait(self, log: str, since: str, why: str) -> None:
         """Has a log wait, or says anew why it does."""
@@ -125,11 +131,12 @@ def read_state(path: str) -> State:
 
 def state_of(spelled: object) -> State:
     """The state that an object of JSON spells."""
-    if not isinstance(spelled, dict) or set(spelled) - {"trying"} != KEYS or spelled["form"] != FORM:
+    if not isinstance(spelled, dict) or set(spelled) - {"trying", "unnamed"} != KEYS or spelled["form"] != FORM:
         raise ValueError("it has other keys")
     trying = Trying(**spelled["trying"]) if "trying" in spelled else None
     state = State([Signed(**one) for one in spelled["signed"]], [Pending(**one) for one in spelled["pending"]],
-                  None if spelled["current"] is None else Current(**spelled["current"]), spelled["manifest"], trying)
+                  None if spelled["current"] is None else Current(**spelled["current"]), spelled["manifest"], trying,
+                  [Current(**one) for one in spelled.get("unnamed", ())])
     check(state.manifest)
     read_mark(state.manifest)
     for signed in state.signed:
@@ -137,8 +144,7 @@ def state_of(spelled: object) -> State:
         check_numbers(signed.size, signed.late)
     for pending in state.pending:
         check(pending.log, pending.since, pending.why)
-    if state.current is not None:
-        it = state.current
+    for it in state.unnamed if state.current is None else [*state.unnamed, state.current]:
         check(it.log, it.sha256, it.frames, it.counters, it.set_aside or "", *it.files.keys(), *it.files.values())
         check_numbers(it.size, it.rsid, *it.folder or ())
         for lines in it.left_out or []:
@@ -165,8 +171,9 @@ def write_state(path: str, state: State) -> None:
     """Puts a state in the place of the one in a file."""
     fields = asdict(state)
     # an older version reads a state in which no run was stopped
-    if fields["trying"] is None:
-        del fields["trying"]
+    for name in ("trying", "unnamed"):
+        if not fields[name]:
+            del fields[name]
     if fields["current"] is not None and fields["current"]["left_out"] is None:
         del fields["current"]["left_out"]
     replace(path, json.dumps({"form": FORM, **fields}, indent=1).encode("ascii") + b"\n")
