@@ -46,9 +46,10 @@ def read_file(path: str, wanted: str, is_private: bool = False) -> bytes:
 
 
 def open_regular(path: str, flags: int = os.O_RDONLY | os.O_NOFOLLOW, mode: int = 0o600, folder: Optional[int] = None) -> int:
-    """Opens a regular file, in the folder of a descriptor where one is given, and gives its number. What else has its name isn't waited for. Raises OSError with a plain reason.
+    """Opens a regular file, in the folder of a descriptor where one is given, and gives its number.
 
-    Without other flags a link isn't followed, so no other file is opened than the one of this name.
+    What else has its name isn't waited for. Raises OSError with a plain reason. Without other flags a link isn't followed, so no
+    other file is opened than the one of this name.
     """
     try:
         number = os.open(path, flags | os.O_NONBLOCK | os.O_NOCTTY | os.O_CLOEXEC, mode, dir_fd=folder)
