@@ -66,6 +66,11 @@ holds 'written to meanwhile: each line is signed once' test "$("$root/tools/ssig
     grep -c '^ok ')" = 11
 holds 'written to meanwhile: each log has an entry' test "$(wc -l <state/kept/manifest.jsonl)" = "$(find logs -name '*.frames' | wc -l)"
 unset WHEN CHANGE
+# a log that is hardly more than a hole
+fresh
+truncate -s 8G logs/one
+rotated logs/one
+left 'a log with a hole' 'it has 8589934592 octets, and its disk has [0-9]* of them: the others are holes'
 # whoever mapped the log and closed it changes it while it is signed, and changes it back before it is verified
 fresh
 mkfifo ask said

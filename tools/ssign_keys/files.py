@@ -8,6 +8,7 @@ import stat
 from typing import List, Optional, Union
 
 from .faults import Fault
+from .words import shown_name
 
 # No file of keys or certificates comes near to it.
 LONGEST = 16 * 1024 * 1024
@@ -112,7 +113,8 @@ def open_straight(path: str) -> int:
                 found = os.open(name, flags | (os.O_NOFOLLOW if is_others else 0), dir_fd=number)
             except OSError as fault:
                 if is_others and stat.S_ISLNK(os.stat(name, dir_fd=number, follow_symlinks=False).st_mode):
-                    raise OSError(fault.errno, f"{name} on the way to it is a link that others may have put there", path) from fault
+                    why = f"{shown_name(name)} on the way to it is a link that others may have put there"
+                    raise OSError(fault.errno, why, path) from fault
                 raise
             os.close(number)
             number = found

@@ -42,6 +42,9 @@ TRIES = 3
 # The longest message that ssign reads. A daemon takes as long a message as it is set up for, and one that is refused would
 # keep its night unsigned.
 MAX_LEN = 1048576
+# A log of more octets than this is refused where its disk has less than one octet in so many of them. Logs that a disk
+# compresses have one in ten or twenty.
+LARGE, SPARSE = 1 << 30, 100
 PRIVATE, PUBLIC = "private-key.pem", "public-key.pem"
 # of what may be done with a log, what may be done with what was made of it
 READABLE = 0o644
@@ -286,7 +289,7 @@ class Rotation:
             with folder_of(log) as folder, open_log(folder, os.path.basename(log)) as source:
                 unseen = wait_until_closed(source.fileno(), self._arguments.wait)
                 check_name(folder, os.path.basename(log), source)
-                size = os.fstat(source.fileno()).st_size
+                size = size_without_holes(source)
                 found = self._state.signed_of(log)
                 start = 0 if found is None else found.size
                 if found is not None:
@@ -747,6 +750,14 @@ def open_log(folder: int, name: str) -> BinaryIO:
         raise Fault("it is gone") from fault
     except OSError as fault:
         raise Fault(NOT_REGULAR if fault.strerror == NOT_REGULAR else f"it can't be read: {reason(fault)}") from fault
+
+
+def size_without_holes(source: BinaryIO) -> int:
+    """The size of a log. Refuses one that has octets on the disk for a small part of it: its copy would fill another disk."""
+    seen = os.fstat(source.fileno())
+    if seen.st_size > LARGE and seen.st_blocks * 512 < seen.st_size // SPARSE:
+        raise Fault(f"it has {seen.st_size} octets, and its disk has {seen.st_blocks * 512} of them: the others are holes")
+    return seen.st_size
 
 
 def check_name(folder: int, name: str, source: BinaryIO) -> None:
