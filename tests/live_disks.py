@@ -305,7 +305,7 @@ def counters_of(image):
     kept = [octets for (where, name), octets in sorted(image.items()) if where == STATE and name.startswith("counters-")
             and not name.endswith(".new")]
     saved = live_state.newest(lambda name: image.get((STATE, name)))
-    return b"".join(kept) + (saved.session.ends.lines(saved.session.session) if saved and saved.session.certificates else b"")
+    return b"".join(kept) + (saved.session.ends.file(saved.session.session) if saved and saved.session.certificates else b"")
 
 
 def used_twice(program, log):

@@ -85,7 +85,7 @@ def whole(wanted, kind):
     # whatever the disk loses then: all is there, and the counters are those of the state
     left = disk.after_the_cut("none", False, 0)
     saved = live_state.newest(lambda name: left.get((STATE, name)))
-    if left.get((STATE, f"counters-{saved.session.rsid}")) != saved.session.ends.lines(saved.session.session):
+    if left.get((STATE, f"counters-{saved.session.rsid}")) != saved.session.ends.file(saved.session.session):
         faults.append("the counters aren't on the disk")
     tell("a life that nothing ends", faults)
     return disk.steps

@@ -700,7 +700,7 @@ def counters():
         os.kill(process.child, signal.SIGHUP)
         faults.append(it.wait_for(lambda status: status["file"].endswith("-000002.frames")))
         rsid = it.files()[0].split("-")[-2]
-        wished = [f"count gate.example.org signer - {rsid} 1\ncount gate.example.org signer - {rsid} 0 0 6\n".encode()]
+        wished = [f"count gate.example.org signer - {rsid} 1\ncount gate.example.org signer - {rsid} 0 0 6\nend 2\n".encode()]
         faults.append(differ("counters of the first file", it.kept("counters-"), wished))
         with open(os.path.join(it.path("out"), it.files()[0]), "rb") as file:
             found = split_frames(file.read())[0]
@@ -713,7 +713,7 @@ def counters():
         with open(os.path.join(it.path("state"), "manifest.jsonl"), encoding="ascii") as file:
             entries = [json.loads(line) for line in file]
         tell("the entry has the counters of the file", differ("counters", [each["counters"] for each in entries],
-                                                              [wished[0].decode().splitlines()]),
+                                                              [wished[0].decode().splitlines()[:-1]]),
              differ("numbers", entries[0]["groups"], [{"sg": 0, "spri": 0, "first": 1, "last": 5}]))
         # the first file by itself, up to the counters that were there when it was ended
         run = Process(["verify", f"--key={KEYS}/public-key.pem", f"--counters={it.path('first')}", "--raw", f"--ssign={PROGRAM}",
@@ -958,7 +958,7 @@ def each():
             if start is not None:
                 counters = os.path.join(folder, "counters")
                 with open(counters, "w", encoding="ascii") as file:
-                    file.write(f"count h s - {rsid} {start}\ncount h s - {rsid} 0 0 {2 * start + 1}\n")
+                    file.write(f"count h s - {rsid} {start}\ncount h s - {rsid} 0 0 {2 * start + 1}\nend 2\n")
                 words.append(f"--resume={counters}")
             return subprocess.run(words, input=log, capture_output=True, check=True).stdout.splitlines(True)
 
