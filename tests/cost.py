@@ -327,7 +327,7 @@ class Bench:
             lines += [b"seal " + line[5:] + b" AAAA" for line in wants]
         if command in (KEPT, NIGHT, RESUMED):
             with open(log + ".counters", "wb") as file:
-                file.writelines(line + b"\n" for line in made.counters)
+                file.write(logs.counters_file(made.counters))
             words, files = [log + ".counters", *words], [*files, log + ".counters"]
         if command in BY_KNOWN:
             with open(log + ".known", "wb") as file:
@@ -335,7 +335,7 @@ class Bench:
             words, files = [log + ".known", *words], [*files, log + ".known"]
         if command == NIGHT:
             with open(log + ".first", "wb") as file:
-                file.writelines(line + b"\n" for line in made.first)
+                file.write(logs.counters_file(made.first))
             words, files = [log + ".first", "--counters", *words], [*files, log + ".first"]
         if made.has_answers_file and command in (*REVIEWS, KEPT, NIGHT, SIGN, PINNED, COUNTED, CARRIED):
             with open(log + ".answers", "wb") as file:

@@ -74,7 +74,7 @@ class Input:
     def ahead(self, groups):
         """The counters of so many groups, and of the blocks, of a plan that looks ahead."""
         for command in ("plan --ahead", "plan --ahead --resume"):
-            self.say(command, 0, {"count": 1 + groups})
+            self.say(command, 0, {"count": 1 + groups, "end": 1})
 
     def tally(self, status, **words):
         """The lines of a tally."""
@@ -93,6 +93,11 @@ def announcing(*hashes, first=1, gbc=0, rsid=7, group=(0, 0)):
     return signature(first, [sha1_of(text) for text in hashes], gbc, rsid, group)
 
 
+def counters_file(lines):
+    """A counters file of these lines."""
+    return b"".join(it + b"\n" for it in lines) + b"end %d\n" % len(lines)
+
+
 def number(i):
     return b"%d" % i
 
@@ -100,8 +105,9 @@ def number(i):
 def nothing(n=0):
     """The empty log."""
     made = Input(answered=False)
-    for command in ("questions", "questions --once", "questions --once --json", "questions --once --pinned", "counters --pinned"):
+    for command in ("questions", "questions --once", "questions --once --json", "questions --once --pinned"):
         made.say(command, 0, {})
+    made.say("counters --pinned", 0, {"end": 1})
     made.say("carry --pinned", 0, 0)
     made.say("review --pinned", 0, {"end": 1})
     made.say("extract", 0, 0)
@@ -110,7 +116,7 @@ def nothing(n=0):
     made.say("extract --unlisted", 0, 0)
     made.say("extract --unlisted --unwrap", 0, 0)
     made.say("carry", 0, 0)
-    made.say("counters", 0, {})
+    made.say("counters", 0, {"end": 1})
     made.whole(0)
     made.kept(0)
     made.night(0)
@@ -133,7 +139,7 @@ def signed(n):
     made.say("questions", 0, {"trust": 1, "yes": 1 + n // 10})
     made.say("extract", 0, n)
     made.say("carry", 0, 1)
-    made.say("counters", 0, {"count": 2})
+    made.say("counters", 0, {"count": 2, "end": 1})
     made.tally(0, session=1, tally=1)
     return made.say("inspect", 0, {"certificate": 1, "plain": n, "signature": n // 10, "end": 1})
 
@@ -146,7 +152,7 @@ def unanswered(n):
     made.say("extract --unlisted", 1, n)
     made.say("extract --unlisted --unwrap", 1, n)
     made.say("carry", 0, 1 + n // 10 + n)
-    made.say("counters", 0, {})
+    made.say("counters", 0, {"end": 1})
     made.whole(1, session=1, unlisted=n, refused=1 + n // 10)
     made.tally(1, session=1)
     return made.review(1, session=1, unlisted=n, refused=1 + n // 10)
@@ -219,7 +225,7 @@ def sessions(n):
         made.put_block(announcing(number(i), rsid=i))
     made.asked(trust=n, yes=2 * n, payload=1)
     made.say("extract", 1, 0)
-    made.say("counters", 0, {"count": 2 * n})
+    made.say("counters", 0, {"count": 2 * n, "end": 1})
     made.say("carry", 0, 2 * n)
     return made.review(1, session=n, gap=n)
 
@@ -262,7 +268,7 @@ def groups(n):
         if i % 768 == 0:
             made.put_block(certificate(rsid=i // 768))
         made.put_block(announcing(number(i), gbc=i, rsid=i // 768, group=(i % 768 // 192, i % 192)))
-    made.say("counters", 0, {"count": -(-n // 768) + n})
+    made.say("counters", 0, {"count": -(-n // 768) + n, "end": 1})
     made.say("carry", 0, -(-n // 768) + n)
     made.tally(1, session=-(-n // 768), tally=n)
     return made.review(1, session=-(-n // 768), gap=n)
@@ -524,7 +530,7 @@ def attacked(n, strange, payloads=(PAYLOAD,), joined=True):
         made.put_block(announcing(*texts, first=first, gbc=first // 10))
         for i in range(first - 1, first + 9):
             made.put_block(strange(i), False, b64(b"%09d" % i))
-    made.say("counters --pinned", 0, {"count": 2})
+    made.say("counters --pinned", 0, {"count": 2, "end": 1})
     if joined:
         made.say("review --pinned", 1, {"session": 1, "ok": n, "refused": n, "end": 1})
         made.say("carry --pinned", 0, 1)
@@ -538,7 +544,7 @@ def strangers_disagree(n):
     made = attacked(n, lambda i: certificate(i % len(PAYLOAD) + 1, b"AB"[i % 2:i % 2 + 1], len(PAYLOAD)))
     blocks = 1 + n // 10 + n
     made.review(1, session=1, unlisted=n, refused=blocks)
-    made.say("counters", 0, {})
+    made.say("counters", 0, {"end": 1})
     made.say("questions --once", 0, {})
     return made.say("carry", 0, blocks + n)
 
@@ -547,7 +553,7 @@ def strangers_agree(n):
     """Each stranger's block states what the payload has, and isn't valid. So the session is joined without known payloads."""
     made = attacked(n, lambda i: certificate(i % len(PAYLOAD) + 1, PAYLOAD[i % len(PAYLOAD):]))
     made.review(1, session=1, ok=n, refused=n)
-    made.say("counters", 0, {"count": 2})
+    made.say("counters", 0, {"count": 2, "end": 1})
     made.say("questions --once", 0, {"payload": 1, "trust": 1, "yes": 1 + n // 10 + n})
     return made.say("carry", 0, 1)
 
@@ -591,7 +597,7 @@ def shortest(n):
     made.say("extract --unlisted", 1, n)
     made.say("extract --unlisted --unwrap", 1, n)
     made.say("carry", 0, n)
-    made.say("counters", 0, {})
+    made.say("counters", 0, {"end": 1})
     made.whole(1, unlisted=n)
     made.tally(1)
     return made.review(1, unlisted=n)
