@@ -120,7 +120,7 @@ def right(services):
                  differ("of", of, hashlib.sha256(octets_of(counters)).hexdigest()), differ("verify", run.end(), 0), run.said,
                  "" if f"These counters existed at {when}, within 1 second, by the time stamp of CN=trial TSA" in verdict else verdict[-400:])
         # two times for each number: the first stamp whose counters go past it, and the last one that is numbered before it
-        numbers = [int(octets_of(os.path.join(state, each[1][:-len(".tsr")])).split()[-1]) for each in said]
+        numbers = [int(octets_of(os.path.join(state, each[1][:-len(".tsr")])).splitlines()[-2].split()[-1]) for each in said]
         # 4 messages; then a message about the stamp before, and 4 more
         tell("what the counters count", differ("next numbers", numbers, [5, 10, 15]))
 
@@ -258,7 +258,7 @@ def killed(services):
     with signer(*OPTIONS, *services.options(services.command())) as it:
         it.run(framed([message(0)]))
         name = it.files()[0].replace(".frames", ".counters")
-        for ending, text in (("", b"count x x x 1 1\n"), (".tsr.new", octets_of(old_file(services)))):
+        for ending, text in (("", b"count x x x 1 1\nend 1\n"), (".tsr.new", octets_of(old_file(services)))):
             with open(os.path.join(it.path("state"), name + ending), "wb") as file:
                 file.write(text)
         run = it.run(framed([message(1)]))
