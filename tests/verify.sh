@@ -384,7 +384,7 @@ done
 # ---- counters that were kept: what is missing up to them
 # kept LINE..: a counters file of these lines, each of which follows `count gate signer - `
 kept() {
-    printf 'count gate signer - %s\n' "$@" >counters
+    counters_of "${@/#/gate signer - }" >counters
 }
 # count FILE: the lines that the program writes of a log under its key
 count() {
@@ -621,7 +621,11 @@ done
 holds 'bad counters: no answers are kept' test ! -e unkept
 kept '1 3' && printf '\n' >>counters
 keys verify --key keys/public-key.pem --counters counters none
-refuses 'an empty line of counters' "$(bad_counters 2)"
+refuses 'an empty line of counters' "$(bad_counters 3)"
+kept '1 3' '1 0 0 11' && head -n 1 counters >cut
+keys verify --key keys/public-key.pem --counters cut none
+refuses 'counters that were cut off' "ssign-keys: the counters file cut: it isn't whole, as where it was cut off: each part of it ends with a line \`end N\`, N is how many \
+lines \`count\` stand in it, and it has 4294967295 octets at most (C3)"
 kept $'1 3\r'
 keys verify --key keys/public-key.pem --counters counters signed
 refuses 'counters with CR' "$(bad_counters 1)"
