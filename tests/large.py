@@ -105,7 +105,7 @@ def unsigned(bench, name, messages, options, spell):
     bench.check(name + ": review", ["review", *options], log, 1, b"".join(b"unlisted %s\n" % it for it in numbers) + end)
     bench.check(name + ": inspect", ["inspect", *options], log, 0, b"".join(b"plain %s\n" % it for it in numbers) + end)
     bench.check(name + ": questions", ["questions", *options], log, 0, b"")
-    bench.check(name + ": counters", ["counters", *options], log, 0, b"")
+    bench.check(name + ": counters", ["counters", *options], log, 0, b"end 0\n")
     bench.check(name + ": carry", ["carry", *options], log, 0, framed(messages))
     bench.check(name + ": extract --unlisted", ["extract", "--unlisted", *options], log, 1, framed(messages))
 
@@ -117,7 +117,7 @@ def signed(bench, name, messages, count, options=(), spell=framed, full=True):
     status, plan = bench.run(name + ": plan", ["plan", *told], log)
     wants = [line[5:] for line in plan.splitlines()]
     tell(name + ": plan", "" if (status, len(wants)) == (0, blocks) else "%d, and %d blocks of %d" % (status, len(wants), blocks))
-    ahead = b"count %s %d\ncount %s 0 0 %d\n" % (SESSION, blocks - 1, SESSION, len(messages) + 1)
+    ahead = b"count %s %d\ncount %s 0 0 %d\nend 2\n" % (SESSION, blocks - 1, SESSION, len(messages) + 1)
     if full:
         bench.check(name + ": plan --ahead", ["plan", "--ahead", *told], log, 0, ahead)
     seals = bench.path("seals", b"".join(b"seal %s AAAA\n" % it for it in wants))
@@ -168,7 +168,7 @@ def long_blocks(bench, most):
     bench.check(name + "extract", ["extract", *options, "--answers", answers], log, 0, framed(told))
     bench.check(name + "carry", ["carry", *options, "--answers", answers], log, 0, framed(filled[:1]))
     bench.check(name + "counters", ["counters", *options, "--answers", answers], log, 0,
-                b"count %s 3\ncount %s 0 0 4\n" % (SESSION, SESSION))
+                b"count %s 3\ncount %s 0 0 4\nend 2\n" % (SESSION, SESSION))
 
 
 def main():

@@ -85,7 +85,7 @@ expect 'a log that waits is signed in the next run' 0 '' ''
 holds 'the next number' test "$(<state/rsid)" = 42
 holds 'the signed log has it' grep -qaF 'RSID="42"' logs/one.frames
 holds 'its report is kept' test "$(grep -c '^ok ' state/kept/report-42-1)" = 10
-holds 'its counters are kept' cmp state/kept/counters-42-1 <(printf 'count %s\n' "$(uname -n) signer - 42 1" "$(uname -n) signer - 42 0 0 11")
+holds 'its counters are kept' cmp state/kept/counters-42-1 <(counters_of "$(uname -n) signer - 42 1" "$(uname -n) signer - 42 0 0 11")
 holds 'the manifest has its entry' test "$(sed 's/.*"name":"\([^"]*\)".*"rsid":\([0-9]*\),.*/\1 \2/' "$manifest")" = 'one.frames 42'
 holds 'the log stays' cmp logs/one "$root/examples/signed/ten-messages.log"
 holds 'its rights are those of the log' test "$(stat -c %a logs/one.frames)" = 640
