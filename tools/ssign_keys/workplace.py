@@ -115,11 +115,8 @@ class Workplace:
             raise no_room(error) from error
 
     def start(self, words: Sequence[str], stdin: Stream, stdout: Stream, stderr: Optional[Stream],
-              env: Optional[Mapping[str, str]] = None, has_group: bool = False,
-              handed: Sequence[int] = ()) -> subprocess.Popen[bytes]:
+              env: Optional[Mapping[str, str]] = None, has_group: bool = False) -> subprocess.Popen[bytes]:
         """Starts a program, which is ended with the block, where it hasn't ended by itself. Raises as Popen does.
-
-        It has the descriptors that are handed on, besides its three streams.
 
         With a group of its own, whoever starts it ends what the program starts: the number of the group is the child's.
 
@@ -127,7 +124,7 @@ class Workplace:
         """
         with self._starting():
             child = subprocess.Popen(words, stdin=stdin, stdout=stdout, stderr=stderr, env=env,
-                                     start_new_session=has_group, pass_fds=handed)
+                                     start_new_session=has_group)
             self._children.append(child)
         return child
 
