@@ -222,7 +222,6 @@ def make(arguments: argparse.Namespace) -> Settings:
     if arguments.from_manifest:
         if manifest is None:
             raise Fault("--from-manifest begins at the counters of a manifest: name it with --manifest")
-        try_words(program, ["--from=/dev/null"])
     seen = [sum_of(program)] + [look_of(it.partition("=")[2]) for it in asked] + [sum_of(it) for it in files]
     return Settings(archive, program, answers, tuple(words), tuple(seen), trust, arguments.allow_sha1, counters, manifest,
                     arguments.max_expanded, arguments.from_manifest)
