@@ -23,20 +23,22 @@ import json, os, sys
 notes = open(sys.argv[1], "w")
 sys.argv[1:2] = []
 here = os.getpid()
-def path_of(it):
-    return os.readlink(f"/proc/self/fd/{it}") if isinstance(it, int) else os.path.abspath(os.fsdecode(it))
+def path_of(it, folder=None):
+    if isinstance(it, int):
+        return os.readlink(f"/proc/self/fd/{it}")
+    return os.path.abspath(os.path.join(path_of(folder) if folder is not None else os.curdir, os.fsdecode(it)))
 def noted(name, take):
     real = getattr(os, name)
     def call(*words, **more):
         if os.getpid() == here:
-            notes.write(json.dumps([name, *take(*words)]) + "\n")
+            notes.write(json.dumps([name, *take(*words, **more)]) + "\n")
             notes.flush()
         return real(*words, **more)
     setattr(os, name, call)
 for it in ("fsync", "fdatasync"):
     noted(it, lambda file: [path_of(file if isinstance(file, int) else file.fileno())])
 for it in ("rename", "replace", "link"):
-    noted(it, lambda old, new, **more: [path_of(old), path_of(new)])
+    noted(it, lambda old, new, src_dir_fd=None, dst_dir_fd=None, **more: [path_of(old, src_dir_fd), path_of(new, dst_dir_fd)])
 noted("write", lambda number, octets: [path_of(number) if number != 1 else "standard output"])
 import subprocess
 started = subprocess.Popen.__init__
@@ -147,10 +149,10 @@ def try_rotated(tool: str, ssign: str, keys: str, folder: str) -> Tuple[str, str
              os.path.join(kept, "counters-1-1"), os.path.join(state, "rsid"), os.path.join(state, "state"),
              os.path.join(kept, "manifest.jsonl")]
     look("rotated", found, names)
-    # the number of the session is used up once there is something that has it, and not before
+    # the number of the session is used up before anybody else may read what has it
     order = [it[2] for it in found if it[0] in ("rename", "replace", "link")]
-    if names[5] not in order or names[0] not in order[:order.index(names[5])]:
-        faults.append("rotated: the RSID is used up before the signed log has its name")
+    if names[5] not in order or any(it in order[:order.index(names[5])] for it in names[:3]):
+        faults.append("rotated: the signed log has its name before the RSID is used up")
     return names[0], names[4]
 
 

@@ -232,6 +232,7 @@ def try_issuers(key: Any, public: str, folder: str, ca: Authority) -> None:
 def try_chains(key: Any, folder: str) -> None:
     """Authorities above one another, ones that have expired, and an openssl that says nothing."""
     from ssign_keys import authorities
+    from ssign_keys.faults import Fault
     is_ca = [(x509.BasicConstraints(True, None), True)]
     root, middle, other = (Authority(it, folder, f"{it}.crt") for it in ("root", "middle", "other"))
     middle.made = root.issue(middle.key.public_key(), middle.name, is_ca)
@@ -271,9 +272,16 @@ def try_chains(key: Any, folder: str) -> None:
         for stamp, is_taken in order:
             tell(f"an authority at {stamp}", why(given, leaf, "gate", stamp) == "taken", is_taken)
     kept = authorities.ask
-    for status, said in ((-1, b""), (-1, b"OK"), (2, b""), (2, b"stdin: OK")):
+    for status, said in ((2, b""), (2, b"stdin: OK")):
         authorities.ask = lambda words, *_: subprocess.CompletedProcess(words, status, said, said)
         tell(f"an openssl that ends with {status} and says {said!r}", why(trust(ca=[other.path]), leaf) != "taken", True)
+    for status, said in ((-9, b""), (-9, b"OK"), (1, b""), (1, b"stdin: OK")):
+        authorities.ask = lambda words, *_: subprocess.CompletedProcess(words, status, said, said)
+        try:
+            found = why(trust(ca=[other.path]), leaf)
+        except Fault as fault:
+            found = str(fault)
+        tell(f"an openssl that ends with {status} and says {said!r}", found.startswith("openssl checks no certificate with "), True)
     authorities.ask = kept
     tell("and one that is content", why(trust(ca=[other.path]), leaf), "taken")
 
