@@ -622,9 +622,9 @@ holds 'bad counters: no answers are kept' test ! -e unkept
 kept '1 3' && printf '\n' >>counters
 keys verify --key keys/public-key.pem --counters counters none
 refuses 'an empty line of counters' "$(bad_counters 3)"
-kept '1 3' '1 0 0 11' && head -n 1 counters >cut
-keys verify --key keys/public-key.pem --counters cut none
-refuses 'counters that were cut off' "ssign-keys: the counters file cut: it isn't whole, as where it was cut off: each part of it ends with a line \`end N\`, N is how many \
+kept '1 3' '1 0 0 11' && head -n 1 counters >cut-off
+keys verify --key keys/public-key.pem --counters cut-off none
+refuses 'counters that were cut off' "ssign-keys: the counters file cut-off: it isn't whole, as where it was cut off: each part of it ends with a line \`end N\`, N is how many \
 lines \`count\` stand in it, and it has 4294967295 octets at most (C3)"
 kept $'1 3\r'
 keys verify --key keys/public-key.pem --counters counters signed
