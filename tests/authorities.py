@@ -4,8 +4,8 @@
     authorities.py TOOLS PEM           PEM is the private key of a good pair. The last line says how many chains there were.
     authorities.py TOOLS PEM --table   prints the table, with each difference and its reason
 
-The expected value is what openssl says of the same files when it is run beside, with `-verify_hostname` or `-verify_ip`. Where
-a row has a reason, the two may differ, and have to. Chains of --ca-anchor are compared with `-partial_chain -trusted`.
+openssl gives the expected value: it checks the same files, with `-verify_hostname` or `-verify_ip`. If a row has a reason, the two
+have to differ. Chains of --ca-anchor are compared with `-partial_chain -trusted`.
 """
 from __future__ import annotations
 

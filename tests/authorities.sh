@@ -1,6 +1,5 @@
 #!/usr/bin/env bash
-# Which chains of certificates `ssign-keys` takes by --ca and --ca-anchor, beside what `openssl verify` says of the same files: a
-# table, in authorities.py.
+# Checks a table of chains of certificates with `ssign-keys` (--ca, --ca-anchor) and with `openssl verify`: authorities.py.
 # shellcheck source=tests/lib.sh
 . "$(dirname -- "$0")/lib.sh"
 if ! python3 -c 'import cryptography' 2>/dev/null || ! command -v openssl >/dev/null; then

@@ -27,7 +27,7 @@ class Stored:
 
 
 def stored_of(path: str, seen: os.stat_result) -> Stored:
-    """The file at this path, by what the system says of it."""
+    """The file at this path, with the facts that the system gives."""
     return Stored(os.path.basename(path), seen.st_size, seen.st_mtime_ns, seen.st_ctime_ns)
 
 

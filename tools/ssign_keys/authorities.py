@@ -20,7 +20,7 @@ SHORTEST_HASH = 28
 # The option whose certificates are anchors, self-issued or not.
 ANCHOR = "--ca-anchor"
 ELSE = "if you know the session's key by another way, use --session-key"
-# What openssl says of a certificate: its subject, and in the next line where it stands and what is wrong.
+# How openssl reports a certificate: its subject, and in the next line its depth in the chain and what is wrong.
 LOOKUP = re.compile(r"^(?:(.*)\n)?error \d+ at (\d+) depth lookup: *(.*)$", re.MULTILINE)
 # Of a CN, openssl takes such a one alone for a host name that nameConstraints bind: labels with a dot between two.
 DOMAIN = re.compile(rb"[0-9A-Za-z_]+(-+[0-9A-Za-z_]+)*(\.[0-9A-Za-z_]+(-+[0-9A-Za-z_]+)*)+")
