@@ -52,6 +52,7 @@ _ssign_archive() {
     'join --max-len') _ssign_archive_offer text ;;
     'join --max-messages') _ssign_archive_offer text ;;
     'join --max-expanded') _ssign_archive_offer text ;;
+    'join --ssign') _ssign_archive_offer files ;;
     'review --results') _ssign_archive_offer folders ;;
     'review --answers') _ssign_archive_offer files ;;
     'review --sshlogin') _ssign_archive_offer text ;;
@@ -104,7 +105,7 @@ _ssign_archive_words() {
         ;;
     join)
         if [[ $2 == -* ]]; then
-            _ssign_archive_offer words '--help --lines --max-len --max-messages --max-expanded'
+            _ssign_archive_offer words '--help --lines --max-len --max-messages --max-expanded --ssign'
         else
             _ssign_archive_offer folders
         fi

@@ -34,6 +34,7 @@ complete -c ssign-archive -n '__ssign_archive_command join' -l lines -d 'the log
 complete -c ssign-archive -n '__ssign_archive_command join' -l max-len -x -d 'the longest message, in octets'
 complete -c ssign-archive -n '__ssign_archive_command join' -l max-messages -x -d 'the most messages'
 complete -c ssign-archive -n '__ssign_archive_command join' -l max-expanded -x -d 'refuse a compressed log that expands to more octets than this, as 500M or 5G (default'
+complete -c ssign-archive -n '__ssign_archive_command join' -l ssign -r -F -d 'the program ssign (default'
 complete -c ssign-archive -n '__ssign_archive_command join' -a '(__fish_complete_directories)'
 complete -c ssign-archive -n __ssign_archive_command -a review -d 'Review each folder of an archive, and put the reports together'
 complete -c ssign-archive -n '__ssign_archive_command review' -l help -s h -d 'show this help message and exit'

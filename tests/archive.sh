@@ -57,6 +57,14 @@ records() {
     (cd -- "$1/reports" && sha256sum -- */record) | sort
 }
 
+# size_of_frame N: how many octets the frame N of standard input has; the last is -1.
+size_of_frame() {
+    python3 -B -c 'import sys
+sys.path.insert(0, sys.argv[1])
+from archives import frames, unframed
+print(len(frames([list(unframed(sys.stdin.buffer.read()))[int(sys.argv[2])]])))' "$root/tests" "$1"
+}
+
 # ---- splits, which need no engine; they run beside each other
 seeds=()
 for seed in 1 2 3 4; do
@@ -85,8 +93,28 @@ archive split --by session joined split-torn
 refuses 'split: into parts that are there' "$scratch/split-torn is there already"
 { cat split-whole/host,gate-4/log && printf 'x 9'; } >joined
 archive split --by session joined split-bad
-holds 'split: no frame: status' test "$status" = 2
-holds 'split: no frame is told' grep -q "^ssign-archive: at joined octet [0-9]*: unread, .*: no frame begins there\$" err
+holds 'split: no frame: status' test "$status" = 1
+size=$(stat -c %s split-whole/host,gate-4/log)
+holds 'split: octets that are no frame are reported' grep -qx "ssign-archive: at joined octet $size: damaged, 3 octets from there on are no message" err
+# what is damaged is left out, and all messages around it are there
+first=$(size_of_frame 0 <split-whole/host,gate-4/log)
+{ head -c "$first" split-whole/host,gate-4/log && printf 'no frame' && tail -c +$((first + 1)) split-whole/host,gate-4/log; } >joined
+archive split --by host joined split-damaged
+holds 'split: damaged octets: status' test "$status" = 1
+holds 'split: damaged octets: the parts are those of the whole' cmp split-damaged/host,gate-4/log split-whole/host,gate-4/log
+mkdir damaged && gzip -c joined >damaged/1.gz && cp split-whole/host,gate-4/log damaged/2 && cp joined damaged/3
+archive join damaged
+holds 'join: damaged octets: status' test "$status" = 1
+holds 'join: damaged octets: the messages' cmp out <(cat split-whole/host,gate-4/log{,,})
+holds 'join: damaged octets are reported' cmp err <(for file in 1.gz 3; do
+    echo "ssign-archive: at damaged/$file octet $first: damaged, 8 octets from there on are no message"
+done)
+printf '\x89PNG\r\n\x1a\n' >damaged/2
+archive join damaged
+holds 'join: a picture: status' test "$status" = 2
+holds 'join: a picture' grep -qx "ssign-archive: at damaged/2 octet 0: unread, what follows in this file isn't reviewed: no frame begins there" err
+holds 'join: a picture: the messages of the others' cmp out <(cat split-whole/host,gate-4/log{,})
+rm -r damaged
 
 # ---- reading, which needs none either
 zcat_all() {
@@ -356,13 +384,7 @@ harm 1 truncate -s -9 night-4.log.gz
 holds 'a .gz that breaks off is read up to there' grep -q '^at gate-1/night-4.log.gz octet [1-9][0-9]*: unread, what follows in this file isn.t reviewed: it is compressed by gzip and damaged: its end is missing$' out
 holds 'a .gz that breaks off: status' test "$status" = 2
 # The third night of originator 4 has the places 88 to 131: the blocks 8 to 11, and at its end message 120.
-last_frame() {
-    python3 -B -c 'import sys
-sys.path.insert(0, sys.argv[1])
-from archives import frames, unframed
-print(len(frames(list(unframed(sys.stdin.buffer.read()))[-1:])))' "$root/tests"
-}
-start=$(($(stat -c %s archive/gate-4/night-3.log) - $(last_frame <archive/gate-4/night-3.log)))
+start=$(($(stat -c %s archive/gate-4/night-3.log) - $(size_of_frame -1 <archive/gate-4/night-3.log)))
 harm 4 truncate -s -5 night-3.log
 says 'a torn file' 1 "${rest[@]}" "at gate-4/night-3.log octet $start: torn, the file breaks off in the message that begins there" \
     'after gate-4/night-3.log:42, before gate-4/night-4.log.gz:1: gap gate-4 signer - 1 0 0 120 lost' \
@@ -378,9 +400,28 @@ junk() {
 }
 size=$(stat -c %s archive/gate-4/night-3.log)
 harm 4 junk
-says 'octets that are no frame' 2 "${rest[@]}" \
-    "at gate-4/night-3.log octet $size: unread, what follows in this file isn't reviewed: no frame begins there" \
-    "gate-4 8 354 320 0 0 0 0 0 joined 2 NOT IN FULL: 1 file can't be read to the end"
+says 'octets that are no frame' 1 "${rest[@]}" "at gate-4/night-3.log octet $size: damaged, 8 octets from there on are no message" \
+    'gate-4 8 354 320 0 0 0 0 0 joined 2 1 finding' 'Findings. 8 parts: 7 clean, 1 with findings, 0 not reviewed in full.'
+# shellcheck disable=SC2317 # called by name
+wound() {
+    printf x | dd of=night-3.log bs=1 seek="$start" conv=notrunc status=none
+    [[ $1 != gzip ]] || gzip night-3.log
+}
+for form in plain gzip; do
+    file=night-3.log$([[ $form == plain ]] || echo .gz)
+    harm 4 wound "$form"
+    says "the last frame of a file damaged: $form" 1 "${rest[@]}" \
+        "at gate-4/$file octet $start: damaged, $((size - start)) octets from there on are no message" \
+        "after gate-4/$file:42, before gate-4/night-4.log.gz:1: gap gate-4 signer - 1 0 0 120 lost" \
+        'gate-4 8 353 319 1 0 0 0 0 joined 2 2 findings'
+done
+# shellcheck disable=SC2317 # called by name
+picture() {
+    printf '\x89PNG\r\n\x1a\n' >night-3.log
+}
+harm 4 picture
+says 'a picture in place of a night' 2 "${rest[@]}" \
+    "at gate-4/night-3.log octet 0: unread, what follows in this file isn't reviewed: no frame begins there"
 # the session of a night ends within it: the blocks after its twentieth message are lost
 # shellcheck disable=SC2317 # called by name
 end_within() {

@@ -50,7 +50,7 @@ cp store/alpha/2026-11-21/log 'store/javascript:alert(1)/log'
 rm -r store/alpha/2026-11-23
 # a changed message, a file that can't be read on, and a part whose review comes to no end
 sed -i '0,/message/s//massage/' store/beta/2026-11-22/log
-{ cat store/beta/2026-11-23/log && echo 'no frame'; } >garbled && mv garbled store/beta/2026-11-23/log
+gzip -c <store/beta/2026-11-23/log | head -c 100 >store/beta/2026-11-23/log-2.gz
 archive prepare store --results results --key public-key.pem
 holds 'an archive is prepared' test "$status" = 0
 for number in $(seq "$(wc -l <results/batches)"); do

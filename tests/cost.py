@@ -64,18 +64,18 @@ FEW_CALLS = 100
 # a run that takes more seconds hangs, however busy the machine is
 PATIENCE = 300
 COMMANDS = (REVIEW, WHOLE, KEPT, NIGHT, TALLY, EXTRACT, UNLISTED, UNWRAPPED, QUESTIONS, ONCE, OBJECTS, INSPECT, ORIGINALS, PLAN,
-            AHEAD, RESUMED, SIGN, COUNTERS, CARRY, PINNED, ASKED, COUNTED, CARRIED) = (
+            AHEAD, RESUMED, SIGN, COUNTERS, CARRY, PINNED, ASKED, COUNTED, CARRIED, SALVAGED, LOOKED, SAVED) = (
     "review", "review --whole", "review --counters", "review --from", "review --tally", "extract", "extract --unlisted",
     "extract --unlisted --unwrap", "questions", "questions --once", "questions --once --json", "inspect", "inspect --unwrap",
     "plan", "plan --ahead", "plan --ahead --resume", "sign", "counters", "carry", "review --pinned", "questions --once --pinned",
-    "counters --pinned", "carry --pinned")
+    "counters --pinned", "carry --pinned", "review --salvage", "inspect --salvage", "carry --salvage")
 BY_KNOWN = (PINNED, ASKED, COUNTED, CARRIED)
 # those that make a review, and need no file but the log
-REVIEWS = [REVIEW, WHOLE, TALLY, EXTRACT, UNLISTED, UNWRAPPED, COUNTERS, CARRY]
+REVIEWS = [REVIEW, WHOLE, TALLY, EXTRACT, UNLISTED, UNWRAPPED, COUNTERS, CARRY, SALVAGED, SAVED]
 
 # each shape, how large its smaller input is, the commands whose steps are counted, and those of which the rest is
 SHAPES = [
-    (logs.signed, 900, [REVIEW, QUESTIONS, EXTRACT, INSPECT], [COUNTERS, TALLY, CARRY]),
+    (logs.signed, 900, [REVIEW, QUESTIONS, EXTRACT, INSPECT, SALVAGED], [COUNTERS, TALLY, CARRY, SAVED]),
     (logs.unanswered, 900, [CARRY], [REVIEW, EXTRACT, UNLISTED]),
     (logs.by_sha256, 900, [], [REVIEW]),
     (logs.falling, 900, [], [WHOLE, QUESTIONS, EXTRACT, CARRY]),
@@ -118,7 +118,17 @@ SHAPES = [
     (logs.strangers_apart, 900, [PINNED, ASKED], [COUNTED, CARRIED]),
     (logs.strangers_payloads, 900, [PINNED, ASKED], [COUNTED, CARRIED]),
     (logs.spoilt, 900, [REVIEW], [INSPECT]),
-    (logs.shortest, 3000, [REVIEW, INSPECT], []),
+    (logs.shortest, 3000, [REVIEW, INSPECT, LOOKED], [SALVAGED]),
+    (logs.damaged_digits, 20_000, [LOOKED], [SALVAGED]),
+    (logs.damaged_openings, 8000, [LOOKED], [SALVAGED]),
+    (logs.damaged_lengths, 6000, [LOOKED], [SALVAGED]),
+    (logs.damaged_brackets, 20_000, [LOOKED], [SALVAGED]),
+    (logs.damaged_nuls, 20_000, [LOOKED], [SALVAGED]),
+    (logs.damaged_dolls, 1500, [LOOKED], [SALVAGED]),
+    (logs.damaged_often, 1500, [LOOKED], [SALVAGED]),
+    (logs.damaged_often_long, 1500, [LOOKED], [SALVAGED]),
+    (logs.damaged_chain, 600, [LOOKED], [SALVAGED]),
+    (logs.damaged_torn, 8000, [LOOKED], [SALVAGED]),
     (logs.wraps, 900, [UNWRAPPED, ORIGINALS], []),
     (logs.long_wrap, 100_000, [ORIGINALS], [UNWRAPPED]),
     (logs.long_text, 100_000, [], [REVIEW, INSPECT]),
@@ -160,15 +170,15 @@ SHAPES = [
 # those that are read as lines too
 IN_LINES = {logs.signed, logs.sent}
 # those whose messages are all let go, but for lists of hashes and places
-REUSED = {(logs.shortest, REVIEW), (logs.shortest, INSPECT)}
+REUSED = {(logs.shortest, it) for it in (REVIEW, INSPECT, SALVAGED, LOOKED)}
 # each line repeats the payload: by its format this output grows with the square, and the rest may grow as it does. With
 # `--once` it doesn't
 AS_WRITTEN = {(logs.fragments_rising, QUESTIONS), (logs.large_payload, QUESTIONS)}
 
 # logs of a few blocks, sessions or groups, over which room that is taken for each of them is more than what they hold
 FEW = [
-    (logs.shortest, 10, [REVIEW, INSPECT]),
-    (logs.signed, 10, [REVIEW, WHOLE, EXTRACT, QUESTIONS, INSPECT, COUNTERS, CARRY]),
+    (logs.shortest, 10, [REVIEW, INSPECT, SALVAGED, LOOKED]),
+    (logs.signed, 10, [REVIEW, WHOLE, EXTRACT, QUESTIONS, INSPECT, COUNTERS, CARRY, SALVAGED, LOOKED, SAVED]),
     (logs.sessions, 10, [REVIEW, COUNTERS, QUESTIONS, ONCE, CARRY]),
     (logs.one_hash, 10, [REVIEW, CARRY]),
     (logs.groups, 10, [REVIEW, COUNTERS, CARRY]),
@@ -345,11 +355,11 @@ class Bench:
         said = run(words, log, self.library, self.environment)
         counts = said[3]
         faults = faults_of_files(counts, [os.path.getsize(it) for it in files], len(said[1]) + len(said[2]), said[0] == 2)
-        faults.update(faults_of_room(counts, len(files) > 1))
+        faults.update(faults_of_room(counts, len(files) > 1, window_of(words)))
         if self.counter and stepped:
             with open(log, "rb") as file:
                 counts["steps"] = self.counter.count(words, stdin=file, env={**self.environment, **TUNED}) or 0
-        fault = fault_of(said, made.says[command], command in (EXTRACT, UNLISTED, UNWRAPPED, SIGN, CARRY, CARRIED))
+        fault = fault_of(said, made.told(command), command in (EXTRACT, UNLISTED, UNWRAPPED, SIGN, CARRY, CARRIED, SAVED))
         return counts, fault, faults
 
     def counts(self, made, name, commands, stepped):
@@ -358,7 +368,7 @@ class Bench:
         for of_lines in {of_lines for _, of_lines in commands}:
             log = os.path.join(self.folder, "%s.%d" % (name, of_lines))
             with open(log, "wb") as file:
-                file.writelines(text + b"\n" if of_lines else b"%d %s" % (len(text), text) for text in made.messages)
+                file.write(made.log(of_lines))
             for command in (command for command, form in commands if form == of_lines):
                 done[command, of_lines] = self.command(command, made, log, of_lines, command in stepped)
         return done
@@ -378,7 +388,7 @@ class Bench:
         """Of each command, the counts of an input and of one twice as large, the fault of what is said, and the other faults by
         their kinds."""
         forms = (False, True) if shape in IN_LINES else (False,)
-        commands = [(command, form) for command in stepped + others for form in forms]
+        commands = [(command, form) for command in stepped + others for form in forms if not (form and "--salvage" in command)]
         small, large = (self.counts(shape(size), "%s.%d" % (shape.__name__, size), commands, stepped)
                         for size in (n, 2 * n))
         done = {}
@@ -404,13 +414,19 @@ def over(counts, as_written=False):
         for kind in small if large[kind] > most[kind] * small[kind] + SLACK[kind]}
 
 
-def faults_of_room(counts, names_file):
+def window_of(words):
+    """The octets of a damaged log that are looked at together."""
+    longest = int(words[words.index("--max-len") + 1]) if "--max-len" in words else 65_536
+    return 3 * longest + 64 if "--salvage" in words else 0
+
+
+def faults_of_room(counts, names_file, window=0):
     """Whether more room is taken than for what is read, as for a length that is stated, and never comes; and whether more is
-    taken in all. If an option names a file, there is room for one buffer more."""
+    taken in all. If an option names a file, there is room for one buffer more; and there is room for a window."""
     if "peak" not in counts:
         return {}
-    room = ROOM + ROOM_OF_FILE if names_file else ROOM
-    most, in_all = (front + each * counts["passed"] for front, each in ((room, ROOM_FOR_EACH), (SPENT, SPENT_FOR_EACH)))
+    room = window + (ROOM + ROOM_OF_FILE if names_file else ROOM)
+    most, in_all = (front + each * counts["passed"] for front, each in ((room, ROOM_FOR_EACH), (window + SPENT, SPENT_FOR_EACH)))
     return {
         "room": "" if counts["peak"] <= most else "%d octets are taken, and at most %d wanted" % (counts["peak"], most),
         "spent": "" if counts["taken"] <= in_all else "%d octets are taken in all, and at most %d wanted" % (

@@ -7,6 +7,7 @@ name says. All of it was worked out from docs/FORMATS.md.
 import hashlib
 import random
 
+from review_runs import frame
 from signed_log import HEAD, PAYLOAD, b64, certificate, message, sha1_of, signature
 
 SIGN = b"AAAA"
@@ -29,6 +30,14 @@ class Input:
         self.answers = [b"trust " + self.payload] if answered else []
         self.counters, self.first, self.known = [], [], []
         self.has_answers_file = True
+        # of a log that is damaged, which no messages can give
+        self.octets = None
+
+    def log(self, of_lines=False):
+        """The octets of the log, as frames or as lines."""
+        if self.octets is not None:
+            return self.octets
+        return b"".join(it + b"\n" if of_lines else frame(it) for it in self.messages)
 
     def put(self, *texts):
         self.messages += texts
@@ -55,6 +64,10 @@ class Input:
     def say(self, command, status, told):
         self.says[command] = (status, told)
         return self
+
+    def told(self, command):
+        """What a command says. A log that isn't damaged is read the same with `--salvage`."""
+        return self.says.get(command) or self.says[command.replace(" --salvage", "")]
 
     def review(self, status, **words):
         return self.say("review", status, {**words, "end": 1})
@@ -601,6 +614,83 @@ def shortest(n):
     made.whole(1, unlisted=n)
     made.tally(1)
     return made.review(1, unlisted=n)
+
+
+# ---- logs that are damaged, which are read with --salvage
+
+SHORT = frame(b"<13>1 a")
+
+
+def damaged(octets, *options, torn=0, stretches=1, unparsed=0, plain=0):
+    """A log of which so much is read."""
+    made = Input(*options, answered=False)
+    made.octets = octets
+    lines = {"damaged": stretches, "torn": torn, "end": 1}
+    for command, words in (("inspect --salvage", {"unparsed": unparsed, "plain": plain}),
+                           ("review --salvage", {"unlisted": unparsed + plain})):
+        made.say(command, 1, {word: count for word, count in {**words, **lines}.items() if count})
+    return made
+
+
+def damaged_digits(n):
+    return damaged(b"1" * n)
+
+
+def damaged_openings(n):
+    """The front of a frame again and again."""
+    return damaged(b"X" + b"1 <" * n)
+
+
+def damaged_lengths(n):
+    """Frames that all reach over thousands of the others, each up to the front of one. The last one has none in it."""
+    count = 2730
+    return damaged(b"X" + b"%d <13>1 " % (12 * count - 6) * n, unparsed=1)
+
+
+def damaged_brackets(n):
+    return damaged(b"<" * n)
+
+
+def damaged_nuls(n):
+    return damaged(SHORT + bytes(n) + SHORT, unparsed=2)
+
+
+def damaged_dolls(n):
+    """A frame in the text of a frame in the text of a frame, and all end where the log does."""
+    parts = []
+    # of each message the octets before those of the next one; the end of a length is none of another frame here
+    for size in range(20, 20 * n, 20):
+        parts.append((b" %d " % size).rjust(14, b"x"))
+    return damaged(b"X%d " % (20 * n) + b"".join(b"<13>1 " + it for it in [*reversed(parts), b"x" * 14]), *LONG_LINES, unparsed=1)
+
+
+def damaged_often(n):
+    """An octet between every two messages and the next two."""
+    return damaged((b"X" + SHORT + SHORT) * n, stretches=n, unparsed=2 * n)
+
+
+def damaged_often_long(n):
+    """The same, if messages may be long."""
+    made = damaged_often(n)
+    made.options += LONG_LINES
+    return made
+
+
+def damaged_chain(n):
+    """A sender's own messages, whose texts nest frames that reach over those of others up to its next one."""
+    front, head = b"<13>1 - h s - - - own ", b"<13>1 - h s - - - "
+    block = b"".join(frame(message(it, 70)) for it in range(10))
+    texts = [front]
+    for _ in range(n // 10):
+        follows = len(frame(texts[0])) - len(texts[0]) + len(front)
+        texts.append(front + b"%d %s" % (len(head) + len(block) + follows, head))
+        texts[0] = texts[-1]
+    return damaged(b"X" + block.join(map(frame, [*texts[:0:-1], front])), stretches=n // 10, plain=n + 1)
+
+
+def damaged_torn(n):
+    """A log that breaks off in its first frame, and has the fronts of others in it."""
+    return damaged(b"60000 <13>1 " + b"1 <" * n, stretches=0, torn=1)
 
 
 # ---- messages in wraps

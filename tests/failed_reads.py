@@ -15,11 +15,14 @@ import tempfile
 import tty
 
 GIVEN = ["--payload=- N", "--rsid", "1"]
-COMMANDS = [["review"], ["questions"], ["extract"], ["inspect"], ["counters"], ["carry"], ["plan", *GIVEN], ["sign", *GIVEN]]
+READING = [["review"], ["questions"], ["extract"], ["inspect"], ["counters"], ["carry"]]
+COMMANDS = [*READING, ["plan", *GIVEN], ["sign", *GIVEN]]
 # more than two buffers of a reader: 65,536 octets each
 MESSAGES = [b"<13>1 - - - - - - message %d" % number for number in range(6000)]
-LOGS = {"frames": ([], b"".join(b"%d %s" % (len(it), it) for it in MESSAGES)),
-        "lines": (["--lines"], b"".join(it + b"\n" for it in MESSAGES))}
+FRAMES = [b"%d %s" % (len(it), it) for it in MESSAGES]
+LOGS = {"frames": (COMMANDS, [], b"".join(FRAMES)),
+        "lines": (COMMANDS, ["--lines"], b"".join(it + b"\n" for it in MESSAGES)),
+        "damaged frames": (READING, ["--salvage"], b"".join([*FRAMES[:2000], b"X", *FRAMES[2000:4000], bytes(70_000), *FRAMES[4000:]]))}
 
 # the count of a run that takes longer than a second, and how it is cleared: tests/progress.py
 COUNTED = re.compile(rb"\r(ssign: \d+ messages read, \d+ a second)?\x1b\[K")
@@ -78,10 +81,10 @@ def main():
     program, library = sys.argv[1:]
     told = subprocess.run([program, "explain", "F3"], capture_output=True, check=True).stdout
     with tempfile.TemporaryDirectory() as folder:
-        for form, (flags, octets) in LOGS.items():
+        for form, (commands, flags, octets) in LOGS.items():
             path = pathlib.Path(folder, form)
             path.write_bytes(octets)
-            for command in COMMANDS:
+            for command in commands:
                 words, what = [program, *command, *flags], f"{command[0]}, {form}"
                 clean, reads = run(aside, words, path, False, library, 0)
                 tell(f"{what}: no read fails", "" if clean[2] in (b"", b"ssign: O6\n") and reads > 3 else f"{clean[2]!r} after {reads} reads")

@@ -119,7 +119,7 @@ def messages_of(log):
 def check_details(what, log, *options):
     """What the objects of questions say of a block is what the object of an inspection says of its message."""
     inspected = map(json.loads, run("inspect", log, "--json", *options)[1].splitlines())
-    places = {it["place"]: it for it in inspected if "place" in it}
+    places = {it["place"]: it for it in inspected if "place" in it and it["line"] != "damaged"}
     for words in (["--json"], ["--json", "--once"]):
         for asked in map(json.loads, run("questions", log, *words, *options)[1].splitlines()):
             if asked["line"] == "yes":
@@ -197,7 +197,7 @@ def objects_by_hand():
 def main():
     """Makes all checks."""
     visible = "".join(map(chr, range(33, 127)))
-    assert len(KEYS) == 13
+    assert len(KEYS) == 14
     with tempfile.TemporaryDirectory() as folder:
         count = 0
         for name, made in shapes():
@@ -207,6 +207,7 @@ def main():
             check(name, log, *options)
             check(f"{name}, unanswered", log, *made.options)
             check(f"{name}, torn", log + b"9 <", *options)
+            check(f"{name}, damaged", b"X" + log + b"XX", "--salvage", *options)
         tell("shapes", "" if count >= 40 else f"{count} shapes")
         messages = [b"<13>1 - - - - - - %d" % i for i in range(3)]
         for names in ((visible, visible[:48], visible), ('"', "\\", '\\"'), ("\\\\", '""', "-"), ("-", "a\\", '"b')):
@@ -258,7 +259,8 @@ def main():
             tell(f"a refusal of {command}", "" if said == (2, b"ssign: F1 0\n") else repr(said))
         # the lines `blocks` are those of `--whole`, `tail` of `--counters`, `early` and `beyond` of `--from`, and counts those of
         # `--tally`: tests/whole.py, kept.py, between.py and tally.py
-        wanted = {*KEYS, *OTHER_KEYS} - {"blocks", "tail", "early", "beyond", "tally", "unlisted-count", "refused-count", "spoilt-count"}
+        wanted = {*KEYS, *OTHER_KEYS} - {"blocks", "tail", "early", "beyond", "tally", "unlisted-count", "refused-count",
+                                         "spoilt-count", "damaged-count"}
         tell("each kind of line was seen", "" if words_seen == wanted else f"{wanted ^ words_seen}")
     print(f"forms: {passed} passed, {failed} failed")
     return 1 if failed else 0

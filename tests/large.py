@@ -108,6 +108,23 @@ def unsigned(bench, name, messages, options, spell):
     bench.check(name + ": counters", ["counters", *options], log, 0, b"end 0\n")
     bench.check(name + ": carry", ["carry", *options], log, 0, framed(messages))
     bench.check(name + ": extract --unlisted", ["extract", "--unlisted", *options], log, 1, framed(messages))
+    read_on(bench, name, messages, options)
+
+
+def read_on(bench, name, messages, options):
+    """Runs over a log of such messages with a damaged octet before every two. None ends in a digit, which could make another
+    length with the digits after it."""
+    messages = [it[:-1] + b"." for it in messages]
+    parts, stretches, at = [], [], 0
+    for place in range(0, len(messages), 2):
+        parts.append(b"X" + framed(messages[place:place + 2]))
+        stretches.append(b"damaged %d %d 1\n" % (place, at))
+        at += len(parts[-1])
+    log, ended = bench.path("log", b"".join(parts)), b"".join(stretches) + b"end %d\n" % len(messages)
+    for command, line, out in (("review", b"unlisted %d\n", ended), ("inspect", b"plain %d\n", ended), ("questions", b"", b""),
+                               ("counters", b"", b"end 0\n"), ("carry", b"", framed(messages))):
+        lines = b"".join(map(line.__mod__, range(len(messages)))) if line else b""
+        bench.check("%s: %s --salvage" % (name, command), [command, "--salvage", *options], log, 1, lines + out)
 
 
 def signed(bench, name, messages, count, options=(), spell=framed, full=True):

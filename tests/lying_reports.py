@@ -100,6 +100,7 @@ class Bench:
         for name, texts in logs.items():
             self._write(name, b"".join(map(frame, texts)))
         self._write("torn", b"".join(map(frame, stored))[:-3])
+        self._write("damaged", b"".join(map(frame, stored[:5])) + b"junk" + b"".join(map(frame, stored[5:])) + b"x")
         self._write("empty", b"")
 
     def _write(self, name: str, octets: bytes) -> None:
@@ -111,7 +112,8 @@ class Bench:
         answers = self.path(f"{log}.answers")
         self.run(log, self._program, {}, "--raw", "--answers-out", answers)
         with open(self.path(log), "rb") as file:
-            said = subprocess.run([self._program, "review", "--answers", answers], stdin=file, capture_output=True, check=False)
+            said = subprocess.run([self._program, "review", "--salvage", "--answers", answers], stdin=file, capture_output=True,
+                                  check=False)
         return Report(log, said.stdout.splitlines(), said.returncode)
 
     def run(self, log: str, program: str, lie: "dict[str, str]", *options: str) -> Tuple[int, bytes, bytes]:
@@ -147,6 +149,7 @@ def lies(reports: "dict[str, Report]") -> Iterator[Lie]:
     yield from in_place_of_blocks(reports["missing"])
     yield from twisted(clean)
     yield from malformed(clean)
+    yield from of_damage(clean, reports["damaged"])
 
 
 def left_out(reports: "dict[str, Report]") -> Iterator[Lie]:
@@ -235,6 +238,59 @@ def malformed(clean: Report) -> Iterator[Lie]:
     yield Lie("numbers without their words", "clean", clean.edited(b"ok gate signer - 1 0 0 3 ", b"3 "), 0)
 
 
+def damage(report: Report) -> Tuple[List[int], List[int]]:
+    """The place, the offset and the length of both damaged stretches. There are four octets in the first one, and one in the
+    other."""
+    first, second = ([int(field) for field in it.split(b" ")[1:]] for it in report.lines if it.startswith(b"damaged "))
+    assert (first[0], first[2], second[2]) == (5, 4, 1), report
+    return first, second
+
+
+def spelled(stretch: Sequence[int]) -> bytes:
+    """A line about damage."""
+    return b"damaged %d %d %d" % tuple(stretch)
+
+
+def other_damage(first: List[int], second: List[int]) -> Iterator[Tuple[str, List[bytes]]]:
+    """Lines about damage that isn't there."""
+    (place, offset, length), last = first, spelled(second)
+    for name, changed in {
+        "an octet later": [place, offset + 1, length], "an octet earlier": [place, offset - 1, length],
+        "one message earlier": [place - 1, offset, length], "one message later": [place + 1, offset, length],
+        "an octet less": [place, offset, length - 1], "an octet more": [place, offset, length + 1],
+        "nothing": [place, offset, 0], "all": [place, offset, 1 << 40], "a number that is too great": [place, offset, (1 << 64) + 4],
+        "before the first message": [0, offset, length], "at the front": [place, 0, length],
+    }.items():
+        yield name, [spelled(changed), last]
+    yield "one stretch too few", [last]
+    yield "the other too few", [spelled(first)]
+    yield "one stretch twice", [spelled(first), spelled(first), last]
+    yield "stretches that fall", [last, spelled(first)]
+    yield "one stretch in two", [spelled([place, offset, 2]), spelled([place, offset + 2, 2]), last]
+    yield "a stretch in another one", [spelled(first), spelled([place + 1, offset + 1, 1]), last]
+    yield "a field too few", [b"damaged %d %d" % (place, offset), last]
+    yield "a field that is no number", [b"damaged x %d %d" % (offset, length), last]
+
+
+def of_damage(clean: Report, report: Report) -> Iterator[Lie]:
+    """Reports and inspections of other damage than there is."""
+    rest, end = report.without(b"damaged ", b"end "), report.lines[-1]
+    lines = list(map(spelled, damage(report)))
+    for name, others in other_damage(*damage(report)):
+        yield Lie(f"damage: {name}", "damaged", rest + joined([*others, end]), 1)
+        yield Lie(f"inspect: damage: {name}", "damaged", joined([*others, end]), 1, "inspect")
+    yield Lie("damage after the end", "damaged", rest + joined([end, *lines]), 1)
+    yield Lie("damage after a torn end", "damaged", rest + joined([b"torn 7", *lines, end]), 1)
+    yield Lie("damage before an unlisted message", "damaged", rest + joined([*lines, b"unlisted 5", end]), 1)
+    yield Lie("damage that is there in a clean log", "clean", clean.edited(end, lines[0] + b"\n" + end), 1)
+    yield Lie("damage that is no finding", "damaged", joined(report.lines), 0)
+    yield Lie("inspect: no damage", "damaged", end + b"\n", 0, "inspect")
+    yield Lie("inspect: damage, and no end", "damaged", joined(lines), 1, "inspect")
+    yield Lie("inspect: another end", "damaged", joined([*lines, b"end 1"]), 1, "inspect")
+    yield Lie("inspect: nothing can be read", "damaged", b"damaged 0 0 5000\nend 0\n", 1, "inspect")
+    yield Lie("inspect: all is torn", "damaged", b"torn 0\nend 0\n", 1, "inspect")
+
+
 def inspections() -> Iterator[Lie]:
     """What `inspect` can say of the one message of `broken` that it is asked about."""
     for name, output in {
@@ -252,9 +308,9 @@ def main(folder: str, tool: str, program: str) -> None:
     bench = Bench(folder, tool, program)
     bench.make_logs()
     names = ("clean", "changed", "added", "block", "spoilt", "broken", "foreign", "certificates", "torn", "empty",
-             "missing")
+             "missing", "damaged")
     reports = {it: bench.report(it) for it in names}
-    assert [it.status for it in reports.values()] == [0, 1, 1, 1, 1, 1, 1, 0, 1, 0, 1], reports
+    assert [it.status for it in reports.values()] == [0, 1, 1, 1, 1, 1, 1, 0, 1, 0, 1, 1], reports
     failed = runs = 0
     with ThreadPoolExecutor(2) as pool:
         # the truth, told by the stand-in, is believed

@@ -9,7 +9,8 @@ rows=${ROWS_TESTS:-$root/crates/test_rows/out/test_rows_tests}
 origins=${ORIGINS_TESTS:-$root/crates/test_origins/out/test_origins_tests}
 runs=${RUNS_TESTS:-$root/crates/test_runs/out/test_runs_tests}
 signings=${SIGNINGS_TESTS:-$root/crates/test_signings/out/test_signings_tests}
-need_made "$rows" "$origins" "$runs" "$signings"
+salvages=${SALVAGE_TESTS:-$root/crates/test_salvage/out/test_salvage_tests}
+need_made "$rows" "$origins" "$runs" "$signings" "$salvages"
 
 # play NUMBER PROGRAM TEST: runs a test of a program with the allocation of this number refused; 0 refuses none.
 play() {
@@ -20,15 +21,15 @@ fails() {
     ! "$@"
 }
 
-# plays PROGRAM AGAIN OTHER: refuses each allocation of the test AGAIN in turn, and one of the test OTHER, which makes no
-# call again.
+# plays PROGRAM AGAIN OTHER [NUMBER]: refuses each allocation of the test AGAIN in turn, and one of the test OTHER, which makes
+# no call again: that of this number, or the 40th.
 plays() {
-    local program=$1 again=$2 other=$3 count number
+    local program=$1 again=$2 other=$3 one=${4:-40} count number
     holds "$again passes with memory" "$program" "$again"
     [[ -f $scratch/refuse.so ]] || return
     count=$(play 0 "$program" "$again" 2>&1 | sed -n 's/^allocations //p')
     tell "$again takes memory" "$([[ ${count:-0} -gt 0 ]] || echo '    no allocation was counted')"
-    holds "$other makes no call again, and fails" fails play 40 "$program" "$other"
+    holds "$other makes no call again, and fails" fails play "$one" "$program" "$other"
     for ((number = 1; number <= ${count:-0}; number++)); do
         holds "$again: allocation $number of $count" play "$number" "$program" "$again"
     done
@@ -50,6 +51,7 @@ plays "$runs" inspections::wants_memory_or_says_what_there_is ends::ends
 plays "$runs" wraps::wants_memory_or_takes_wraps_off keeping::keeping
 plays "$signings" stops::wants_memory_or_gives_the_output rows::makes
 plays "$signings" wraps::wraps_or_wants_memory wraps::long_wraps_are_refused
+plays "$salvages" damaged::damaged_logs damaged::many_octets 2
 plays "$signings" answers::goes_on_after_want_of_memory answers::refuses
 
 finish

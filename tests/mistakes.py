@@ -181,13 +181,10 @@ def table():
         yield at_end + ["keys/public-key.pem"], b"", "keys/public-key.pem: this is a file of keys or certificates, and no log (F1)"
         yield at_end + ["blank"], b"", "blank: it begins with an empty line: remove that, and use --lines (F1)"
         yield at_end + ["binary"], b"", "binary: octet 0, `\\x00`, can't stand in the length of the frame that begins at octet 0 (F1)"
-        yield at_end + ["zero"], b"", "zero: octet 0, `0`, can't stand in the length of the frame that begins at octet 0 (F1)"
-        yield at_end + ["between"], b"", "between: octet %d, a line feed, stands where the length of the next frame should begin (F1)" % frame
-        yield at_end + ["inside"], b"", "inside: octet %d, `x`, can't stand in the length of the frame that begins at octet %d (F1)" % (frame + 1, frame)
+        yield at_end + ["--max-len", "10", "frames"], b"", \
+            "frames: the length of a frame is over --max-len 10 with its digit at octet 1: raise it, up to 1048576 (F2)"
         yield at_end + ["--max-len", "20", "long-line"], b"", \
             "long-line: the line goes on at octet %d, and has more octets than --max-len 20 allows: raise it, up to 1048576 (F2)" % (length + 21)
-        yield at_end + ["--max-len", "20", "long-frame"], b"", \
-            "long-frame: the length of a frame is over --max-len 20 with its digit at octet %d: raise it, up to 1048576 (F2)" % (frame + 1)
         yield at_end + ["--max-len", "1048576", "-"], b"1048577 ", \
             "standard input: the length of a frame is over --max-len 1048576 with its digit at octet 6: no message may be longer (F2)"
         yield at_end + ["--lines", "--max-len", "10", "frames"], b"", warned % "frames" + "frames: " + framed_too + " (F2)"
@@ -215,22 +212,15 @@ def table():
     yield verify + ["frames", "lines"], b"", both
     yield verify + ["empty", "frames", "empty", "lines"], b"", both
     yield verify + ["lines", "old"], b"", both.replace("frames isn't", "old isn't")
-    yield verify + ["frames", "between"], b"", "between: octet %d, a line feed, stands where the length of the next frame should begin (F1)" % frame
-    yield verify + ["frames", "old"], b"", "old: " + hint
     yield verify + ["lines", "blank-line"], b"", \
         "blank-line: line 2 is empty (octet %d), and a message has at least one octet: remove the line (F9)" % (length + 1)
-    yield verify + ["--max-len", "20", "frames", "long-frame"], b"", \
-        "long-frame: the length of a frame is over --max-len 20 with its digit at octet %d: raise it, up to 1048576 (F2)" % (frame + 1)
     yield verify + ["--max-messages", "3", "frames", "-"], framed(LINE % b"c", LINE % b"d"), \
         "standard input: the log goes on at octet %d, after as many messages as --max-messages 3 allows: raise it, up to 10000000 (F5)" % frame
-    yield verify + ["torn-frames", "frames"], b"", \
-        "the log torn-frames breaks off in the message that begins at its octet %d, so the next log can't be read after it: " \
+    yield verify + ["torn-frames", "lines"], b"", both.replace("frames isn't", "torn-frames isn't")
+    yield verify + ["torn-lines", "lines"], b"", \
+        "the log torn-lines breaks off in the message that begins at its octet %d, so the next log can't be read after it: " \
         "keep only what stands before (`head -c %d`), or, where the next log goes on with this message, join the two (`cat`) " \
-        "and hand them over as one" % (frame, frame)
-    yield verify + ["torn-frames", "lines"], b"", \
-        "the log torn-frames breaks off in the message that begins at its octet %d, so the next log can't be read after it: " \
-        "keep only what stands before (`head -c %d`), or, where the next log goes on with this message, join the two (`cat`) " \
-        "and hand them over as one" % (frame, frame)
+        "and hand them over as one" % (length + 1, length + 1)
     yield verify + ["-", "-"], b"", "standard input, `-`, can be given only once"
 
     # counters
@@ -249,7 +239,12 @@ def table():
     yield verify + ["--counters", "/dev/stdin", "signed"], b"count h a p 1 1\nend 2\n", "the counters file /dev/stdin: " + cut_counters
     yield verify + ["--counters", "none", "signed"], b"", "the counters file none can't be read: No such file or directory"
 
-    # what is to be signed
+    # what is to be signed: in frames nothing may be damaged, and verify reads them on
+    yield sign + ["zero"], b"", "zero: octet 0, `0`, can't stand in the length of the frame that begins at octet 0 (F1)"
+    yield sign + ["between"], b"", "between: octet %d, a line feed, stands where the length of the next frame should begin (F1)" % frame
+    yield sign + ["inside"], b"", "inside: octet %d, `x`, can't stand in the length of the frame that begins at octet %d (F1)" % (frame + 1, frame)
+    yield sign + ["--max-len", "20", "long-frame"], b"", \
+        "long-frame: the length of a frame is over --max-len 20 with its digit at octet %d: raise it, up to 1048576 (F2)" % (frame + 1)
     yield sign + ["torn-frames"], b"", \
         "torn-frames: the log breaks off in the frame that begins at octet %d: get the rest, or keep what stands before (`head -c %d`) (P1)" % (frame, frame)
     yield sign + ["torn-lines"], b"", \

@@ -104,6 +104,12 @@ keys verify --key keys/public-key.pem --jobs 4 --frames --nights manifest bad
 holds 'a night that is refused: status 2' test "$status" = 2
 holds 'a night that is refused: why' grep -q "^Night 9 (entry 9, night-09.frames): not judged: ssign-keys: " out
 holds 'a night that is refused: the verdict' grep -q '^Verdict: NOT ALL JUDGED: nights 1 to 30: 29 of 30 nights are clean; not judged: night 9' out
+# a night of which a frame is damaged: all its other messages are judged
+mkdir hurt && cp logs/* hurt && printf x | dd of=hurt/night-09.frames bs=1 conv=notrunc status=none
+keys verify --key keys/public-key.pem --jobs 4 --nights manifest hurt
+holds 'a damaged night: status 1' test "$status" = 1
+holds 'a damaged night: its verdict' grep -q "^Night 9 (entry 9, night-09.frames): changed, .*; 1 stretch of the log is damaged ([0-9,]* octets)[;.]" out
+holds 'a damaged night: the verdict' grep -q '^Verdict: FINDINGS: nights 1 to 30: 29 of 30 nights are clean; with findings: night 9\.' out
 # a night whose process is killed
 # shellcheck disable=SC2016
 printf '#!/bin/sh\nif [ "$1" = review ]; then echo x >>reviews; [ "$(wc -l <reviews)" != 9 ] || kill -KILL "$PPID"; fi\nexec %q "$@"\n' "$program" >killer

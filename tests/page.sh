@@ -122,6 +122,11 @@ page clean 0 --key key.pem --whole signed
 page changed 1 --key key.pem changed.frames
 page cut 1 --key key.pem --counters counters cut.frames
 page stranger 1 --key other.pem signed
+python3 -B "$root/tests/verdicts.py" pieces changed.frames >pieces.frames
+page damaged 1 --key key.pem pieces.frames
+holds 'damaged octets stand beside a missing number' grep -q '[0-9] damaged octets from octet [0-9]* on' damaged.html
+head -c -2 first.frames >torn.frames
+page torn-between 1 --key key.pem torn.frames second.frames.gz
 page unsigned 1 --key key.pem unsigned.frames
 page empty 1 --key key.pem empty.frames
 page several 0 --session-key 'gate.example.org * * *' key.pem --hostname --counters counters first.frames second.frames.gz

@@ -37,7 +37,7 @@ ALLOWED = {
     "pattern": {"id", "width", "height", "patternunits"}, "path": {"class", "d"}, "rect": {"class", "width", "height"},
 }
 ROWS = 200
-RANKS = ("verified", "listed", "tail", "unannounced", "unlisted", "unverified", "spoilt", "missing", "disputed")
+RANKS = ("verified", "listed", "tail", "unannounced", "unlisted", "unverified", "spoilt", "damaged", "missing", "disputed")
 
 
 class Node:
@@ -232,6 +232,8 @@ def finding_row(it: Dict[str, Any]) -> Optional[Tuple[str, str, str, Optional[st
         cause = f"{it['cause']}: " if line == "spoilt" else ""
         stamp = "states no time" if it["timestamp"] in (None, "-") else it["timestamp"]
         return it["finding"], f"{it['file']}, place {it['file_place']}", stamp, f"{cause}{it['text']}{rest}"
+    if line == "damaged":
+        return "damaged", f"{it['file']}, octet {it['file_offset']}", "", None
     if line == "torn":
         return "torn", f"{it['file']}, octet {it['file_offset']}", "", None
     if line == "manifest":
@@ -252,7 +254,7 @@ def check_same(objects: List[Dict[str, Any]], page: Node) -> None:
     box = page.one("div", "id", "verdict")
     assert box.one("strong").text()[2:] == word and box.attributes["class"] == f"verdict {'bad' if verdict['status'] else 'good'}"
     names = {"missing_up_to_counters": "missing up to the counters", "missing_blocks": "missing blocks"}
-    keys = ("listed", "missing", "disputed", "unannounced", *names, "unlisted", "verified", "unverified", "spoilt")
+    keys = ("listed", "missing", "disputed", "unannounced", *names, "unlisted", "verified", "unverified", "spoilt", "damaged")
     assert {row[0]: row[1] for row in cells(page.one("table", "id", "counts"))} == \
         {names.get(it, it): f"{verdict[it]:,}" for it in keys if it in verdict}
     check_findings(objects, page)
@@ -310,21 +312,28 @@ def check_findings(objects: List[Dict[str, Any]], page: Node) -> None:
                 (found_cell, cell)
     for kind, count in counts.items():
         assert count <= ROWS or f"{count - ROWS:,} more: {kind}" in page.one("main").text(), kind
-    pairs = sum(len(it["likely_places"]) if len(it["likely_places"]) == it["count"] else 1
-                for it in objects if it["line"] == "gap" and it["likely_places"])
+    gaps = [it for it in objects if it["line"] == "gap" and (it["likely_places"] or it["likely_offsets"])]
+    # damaged octets may have been any number of messages
+    matched = [len(it["likely_places"]) == it["count"] and not it["likely_offsets"] for it in gaps]
+    pairs = sum(it["count"] if is_matched else 1 for it, is_matched in zip(gaps, matched))
     if pairs == 0:
         assert not [it for it in page.all("table") if it.attributes["id"] == "pairs"]
         return
     texts = {it["place"]: it for it in objects if it["line"] == "unlisted"}
+    damaged = {it["offset"]: it for it in objects if it["line"] == "damaged"}
+    is_one_file = len(objects[0]["files"]) == 1
     wanted_pairs = []
-    for it in objects:
-        if it["line"] == "gap" and it["likely_places"]:
-            places, count = it["likely_places"], it["count"]
-            each = [(it["first"] + at, it["first"] + at, [place]) for at, place in enumerate(places)] \
-                if len(places) == count else [(it["first"], it["last"], places)]
-            wanted_pairs += [(f"{whose(it)}, {numbers(first, last)}", times(it), some) for first, last, some in each]
-    for found_cells, (missing, sent, places) in zip(cells(page.one("table", "id", "pairs")), wanted_pairs):
+    for it, is_matched in zip(gaps, matched):
+        places = it["likely_places"]
+        each = [(it["first"] + at, it["first"] + at, [place]) for at, place in enumerate(places)] \
+            if is_matched else [(it["first"], it["last"], places)]
+        wanted_pairs += [(f"{whose(it)}, {numbers(first, last)}", times(it), some, it["likely_offsets"]) for first, last, some in each]
+    for found_cells, (missing, sent, places, offsets) in zip(cells(page.one("table", "id", "pairs")), wanted_pairs):
         assert found_cells[:2] == [missing, sent], (found_cells, missing, sent)
+        for offset in offsets:
+            it = damaged[offset]
+            words = f"from octet {it['file_offset']}" + ("" if is_one_file else f" of {it['file']}")
+            assert f"{grouped(it['length'], 'damaged octet')} {words} on" in found_cells[2], found_cells
         for place in places:
             each_row = finding_row(texts[place])
             assert each_row is not None and f"{each_row[1]}, {each_row[2]}: {str(each_row[3])[:100]}" in found_cells[2], found_cells
@@ -384,15 +393,21 @@ def check_sessions(objects: List[Dict[str, Any]], page: Node) -> None:
     for it in objects:
         if it["line"] in ("ok", "unlisted", "refused", "spoilt"):
             places[it["place"]] = it.get("finding", "listed")
-    for picture, kinds in zip(pictures, [*drawn, *([places] if count else [])]):
-        check_strip(picture, kinds)
+    # damaged octets are drawn at the message after them, or the last one
+    damaged = [min(it["place"], count - 1) for it in objects if it["line"] == "damaged"]
+    for picture, kinds in zip(pictures, drawn):
+        check_strip(picture, kinds, [])
+    if count:
+        check_strip(pictures[-1], places, damaged)
 
 
-def check_strip(picture: Node, kinds: List[str]) -> None:
-    """Compares a strip with the kinds of all that it shows."""
+def check_strip(picture: Node, kinds: List[str], damaged: List[int]) -> None:
+    """Compares a strip with the kinds of all that it shows, and with where something is damaged."""
     size = min(600, len(kinds))
     bins = [max((RANKS.index(it) for it in set(kinds[-(-at * len(kinds) // size):-(-(at + 1) * len(kinds) // size)])), default=0)
             for at in range(size)]
+    for place in damaged:
+        bins[place * size // len(kinds)] = max(bins[place * size // len(kinds)], RANKS.index("damaged"))
     found: List[Optional[str]] = [None] * size
     marked = [False] * size
     for path in picture.all("path"):
@@ -407,8 +422,10 @@ def check_strip(picture: Node, kinds: List[str]) -> None:
     assert found == [RANKS[it] for it in bins], (found[:20], [RANKS[it] for it in bins][:20])
     assert all(marked[at] for at in range(size) if bins[at] > 1), "a finding has no mark"
     words = {"tail": ("missing up to the counters",) * 2, "verified": ("verified block", "verified blocks"),
-             "unverified": ("unverified block", "unverified blocks"), "spoilt": ("spoilt block", "spoilt blocks")}
-    counts = [grouped(kinds.count(it), *words.get(it, (it, it))) for it in RANKS if it in kinds]
+             "unverified": ("unverified block", "unverified blocks"), "spoilt": ("spoilt block", "spoilt blocks"),
+             "damaged": ("damaged stretch", "damaged stretches")}
+    all_kinds = [*kinds, *["damaged"] * len(damaged)]
+    counts = [grouped(all_kinds.count(it), *words.get(it, (it, it))) for it in RANKS if it in all_kinds]
     assert picture.attributes["aria-label"].partition(": ")[2] == ", ".join(counts), (picture.attributes, counts)
 
 

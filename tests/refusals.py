@@ -32,6 +32,7 @@ from nights import Told, carried
 from review_examples import A, A2, ALL, B, C, CX, C9A, C9B, H, M1, M2, P1, READINGS, S, S7, certificate, signature
 from review_model import Log, review
 from review_runs import answers_text, answers_to, ended, frame, joined, line, read_frames, read_lines, report_text, run
+from salvage_model import Salvaged
 from tally import tally_text
 from whole import status_of, whole_text
 
@@ -256,6 +257,27 @@ def tallies():
     for words in (["--tally", "--json", "--whole"], ["--json"], ["--findings", "--json"]):
         yield Case("review %s of everything" % " ".join(words), ["review", *words], octets, 1, text, counters=ended(KEPT))
     yield Case("counters --json of everything", ["counters", "--json"], octets, 0, text)
+
+
+def salvaged():
+    """Runs that read on after damage, and refusals of their logs."""
+    everything = answers_of(EVERYTHING, (lambda payload: payload == P1, accepted))
+    text, damaged = answers_text(*everything), b"X" + b"".join(frame(it) + b"X" * (place % 3 > 0) for place, it in enumerate(EVERYTHING))
+    whole = b"".join(map(frame, EVERYTHING))
+    for name, log, limits in (("a damaged log", damaged, {}), ("a log of which nothing is read", b"".join(map(line, EVERYTHING)), {}),
+                              ("a log that is torn, read on,", whole + b"9 <", {}), ("an empty log, read on,", b"", {}),
+                              ("a damaged log with a message too many", damaged, {"max_messages": 3})):
+        for command in ("review", "extract", "questions --once --json", "counters", "carry"):
+            model = Salvaged(log, **limits)
+            case = reviewed(name, command, model.plain(), everything)
+            words = [*case.words, "--salvage", *(["--max-messages", "3"] if limits else [])]
+            yield case._replace(words=words, log=log, wanted=Said(*model.put_into(case.wanted, words)))
+        inspected = 2 if limits else int(model.torn is not None or bool(model.stretches))
+        yield Case("inspect of %s" % name, ["inspect", *words[len(case.words):]], log, inspected)
+    model = Salvaged(damaged)
+    wanted = model.put_into((1, joined(tally_text(report_text(review(Log(model.messages), *everything)))), b""), ["review", "--tally"])
+    yield Case("review --tally of a damaged log", ["review", "--tally", "--salvage"], damaged, Said(*wanted), text)
+    yield Case("extract --place of a damaged log", ["extract", "--place", "1", "--salvage"], damaged, Said(1, frame(model.messages[1]), b""))
 
 
 def extracts():
@@ -485,13 +507,20 @@ def fault_of_order(kind, codes):
     return "" if re.fullmatch(CODES[kind], text) else "the codes come in another order: %s" % text
 
 
-def fault_of_reading(kind, words, messages, is_torn, codes):
-    """Whether F4 comes only where a message needs more room than there is, and V1 where messages are reviewed."""
-    sizes = [len(it) for it in messages]
+def fault_of_reading(kind, words, log, codes):
+    """Whether F4 comes only where a message needs more room than there is, and V1 where messages are reviewed. Whoever reads on
+    after damage has a window, and a list of the stretches."""
+    others = 0
+    if "--salvage" in words:
+        model = Salvaged(log)
+        messages, torn, others = model.messages, model.torn, 1 + len(model.stretches).bit_length()
+    else:
+        messages, torn = (read_lines if "--lines" in words else read_frames)(log)
+    sizes, is_torn = [len(it) for it in messages], torn is not None
     most = sum(size > max(sizes[:i], default=0) for i, size in enumerate(sizes)) if kind in REUSE else len(sizes)
     reading, reviewing = codes.count("F4"), codes.count("V1")
-    if not min(len(sizes), 1) <= reading <= most + is_torn:
-        return "F4 comes %d times, but there are %d messages that need room" % (reading, most + is_torn)
+    if not min(len(sizes), 1) <= reading <= most + is_torn + others:
+        return "F4 comes %d times, but there are %d messages that need room" % (reading, most + is_torn + others)
     reviews = kind in REUSE or kind == "carry" or (kind == "extract" and "--place" not in words)
     return "V1 comes %d times" % reviewing if sizes and reviews != (reviewing > 0) else ""
 
@@ -560,8 +589,7 @@ class Runner:
                 faults.append("allocation %d of %d: %r" % (number, count, said))
         faults.append(fault_of_order(kind, codes))
         if kind != "explain" and clean.status != 2 and not case.some:
-            messages, torn = (read_lines if "--lines" in case.words else read_frames)(case.log)
-            faults.append(fault_of_reading(kind, case.words, messages, torn is not None, codes))
+            faults.append(fault_of_reading(kind, case.words, case.log, codes))
         return faults, codes, without
 
 
@@ -593,7 +621,7 @@ def main():
     parser.add_argument("library", nargs="?", default="")
     parser.add_argument("--show", action="store_true")
     given = parser.parse_args()
-    cases = [case for make in (reviews, kept_reviews, night_reviews, known_reviews, tallies, extracts, inspections, answers, signings,
+    cases = [case for make in (reviews, kept_reviews, night_reviews, known_reviews, tallies, salvaged, extracts, inspections, answers, signings,
                                resumed_signings, wrapped_signings, refused_signings, others, long_outputs)
              for case in make()]
     first = cases[0].wanted.out.decode().splitlines()

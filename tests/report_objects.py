@@ -22,6 +22,7 @@ KEYS = {
     "unlisted": ["place"],
     "refused": ["place"],
     "spoilt": ["place", "cause"],
+    "damaged": ["place", "offset", "length"],
     "torn": ["offset"],
     "end": ["count"],
 }
@@ -31,6 +32,7 @@ OTHER_KEYS = {
     "unlisted-count": [["count"]],
     "refused-count": [["count"]],
     "spoilt-count": [["count"]],
+    "damaged-count": [["count", "octets"]],
     "payload": [["payload_index", "payload"]],
     "trust": [[about, *SESSION] for about in ABOUT],
     "yes": [[about, "octets", "signature", "place", *SESSION, "ver", "sg", "spri", *rest] for about in ABOUT

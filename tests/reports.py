@@ -4,7 +4,8 @@
     reports.py PROGRAM
 
 over the logs that were worked out by hand, over logs by a seed as frames and as lines, whole and damaged, and over a small
-log of which each bit is turned in turn. `explain` has to tell of each word and number that was printed. The last line is
+log of which each bit is turned in turn. Damaged frames are read with `--salvage` too, for which `salvage_model.py` has a
+second reader. `explain` has to tell of each word and number that was printed. The last line is
 `reports: N passed, M failed`.
 """
 import collections
@@ -18,6 +19,7 @@ from review_examples import ALL, C, EXAMPLES, M1, M2, QUESTIONS, S
 from review_logs import make
 from review_model import Log
 from review_runs import MAX_LEN, MAX_MESSAGES, answers_text, answers_to, frame, joined, line, run
+from salvage_model import Salvaged
 
 COMMANDS = ("review", "questions", "questions --once", "questions --json", "questions --once --json", "extract")
 SEEDS = 500
@@ -47,10 +49,10 @@ class Program:
         # the words and numbers that it printed of reviews and faults
         self.words = set()
 
-    def say(self, command, octets, of_lines=False, max_len=MAX_LEN, max_messages=MAX_MESSAGES, answers=b""):
+    def say(self, command, octets, of_lines=False, max_len=MAX_LEN, max_messages=MAX_MESSAGES, answers=b"", salvage=False):
         """Its status, standard output and standard error."""
         words = [self.path, *command.split(" "), "--max-len", str(max_len), "--max-messages", str(max_messages)]
-        words += ["--lines"] if of_lines else []
+        words += ["--lines"] * of_lines + ["--salvage"] * salvage
         if not command.startswith("questions"):
             with open(self.answers, "wb") as file:
                 file.write(answers)
@@ -65,11 +67,17 @@ class Program:
     def compare(self, what, command, octets, answers, **words):
         """Whether it says what the second review does, which is given back."""
         trusted, valid = answers
-        wanted = run(command, octets, trusted=trusted, valid=valid, **words)
+        wanted = (salvaged if words.get("salvage") else run)(command, octets, trusted=trusted, valid=valid, **words)
         said = self.say(command, octets, answers=answers_text(trusted, valid), **words)
         tell("%s of %s" % (command, what), "" if said == wanted else "    %r %r\n    wanted\n%s    said\n%s" % (
             octets, words, shown(wanted), shown(said)))
         return wanted
+
+
+def salvaged(command, octets, trusted, valid, salvage, of_lines=False, **limits):
+    """What is written if reading goes on after damage."""
+    model = Salvaged(octets, **limits)
+    return model.put_into(run(command, model.plain(), trusted=trusted, valid=valid, **limits), command.split(" "))
 
 
 # ---- the logs that were worked out by hand
@@ -111,7 +119,10 @@ def by_seed(program, reached):
             if chance.random() < 0.3:
                 words["max_messages"] = chance.randint(1, 6)
             for command in COMMANDS:
-                said = program.compare("seed %d, damaged" % seed, command, damaged(octets, chance), answers, **words)
+                changed = damaged(octets, chance)
+                if not of_lines:
+                    program.compare("seed %d, damaged, read on" % seed, command, changed, answers, **words, salvage=True)
+                said = program.compare("seed %d, damaged" % seed, command, changed, answers, **words)
                 reached[command, said[0]] += 1
                 reached[said[2][7:9].decode() or said[1][said[1].rfind(b"torn"):][:4].decode()] += 1
 

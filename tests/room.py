@@ -15,6 +15,7 @@ Each check states a bound of its own:
   a review                      so many octets for each octet of the log
   joiners                       so many octets for each octet that is stated, and for each joiner of its own
   answers                       where all lines have one payload, far less than where each has its own of that length
+  reading on after damage       a window of three messages and 64 octets, and 24 octets for each damaged stretch, three times
   an originator                 no more for 10,000 messages than for 2,000, for an input of the same length: what it
                                 keeps are the hashes of the messages that are pending, and its payload
 
@@ -36,6 +37,9 @@ BUFFERS = 80 * KIB
 # what two runs of one size may differ by: a list that grew at another time
 SLACK = 4 * KIB
 HASH_PAIR = 52
+# a damaged stretch that is kept, and the window in which what comes next is looked at
+STRETCH = 24
+WINDOWS, WINDOW_MORE = 3, 64
 # a list that grows has its old room, and one twice as large
 GROWN = 3
 PAYLOAD = b"2009-05-03T14:00:39Z K S0VZ".hex()
@@ -59,14 +63,14 @@ class Bench:
     def __init__(self, library, show):
         self.library, self.show = library, show
 
-    def peak(self, words, octets, wanted, behind=False):
+    def peak(self, words, octets, wanted, behind=False, status=0):
         """The most octets that were allocated at one time, where the output has what is wanted of it; or those since the
         input was read to its end."""
         with tempfile.NamedTemporaryFile() as counts:
             done = subprocess.run(words, input=octets, capture_output=True, timeout=PATIENCE, check=False,
                                   env={"LD_PRELOAD": self.library, "COUNTS": counts.name})
             numbers = counts.read().split()
-        fault = "" if done.returncode == 0 and wanted(done.stdout) else "it ended with %d %r" % (
+        fault = "" if done.returncode == status and wanted(done.stdout) else "it ended with %d %r" % (
             done.returncode, done.stdout[-100:])
         tell("%s over %d octets: what it says" % (" ".join(words[1:]) or words[0], len(octets)), fault)
         return int(numbers[4 if behind else 1])
@@ -134,6 +138,24 @@ def reviewed(bench, timing, reviewed_by):
             octets = frames(script)
             peak = bench.peak([reviewed_by], octets, starts(b"pairs\n"))
             bench.check("both reviewers of %s, %d" % (shape.__name__, count), peak, BUFFERS + 32 * len(octets))
+
+
+# ---- damaged logs
+
+def damaged(bench, ssign):
+    """What is kept of a damaged log beside its messages: a window, however long the log is, and each stretch."""
+    for command in ("inspect", "review"):
+        for count, longest in ((100, 65_536), (MOST, 65_536), (MOST, 100), (100, 1_048_576)):
+            pairs = [frames([b"<13>1 - - - - - - %d" % it, b"<13>1 - - - - - - x"]) for it in range(count)]
+            words = [ssign, command, "--max-len", str(longest)]
+            end = lambda said: said.endswith(b"\nend %d\n" % (2 * count))
+            status = int(command == "review")
+            plain = bench.peak(words, b"".join(pairs), end, status=status)
+            whole = bench.peak([*words, "--salvage"], b"".join(pairs), end, status=status)
+            read_on = bench.peak([*words, "--salvage"], b"X".join([b"", *pairs]), end, status=1)
+            what = "%s of %d messages of at most %d octets" % (command, 2 * count, longest)
+            bench.check(what + ", read on", whole, plain + WINDOWS * longest + WINDOW_MORE + SLACK)
+            bench.check(what + ", a damaged stretch before every two", read_on, whole + GROWN * STRETCH * count + SLACK)
 
 
 # ---- payloads
@@ -210,6 +232,7 @@ def main():
     readers(bench, given.timing)
     fed(bench, given.timing)
     reviewed(bench, given.timing, given.reviewed)
+    damaged(bench, given.ssign)
     joined(bench, given.timing)
     originated(bench, given.originated)
     answered(bench, given.ssign)

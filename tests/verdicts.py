@@ -7,6 +7,10 @@
     verdicts.py split LOG N FIRST SECOND                a log of N messages, and one of the others
     verdicts.py last LOG | count LOG                    where the torn frame begins; how many messages there are
     verdicts.py damage KIND LOG                         the log, damaged
+    verdicts.py pieces LOG                              the log with one octet after the second message, two after the fourth, and
+                                                        so on
+    verdicts.py harm KIND LOG                           the log with a frame damaged; on standard error where the damage begins
+                                                        and ends, by hand
     verdicts.py without LOG GBC..                       a log of groups by PRI, without the signature blocks with these
                                                         counters and the messages that they announce
     verdicts.py signal NAME FILE WORD..                 runs a command, sends it a signal once FILE is there, and tells
@@ -44,6 +48,18 @@ def messages(path: str) -> Tuple[List[bytes], Optional[int]]:
     return found
 
 
+def between(octets: bytes, lines: List[str]) -> List[bytes]:
+    """The messages of a log in which these lines of a report say what is damaged: all else is frames, one after the other."""
+    stored: List[bytes] = []
+    at = 0
+    for place, offset, length in (map(int, it.split(" ")[1:]) for it in lines if it.startswith("damaged ")):
+        found, torn = read_frames(octets[at:offset])
+        stored += found
+        assert torn is None and len(stored) == place and length > 0, (place, offset, length)
+        at = offset + length
+    return stored + read_frames(octets[at:])[0]
+
+
 def escaped(octets: bytes, most: int) -> str:
     """The front of a text as verify shows it."""
     return "".join(chr(it) if 32 <= it < 127 and it != ord("\\") else "\\x%02x" % it for it in octets[:most])
@@ -62,7 +78,8 @@ def wanted(line: str, stored: List[bytes], log: str) -> Dict[str, object]:
     elif word == "ok":
         names.update(number=int(fields[6]), place=int(fields[7]))
     elif word == "gap":
-        names.update(first=int(fields[6]), last=int(fields[6]), count=1, why=fields[7], likely_places=[], before=None, after=None)
+        names.update(first=int(fields[6]), last=int(fields[6]), count=1, why=fields[7], likely_places=[], likely_offsets=[],
+                     before=None, after=None)
     elif word == "hole":
         names.update(first=int(fields[6]), last=int(fields[7]), count=int(fields[7]) - int(fields[6]) + 1, before=None, after=None)
     elif word == "tail":
@@ -71,6 +88,9 @@ def wanted(line: str, stored: List[bytes], log: str) -> Dict[str, object]:
         names.update(first=int(fields[4]), last=int(fields[5]))
     elif word == "end":
         names.update(count=int(fields[0]))
+    elif word == "damaged":
+        place, offset, length = map(int, fields)
+        names.update(place=place, offset=offset, length=length, file=log, file_offset=offset)
     elif word == "torn":
         names.update(offset=int(fields[0]), file=log, file_offset=int(fields[0]))
     else:
@@ -81,7 +101,7 @@ def wanted(line: str, stored: List[bytes], log: str) -> Dict[str, object]:
                      text=escaped(text, 2048 if word == "unlisted" else 60))
     # docs/guide.md, "Words of a verdict"
     words = {"hole": "unannounced", "tail": "missing", "blocks": "missing", "unlisted": "unlisted", "refused": "unverified",
-             "spoilt": "spoilt", "torn": "torn", "gap": "missing" if line.endswith(" lost") else "disputed"}
+             "spoilt": "spoilt", "damaged": "damaged", "torn": "torn", "gap": "missing" if line.endswith(" lost") else "disputed"}
     names.update({"finding": words[word]} if word in words else {})
     return names
 
@@ -133,13 +153,15 @@ def with_neighbours(lines: List[str], stored: List[bytes]) -> List[Tuple[str, Di
     return joined
 
 
-def likely(lines: List[str]) -> Dict[str, List[int]]:
-    """For each line of a missing number, the places of what its message likely became.
+def likely(lines: List[str]) -> Dict[str, Tuple[List[int], List[int]]]:
+    """For each line of a missing number, the places of what its message likely became, and the octets where it may have been.
 
     Numbers are missing between two listed ones, or one and an end, and messages are unlisted between the same: as many,
-    and then each number has one of them, or another count up to ten, and then they are all told.
+    and then each number has one of them, or another count up to ten, and then all are shown. Up to ten damaged stretches
+    between the same are shown too: one with a place stands before the message at this place.
     """
-    found: Dict[str, List[int]] = {}
+    found: Dict[str, Tuple[List[int], List[int]]] = {}
+    damaged = [(int(place), int(offset)) for word, place, offset in (f"{it} . .".split(" ")[:3] for it in lines) if word == "damaged"]
     unlisted = [int(it.split(" ")[1]) for it in lines if it.startswith("unlisted ")]
     groups: Dict[str, List[str]] = {}
     for it in lines:
@@ -153,18 +175,20 @@ def likely(lines: List[str]) -> Dict[str, List[int]]:
             right = int(entries[high].split(" ")[-1]) if high < len(entries) else 1 << 40
             here = [it for it in unlisted if left < it < right]
             if all(it.endswith(" lost") for it in between):
+                offsets = [offset for place, offset in damaged if left < place <= right]
+                offsets = offsets if len(offsets) <= 10 else []
                 is_matched = len(here) == len(between)
-                found.update({it: [here[index]] if is_matched else here if len(here) <= 10 else []
+                found.update({it: ([here[index]] if is_matched else here if len(here) <= 10 else [], offsets)
                               for index, it in enumerate(between)})
     return found
 
 
 def check_json(report: str, path: str, log: str, status: str, *options: str) -> None:
     """Compares the two line by line, in the order of the keys too."""
-    with open(log, "rb") as file:
-        stored, _ = (read_lines if "--lines" in options else read_frames)(file.read())
     with open(report, encoding="ascii") as file_of_lines, open(path, encoding="ascii") as file_of_objects:
         lines, objects = file_of_lines.read().splitlines(), [json.loads(it) for it in file_of_objects]
+    with open(log, "rb") as file:
+        stored = read_lines(file.read())[0] if "--lines" in options else between(file.read(), lines)
     runs = with_neighbours(lines, stored)
     check_checked(objects.pop(0), log, len(stored), options)
     assert len(objects) == len(runs) + 1, (len(objects), len(runs))
@@ -179,15 +203,18 @@ def check_json(report: str, path: str, log: str, status: str, *options: str) -> 
         if line in pairs:
             count = int(str(expected["count"]))
             first = lines.index(line)
-            places = [pairs[x] for x in lines[first:first + count]]
+            places = [pairs[x][0] for x in lines[first:first + count]]
+            expected["likely_offsets"] = pairs[line][1]
             is_matched = all(len(x) == 1 for x in places) and len({x[0] for x in places}) == count
             expected["likely_places"] = [x[0] for x in places] if is_matched else places[0]
         assert list(it.items()) == list(expected.items()), (line, it, expected)
     verdict = objects[-1]
     assert verdict["line"] == "verdict" and verdict["status"] == int(status)
     words = [it.split(" ")[0] for it in lines]
-    for count, word in (("listed", "ok"), ("unlisted", "unlisted"), ("unverified", "refused"), ("spoilt", "spoilt")):
+    for count, word in (("listed", "ok"), ("unlisted", "unlisted"), ("unverified", "refused"), ("spoilt", "spoilt"),
+                        ("damaged", "damaged")):
         assert verdict[count] == words.count(word), count
+    assert verdict["damaged_octets"] == sum(int(it.split(" ")[3]) for it in lines if it.startswith("damaged "))
     assert verdict["verified"] == len(stored) - sum(map(words.count, ("ok", "unlisted", "refused", "spoilt")))
     assert verdict["missing"] == sum(it.endswith(" lost") for it in lines)
     assert verdict["missing"] + verdict["disputed"] == words.count("gap")
@@ -201,7 +228,7 @@ def check_json(report: str, path: str, log: str, status: str, *options: str) -> 
     assert {key: verdict[key] for key in verdict if "missing_" in key} == missing, (verdict, missing)
     assert list(verdict) == ["line", "status", "review_status", "verdict", "sessions", "listed", "missing", "disputed",
                              "unannounced", *missing, "unlisted", "verified", "unverified", "strangers", "strangers_ignored", "unbound_keys",
-                             "spoilt", *MARKED, "torn", "groups"], list(verdict)
+                             "spoilt", *MARKED, "damaged", "damaged_octets", "torn", "groups"], list(verdict)
     # blocks of sessions that aren't joined are unverified as well
     assert verdict["strangers"] <= verdict["unverified"] and not verdict["strangers_ignored"], verdict
     assert verdict["strangers"] == verdict["unverified"] or set(verdict["sessions"]) - {"joined", "absent"}, verdict
@@ -313,6 +340,34 @@ def damaged(kind: str, stored: List[bytes]) -> List[bytes]:
     raise AssertionError(kind)
 
 
+def harmed(kind: str, stored: List[bytes]) -> Tuple[bytes, int, int]:
+    """A log of which a frame is damaged, and between which octets nothing is a whole message: all of that frame, and what was put
+    in beside it."""
+    frames = list(map(frame, stored))
+    at = next(place for place, text in enumerate(stored) if b"name=mallory" in text)
+    start, whole = sum(map(len, frames[:at])), frames[at]
+    if kind == "length":
+        frames[at] = b"x" + whole[1:]
+    elif kind == "shorter":
+        frames[at] = whole[:-5]
+    elif kind == "longer":
+        frames[at] = whole[:30] + b"\x00" * 7 + whole[30:]
+    elif kind == "zeros":
+        frames[at] = bytes(len(whole))
+    elif kind == "between":
+        frames[at:at] = [b"\n"]
+    elif kind == "beside":
+        # the message is gone, and what is damaged stands before the one before it, and after the one after it
+        frames[at - 1:at + 2] = [b"x", frames[at - 1], frames[at + 1], b"yy"]
+    elif kind == "before":
+        frames, at, start = [b"\xef\xbb\xbf", *frames], 0, 0
+    elif kind == "behind":
+        frames, at, start = [*frames, b"zz"], len(frames), sum(map(len, frames))
+    else:
+        raise AssertionError(kind)
+    return b"".join(frames), start, start + len(frames[at])
+
+
 def without(stored: List[bytes], counters: List[int]) -> List[bytes]:
     """The messages of a log of groups by PRI, but for signature blocks with these counters and what they announce."""
     members: Dict[bytes, List[int]] = {}
@@ -385,6 +440,13 @@ def main(command: str, *words: str) -> None:
         print(len(messages(words[0])[0]))
     elif command == "damage":
         write(damaged(words[0], messages(words[1])[0]), frame)
+    elif command == "pieces":
+        stored, _ = messages(words[0])
+        write([frame(it) + (b"" if count % 2 or count == len(stored) else b"x" * (count // 2)) for count, it in enumerate(stored, 1)], bytes)
+    elif command == "harm":
+        octets, start, end = harmed(words[0], messages(words[1])[0])
+        write([octets], bytes)
+        print(start, end - start, file=sys.stderr)
     elif command == "without":
         write(without(messages(words[0])[0], list(map(int, words[1:]))), frame)
     elif command == "terminal":

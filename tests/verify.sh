@@ -45,7 +45,10 @@ as_reviewed() {
     keys verify --key keys/public-key.pem --raw --answers-out answers "$@" "$log"
     mv out raw
     local raw_status=$status
-    timeout "$patience" "$program" review --answers answers "$@" <"$log" >reviewed
+    # verify has frames read on after damage
+    local salvage=(--salvage)
+    [[ " $* " != *' --lines '* ]] || salvage=()
+    timeout "$patience" "$program" review --answers answers "${salvage[@]}" "$@" <"$log" >reviewed
     local review_status=$?
     # nothing is authentic where nothing is listed
     grep -q '^ok ' reviewed || review_status=1
@@ -160,14 +163,23 @@ keys verify --key keys/public-key.pem first.gz second
 says 'one file compressed' 0 "$all_there"
 head -c -5 first >torn
 start=$(python3 -B "$root/tests/verdicts.py" last torn)
+size=$(stat -c %s torn)
 keys verify --key keys/public-key.pem torn second
-refuses 'a torn file in front' "ssign-keys: the log torn breaks off in the message that begins at its octet $start, so the next log can't be read after it: keep only what stands before (\`head -c $start\`), or, where the next log goes on with this message, join the two (\`cat\`) and hand them over as one"
+says 'a torn file in front' 1 '    unannounced: numbers 1 to 4 (4 messages); the blocks for them are missing or unverified' \
+    "Damaged: $((size - start)) octets from octet $start of torn on, after message 6 (message 6 of torn), are no message." \
+    "Verdict: FINDINGS: of 6 announced messages 6 are present and unchanged; 4 numbers are unannounced; 4 stored messages are unlisted; 1 stretch of the log is damaged ($((size - start)) octets)."
+{ tail -c 5 first && cat second; } >going-on
+keys verify --key keys/public-key.pem --json torn going-on
+holds 'a message that goes on in the second file' grep -Fq '"verdict":"All 10 announced messages are present and unchanged, and each other stored message is a verified block."' out
+holds 'a message that goes on: it is counted where it begins' grep -Fq '"messages":7,"first_place":0,"last_place":6},' out
+holds 'a message that goes on: those of the second file' grep -Fq '"messages":8,"first_place":7,"last_place":14}]' out
 keys verify --key keys/public-key.pem second torn
 says 'a torn file behind' 1 "Torn: the log breaks off in the message that begins at octet $start of torn"
 printf 'x' | cat second - >bad
 keys verify --key keys/public-key.pem first bad
 size=$(stat -c %s second)
-refuses 'no frame in the second file' "ssign-keys: bad: octet $size, \`x\`, stands where the length of the next frame should begin (F1)"
+says 'no frame in the second file' 1 "Damaged: 1 octet from octet $size of bad on, after message 15 (message 8 of bad), is no message." \
+    'Verdict: FINDINGS: of 10 announced messages 10 are present and unchanged; 1 stretch of the log is damaged (1 octet).'
 keys verify --key keys/public-key.pem - - <signed
 refuses 'standard input twice' "ssign-keys: standard input, \`-\`, can be given only once"
 
@@ -221,6 +233,56 @@ as_reviewed 'a block changed' stored
 damage tail
 says 'the tail cut off behind a block' 0 'Verdict: All 8 announced messages are present and unchanged, and each other stored message is a verified block.' \
     '  session gate signer - 1, SG 0, SPRI 0: known up to message 8 and signature block 2 (GBC 1)'
+# a frame that is damaged, and what else is no message: all other messages are read, and nothing is clean
+for kind in length shorter zeros between before behind; do
+    read -r start length < <(python3 -B "$root/tests/verdicts.py" harm "$kind" signed 2>&1 >stored)
+    octets=$([[ $length == 1 ]] && echo '1 octet' || echo "$length octets") are=$([[ $length == 1 ]] && echo is || echo are)
+    where='after message 8 of the log'
+    [[ $kind != before ]] || where='before the first message'
+    [[ $kind != behind ]] || where='after message 15 of the log'
+    line="Damaged: $octets from octet $start on, $where, $are no message."
+    damaged="1 stretch of the log is damaged ($octets)."
+    keys verify --key keys/public-key.pem stored
+    if [[ $kind == be* ]]; then
+        says "damaged: $kind" 1 '    numbers 1 to 10: 10 listed' "$line" 'Stored messages: 15 (10 listed, 5 verified blocks)' \
+            "Verdict: FINDINGS: of 10 announced messages 10 are present and unchanged; $damaged"
+    else
+        says "damaged: $kind" 1 '    missing: number 6' '    numbers 1 to 10: 9 listed, 1 missing' "$line" \
+            'Likely pairs (missing numbers, and unlisted messages or damaged octets between the same neighbours; a hash can'\''t show its message):' \
+            '  missing number 6 of gate signer - 1, SG 0, SPRI 0: after number 5 at place 7, before number 7 at place 8' \
+            "    likely $length damaged octets from octet $start on" 'Stored messages: 14 (9 listed, 5 verified blocks)' \
+            "Verdict: FINDINGS: of 10 announced messages 9 are present and unchanged, 1 is missing; $damaged"
+    fi
+    as_reviewed "damaged: $kind" stored
+    as_reviewed "damaged: $kind, with --whole" stored --whole
+    rm -f counted
+    keys verify --key keys/public-key.pem --counters-out counted stored
+    holds "damaged: $kind: the counters" cmp counted <("$program" counters --answers answers <signed)
+done
+keys verify --key keys/public-key.pem --ignore-strangers stored
+says 'damage is no block of a stranger' 1 "$line"
+# octets were put into a message: so many as its length says are another message, and the last ones are none
+read -r start length < <(python3 -B "$root/tests/verdicts.py" harm longer signed 2>&1 >stored)
+keys verify --key keys/public-key.pem stored
+says 'damaged: longer' 1 '    missing: number 6' "Damaged: 7 octets from octet $((start + length - 7)) on, after message 9 of the log, are no message." \
+    "    likely 7 damaged octets from octet $((start + length - 7)) on" \
+    'Verdict: FINDINGS: of 10 announced messages 9 are present and unchanged, 1 is missing; 1 stored message is unlisted; 1 stretch of the log is damaged (7 octets).'
+holds 'damaged: longer: the message beside it is as likely' grep -q '^    likely place 8: <86>1 2026-01-15T09:15:07.3\\x00\\x00' out
+as_reviewed 'damaged: longer' stored
+# damage that isn't between the neighbours of a missing number
+python3 -B "$root/tests/verdicts.py" harm beside signed >stored 2>where
+keys verify --key keys/public-key.pem stored
+says 'damage beside the neighbours' 1 '    missing: number 6' \
+    'Verdict: FINDINGS: of 10 announced messages 9 are present and unchanged, 1 is missing; 2 stretches of the log are damaged (3 octets).'
+holds 'damage beside the neighbours is no pair' test "$(grep -ci likely out)" = 0
+as_reviewed 'damage beside the neighbours' stored
+# many stretches: the ten longest are shown, the longest first
+python3 -B "$root/tests/verdicts.py" pieces <(cat signed signed) >stored
+keys verify --key keys/public-key.pem stored
+holds 'many stretches: the longest ten' test "$(sed -n 's/^Damaged: \([0-9]*\) octets\? from .*/\1/p' out | tr '\n' ' ')" = '14 13 12 11 10 9 8 7 6 5 '
+says 'many stretches' 1 '  and 4 more stretches, none of them longer; all 14 have 105 octets'
+holds 'many stretches: the verdict' grep -q '^Verdict: FINDINGS: of 10 announced messages 10 are present and unchanged; .*; 14 stretches of the log are damaged (105 octets)\.$' out
+as_reviewed 'many stretches' stored
 damage order
 says 'another order' 0 '    order: 1 listed message stands in front of the one with the number before, first number 4' \
     'Verdict: All 10 announced messages are present and unchanged, and each other stored message is a verified block. But the listed messages don'\''t stand in the order of their numbers.'
@@ -352,7 +414,19 @@ keys verify --key keys/public-key.pem --raw stored
 cp out with
 keys verify --key keys/public-key.pem --raw --ssign ./older stored
 holds 'an older ssign without --whole: the report' cmp out with
-holds 'an older ssign without --whole: its words' cmp <(sed 's|=.*/answers$|=answers|' called) <(printf '%s\n' review 'questions --once --json' 'review --answers=answers')
+holds 'an older ssign without --whole: its words' cmp <(sed 's|=.*/answers |=answers |' called) \
+    <(printf '%s\n' 'review --salvage' 'questions --once --json --salvage' 'review --answers=answers --salvage')
+# one that can't read on after damage is refused, whatever the log; lines don't need that
+printf '#!/bin/sh\nfor it in "$@"; do\n    [ "$it" != --salvage ] || { printf "error: unexpected argument\\n\\nFor more information, try --help.\\n" >&2; exit 2; }\ndone\nexec %q "$@"\n' "$program" >oldest
+chmod +x oldest
+python3 -B "$root/tests/verdicts.py" harm length signed >stored 2>where
+for each in signed stored; do
+    keys verify --key keys/public-key.pem --ssign ./oldest "$each"
+    refuses "an ssign without --salvage: $each" 'ssign-keys: the program ./oldest has no `questions --salvage`, without which a damaged log can'\''t be read: name a newer one with --ssign'
+done
+keys verify --key keys/public-key.pem --lines --ssign ./oldest signed.lines
+says 'lines by an ssign without --salvage' 0 "$all_there"
+cp both stored
 rm called
 for form in '' --json --raw; do
     keys verify --key keys/public-key.pem --whole ${form:+"$form"} --answers-out unkept --ssign ./older stored
@@ -367,7 +441,8 @@ chmod +x recording
 rm called
 keys verify --key keys/public-key.pem --whole --max-len 9999 --ssign ./recording stored
 holds 'a newer ssign: its words' cmp <(sed 's|=/.*/answers |=answers |' called) \
-    <(printf '%s\n' 'review --whole' 'review --max-len=9999' 'questions --once --json --max-len=9999' 'review --answers=answers --whole --max-len=9999')
+    <(printf '%s\n' 'review --whole' 'review --max-len=9999 --salvage' 'questions --once --json --max-len=9999 --salvage' \
+        'review --answers=answers --whole --max-len=9999 --salvage')
 printf '#!/bin/sh\necho "ssign: F4" >&2\nexit 2\n' >older
 keys verify --key keys/public-key.pem --whole --ssign ./older stored
 refuses 'a refusal is no want of --whole' "ssign-keys: stored: there isn't enough memory for a message: give the program more memory (F4)"
@@ -653,8 +728,8 @@ rm called
 keys verify --key keys/public-key.pem --counters counters.1 --max-len 9999 --ssign ./recording signed
 says 'a newer ssign with --counters' 0 "$all_there Nothing is missing up to the counters."
 holds 'a newer ssign with --counters: its words' cmp <(sed 's#=/[^ ]*/\(answers\|counters\)#=\1#g' called) \
-    <(printf '%s\n' 'review --counters=counters' 'review --max-len=9999' 'questions --once --json --max-len=9999' \
-        'review --answers=answers --counters=counters --max-len=9999')
+    <(printf '%s\n' 'review --counters=counters' 'review --max-len=9999 --salvage' 'questions --once --json --max-len=9999 --salvage' \
+        'review --answers=answers --counters=counters --max-len=9999 --salvage')
 
 # ---- what no block signed, and hostile texts
 for it in logger rsyslog syslog-ng; do
@@ -689,23 +764,31 @@ keys verify signed
 holds 'no key: status 2' test "$status" = 2
 holds 'no key: nothing on standard output' test ! -s out
 keys verify --key keys/public-key.pem --max-len 100 signed
+holds 'a limit: the frames that are over it' \
+    grep -q '^Damaged: [0-9,]* octets from octet 0 on, before the first message, are no message; they begin like a frame of [0-9,]* octets, and --max-len 100 allows none so long\.$' out
+keys verify --key keys/public-key.pem --max-len 20 signed
 holds 'a limit: status 2' test "$status" = 2
 limited() {
-    grep -qx 'ssign-keys: signed: the length of a frame is over --max-len 100 with its digit at octet [0-9]*: raise it, up to 1048576 (F2)' "$1"
+    grep -qx 'ssign-keys: signed: the length of a frame is over --max-len 20 with its digit at octet [0-9]*: raise it, up to 1048576 (F2)' "$1"
 }
 holds 'a limit: what is said' limited err
-python3 -B "$root/tests/verdicts.py" terminal "$keys_program" verify --key keys/public-key.pem --max-len 100 signed >out 2>err
+python3 -B "$root/tests/verdicts.py" terminal "$keys_program" verify --key keys/public-key.pem --max-len 20 signed >out 2>err
 holds 'a refusal on a terminal: the same sentence' limited out
 holds 'a refusal on a terminal: nothing else' test "$(wc -l <out) $(tail -n 1 out)" = '2 status 2'
 keys verify --key keys/public-key.pem --max-messages 3 signed
 holds 'another limit: what is said' grep -qx 'ssign-keys: signed: the log goes on at octet [0-9]*, after as many messages as --max-messages 3 allows: raise it, up to 10000000 (F5)' err
-# a message that may be a block and is too long: the octet is that of the whole log, not of its blocks
+# a message that may be a block and is too long: the octets are those of the whole log, not of its blocks
 { cat signed && printf '66000 %066000d' 0 | sed 's/ 0000000/ [ssign /'; } >too-long
 keys verify --key keys/public-key.pem too-long
-too_long="ssign-keys: too-long: the length of a frame is over --max-len 65536 with its digit at octet $(($(stat -c %s signed) + 4)): raise it, up to 1048576 (F2)"
-refuses 'a block that is too long' "$too_long"
+long='are no message; they begin like a frame of 66,000 octets, and --max-len 65536 allows none so long.'
+size=$(stat -c %s signed)
+says 'a block that is too long' 1 "Damaged: 66,006 octets from octet $size on, after message 15 of the log, $long"
 keys verify --key keys/public-key.pem signed too-long
-refuses 'a block that is too long, in the second log' "$too_long"
+says 'a block that is too long, in the second log' 1 \
+    "Damaged: 66,006 octets from octet $size of too-long on, after message 30 (message 15 of too-long), $long"
+keys verify --key keys/public-key.pem --max-len 66000 too-long
+says 'it is none where it may be so long' 1 "Verdict: FINDINGS: of 10 announced messages 10 are present and unchanged; 1 stored message is unlisted. \
+1 message holds \"[ssign\" but can't be read as a block: it stands at place 15, M1 at its octet 0."
 # a pipe is read once, by whoever opened it first. It is given as a descriptor: one with another name is refused
 mkfifo pipe
 patience=10 keys verify --key keys/public-key.pem pipe

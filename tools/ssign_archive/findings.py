@@ -5,7 +5,7 @@ import bisect
 from dataclasses import dataclass
 from typing import Callable, Dict, List, Optional, Sequence, Union
 
-from ssign_keys.words import shown_name
+from ssign_keys.words import counted, shown_name
 
 from .sources import Read
 
@@ -91,12 +91,15 @@ def file_name(part: str, name: str) -> str:
 
 
 def file_findings(part: str, files: Sequence[Read]) -> List[Finding]:
-    """What is found of files that break off, or can't be read on."""
+    """What is found of files that are damaged, break off, or can't be read on."""
     found = []
     for it in files:
+        name = file_name(part, it.stored.name)
+        found += [Finding(part, f"damaged, {counted(length, 'octet')} from there on {'is' if length == 1 else 'are'} no message",
+                          Spot(name, octet=offset)) for _, offset, length in it.damaged]
         if it.octet is None:
             continue
-        at = Spot(file_name(part, it.stored.name), octet=it.octet)
+        at = Spot(name, octet=it.octet)
         if it.why == "torn":
             found.append(Finding(part, "torn, the file breaks off in the message that begins there", at))
         else:

@@ -33,8 +33,7 @@ def ask(settings: Settings, trust: Trust, reader: Reader, workplace: Workplace) 
     BUDGET.renew()
 
     def read_again() -> Iterator[bytes]:
-        again = Reader(reader.folder, reader.files, settings.are_lines, settings.longest, settings.max_expanded)
-        return candidates(again, settings.are_lines)
+        return candidates(reader.again(), settings.are_lines)
 
     known = Search(settings.program, settings.log_words, read_again, settings.are_lines, workplace, Progress()).run(trust, 1)
     asking = Run(settings.program, ["questions", *ONCE, *known.words, *settings.log_words], workplace, Progress(), subprocess.PIPE,

@@ -88,7 +88,7 @@ class PartReview:
         """Writes what is kept of the part, and the record last."""
         settings = self._settings
         path = settings.path_of(self._part)
-        reader = Reader(path, files_of(path), settings.are_lines, settings.longest, settings.max_expanded)
+        reader = Reader(path, files_of(path), settings.how, self._workplace)
         if not reader.files:
             raise Fault(f"no file lies in {shown_name(path)}")
         passing = {name: os.path.join(self._folder, f"{name}.{os.getpid()}.new") for name in SUMMED}
@@ -108,15 +108,14 @@ class PartReview:
         """Has ssign review the messages, and gives its status, 0 or 1."""
         settings = self._settings
         words = ["review", *self._answers(reader), *self._begin(), *self._counters(), *settings.words]
-        return run_over(reader, settings.program, words, self._workplace, report)
+        return run_over(reader.octets(), settings.program, words, self._workplace, report)
 
     def _answers(self, reader: Reader) -> List[str]:
         """The word that names the answers, a file that was given; or what holds under the keys that were given, with the payloads
         that these vouch for."""
         if self._trust is not None:
             from .keyed import ask
-            asked = Reader(reader.folder, reader.files, self._settings.are_lines, self._settings.longest,
-                           self._settings.max_expanded)
+            asked = reader.again()
             words, found = ask(self._settings, self._trust, asked, self._workplace)
             self._asked = asked.read
             self._extra += found

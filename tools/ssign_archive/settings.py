@@ -22,7 +22,7 @@ from ssign_keys.workplace import Workplace
 
 from .given import begin_for, counters_for, own_file
 from .given import sum_of as sum_of_octets
-from .messages import DEFAULT_LONGEST
+from .sources import How
 from .tree import files_of, look
 
 
@@ -80,10 +80,9 @@ class Settings:
         return "--whole" in self.words
 
     @property
-    def longest(self) -> int:
-        """The longest message that is read, in octets."""
-        given = [it.partition("=")[2] for it in self.words if it.startswith("--max-len=")]
-        return int(given[-1]) if given else DEFAULT_LONGEST
+    def how(self) -> How:
+        """How the logs are read."""
+        return How(self.program, tuple(self.log_words), self.max_expanded)
 
     def path_of(self, part: str) -> str:
         """The folder of a part."""
@@ -210,7 +209,7 @@ def make(arguments: argparse.Namespace) -> Settings:
     try_words(program, [*asked, *words])
     trust, files = trust_of(arguments)
     if trust:
-        try_once(program)
+        try_once(program, "--lines" in words)
     if trust and answers is not None:
         raise Fault("--answers says which signatures are valid, and so do --key, --session-key, --ca and --cert: "
                     "give one of "
@@ -261,10 +260,10 @@ def try_words(program: str, words: List[str]) -> None:
         raise Fault(f"ssign refuses these options, or the answers: it ended with status {tried.returncode}")
 
 
-def try_once(program: str) -> None:
+def try_once(program: str, are_lines: bool) -> None:
     """Refuses an older ssign once, and not for each part."""
     with Workplace() as workplace:
-        refuse_older(program, workplace, Progress())
+        refuse_older(program, are_lines, workplace, Progress())
 
 
 def sum_of(path: str) -> str:

@@ -1,19 +1,25 @@
-"""Reads the logs of a folder as one log: expanded, each from its own front on, and cut after its last whole message."""
+"""Reads the logs of a folder as one log: expanded, each from its own front on, without what is damaged, and cut after its last
+whole message."""
 from __future__ import annotations
 
 import hashlib
 import itertools
 import os
 import stat
-from dataclasses import dataclass
-from typing import BinaryIO, Iterator, List, Optional, cast
+from dataclasses import dataclass, field
+from typing import BinaryIO, Dict, Iterator, List, Optional, Tuple, cast
 
+from ssign_keys.damage import Damage
 from ssign_keys.expand import FRONT, PIECE, Damaged, expanded, form_of, limited, most_expanded
 from ssign_keys.faults import Fault
 from ssign_keys.files import reason
+from ssign_keys.frames import whole_frames
+from ssign_keys.salvage import SALVAGE, Salvaged, salvaged
 from ssign_keys.words import shown_name
+from ssign_keys.workplace import Workplace
 
-from .messages import Cutter, Whole
+from .feeding import run_over
+from .messages import DEFAULT_LONGEST, Cutter, Whole
 from .tree import Stored, look, stored_of
 
 
@@ -31,43 +37,155 @@ class Read:
     # the octet, of the expanded file, of the first message that wasn't read, and why; "torn" is a finding alone
     octet: Optional[int] = None
     why: str = ""
+    # each damaged stretch: how many messages of the file stand before it, its first octet, and its length
+    damaged: List[List[int]] = field(default_factory=list)
+
+
+@dataclass(frozen=True)
+class How:
+    """How the logs of a folder are read."""
+
+    program: str
+    words: Tuple[str, ...]
+    """The words of ssign for it."""
+    max_expanded: Optional[int]
+    """How many octets a compressed file may expand to, or None for what `most_expanded` allows."""
+
+    @property
+    def are_lines(self) -> bool:
+        """Whether they are lines."""
+        return "--lines" in self.words
+
+    @property
+    def longest(self) -> int:
+        """The longest message that is read, in octets."""
+        given = [it.partition("=")[2] for it in self.words if it.startswith("--max-len=")]
+        return int(given[-1]) if given else DEFAULT_LONGEST
 
 
 class Reader:
-    """Goes over the files of a folder, and keeps what was read of each."""
+    """Goes over the files of a folder, and keeps what was read of each.
 
-    def __init__(self, folder: str, files: List[Stored], are_lines: bool, longest: int, max_expanded: Optional[int]) -> None:
-        """Messages have so many octets at most. A compressed file grows to so many, or to what `most_expanded` allows."""
+    A file that isn't whole frames up to its end is read again: ssign reports which of its octets are damaged.
+    """
+
+    def __init__(self, folder: str, files: List[Stored], how: How, workplace: Workplace,
+                 known: Optional[Dict[Stored, Salvaged]] = None) -> None:
+        """Of some files it may be known what can be read of them."""
         self.folder = folder
         self.files = files
-        self._are_lines = are_lines
-        self._longest = longest
-        self._max_expanded = max_expanded
+        self.how = how
+        self._workplace = workplace
+        self._known: Dict[Stored, Salvaged] = {} if known is None else known
         self.read: List[Read] = []
         self.messages = 0
+
+    def again(self) -> Reader:
+        """Goes over the same files once more."""
+        return Reader(self.folder, self.files, self.how, self._workplace, self._known)
 
     def wholes(self) -> Iterator[Whole]:
         """The whole messages of all files, one file after the other. Raises Fault where a file can't be read."""
         for stored in self.files:
             yield from self._wholes_of(stored)
 
+    def octets(self) -> Iterator[bytes]:
+        """Their octets alone."""
+        return (it.octets for it in self.wholes())
+
     def _wholes_of(self, stored: Stored) -> Iterator[Whole]:
-        path = os.path.join(self.folder, stored.name)
-        read = Read(stored, self.messages)
-        cutter = Cutter(self._are_lines, self._longest)
-        most = most_expanded(stored.size, self._max_expanded)
+        path, known = os.path.join(self.folder, stored.name), self._known.get(stored)
+        passage = Passage(path, stored, self.how, known)
+        if known is not None or self.how.are_lines:
+            yield from passage.wholes()
+        else:
+            # Before a frame that isn't whole, ssign may read the last two messages otherwise, and none before these (the law
+            # `front_is_read` of ss_salvage). So the last ones wait until others follow.
+            held: List[Whole] = []
+            given = 0
+            for whole in passage.wholes():
+                if whole.messages > 1:
+                    yield from held
+                    given += sum(it.messages for it in held)
+                    held = []
+                held.append(whole)
+            if passage.is_whole:
+                yield from held
+            else:
+                known = self._known[stored] = self._salvage(path, stored)
+                passage = Passage(path, stored, self.how, known)
+                yield from passage.wholes(given)
+        passage.read.place = self.messages
+        self.messages += passage.read.messages
+        self.read.append(passage.read)
+
+    def _salvage(self, path: str, stored: Stored) -> Salvaged:
+        """What can be read of a file, as far as it can be expanded."""
+        size = 0
+        is_expanded = True
+
+        def pieces() -> Iterator[bytes]:
+            nonlocal size, is_expanded
+            with open_file(path) as file:
+                try:
+                    for it in plain_pieces(path, hashed(path, file, hashlib.sha256()), most_of(stored, self.how)):
+                        size += len(it)
+                        yield it
+                except Damaged:
+                    is_expanded = False
+
+        with self._workplace.new_file("damage") as out:
+            run_over(pieces(), self.how.program, ["inspect", "--findings", SALVAGE, *self.how.words], self._workplace, out)
+            out.seek(0)
+            found = salvaged(out)
+        if not found.is_log:
+            # so it is reported for what it is
+            return Salvaged(Damage(), 0, None)
+        last = found.damage[len(found.damage) - 1] if found.damage else None
+        if is_expanded or last is None or last.offset + last.length < size:
+            return found
+        # where the compressed octets end too early, a message may have begun that they don't have to its end
+        return found._replace(damage=Damage(list(found.damage)[:-1]))
+
+
+class Passage:
+    """Goes over one file."""
+
+    def __init__(self, path: str, stored: Stored, how: How, known: Optional[Salvaged]) -> None:
+        """It may be known what can be read of it."""
+        self._path = path
+        self._how = how
+        self._known = known
+        damage = Damage() if known is None else known.damage
+        self._cutter = Cutter(how.are_lines, how.longest, damage)
+        self.read = Read(stored, 0, damaged=[list(it) for it in damage])
+
+    @property
+    def is_whole(self) -> bool:
+        """Whether whole messages were read up to its end."""
+        return self.read.octet is None
+
+    def wholes(self, given: int = 0) -> Iterator[Whole]:
+        """Its whole messages, but for the first ones that were given on before. Raises Fault where it can't be read."""
+        path, read, cutter, stored = self._path, self.read, self._cutter, self.read.stored
         hasher, plain = hashlib.sha256(), hashlib.sha256()
+        if read.damaged and read.damaged[0][0] < given:
+            raise Fault(f"ssign inspect reports damage of {shown_name(path)} where frames were read")
         with open_file(path) as file:
             refuse_changed(path, file, stored)
             try:
-                for octets in gathered(plain_pieces(path, hashed(path, file, hasher), most)):
+                for octets in gathered(plain_pieces(path, hashed(path, file, hasher), most_of(stored, self._how))):
                     plain.update(octets)
                     read.plain_size += len(octets)
                     whole = cutter.take(octets)
-                    read.messages += whole.messages
-                    self.messages += whole.messages
-                    yield whole
-                    if cutter.fault:
+                    before, read.messages = read.messages, read.messages + whole.messages
+                    if given <= before:
+                        yield whole
+                    elif given < read.messages:
+                        end, _ = whole_frames(whole.octets, 0, given - before, self._how.longest)
+                        yield Whole(whole.octets[end:], read.messages - given)
+                    # what follows a compressed file's last whole message is damaged by what it is compressed by
+                    if cutter.fault and not (self._known and self._known.messages):
                         break
                 if cutter.fault or cutter.is_torn:
                     read.octet, read.why = cutter.offset, cutter.fault or "torn"
@@ -79,7 +197,13 @@ class Reader:
             refuse_changed(path, file, stored)
             if look(path) != stored:
                 raise changed(path)
-        self.read.append(read)
+        if self._known is not None and self._known.messages and self._known.messages != read.messages:
+            raise Fault(f"ssign inspect reports other messages of {shown_name(path)} than it has")
+
+
+def most_of(stored: Stored, how: How) -> int:
+    """To how many octets a file may expand."""
+    return most_expanded(stored.size, how.max_expanded)
 
 
 def open_file(path: str) -> BinaryIO:

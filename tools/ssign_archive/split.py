@@ -16,14 +16,14 @@ from ssign_keys import expand as expand_options
 from ssign_keys.faults import Fault
 from ssign_keys.files import reason
 from ssign_keys.output import print_text
-from ssign_keys.programs import add_log_arguments, add_program_argument, find_program, log_words
+from ssign_keys.programs import add_log_arguments, add_program_argument
 from ssign_keys.words import counted, shown_name
 from ssign_keys.workplace import Workplace, notify
 
 from .announced import Announced
 from .feeding import run_over
 from .findings import Places, file_findings
-from .join import longest_of
+from .join import how_of
 from .messages import each_message
 from .parts import Parts, name_of
 from .sources import Read, Reader
@@ -76,8 +76,7 @@ class Misplaced:
 
 
 def run(arguments: argparse.Namespace) -> int:
-    """Writes the parts. The status is 1 where (b) isn't met, or the log breaks off."""
-    program = os.path.abspath(find_program(arguments))
+    """Writes the parts. The status is 1 where (b) isn't met, or the log breaks off or is damaged."""
     out = os.path.abspath(arguments.out)
     if os.path.lexists(out):
         raise Fault(f"{shown_name(out)} is there already")
@@ -89,7 +88,7 @@ def run(arguments: argparse.Namespace) -> int:
             raise Fault(f"{shown_name(passing)} can't be made: {reason(fault)}") from fault
         try:
             split = Split(arguments, Parts(passing))
-            split.run(program, workplace)
+            split.run(workplace)
             os.rename(passing, out)
         except BaseException:
             shutil.rmtree(passing, ignore_errors=True)
@@ -102,10 +101,7 @@ class Split:
 
     def __init__(self, arguments: argparse.Namespace, parts: Parts) -> None:
         self._log = os.path.normpath(arguments.log)
-        self._words = log_words(arguments)
-        self._are_lines = bool(arguments.lines)
-        self._longest = longest_of(arguments)
-        self._max_expanded = arguments.max_expanded
+        self._how = how_of(arguments)
         self._by_host = arguments.by == "host"
         self._parts = parts
         self._announced = Announced()
@@ -114,39 +110,38 @@ class Split:
         # the parts of the names that were met, because to spell the name of a folder for each message takes long
         self._known: Dict[Tuple[bytes, ...], int] = {}
 
-    def run(self, program: str, workplace: Workplace) -> None:
+    def run(self, workplace: Workplace) -> None:
         """Asks ssign what each message is, learns which hashes are announced, and writes the parts."""
         with workplace.new_file("inspection") as inspection:
-            reader = self._reader()
-            run_over(reader, program, ["inspect", *self._words], workplace, inspection)
+            reader = self._reader(workplace)
+            run_over(reader.octets(), self._how.program, ["inspect", *self._how.words], workplace, inspection)
             self._read = reader.read
-            for message in self._messages(inspection):
+            for message in self._messages(inspection, reader.again()):
                 if message.words[0] == b"signature":
                     self._announced.add(message.text, self._block_part(message))
-            for message in self._messages(inspection):
+            for message in self._messages(inspection, reader.again()):
                 self._put(message)
         self._parts.write()
 
-    def _reader(self) -> Reader:
+    def _reader(self, workplace: Workplace) -> Reader:
         if os.path.isdir(self._log):
             folder, files = self._log, files_of(self._log)
         else:
             folder, files = os.path.dirname(self._log), [look(self._log)]
         if not files:
             raise Fault(f"no file lies in {shown_name(folder)}")
-        return Reader(folder, files, self._are_lines, self._longest, self._max_expanded)
+        return Reader(folder, files, self._how, workplace)
 
-    def _messages(self, inspection: BinaryIO) -> Iterator[Message]:
+    def _messages(self, inspection: BinaryIO, reader: Reader) -> Iterator[Message]:
         """The messages of the log, each with what ssign calls it."""
         inspection.seek(0)
-        reader = self._reader()
         place = 0
         for whole in reader.wholes():
-            for begin, text, end in each_message(whole.octets, self._are_lines):
+            for begin, text, end in each_message(whole.octets, self._how.are_lines):
                 words = inspection.readline().split()
                 if words[1:2] != [b"%d" % place] or words[0] == b"torn":
                     raise Fault("ssign inspect says something of other messages than were handed to it")
-                stored = whole.octets[begin : end + self._are_lines]
+                stored = whole.octets[begin : end + self._how.are_lines]
                 yield Message(place, words, whole.octets[text:end], stored)
                 place += 1
         if inspection.readline() != b"end %d\n" % place or reader.read != self._read:

@@ -9,6 +9,7 @@ from typing import NamedTuple, Optional, Sequence, Set, Tuple
 
 from . import sha1
 from .blocks import Session
+from .damage import Damage, Damaged
 from .kept import Counters
 from .reach import Reach
 from .report import Group, ReportVisitor, wrong
@@ -26,6 +27,8 @@ class Walked(NamedTuple):
     """How many octets it has."""
     marked: int
     """How many messages hold the octets `[ssign`. Each block is one of them."""
+    damage: Optional[Damage] = None
+    """What ssign says is damaged; None where it wasn't asked to read on after damage."""
 
 
 class Survey(ReportVisitor):
@@ -34,7 +37,8 @@ class Survey(ReportVisitor):
     def __init__(self, walked: Walked, notes: Notes, is_whole: bool, counters: Optional[Counters],
                  begin: Optional[Counters] = None) -> None:
         """Nothing is surveyed yet."""
-        super().__init__(is_whole, counters, begin)
+        super().__init__(is_whole, counters, begin, walked.damage is not None)
+        self.damage = Damage()
         self.unlisted = array("I")
         self.refused = array("I")
         self.joined: Set[Session] = set()
@@ -73,7 +77,7 @@ class Survey(ReportVisitor):
         totals = self.totals
         outside = totals.early or totals.beyond
         return bool(totals.lost or totals.disputed or totals.unannounced or totals.tails or outside or totals.unlisted
-                    or totals.spoilt or totals.torn is not None or self.missing
+                    or totals.spoilt or totals.damaged or totals.torn is not None or self.missing
                     or sum(self.states.values()) != self.states.get("joined", 0))
 
     def check(self, status: int, valid: int) -> None:
@@ -87,6 +91,8 @@ class Survey(ReportVisitor):
             raise wrong(f"it counts {totals.messages} messages, and the log has {walked.messages}")
         if totals.torn != (walked.end if walked.end < walked.size else None):
             raise wrong("it doesn't say how the log ends")
+        if walked.damage is not None and self.damage != walked.damage:
+            raise wrong("it doesn't say which octets of the log are damaged")
         named = totals.listed + totals.unlisted + totals.refused + totals.spoilt
         if self._seen.count(1) != named:
             raise wrong("two of its lines are about one message")
@@ -151,6 +157,10 @@ class Survey(ReportVisitor):
             self.unlisted.append(place)
         elif kind == "refused":
             self.refused.append(place)
+
+    def damaged(self, stretch: Damaged) -> None:
+        """Keeps it."""
+        self.damage.add(stretch)
 
     def torn(self, offset: int) -> None:
         """Is kept already."""

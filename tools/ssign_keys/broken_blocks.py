@@ -14,7 +14,6 @@ from .logs import Log
 from .programs import Run
 from .progress import Progress
 from .report import number_of, wrong
-from .walk import Walk
 from .words import grouped
 from .workplace import Workplace
 
@@ -96,7 +95,7 @@ class Search:
     def _marked(self) -> Iterator[bytes]:
         """The unlisted messages that hold the mark, each with its frame or LF."""
         unlisted, index = self._unlisted, 0
-        walk = Walk(self._log.file, self._log.are_lines)
+        walk = self._log.walk()
         for stored in walk.candidates():
             self._progress.show("looking for broken blocks", walk.offset, self._log.size, "octets")
             while index < len(unlisted) and unlisted[index] < walk.place:

@@ -10,6 +10,7 @@ from .agreement import Walked
 from .logs import Log
 from .programs import Run
 from .progress import Progress
+from .report import wrong
 from .walk import Walk
 from .workplace import Workplace
 
@@ -23,27 +24,40 @@ class Candidates:
     Which of them are blocks, and what is asked, ssign says. A log that has to be refused is refused by its review.
     """
 
-    def __init__(self, log: Log, workplace: Workplace, progress: Progress) -> None:
-        """No walk yet."""
+    def __init__(self, log: Log, longest: int, workplace: Workplace, progress: Progress) -> None:
+        """Nothing is known yet. No message of the log is longer than `longest`."""
         self._log = log
+        self._longest = longest
         self._workplace = workplace
         self._progress = progress
         self._kept: Optional[BinaryIO] = None
         self.walked = Walked(0, 0, 0, 0)
-        """What was seen of the log; nothing if no walk came to its end, because ssign didn't read so far."""
+        """What was seen of the log."""
+
+    def look(self) -> bool:
+        """Goes over the log, and keeps them. Whether whole messages go to its end."""
+        log, keeper, marked = self._log, Keeper(self._workplace), 0
+        walk = log.look(self._longest)
+        for marked, it in enumerate(walk.candidates(), 1):
+            keeper.add(it)
+            self._progress.show("looking for blocks", walk.offset, log.size, "octets")
+        self.walked = Walked(walk.place, walk.offset, log.size, marked, log.damage)
+        self._kept = keeper.finish()
+        try:
+            log.settle(walk)
+        except ValueError as fault:
+            raise wrong(str(fault)) from fault
+        return walk.offset == log.size
 
     def each(self, phase: str) -> Iterator[bytes]:
         """Each of them as it is stored, with its frame or LF. The phase is for a person at a terminal."""
         if self._kept is not None:
             yield from Walk(self._kept, self._log.are_lines).candidates()
             return
-        walk, keeper, marked = Walk(self._log.file, self._log.are_lines), Keeper(self._workplace), 0
-        for marked, it in enumerate(walk.candidates(), 1):
-            keeper.add(it)
+        walk = self._log.walk()
+        for it in walk.candidates():
             yield it
             self._progress.show(phase, walk.offset, self._log.size, "octets")
-        self.walked = Walked(walk.place, walk.offset, self._log.size, marked)
-        self._kept = keeper.finish()
 
     def run(self, program: str, words: List[str], out: Union[BinaryIO, int], wants: Optional[Callable[[bytes], bool]] = None) -> Run:
         """A run of ssign that was handed all of them, or those that it wants."""

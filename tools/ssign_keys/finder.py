@@ -6,7 +6,6 @@ from typing import NamedTuple, Optional, Tuple
 from .logs import Log
 from .moments import stamp_of
 from .progress import Progress
-from .walk import Walk
 from .words import shown
 from .wraps import LONGEST_FRONT, original_begins
 
@@ -39,7 +38,7 @@ class Finder:
     def __init__(self, log: Log, progress: Progress) -> None:
         self._log = log
         self._progress = progress
-        self._walk = Walk(log.file, log.are_lines)
+        self._walk = log.walk()
 
     def find(self, place: int, most: int) -> Found:
         """The message at this place of the log as it stands, with so many octets of its text."""
@@ -61,7 +60,7 @@ class Finder:
     def _front(self, place: int, most: int) -> Tuple[bytes, int]:
         """So many first octets of the message at this place, and how many it has."""
         if place < self._walk.place:
-            self._walk = Walk(self._log.file, self._log.are_lines)
+            self._walk = self._log.walk()
         walk = self._walk
         while walk.place < place:
             if not walk.step(place - walk.place):

@@ -6,6 +6,7 @@ from typing import BinaryIO, Dict, Optional, Sequence, Union
 from . import sha1
 from .blocks import Session
 from .broken_blocks import Broken
+from .damage import Damaged
 from .identity import UNKNOWN, identity_fields
 from .json_text import compact
 from .pairs import Neighbour, Stretch
@@ -74,7 +75,8 @@ class JsonVerdict(StretchVisitor):
     def stretch(self, group: Group, stretch: Stretch) -> None:
         """Writes numbers that follow one another, and are missing, disputed or unannounced."""
         is_hole = stretch.kind == "hole"
-        why: Dict[str, object] = {} if is_hole else {"why": stretch.kind, "likely_places": list(stretch.likely)}
+        why: Dict[str, object] = {} if is_hole else {"why": stretch.kind, "likely_places": list(stretch.likely),
+                                                     "likely_offsets": [it.offset for it in stretch.damaged]}
         self._put({"line": "hole" if is_hole else "gap", **names_of(group.session), "sg": group.sg, "spri": group.spri,
                    "first": stretch.first, "last": stretch.last, "count": stretch.length, **why,
                    "before": self._neighbour(stretch.before), "after": self._neighbour(stretch.behind),
@@ -109,11 +111,18 @@ class JsonVerdict(StretchVisitor):
         self._put({"line": kind, "place": place, **why, "file": shown_name(found.file), "file_place": found.place,
                    "timestamp": found.timestamp, "octets": found.octets, "text": found.text, "finding": FINDINGS[kind]})
 
+    def damaged(self, stretch: Damaged) -> None:
+        """Writes which octets are damaged."""
+        self._put({"line": "damaged", **stretch._asdict(), **self._file_octet(stretch.offset), "finding": "damaged"})
+
     def torn(self, offset: int) -> None:
         """Writes where the log breaks off."""
+        self._put({"line": "torn", "offset": offset, **self._file_octet(offset), "finding": "torn"})
+
+    def _file_octet(self, offset: int) -> Fields:
+        """The file of an octet, and which of its octets that is."""
         part = self._reviewed.log.part_of_offset(offset)
-        self._put({"line": "torn", "offset": offset, "file": shown_name(part.name), "file_offset": offset - part.offset,
-                   "finding": "torn"})
+        return {"file": shown_name(part.name), "file_offset": offset - part.offset}
 
     def end(self, count: int) -> None:
         """Writes how many messages there are."""
@@ -131,7 +140,8 @@ class JsonVerdict(StretchVisitor):
             "disputed": totals.disputed, "unannounced": totals.unannounced, **missing, "unlisted": totals.unlisted,
             "verified": survey.verified, "unverified": totals.refused, "strangers": facts.of_strangers,
             "strangers_ignored": facts.is_ignoring, "unbound_keys": facts.unbound, "spoilt": totals.spoilt,
-            **broken_fields(facts.broken), "torn": totals.torn is not None,
+            **broken_fields(facts.broken), "damaged": totals.damaged, "damaged_octets": totals.damaged_octets,
+            "torn": totals.torn is not None,
             "groups": [self._group(it) for it in survey.reach],
         })
         return compact(dict({"line": "checked"}, **self._reviewed.detailed().checked.fields())).encode("ascii") + b"\n"

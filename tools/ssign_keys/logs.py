@@ -7,6 +7,7 @@ from __future__ import annotations
 
 import bisect
 import hashlib
+import heapq
 import itertools
 import os
 import stat
@@ -14,12 +15,12 @@ import sys
 from dataclasses import dataclass, replace
 from typing import BinaryIO, Iterable, Iterator, List, NamedTuple, Optional, Sequence, Tuple, cast
 
+from .damage import Damage
 from .digests import sum_of
 from .expand import FRONT, PIECE, expanded, expanded_zstd, form_of, limited, most_expanded
 from .faults import Fault
 from .files import IS_LINK, is_shared, open_given, reason
 from .form import form_of as form_of_log
-from .frames import LENGTH
 from .progress import Progress
 from .walk import LONGEST, Walk
 from .words import shown_name
@@ -46,13 +47,20 @@ class Part:
 
 
 class Log:
-    """All that was given, as one plain file."""
+    """All that was given, as one plain file.
+
+    A frame may begin in one of the logs and end in the next. So where their messages begin is known once `look` was called.
+    """
 
     def __init__(self, file: BinaryIO, parts: Sequence[Part], are_lines: bool, is_copy: bool) -> None:
         self.file = file
         self.parts = parts
         self.are_lines = are_lines
         self.is_copy = is_copy
+        self.damage: Optional[Damage] = None
+        """What is damaged, where ssign reads on after it."""
+        self.longest = sys.maxsize
+        """How many octets a message has at most."""
         self._places = [it.place for it in parts]
         self._offsets = [it.offset for it in parts]
         self._seen = look(file)
@@ -63,6 +71,33 @@ class Log:
         """The file, from its front on."""
         self.file.seek(0)
         return self.file
+
+    def walk(self) -> Walk:
+        """Goes over the messages."""
+        return Walk(self.file, self.are_lines, gaps=self._damaged())
+
+    def look(self, longest: int) -> Walk:
+        """The same, as far as no message is longer, for whoever hands it to `settle` at its end."""
+        self.longest = longest
+        return Walk(self.file, self.are_lines, gaps=self._gaps(), longest=longest)
+
+    def _damaged(self) -> Iterator[Tuple[int, int]]:
+        return iter(()) if self.damage is None else self.damage.gaps()
+
+    def _gaps(self) -> Iterator[Tuple[int, int]]:
+        """What is damaged, and where each log after the first begins."""
+        return iter(()) if self.are_lines else heapq.merge(self._damaged(), ((it, 0) for it in self._offsets[1:]))
+
+    def settle(self, walk: Walk) -> None:
+        """Takes over from a walk how many messages stand before each log. Raises ValueError if other messages than ssign says
+        stand before what is damaged."""
+        if self.are_lines:
+            return
+        gaps = list(itertools.zip_longest(self._gaps(), walk.passed, fillvalue=walk.place))
+        if self.damage and [place for (_, length), place in gaps if length] != list(self.damage.places):
+            raise ValueError("other messages stand between damaged octets")
+        self._places = [0, *(min(place, walk.place) for (_, length), place in gaps if not length)]
+        self.parts = [replace(part, place=place) for part, place in zip(self.parts, self._places)]
 
     def position(self) -> int:
         """How far whoever reads the file has come, since a child that was given it moves the same position."""
@@ -136,7 +171,7 @@ def open_log(names: Sequence[str], named_form: Optional[bool], workplace: Workpl
         with next(sources) as source:
             packed.append(spool_log(name, source, max_expanded, spool, workplace, progress))
     form = form_of_log(spool, starts, named_form)
-    parts = [Part(names[0], 0, 0)] if len(names) == 1 else measure(spool, starts, form.are_lines, progress)
+    parts = measure(spool, starts, progress) if form.are_lines else [Part(name, start, 0) for name, start in starts]
     parts = [replace(part, packed=it) for part, it in zip(parts, packed)]
     form.refuse_odd()
     return Log(spool, parts, form.are_lines, True)
@@ -224,8 +259,8 @@ def read_pieces(source: BinaryIO, name: str, phase: str, progress: Progress) -> 
 
 # ---- several logs
 
-def measure(spool: BinaryIO, starts: Sequence[Tuple[str, int]], are_lines: bool, progress: Progress) -> List[Part]:
-    """Where each log begins. Refuses one that breaks off in a message, but for the last.
+def measure(spool: BinaryIO, starts: Sequence[Tuple[str, int]], progress: Progress) -> List[Part]:
+    """Where each log of lines begins. Refuses one that breaks off in a message, but for the last.
 
     The octets of the next log would be read as the rest of that message. Whether they are its rest, only whoever cut
     the logs knows.
@@ -235,13 +270,15 @@ def measure(spool: BinaryIO, starts: Sequence[Tuple[str, int]], are_lines: bool,
     place = 0
     for number, (name, start) in enumerate(starts):
         parts.append(Part(name, start, place))
-        end = starts[number + 1][1] if number + 1 < len(starts) else size
-        walk = Walk(spool, are_lines, start, end)
+        if number + 1 == len(starts):
+            break
+        end = starts[number + 1][1]
+        walk = Walk(spool, True, start, end)
         while walk.step(1 << 20):
             progress.show("counting messages", walk.offset, size, "octets")
         place += walk.place
-        if number + 1 < len(starts) and walk.offset < end:
-            if not is_torn(spool, walk.offset, end, are_lines):
+        if walk.offset < end:
+            if end - walk.offset > LONGEST:
                 # this is for ssign to refuse, and nothing after it counts
                 parts += [Part(it, at, place) for it, at in starts[number + 1:]]
                 break
@@ -252,12 +289,3 @@ def measure(spool: BinaryIO, starts: Sequence[Tuple[str, int]], are_lines: bool,
                 "on with this message, join the two (`cat`) and hand them over as one"
             )
     return parts
-
-
-def is_torn(file: BinaryIO, offset: int, end: int, are_lines: bool) -> bool:
-    """Whether the octets from there to the end are the front of a message, and not something else."""
-    if are_lines:
-        return end - offset <= LONGEST
-    digits, space, _ = os.pread(file.fileno(), min(LENGTH, end - offset), offset).partition(b" ")
-    is_whole = bool(space) or end - offset < LENGTH
-    return is_whole and digits.isdigit() and not digits.startswith(b"0") and int(digits) <= LONGEST

@@ -9,6 +9,7 @@ from typing import BinaryIO, Dict, List, NamedTuple, Optional, Sequence, Tuple
 from . import sha1
 from . import strangers
 from .blocks import Session
+from .damage import Damaged
 from .finder import Found, most_shown
 from .identity import identity_lines
 from .markup import Child, Markup, code, element, joined, listing, named, plain, table
@@ -19,8 +20,8 @@ from .report import Group
 from .reviewed import Reviewed
 from .stretch_visitor import StretchVisitor
 from .strips import Strip
-from .text_verdict import (STATES, blocks_words, group_words, neighbours_words, numbers_words, outside_words, session_words,
-                           times_words)
+from .text_verdict import (STATES, after_words, blocks_words, group_words, neighbours_words, numbers_words, octets_words,
+                           outside_words, session_words, times_words)
 from .words import grouped, shown, shown_name
 
 # the first octets of a page, by which one is known
@@ -174,7 +175,7 @@ class Page(StretchVisitor):
         if self._takes(kind):
             where = joined(whose(group.session, group.sg, group.spri), f", {numbers_words(stretch.first, stretch.last)}")
             self._add(kind, where, self._between(stretch.before, stretch.behind), neighbours_words(stretch))
-        if not stretch.likely:
+        if not stretch.is_paired:
             return
         self._pair_count += stretch.length if stretch.is_matched else 1
         room = MOST_PAIRS - len(self._pairs)
@@ -249,12 +250,25 @@ class Page(StretchVisitor):
         self._add(word, self._where(found), time(said_time(found)),
                   joined(f"{cause}: " if cause else "", self._text(found, kind)))
 
+    def damaged(self, stretch: Damaged) -> None:
+        """Draws damaged octets at the message after them, or at the last one, and adds the rows of the longest at once."""
+        self._places.take(stretch.place, stretch.place, "damaged")
+        self._counts["damaged"] = self.totals.damaged
+        if self.totals.damaged > 1:
+            return
+        log = self._reviewed.log
+        for it in self._reviewed.survey.damage.longest(MOST_ROWS):
+            self._add("damaged", self._octet(it.offset), "", named(f"{grouped(it.length, 'octet')} {after_words(log, it)}"))
+
     def torn(self, offset: int) -> None:
         """Adds a row."""
-        part = self._reviewed.log.part_of_offset(offset)
         if self._takes("torn"):
-            self._add("torn", joined(named(shown_name(part.name)), f", octet {offset - part.offset}"), "",
-                      "the log breaks off in the message that begins there")
+            self._add("torn", self._octet(offset), "", "the log breaks off in the message that begins there")
+
+    def _octet(self, offset: int) -> Markup:
+        """The file and the octet of it."""
+        part = self._reviewed.log.part_of_offset(offset)
+        return joined(named(shown_name(part.name)), f", octet {offset - part.offset}")
 
     def end(self, count: int) -> None:
         """Draws what no line is about, or is listed."""
@@ -307,13 +321,15 @@ class Page(StretchVisitor):
             missing = joined(whose(it.group.session, it.group.sg, it.group.spri), f", {numbers_words(it.first, it.last)}")
             became = [joined(self._where(found[at]), ", ", time(said_time(found[at])), ": ", self._text(found[at], "unlisted"))
                       for at in it.places]
+            became += [named(octets_words(self._reviewed.log, damaged, "damaged octet")) for damaged in it.stretch.damaged]
             rows.append([missing, self._between(it.stretch.before, it.stretch.behind),
                          became[0] if len(became) == 1 else listing(*became)])
-        heads = ("Missing", "Sent", "Unlisted, between the same neighbours")
+        has_damage = any(it.stretch.damaged for it in self._pairs)
+        heads = ("Missing", "Sent", f"Unlisted{' or damaged' if has_damage else ''}, between the same neighbours")
         more = self._pair_count - len(self._pairs)
         rest = [plain("p", f"Not shown: {grouped(more, 'more likely pair')}. ssign-keys verify --json has all.")] if more else []
         caption = "A hash can't show its message, so this is no more than likely: the missing message was probably changed " \
-            "into the unlisted one beside it."
+            f"into the unlisted one beside it{', or is in the damaged octets' if has_damage else ''}."
         return [plain("section", plain("h2", f"Likely pairs ({self._pair_count:,})"), table("pairs", caption, heads, rows), *rest)]
 
     def _sessions_part(self) -> Markup:

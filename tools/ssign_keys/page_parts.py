@@ -36,6 +36,7 @@ def verdict_part(reviewed: Reviewed, totals: Totals, missing_blocks: Optional[in
         ("verified", reviewed.survey.verified, "blocks with a valid signature by the trusted key"),
         ("unverified", totals.refused, "other blocks"),
         ("spoilt", totals.spoilt, "messages with a block's element that are no blocks"),
+        ("damaged", totals.damaged, f"stretches of octets that are no message ({grouped(totals.damaged_octets, 'octet')})"),
     ]
     if reviewed.counters is not None:
         counts.insert(4, ("missing up to the counters", totals.tails, "missing or unlisted, by the counters"))

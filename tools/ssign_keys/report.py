@@ -12,6 +12,7 @@ from dataclasses import dataclass
 from typing import BinaryIO, Dict, Iterator, List, Optional, Sequence, Tuple
 
 from .blocks import Session
+from .damage import Damage, Damaged
 from .faults import Fault
 from .kept import Counters
 from .progress import Progress
@@ -23,8 +24,8 @@ PIECE = 1 << 16
 LEAST = 1 << 10
 # the words of a report, with how many fields follow each, and where they stand among the others
 FIELDS = {b"session": 5, b"ok": 8, b"gap": 8, b"hole": 8, b"early": 8, b"beyond": 8, b"tail": 8, b"blocks": 6, b"unlisted": 1,
-          b"refused": 1, b"spoilt": 2, b"torn": 1, b"end": 1}
-ORDER = {b"unlisted": 1, b"refused": 2, b"spoilt": 3, b"torn": 4, b"end": 5}
+          b"refused": 1, b"spoilt": 2, b"damaged": 3, b"torn": 1, b"end": 1}
+ORDER = {b"unlisted": 1, b"refused": 2, b"spoilt": 3, b"damaged": 4, b"torn": 5, b"end": 6}
 STATES = ("joined", "disputed", "incomplete", "malformed", "untrusted", "unaccepted", "absent")
 # what follows the front of `ok` lines: numbers and places
 ROWS = re.compile(rb"(?:[1-9][0-9]{0,19} (?:0|[1-9][0-9]{0,19})\n)+")
@@ -100,6 +101,9 @@ class Totals:
     unlisted: int = 0
     refused: int = 0
     spoilt: int = 0
+    # damaged stretches, and their octets, which only --salvage brings about
+    damaged: int = 0
+    damaged_octets: int = 0
     torn: Optional[int] = None
     messages: int = 0
 
@@ -115,16 +119,18 @@ class Totals:
 class ReportVisitor(ABC):
     """Tells of the lines of a report, one after the other. What is counted stands in `totals` and `states`."""
 
-    def __init__(self, is_whole: bool = False, counters: Optional[Counters] = None, begin: Optional[Counters] = None) -> None:
+    def __init__(self, is_whole: bool = False, counters: Optional[Counters] = None, begin: Optional[Counters] = None,
+                 is_salvaged: bool = False) -> None:
         """A whole report, of `ssign review --whole`, also has lines about missing signature blocks.
 
         So has one with counters, of `--counters`, which also reports what is missing up to them, and one of a night that
-        begins at counters, of `--from`.
+        begins at counters, of `--from`. One of `--salvage` also has lines about damaged octets.
         """
         self.totals = Totals()
         self.states: Dict[str, int] = {}
         self.counters = counters
         self.begin = begin
+        self.is_salvaged = is_salvaged
         # how many signature blocks are missing; None where the report doesn't speak of them
         is_asked = is_whole or counters is not None or begin is not None
         self.missing: Optional[int] = 0 if is_asked else None
@@ -165,6 +171,9 @@ class ReportVisitor(ABC):
     @abstractmethod
     def stray(self, kind: str, place: int, cause: str) -> None:
         """Tells of a message that is `unlisted`, `refused` or, for a cause, `spoilt`."""
+
+    def damaged(self, stretch: Damaged) -> None:
+        """Reports damaged octets. Only --salvage brings such a line about."""
 
     @abstractmethod
     def torn(self, offset: int) -> None:
@@ -209,6 +218,7 @@ class Reading:
         # where the last line stands among the others, and the place that it has
         self._order = 0
         self._place = -1
+        self._damage = Damage()
 
     def read(self, report: BinaryIO, progress: Progress) -> None:
         """Reads it to its end. Raises Fault where that isn't the end of a report."""
@@ -282,6 +292,8 @@ class Reading:
             self._take_blocks(fields)
         elif word in (b"unlisted", b"refused", b"spoilt"):
             self._take_stray(word.decode("ascii"), fields)
+        elif word == b"damaged" and self._visitor.is_salvaged:
+            self._take_damaged(fields)
         elif word == b"torn":
             self._visitor.totals.torn = number_of(fields[0])
             self._visitor.torn(self._visitor.totals.torn)
@@ -362,6 +374,16 @@ class Reading:
         self._place = place
         setattr(totals, kind, getattr(totals, kind) + 1)
         self._visitor.stray(kind, place, fields[1].decode("ascii", "replace") if fields[1:] else "")
+
+    def _take_damaged(self, fields: List[bytes]) -> None:
+        stretch, totals = Damaged(*map(number_of, fields)), self._visitor.totals
+        try:
+            self._damage.add(stretch)
+        except ValueError as fault:
+            raise wrong(f"it has {fault}") from fault
+        totals.damaged += 1
+        totals.damaged_octets += stretch.length
+        self._visitor.damaged(stretch)
 
     def _take_number(self, word: bytes, fields: List[bytes]) -> None:
         self._check_session(fields)

@@ -17,7 +17,6 @@ from .blocks import Session, read_block
 from .logs import Log
 from .progress import Progress
 from .reach import Reach
-from .walk import Walk
 
 # what follows RSID in the element of a signature block, and of a certificate block (RFC 5848, sections 4.2 and 5.3.2)
 GROUP = rb'SG="([0-3])" SPRI="([0-9]{1,3})" '
@@ -76,7 +75,7 @@ def count_strangers(log: Log, refused: "array[int]", joined: Set[Session], reach
     if not refused or not joined:
         return found
     gbcs, numbers = reached(reach, joined)
-    index, walk = 0, Walk(log.file, log.are_lines)
+    index, walk = 0, log.walk()
     for stored in walk.candidates():
         progress.show("looking at unverified blocks", walk.offset, log.size, "octets")
         if index == len(refused):

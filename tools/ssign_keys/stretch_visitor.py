@@ -15,8 +15,8 @@ class StretchVisitor(ReportVisitor):
 
     def __init__(self, survey: Survey) -> None:
         """The same report was surveyed already."""
-        super().__init__(survey.missing is not None, survey.counters, survey.begin)
-        self._stretches = Stretches(survey.unlisted)
+        super().__init__(survey.missing is not None, survey.counters, survey.begin, survey.is_salvaged)
+        self._stretches = Stretches(survey.unlisted, survey.damage)
         # the last listed number of each group of the present session
         self._ends: Dict[Tuple[int, int], Optional[Neighbour]] = {}
 

@@ -12,18 +12,20 @@ WIDTH, HEIGHT, MARK = 600, 26, 6
 # the least width of a mark
 LEAST = 2
 # what is better than the next, and whether it is a finding
-RANKS = ("verified", "listed", "tail", "unannounced", "unlisted", "unverified", "spoilt", "missing", "disputed")
+RANKS = ("verified", "listed", "tail", "unannounced", "unlisted", "unverified", "spoilt", "damaged", "missing", "disputed")
 FINE = ("verified", "listed")
 MEANINGS = {
     "listed": "stored exactly as it was signed", "missing": "announced, and no stored message is listed",
     "disputed": "verified blocks announce two different messages", "unannounced": "no verified block announces it",
     "tail": "missing or unlisted, by the counters", "unlisted": "stored, and no number lists it",
     "unverified": "nothing that it announces is used", "spoilt": "has a block's element, and is no block",
+    "damaged": "octets beside it are no message",
     "verified": "its signature is valid, by the trusted key",
 }
 # the words of a kind, for one and for many
 WORDS = {"tail": ("missing up to the counters",) * 2, "verified": ("verified block", "verified blocks"),
-         "unverified": ("unverified block", "unverified blocks"), "spoilt": ("spoilt block", "spoilt blocks")}
+         "unverified": ("unverified block", "unverified blocks"), "spoilt": ("spoilt block", "spoilt blocks"),
+         "damaged": ("damaged stretch", "damaged stretches")}
 
 
 class Strip:

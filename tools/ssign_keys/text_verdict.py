@@ -9,7 +9,10 @@ from typing import BinaryIO, Dict, List, NamedTuple, Optional, Sequence
 from . import sha1
 from . import strangers
 from .blocks import Session
+from .damage import Damaged
+from .frames import LENGTH, frame_at
 from .identity import identity_lines
+from .logs import Log
 from .pairs import Neighbour, Stretch
 from .reach import Reached
 from .report import Group
@@ -19,6 +22,7 @@ from .finder import most_shown
 from .summaries import FEW, Few, Runs
 from .verdict import sentence
 from .block_facts import BlockFacts
+from .walk import read_at
 from .words import grouped, shown, shown_name
 from .workplace import put
 
@@ -41,6 +45,8 @@ HEADINGS = {
     "spoilt": "Spoilt blocks (they have a block's element, and are no blocks)",
 }
 PAIRS = "Likely pairs (missing numbers, and unlisted messages between the same neighbours; a hash can't show its message)"
+PAIRS_WITH_DAMAGE = "Likely pairs (missing numbers, and unlisted messages or damaged octets between the same neighbours; a hash " \
+    "can't show its message)"
 
 
 class Pair(NamedTuple):
@@ -135,6 +141,35 @@ def neighbours_words(stretch: Stretch) -> str:
     sides = [f"{side} number {it[0]} at place {it[1]}"
              for side, it in (("after", stretch.before), ("before", stretch.behind)) if it is not None]
     return ", ".join(sides) or "no other number of this group is listed"
+
+
+def octets_words(log: Log, it: Damaged, octet: str = "octet") -> str:
+    """How many octets are damaged, and from where on."""
+    part = log.part_of_offset(it.offset)
+    name = f" of {shown_name(part.name)}" if len(log.parts) > 1 else ""
+    return f"{grouped(it.length, octet)} from octet {it.offset - part.offset}{name} on"
+
+
+def place_words(log: Log, place: int) -> str:
+    """The place of a message, also in its file where there are several."""
+    part = log.part_of_place(place)
+    return f"place {place}" if len(log.parts) == 1 else f"place {place} (place {place - part.place} of {shown_name(part.name)})"
+
+
+def message_words(log: Log, number: int) -> str:
+    """Which message of the log, counted from 1, also in its file where there are several."""
+    part = log.part_of_place(number - 1)
+    return str(number) if len(log.parts) == 1 else f"{number} (message {number - part.place} of {shown_name(part.name)})"
+
+
+def after_words(log: Log, it: Damaged) -> str:
+    """What is known of damaged octets: after which message they stand, and that they are none."""
+    whole = " of the log" if len(log.parts) == 1 else ""
+    where = f"after message {message_words(log, it.place)}{whole}" if it.place else "before the first message"
+    length = frame_at(read_at(log.file, it.offset, LENGTH), 0)[1]
+    long = f"; they begin like a frame of {length:,} octets, and --max-len {log.longest} allows none so long" \
+        if length > log.longest else ""
+    return f"{where}, {'is' if it.length == 1 else 'are'} no message{long}"
 
 
 class TextVerdict(StretchVisitor):
@@ -283,7 +318,7 @@ class TextVerdict(StretchVisitor):
             self._need_group()
             self._put(f"    missing: {numbers_words(stretch.first, stretch.last)}"
                       f"{self._between(stretch.before, stretch.behind)}")
-        if not stretch.likely:
+        if not stretch.is_paired:
             return
         self._pair_count += len(stretch.likely) if stretch.is_matched else 1
         if not stretch.is_matched and len(self._pairs) < FEW:
@@ -336,14 +371,8 @@ class TextVerdict(StretchVisitor):
             self._runs.add(place)
             return
         self._shown += 1
-        self._put(f"  {self._where(place)}{f', {cause}' if cause else ''}{self._text(place, kind)}")
-
-    def _where(self, place: int) -> str:
-        log = self._reviewed.log
-        if len(log.parts) == 1:
-            return f"place {place}"
-        part = log.part_of_place(place)
-        return f"place {place} (place {place - part.place} of {shown_name(part.name)})"
+        where = place_words(self._reviewed.log, place)
+        self._put(f"  {where}{f', {cause}' if cause else ''}{self._text(place, kind)}")
 
     def _text(self, place: int, kind: str) -> str:
         # what is said of the text stands in front of its colon, where no text of a log can stand
@@ -364,6 +393,20 @@ class TextVerdict(StretchVisitor):
         for state, few in self._states.items():
             if few.left:
                 self._put(f"And {grouped(few.left, 'more session')}: {state}; {STATES[state]}")
+
+    def damaged(self, stretch: Damaged) -> None:
+        """Shows all that is damaged at once, or the longest stretches if there are too many."""
+        self._end_lists()
+        if self.totals.damaged > 1:
+            return
+        log, damage = self._reviewed.log, self._reviewed.survey.damage
+        shown_ones = damage.longest(FEW)
+        for it in shown_ones:
+            self._put(f"Damaged: {octets_words(log, it)}, {after_words(log, it)}.")
+        more = len(damage) - len(shown_ones)
+        if more:
+            self._put(f"  and {grouped(more, 'more stretch', 'more stretches')}, none of them longer; all {len(damage):,} have "
+                      f"{grouped(damage.octets, 'octet')}")
 
     def torn(self, offset: int) -> None:
         """Shows where the log breaks off."""
@@ -391,7 +434,7 @@ class TextVerdict(StretchVisitor):
 
     def _put_pairs(self) -> None:
         if self._pairs:
-            self._put(f"{PAIRS}:")
+            self._put(f"{PAIRS_WITH_DAMAGE if any(it.stretch.damaged for it in self._pairs) else PAIRS}:")
         # texts are looked up by rising place, in one walk
         texts = {place: "" for it in self._pairs for place in it.places}
         for place in sorted(texts):
@@ -401,7 +444,9 @@ class TextVerdict(StretchVisitor):
             self._put(f"  missing {numbers_words(it.first, it.last)} of {session}, SG {it.group.sg}, SPRI {it.group.spri}: "
                       f"{neighbours_words(it.stretch)}")
             for place in it.places:
-                self._put(f"    likely {self._where(place)}{texts[place]}")
+                self._put(f"    likely {place_words(self._reviewed.log, place)}{texts[place]}")
+            for damaged in it.stretch.damaged:
+                self._put(f"    likely {octets_words(self._reviewed.log, damaged, 'damaged octet')}")
         if self._pair_count > len(self._pairs):
             self._put(f"  and {grouped(self._pair_count - len(self._pairs), 'more likely pair')}")
 

@@ -15,7 +15,6 @@ from .pairs import Neighbour, Stretch
 from .progress import Progress
 from .report import Group
 from .stretch_visitor import StretchVisitor
-from .walk import Walk
 
 # so many octets of a message hold its TIMESTAMP
 MOST = 60
@@ -78,7 +77,7 @@ class Times:
         self._at: Dict[int, Optional[str]] = {}
         bounds = list(self._bounds.values())
         wanted = sorted(owners.wanted, reverse=True)
-        walk = Walk(log.file, log.are_lines)
+        walk = log.walk()
         for place, front in enumerate(walk.fronts(MOST)):
             if place >= len(owners.owners):
                 raise log.changed()

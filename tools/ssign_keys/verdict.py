@@ -156,12 +156,19 @@ def other_findings(facts: Facts) -> List[str]:
         several(totals.refused, "block is unverified", "blocks are unverified"),
         strangers.late_words(facts.late) if facts.are_strangers_ignored else "",
         several(totals.spoilt, "message is a spoilt block", "messages are spoilt blocks"),
+        damage(totals),
         several(unjoined, "session isn't joined", "sessions aren't joined"),
         several(absent, "session that the counters name isn't here", "sessions that the counters name aren't here"),
         sha1.finding(facts.on_sha1),
         several(facts.manifest_findings, "difference from the manifest", "differences from the manifest"),
         "the log breaks off" if totals.torn is not None and totals.messages else "",
     ]
+
+
+def damage(totals: Totals) -> str:
+    """How much of the log is damaged."""
+    octets = grouped(totals.damaged_octets, "octet")
+    return several(totals.damaged, f"stretch of the log is damaged ({octets})", f"stretches of the log are damaged ({octets})")
 
 
 UNSEEN = "so messages may be missing without another line saying so"

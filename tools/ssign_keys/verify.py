@@ -17,10 +17,12 @@ from . import trust as trust_options
 from .agreement import Survey
 from .answer import told_answers
 from .asking import ONCE, refuse_older
+from .damage import Damage
 from .blocks import Session
 from .broken_blocks import Broken, Search
 from .candidates import Candidates
 from .counters_file import file_of
+from .defaults import longest
 from .digests import Digest, digest_of
 from .faults import Fault
 from .kept import Counters, copy_begin, copy_counters, is_standard_pipe, nothing_shown, read_counters
@@ -37,8 +39,9 @@ from .text_verdict import TextVerdict
 from .programs import Refused, Run, add_limit_arguments, add_program_argument, find_program, log_words
 from .progress import Progress
 from .refusals import fault_of, warn_of_form
-from .report import Reading
+from .report import Reading, wrong
 from .reviewed import Reviewed
+from .salvage import SALVAGE, salvage
 from .finder import Finder
 from .stamped import NONE, Stamps, check_stamps
 from .trust import Trust
@@ -177,7 +180,8 @@ class Verification:
             missing = add_counters(missing, listed.look(log), program, workplace, progress)
             if arguments.from_manifest:
                 missing = add_begin(missing, listed.begin(), program, workplace, progress)
-        return log, Verifier(program, log_words(arguments, log.are_lines), missing, log, workplace, progress)
+        candidates = Candidates(log, longest(arguments), workplace, progress)
+        return log, Verifier(program, log_words(arguments, log.are_lines), missing, log, candidates, workplace, progress)
 
     def _details(self, verifier: Verifier, reviewed: Reviewed, trust: Trust, listed: Optional[Listed]) -> Details:
         """What was checked, and the times of the log."""
@@ -216,7 +220,7 @@ class Missing(NamedTuple):
 class Verifier:
     """The runs of ssign over a log, with what is kept of them."""
 
-    def __init__(self, program: str, words: List[str], missing: Missing, log: Log, workplace: Workplace,
+    def __init__(self, program: str, words: List[str], missing: Missing, log: Log, candidates: Candidates, workplace: Workplace,
                  progress: Progress) -> None:
         self._program = program
         self._words = words
@@ -227,7 +231,7 @@ class Verifier:
         self.answers_path = workplace.path("answers")
         self._report = workplace.new_file("report")
         self._notes = workplace.new_file("notes")
-        self._candidates = Candidates(log, workplace, progress)
+        self._candidates = candidates
         # how many blocks have a valid signature
         self._valid = 0
         # the payloads that are known beforehand
@@ -235,18 +239,40 @@ class Verifier:
 
     def answer(self, trust: Trust, jobs: int) -> None:
         """Has ssign ask, and keeps what holds as the answers file, and what valid blocks vouch for as notes."""
-        self._known = self._find_known(trust, jobs)
-        words = ["questions", *ONCE, *self._known.words, *self._words]
-        asks = self._known.asks if self._known.words else None
-        asking = self._candidates.run(self._program, words, subprocess.PIPE, asks)
         try:
-            self._keep(asking, trust, jobs)
+            self._look()
+            self._known = self._find_known(trust, jobs)
+            words = ["questions", *ONCE, *self._known.words, *self._words]
+            asks = self._known.asks if self._known.words else None
+            self._keep(self._candidates.run(self._program, words, subprocess.PIPE, asks), trust, jobs)
         except Refused as refused:
             if refused.code is None:
-                refuse_older(self._program, self._workplace, self._progress)
+                refuse_older(self._program, self._log.are_lines, self._workplace, self._progress)
             self._refuse(refused)
             raise
         self._log.check_unchanged()
+
+    def _look(self) -> None:
+        """Goes over the log. If it isn't whole frames up to its end, ssign says what is damaged.
+
+        If nothing of it can be read, it is reviewed as it stands, so that it is refused for what it is.
+        """
+        log = self._log
+        if log.are_lines:
+            self._candidates.look()
+            return
+        log.damage = Damage()
+        self._words.append(SALVAGE)
+        if self._candidates.look():
+            return
+        found = salvage(log, self._program, self._words, self._workplace, self._progress)
+        log.damage = found.damage
+        if not found.is_log:
+            log.damage = None
+            self._words.remove(SALVAGE)
+        self._candidates.look()
+        if found.is_log and found.messages != self._candidates.walked.messages:
+            raise wrong(f"ssign inspect counts {found.messages} messages, and the log has {self._candidates.walked.messages}")
 
     def _find_known(self, trust: Trust, jobs: int) -> Known:
         """The payloads that are known beforehand, by what the reviewer trusts."""

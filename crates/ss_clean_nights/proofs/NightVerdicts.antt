@@ -1,5 +1,5 @@
 -- The verdict of a review between counters is clean exactly if its night is.
-use Rattle.std.proofs.Common.{◌≡◌, ℕ, Bool, true, false, List, [], ◌∷◌, ◌++◌, ◌&&◌, map, flat_map, refl, sym, ap, ◌∙◌, subst}
+use Rattle.std.proofs.Common.{◌≡◌, ℕ, Bool, true, false, List, [], ◌∷◌, ◌++◌, ◌&&◌, map, flat_map, refl, sym, ap, ◌∙◌, subst, append_assoc}
 use Rattle.std.specs.Prelude.{Option, Some, None}
 use Rattle.std.specs.List.{list_all, zip}
 use Rattle.std.proofs.lemmas.Bool.{and_parts, and_from}
@@ -27,12 +27,14 @@ use Rattle.ss_review.specs.sessions.Verified.{Answers}
 use Rattle.ss_between.specs.Between.{NumberRun, SessionBetween, session_between, absent_left}
 use Rattle.ss_report.specs.declared.lines.detail.Detail.TheVariants as details
 use Rattle.ss_report.specs.declared.verdict.verdict.Verdict.TheVariants as verdicts
-use Rattle.ss_report.specs.lines.Lines.{UnlistedLine, RefusedLine, EndLine, entry_line, group_lines, session_lines, spoilt_place_line, tail_lines, single_lines, other_lines}
+use Rattle.ss_report.specs.lines.Lines.{UnlistedLine, RefusedLine, EndLine, entry_line, group_lines, session_lines, damage_line, ending_lines, spoilt_place_line, tail_lines, single_lines, other_lines}
 use Rattle.ss_report.specs.lines.Settled.{is_settled}
 use Rattle.ss_report.specs.lines.Whole.{absent_lines, missing_line, shortfall_lines, tail_line}
 use Rattle.ss_report.specs.lines.Between as between
 use Rattle.ss_report.specs.lines.Between.{early_line, beyond_line, night_lines, lines_of_night, lines_between, between_verdict}
-use Rattle.ss_report.specs.Verdict.{verdict_of}
+use Rattle.ss_report.specs.Verdict.{is_clean_ending, is_clean_tail, verdict_of}
+use Rattle.ss_report.specs.declared.log.ending.Damage.{Damage}
+use Rattle.ss_report.specs.declared.log.ending.Ending.{Ending}
 use Rattle.ss_clean_nights.specs.Night.{NightReport, end_counters, night_report}
 use Rattle.ss_clean_nights.specs.CleanLaws.{IsCleanNight}
 use Rattle.ss_clean_nights.specs.VerdictLaws.{VerdictsAreOfNights}
@@ -123,16 +125,22 @@ settled_spoilt : (ps : List SpoiltPlace) → list_all is_settled (map spoilt_pla
 settled_spoilt [] = refl
 settled_spoilt (p ∷ ps) = refl
 
-abbrev is_clean_end : Tail → Bool
-is_clean_end tails.Clean = true
-is_clean_end (tails.Torn pos) = false
+settled_damaged : (ds : List Damage) → list_all is_settled (map damage_line ds) ≡ is_none ds
+settled_damaged [] = refl
+settled_damaged (d ∷ ds) = refl
 
-settled_end : (tail : Tail) (count : ℕ) → list_all is_settled (tail_lines tail ++ EndLine count ∷ []) ≡ is_clean_end tail
-settled_end tails.Clean count = refl
-settled_end (tails.Torn pos) count = refl
+settled_tail : (tail : Tail) (count : ℕ) → list_all is_settled (tail_lines tail ++ EndLine count ∷ []) ≡ is_clean_tail tail
+settled_tail tails.Clean count = refl
+settled_tail (tails.Torn pos) count = refl
 
-abbrev is_settled_rest : Report → Tail → Bool
-is_settled_rest r tail = ((is_none r.unlisted && is_none r.refused) && is_none r.spoilt) && is_clean_end tail
+settled_end : (ending : Ending) (count : ℕ) → list_all is_settled (ending_lines details.Itemized ending ++ EndLine count ∷ []) ≡ is_clean_ending ending
+settled_end ending count =
+    ap (list_all is_settled) (append_assoc (map damage_line ending.damaged) (tail_lines ending.tail) (EndLine count ∷ []))
+    ∙ list_all-append is_settled (map damage_line ending.damaged) (tail_lines ending.tail ++ EndLine count ∷ [])
+    ∙ (λ i. settled_damaged ending.damaged i && settled_tail ending.tail count i)
+
+abbrev is_settled_rest : Report → Ending → Bool
+is_settled_rest r ending = ((is_none r.unlisted && is_none r.refused) && is_none r.spoilt) && is_clean_ending ending
 
 settled_single : (r : Report) → list_all is_settled (single_lines details.Itemized r) ≡ ((is_none r.unlisted && is_none r.refused) && is_none r.spoilt)
 unfolding single_lines
@@ -141,22 +149,22 @@ settled_single r =
     ∙ (λ i. list_all-append is_settled (map UnlistedLine r.unlisted) (map RefusedLine r.refused) i && settled_spoilt r.spoilt i)
     ∙ (λ i. (settled_unlisted r.unlisted i && settled_refused r.refused i) && is_none r.spoilt)
 
-settled_others : (r : Report) (tail : Tail) → list_all is_settled (other_lines details.Itemized r tail) ≡ is_settled_rest r tail
+settled_others : (r : Report) (ending : Ending) → list_all is_settled (other_lines details.Itemized r ending) ≡ is_settled_rest r ending
 unfolding other_lines
-settled_others r tail =
-    list_all-append is_settled (single_lines details.Itemized r) (tail_lines tail ++ EndLine r.count ∷ [])
-    ∙ (λ i. settled_single r i && settled_end tail r.count i)
+settled_others r ending =
+    list_all-append is_settled (single_lines details.Itemized r) (ending_lines details.Itemized ending ++ EndLine r.count ∷ [])
+    ∙ (λ i. settled_single r i && settled_end ending r.count i)
 
-settled_all : (first : List Counter) (second : Option (List Counter)) (r : Report) (short : LogShortfalls) (tail : Tail)
-    → list_all is_settled (lines_between details.Itemized first second r short tail)
-    ≡ ((list_all is_settled_night (map (session_between first second) (zip r.sessions short.known)) && is_none (absent_left first short.absent)) && is_settled_rest r tail)
+settled_all : (first : List Counter) (second : Option (List Counter)) (r : Report) (short : LogShortfalls) (ending : Ending)
+    → list_all is_settled (lines_between details.Itemized first second r short ending)
+    ≡ ((list_all is_settled_night (map (session_between first second) (zip r.sessions short.known)) && is_none (absent_left first short.absent)) && is_settled_rest r ending)
 unfolding lines_between
-settled_all first second r short tail =
+settled_all first second r short ending =
     let nights = flat_map (lines_of_night details.Itemized first second) (zip r.sessions short.known) in
     let absent = flat_map absent_lines (absent_left first short.absent) in
-    list_all-append is_settled (nights ++ absent) (other_lines details.Itemized r tail)
-    ∙ (λ i. list_all-append is_settled nights absent i && settled_others r tail i)
-    ∙ (λ i. (settled_nights first second (zip r.sessions short.known) i && settled_absent (absent_left first short.absent) i) && is_settled_rest r tail)
+    list_all-append is_settled (nights ++ absent) (other_lines details.Itemized r ending)
+    ∙ (λ i. list_all-append is_settled nights absent i && settled_others r ending i)
+    ∙ (λ i. (settled_nights first second (zip r.sessions short.known) i && settled_absent (absent_left first short.absent) i) && is_settled_rest r ending)
 
 -- ---- what it means that all lines are settled
 
@@ -167,9 +175,9 @@ none_is (x ∷ xs) e = absurd (let bad : false ≡ true = e in cc)
 is_none_of : {X : Type 0} (xs : List X) → xs ≡ [] → is_none xs ≡ true
 is_none_of xs e = ap is_none e
 
-clean_end : (tail : Tail) → is_clean_end tail ≡ true → tail ≡ tails.Clean
-clean_end tails.Clean e = refl
-clean_end (tails.Torn pos) e = absurd (let bad : false ≡ true = e in cc)
+clean_tail : (tail : Tail) → is_clean_tail tail ≡ true → tail ≡ tails.Clean
+clean_tail tails.Clean e = refl
+clean_tail (tails.Torn pos) e = absurd (let bad : false ≡ true = e in cc)
 
 verdict_clean : (b : Bool) → verdict_of b ≡ verdicts.Clean → b ≡ true
 verdict_clean true e = refl
@@ -243,7 +251,7 @@ same_end : (second : Option (List Counter)) → between.end_counters second ≡ 
 same_end None = refl
 same_end (Some cs) = refl
 
-module _ (says : Answers) (log : List (List ℕ)) (first : List Counter) (second : Option (List Counter)) (tail : Tail) where
+module _ (says : Answers) (log : List (List ℕ)) (first : List Counter) (second : Option (List Counter)) (ending : Ending) where
   abbrev r : Report
   r = report says log
 
@@ -251,29 +259,31 @@ module _ (says : Answers) (log : List (List ℕ)) (first : List Counter) (second
   n = night_report says log first second
 
   abbrev settled : Bool
-  settled = (list_all is_settled_night n.sessions && is_none n.absent) && is_settled_rest r tail
+  settled = (list_all is_settled_night n.sessions && is_none n.absent) && is_settled_rest r ending
 
-  verdict_is : between_verdict says first second log tail ≡ verdict_of settled
+  verdict_is : between_verdict says first second log ending ≡ verdict_of settled
   unfolding night_report
   verdict_is =
-      ap (λ cs. verdict_of (list_all is_settled (lines_between details.Itemized first second r (shortfalls_of says log cs) tail))) (same_end second)
-      ∙ ap verdict_of (settled_all first second r (shortfalls_of says log (end_counters second)) tail)
+      ap (λ cs. verdict_of (list_all is_settled (lines_between details.Itemized first second r (shortfalls_of says log cs) ending))) (same_end second)
+      ∙ ap verdict_of (settled_all first second r (shortfalls_of says log (end_counters second)) ending)
 
-  there : between_verdict says first second log tail ≡ verdicts.Clean → IsCleanNight r n × (tail ≡ tails.Clean)
+  there : between_verdict says first second log ending ≡ verdicts.Clean → IsCleanNight r n × (ending.damaged ≡ []) × (ending.tail ≡ tails.Clean)
   there e =
       let all = verdict_clean settled (sym verdict_is ∙ e) in
-      let outer = and_parts (list_all is_settled_night n.sessions && is_none n.absent) (is_settled_rest r tail) all in
+      let outer = and_parts (list_all is_settled_night n.sessions && is_none n.absent) (is_settled_rest r ending) all in
       let front = and_parts (list_all is_settled_night n.sessions) (is_none n.absent) outer.0 in
-      let rest = and_parts ((is_none r.unlisted && is_none r.refused) && is_none r.spoilt) (is_clean_end tail) outer.1 in
-      (clean_from r n front.0 front.1 rest.0, clean_end tail rest.1)
+      let rest = and_parts ((is_none r.unlisted && is_none r.refused) && is_none r.spoilt) (is_clean_ending ending) outer.1 in
+      let both = and_parts (is_none ending.damaged) (is_clean_tail ending.tail) rest.1 in
+      (clean_from r n front.0 front.1 rest.0, none_is ending.damaged both.0, clean_tail ending.tail both.1)
 
-  back : IsCleanNight r n × (tail ≡ tails.Clean) → between_verdict says first second log tail ≡ verdicts.Clean
+  back : IsCleanNight r n × (ending.damaged ≡ []) × (ending.tail ≡ tails.Clean) → between_verdict says first second log ending ≡ verdicts.Clean
   back p =
       let c = clean_to r n p.0 in
       let front = and_from (list_all is_settled_night n.sessions) (is_none n.absent) c.0 c.1 in
-      let rest = and_from ((is_none r.unlisted && is_none r.refused) && is_none r.spoilt) (is_clean_end tail) c.2 (ap is_clean_end p.1) in
-      let all : settled ≡ true = and_from (list_all is_settled_night n.sessions && is_none n.absent) (is_settled_rest r tail) front rest in
+      let both = and_from (is_none ending.damaged) (is_clean_tail ending.tail) (is_none_of ending.damaged p.1) (ap is_clean_tail p.2) in
+      let rest = and_from ((is_none r.unlisted && is_none r.refused) && is_none r.spoilt) (is_clean_ending ending) c.2 both in
+      let all : settled ≡ true = and_from (list_all is_settled_night n.sessions && is_none n.absent) (is_settled_rest r ending) front rest in
       verdict_is ∙ ap verdict_of all
 
 pub verdicts_of_nights : VerdictsAreOfNights
-verdicts_of_nights says log first second tail = (there says log first second tail, back says log first second tail)
+verdicts_of_nights says log first second ending = (there says log first second ending, back says log first second ending)

@@ -167,7 +167,7 @@ read_whole log all few = record {
     stream = units_in Frames log;
     consumes = sym (append-nil (units_in Frames log));
     at_end = refl;
-    reading = frames_read log all few;
+    reading = (frames_read log all few, refl);
   };
   no_read_failed = refl;
 }

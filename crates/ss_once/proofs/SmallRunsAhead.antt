@@ -76,7 +76,7 @@ the_log one messages whole =
     let stream_is : units_in Frames small_log ≡ whole.reading.stream = whole.reading.consumes ∙ append-nil whole.reading.stream in
     (one small_limits (units_in Frames small_log) small_log messages Clean Clean
     (record { some_octet = omega arith; at_most_a_mebibyte = omega arith; some_message = omega arith; at_most_ten_million = omega arith })
-    (frames_read small_log all_allowed (omega arith)) (subst (λ octets. reads small_limits octets messages Clean) (sym stream_is) whole.reading.reading)).0
+    (frames_read small_log all_allowed (omega arith)) (subst (λ octets. reads small_limits octets messages Clean) (sym stream_is) whole.reading.reading.0)).0
 
 is_past : OneReading → IsPast small_job small_limits whole_log no_log next_counters
 is_past one = record {

@@ -190,7 +190,7 @@ refuses_no_seal_of_plans one answers s start stamp wraps limits log plan range p
     let first_log : first.stream ≡ log = whole_stream p.before p.after.left log first.stream p.log_shown first.consumes first.at_end in
     let second_log : second.stream ≡ log = whole_stream before after.left log second.stream shown second.consumes second.at_end in
     let same : stops.messages ≡ sends.messages
-    = (one limits log stops.messages sends.messages _ _ range (subst (λ o. reads limits o stops.messages Clean) second_log second.reading) (subst (λ o. reads limits o sends.messages Clean) first_log first.reading)).0 in
+    = (one limits log stops.messages sends.messages _ _ range (subst (λ o. reads limits o stops.messages Clean) second_log second.reading.0) (subst (λ o. reads limits o sends.messages Clean) first_log first.reading.0)).0 in
     let text : plan ≡ want_lines p.run.emitted = written_is p.was p.is plan (want_lines p.run.emitted) p.plan_written p.run.written in
     refuses_no_seal_of_messages answers s start stamp (prepared_for wraps s.config.head stamp sends.messages) p.run.emitted sends.accepted (subst (SealsPlan answers) text sealed) wraps form place fault
     (subst (λ ms. RefusesAt (signing_from start s answers stamp wraps form) (prepared_for wraps s.config.head stamp ms) place fault) same stops.refused)

@@ -109,7 +109,7 @@ module _ (case_of : IsCase whole) where
             stream = log;
             consumes = sym (append-nil log);
             at_end = refl;
-            reading = read limits (message 49 ∷ []) (allowed, tt) (omega arith);
+            reading = (read limits (message 49 ∷ []) (allowed, tt) (omega arith), refl);
           };
           no_read_failed = refl;
         };

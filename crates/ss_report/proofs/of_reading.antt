@@ -1,3 +1,5 @@
+pub mod FramesRead
+pub mod RowsRead
 pub mod LogSoFar
 pub mod FedSoFar
 pub mod PickedSoFar

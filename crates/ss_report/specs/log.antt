@@ -1,5 +1,5 @@
 pub mod Log
-pub mod Next
+pub mod SoFar
 pub mod Fed
 pub mod Picked
 pub mod Held

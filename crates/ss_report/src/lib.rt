@@ -19,8 +19,10 @@ pub use fault::RunFault;
 pub use forms::inspection_form::InspectionForm;
 pub use forms::report_form::ReportForm;
 pub use lines::detail::Detail;
+pub use log::ending::{Damage, Damages, Ending};
 pub use log::log::{Log, read_log};
 pub use log::output::{end_text, write_whole};
+pub use log::read_options::ReadOptions;
 pub use notation::Notation;
 pub use payloads::Payloads;
 pub use runs::counters::{

@@ -6,7 +6,7 @@ use Rattle.ss_frame.specs.Watched.{Source}
 use Rattle.ss_frame.specs.declared.limits.Form.{Form}
 use Rattle.ss_block.specs.Head.{HeadValue}
 use Rattle.ss_report.specs.declared.fault.RunFault.TheVariants as run
-use Rattle.ss_report.specs.log.Log.{StopsLog}
+use Rattle.ss_report.specs.log.Log.{StopsLog, plainly}
 use Rattle.ss_signing.specs.declared.fault.SignFault.{SignFault}
 use Rattle.ss_signing.specs.declared.fault.SignFault.TheVariants as faults
 use Rattle.ss_signing.specs.Prepared.{prepared_for, unfit}
@@ -23,7 +23,7 @@ pub record ReadsPrepared (form : Form) (wraps : Bool) (h : HeadValue) (stamp : O
 -- why nothing is signed for a log, before an originator is made
 abbrev pub StopsPreparing : Form → (wraps : Bool) → HeadValue → Option Moment → Allowance → (before after : Source)
     → SignFault → Type 0
-StopsPreparing form wraps h stamp limits before after (faults.Run (run.Frame fault)) = StopsLog limits before after fault
+StopsPreparing form wraps h stamp limits before after (faults.Run (run.Frame fault)) = StopsLog (plainly limits) before after fault
 StopsPreparing form wraps h stamp limits before after (faults.Run (run.Review fault)) = ⊥
 StopsPreparing form wraps h stamp limits before after (faults.Run (run.Extract fault)) =
     IsUnfit form wraps h stamp limits before after (faults.Run (run.Extract fault))

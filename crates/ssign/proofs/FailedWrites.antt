@@ -1,5 +1,5 @@
 -- How a run ends that fails, by its fault.
-use Rattle.std.proofs.Common.{◌≡◌, ◌≢◌, List, Option, Some, Result, Ok, Err, refl}
+use Rattle.std.proofs.Common.{◌≡◌, ◌≢◌, List, Some, Err, refl}
 use Rattle.ss_frame.specs.Output.{WritesPrefix}
 use Rattle.ss_frame.specs.Watched.{Sink}
 use Rattle.ss_report.specs.declared.fault.RunFault.{RunFault}

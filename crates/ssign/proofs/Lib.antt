@@ -1,6 +1,7 @@
 mod FileCounters
 mod GivenPaths
 mod Limits
+mod Readings
 mod FailedWrites
 mod CountedMessages
 mod FoundCommands

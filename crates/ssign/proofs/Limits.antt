@@ -1,5 +1,5 @@
 -- What the clauses of `limits_of` give together.
-use Rattle.std.proofs.Common.{◌≡◌, ℕ, Bool, Option, Some, None, ap}
+use Rattle.std.proofs.Common.{ℕ, Bool, Option, Some, None, ap}
 use Rattle.std.specs.Prelude.{IfSome}
 use Rattle.std.specs.Option.{SomeIff}
 use Rattle.clap.specs.declared.parser.matches.ArgMatches.{ArgMatches}

@@ -39,6 +39,7 @@ use Rattle.ssign.specs.declared.options.lines_out.TheConstants as lines_out
 use Rattle.ssign.specs.declared.options.once.TheConstants as once
 use Rattle.ssign.specs.declared.options.pinned.TheConstants as pinned
 use Rattle.ssign.specs.declared.options.resume.TheConstants as resume
+use Rattle.ssign.specs.declared.options.salvage.TheConstants as salvage
 use Rattle.ssign.specs.declared.options.tally.TheConstants as tally
 use Rattle.ssign.specs.declared.options.unlisted.TheConstants as unlisted
 use Rattle.ssign.specs.declared.options.unwrap.TheConstants as unwrap
@@ -49,6 +50,7 @@ use Rattle.ss_report.specs.declared.forms.report_form.ReportForm.{ReportForm}
 use Rattle.ss_report.specs.declared.forms.report_form.ReportForm.TheVariants as forms
 use Rattle.ss_report.specs.declared.lines.detail.Detail.{Detail}
 use Rattle.ss_report.specs.declared.lines.detail.Detail.TheVariants as details
+use Rattle.ss_report.specs.declared.log.read_options.ReadOptions.{ReadOptions}
 use Rattle.ss_report.specs.declared.payloads.Payloads.{Payloads}
 use Rattle.ss_report.specs.declared.payloads.Payloads.TheVariants as payloads
 use Rattle.ss_report.specs.declared.verdict.verdict.Verdict.{Verdict}
@@ -109,6 +111,15 @@ reporting findings json whole tally once unwrap = record {
 abbrev pub limits_with : (max_len max_messages : ℕ) (lines : Bool) → Allowance
 limits_with a b lines = record { max_len = a; max_messages = b; form = form_of lines }
 
+-- how a log of this form is read within these limits, with or without `--salvage`: lines aren't read on after damage
+abbrev pub reading_in : Form → Allowance → (salvage : Bool) → Option ReadOptions
+reading_in Lines limits true = None
+reading_in Lines limits false = Some (record { limits = limits; salvage = false })
+reading_in Frames limits salvage = Some (record { limits = limits; salvage = salvage })
+
+abbrev pub reading : Allowance → (salvage : Bool) → Option ReadOptions
+reading limits = reading_in limits.form limits
+
 -- ---- the commands
 
 -- with options of these rules after those that it has
@@ -119,6 +130,10 @@ with_rules app (rule ∷ rules) = with_rules (with_rule app rule) rules
 -- with the options that say how a log is read
 abbrev pub with_limits : App → App
 with_limits app = with_rules app limit_rules
+
+-- with those that say how a stored log is read, which may be damaged
+abbrev pub with_reading : App → App
+with_reading app = with_limits (with_rule app (flag_rule salvage.NAME.now))
 
 abbrev pub task_name : Task → List ℕ
 task_name Review = review.NAME.now
@@ -143,7 +158,7 @@ task_rules Counters = text_rule answers.NAME.now ∷ flag_rule json.NAME.now ∷
 task_rules Carry = text_rule answers.NAME.now ∷ text_rule pinned.NAME.now ∷ []
 
 abbrev pub task_app : Task → App
-task_app task = with_limits (with_rules (new_app (task_name task)) (task_rules task))
+task_app task = with_reading (with_rules (new_app (task_name task)) (task_rules task))
 
 abbrev pub signing_name : Signing → List ℕ
 signing_name Plan = plan.NAME.now

@@ -1,5 +1,5 @@
 -- What a command over a log does, by its options and by the files that they name.
-use Rattle.std.specs.Prelude.{◌≡◌, ℕ, Bool, false, ◌||◌, List, Option, Some, None, Result, Ok, Err}
+use Rattle.std.specs.Prelude.{◌≡◌, ℕ, Bool, true, false, ◌||◌, List, Option, Some, None, Result, Ok, Err}
 use Rattle.std.specs.Option.{is_some}
 use Rattle.clap.specs.Words.{first_value, found_of}
 use Rattle.clap.specs.declared.parser.matches.ArgMatches.{ArgMatches}
@@ -7,6 +7,7 @@ use Rattle.ss_frame.specs.Limits.{Allowance, InRange}
 use Rattle.ss_frame.specs.Watched.{Source, Sink}
 use Rattle.ss_review.specs.declared.counted.counter.Counter.{Counter}
 use Rattle.ss_review.specs.sessions.Verified as verified
+use Rattle.ss_report.specs.declared.log.read_options.ReadOptions.{ReadOptions}
 use Rattle.ss_report.specs.declared.runs.extraction.Extraction.{Extraction}
 use Rattle.ss_report.specs.declared.verdict.verdict.Verdict.{Verdict}
 use Rattle.ss_report.specs.runs.Run.{Job, Runs, Stops}
@@ -32,6 +33,7 @@ use Rattle.ssign.specs.declared.options.max_messages.TheConstants as max_message
 use Rattle.ssign.specs.declared.options.once.TheConstants as once
 use Rattle.ssign.specs.declared.options.pinned.TheConstants as pinned
 use Rattle.ssign.specs.declared.options.place.TheConstants as place
+use Rattle.ssign.specs.declared.options.salvage.TheConstants as salvage
 use Rattle.ssign.specs.declared.options.tally.TheConstants as tally
 use Rattle.ssign.specs.declared.options.unlisted.TheConstants as unlisted
 use Rattle.ssign.specs.declared.options.unwrap.TheConstants as unwrap
@@ -51,6 +53,17 @@ GivesLimits m (Some l) =
     → InRange l.max_len l.max_messages × (l.form ≡ form_of lines_given))
 GivesLimits m None = (a b : ℕ) (lines_given : Bool) → HasNumber m max_len.NAME.now a
     → HasNumber m max_messages.NAME.now b → FlagIs m lines.NAME.now lines_given → ¬ InRange a b
+
+-- how a log is read: within these limits, and on after damage exactly with `--salvage`. `--lines` isn't given beside it.
+pub record IsReading (m : ArgMatches) (r : ReadOptions) : Type 0 where
+  pub limits : GivesLimits m (Some r.limits)
+  pub salvaged : (salvage_given : Bool) → FlagIs m salvage.NAME.now salvage_given → r.salvage ≡ salvage_given
+  pub frames : FlagIs m salvage.NAME.now true → ¬ FlagIs m lines.NAME.now true
+
+-- both `--salvage` and `--lines` are given
+abbrev pub AreSalvagedLines : ArgMatches → Type 0
+AreSalvagedLines m = (salvage_given lines_given : Bool) → FlagIs m salvage.NAME.now salvage_given
+    → FlagIs m lines.NAME.now lines_given → (salvage_given ≡ true) × (lines_given ≡ true)
 
 -- what is to be extracted, or why the options don't name it
 abbrev pub IsExtraction : ArgMatches → Result Extraction ExtractionFault → Type 0
@@ -72,7 +85,7 @@ IsReporting m r = (findings_given json_given whole_given tally_given once_given 
 
 -- what is asked of a log beside the task
 pub record Asked : Type 0 where
-  pub limits : Allowance
+  pub reading : ReadOptions
   pub extraction : Extraction
   pub reporting : Reporting
   pub first : Option (List Counter)
@@ -82,7 +95,7 @@ pub record Asked : Type 0 where
 
 -- the options say it, and the files that they name give it
 pub record IsAsked (files : Contents) (m : ArgMatches) (a : Asked) : Type 0 where
-  pub limits : GivesLimits m (Some a.limits)
+  pub reading : IsReading m a.reading
   pub extraction : IsExtraction m (Ok a.extraction)
   pub reporting : IsReporting m a.reporting
   pub first : Gives files.counters (path_in m from.NAME.now) (Ok a.first)
@@ -103,6 +116,9 @@ asked_job task a = job_of (said_by a.answers) a.reporting a.known a.first a.coun
 abbrev pub HasLimits : ArgMatches → Type 0
 HasLimits m = (l : Allowance) × GivesLimits m (Some l)
 
+abbrev pub HasReading : ArgMatches → Type 0
+HasReading m = (r : ReadOptions) × IsReading m r
+
 abbrev pub HasExtraction : ArgMatches → Type 0
 HasExtraction m = (e : Extraction) × IsExtraction m (Ok e)
 
@@ -114,26 +130,29 @@ IsTaken {T} contents path = (value : Option T) × Gives contents path (Ok value)
 -- in this order: the first that gives nothing is the refusal.
 abbrev pub IsFirstRefusal : Contents → ArgMatches → Refusal → Type 0
 IsFirstRefusal files m refusals.NoOption = GivesLimits m None
-IsFirstRefusal files m (refusals.Extraction fault) = HasLimits m × IsExtraction m (Err fault)
+IsFirstRefusal files m (refusals.Extraction fault) = HasReading m × IsExtraction m (Err fault)
 IsFirstRefusal files m (refusals.From fault) =
-    HasLimits m × HasExtraction m × Gives files.counters (path_in m from.NAME.now) (Err fault)
+    HasReading m × HasExtraction m × Gives files.counters (path_in m from.NAME.now) (Err fault)
 IsFirstRefusal files m (refusals.Counters fault) =
-    HasLimits m × HasExtraction m × IsTaken files.counters (path_in m from.NAME.now)
+    HasReading m × HasExtraction m × IsTaken files.counters (path_in m from.NAME.now)
     × Gives files.counters (path_in m counters.NAME.now) (Err fault)
 IsFirstRefusal files m (refusals.Pinned fault) =
-    HasLimits m × HasExtraction m × IsTaken files.counters (path_in m from.NAME.now)
+    HasReading m × HasExtraction m × IsTaken files.counters (path_in m from.NAME.now)
     × IsTaken files.counters (path_in m counters.NAME.now) × Gives files.payloads (path_in m pinned.NAME.now) (Err fault)
 IsFirstRefusal files m (refusals.Answers fault) =
-    HasLimits m × HasExtraction m × IsTaken files.counters (path_in m from.NAME.now)
+    HasReading m × HasExtraction m × IsTaken files.counters (path_in m from.NAME.now)
     × IsTaken files.counters (path_in m counters.NAME.now) × IsTaken files.payloads (path_in m pinned.NAME.now)
     × Gives files.answers (path_in m answers.NAME.now) (Err fault)
 IsFirstRefusal files m _ = ⊥
 
--- A run over a log, with its verdict or the fault that stopped it, or the first refusal before it.
+-- A run over a log, with its verdict or the fault that stopped it, or the first refusal before it. `--salvage` beside
+-- `--lines` is refused right after the limits.
 abbrev pub EndsLog : Contents → ArgMatches → Task → (before after : Source) → (was is : Sink)
     → Result Verdict Refusal → Type 0
 EndsLog files m task before after was is (Ok verdict) =
-    (a : Asked) × IsAsked files m a × Runs (asked_job task a) a.limits before after was is verdict
+    (a : Asked) × IsAsked files m a × Runs (asked_job task a) a.reading before after was is verdict
 EndsLog files m task before after was is (Err (refusals.Run fault)) =
-    (a : Asked) × IsAsked files m a × Stops (asked_job task a) a.limits before after was is fault
+    (a : Asked) × IsAsked files m a × Stops (asked_job task a) a.reading before after was is fault
+EndsLog files m task before after was is (Err (refusals.SalvagedLines asked)) =
+    (asked ≡ task) × HasLimits m × AreSalvagedLines m
 EndsLog files m task before after was is (Err refusal) = IsFirstRefusal files m refusal

@@ -35,6 +35,7 @@ use Rattle.ssign.specs.declared.options.pri.TheConstants as pri
 use Rattle.ssign.specs.declared.options.procid.TheConstants as procid
 use Rattle.ssign.specs.declared.options.resume.TheConstants as resume
 use Rattle.ssign.specs.declared.options.rsid.TheConstants as rsid
+use Rattle.ssign.specs.declared.options.salvage.TheConstants as salvage
 use Rattle.ssign.specs.declared.options.stamp.TheConstants as stamp
 use Rattle.ssign.specs.declared.options.tally.TheConstants as tally
 use Rattle.ssign.specs.declared.options.unlisted.TheConstants as unlisted
@@ -81,6 +82,7 @@ pub record OptionsHaveTheirNames : Type 0 where
   pub procid : procid.NAME.now ≡ codes "procid"
   pub resume : resume.NAME.now ≡ codes "resume"
   pub rsid : rsid.NAME.now ≡ codes "rsid"
+  pub salvage : salvage.NAME.now ≡ codes "salvage"
   pub stamp : stamp.NAME.now ≡ codes "stamp"
   pub tally : tally.NAME.now ≡ codes "tally"
   pub unlisted : unlisted.NAME.now ≡ codes "unlisted"

@@ -6,7 +6,7 @@ use Rattle.ss_frame.specs.Output.{WritesPrefix, WritesWhole}
 use Rattle.ss_frame.specs.Watched.{Source, Sink}
 use Rattle.ss_report.specs.declared.fault.RunFault.TheVariants as run
 use Rattle.ss_report.specs.declared.verdict.verdict.Verdict.{Verdict}
-use Rattle.ss_report.specs.declared.verdict.verdict.Verdict.TheVariants.{Clean, Findings}
+use Rattle.ss_report.specs.declared.verdict.verdict.Verdict.TheVariants.{Clean}
 use Rattle.ssign.specs.Explanation.{asked_of, has_code, told_text}
 use Rattle.ssign.specs.GivenFiles.{Contents}
 use Rattle.ssign.specs.LogOrder.{EndsLog}

@@ -11,8 +11,8 @@ use Rattle.ss_answers.specs.FaultText.{answer_fault_code, counter_fault_code, st
 use Rattle.ssign.specs.FaultText.{settings_fault_code}
 use Rattle.ssign.specs.declared.extraction.ExtractionFault.TheVariants as extraction
 use Rattle.ssign.specs.declared.refusal.Refusal.{Refusal}
-use Rattle.ssign.specs.declared.refusal.Refusal.TheVariants.{NoOption, Extraction, From, Counters, Pinned, Answers}
-use Rattle.ssign.specs.declared.refusal.Refusal.TheVariants.{Settings, Resume, Start, Run, Signing, NoEntry}
+use Rattle.ssign.specs.declared.refusal.Refusal.TheVariants.{NoOption, SalvagedLines, Extraction, From, Counters, Pinned}
+use Rattle.ssign.specs.declared.refusal.Refusal.TheVariants.{Answers, Settings, Resume, Start, Run, Signing, NoEntry}
 
 -- what is seen of a code
 abbrev pub code_seen : Option Code → Option (List ℕ × Option ℕ)
@@ -21,6 +21,7 @@ code_seen code = option_map (λ c. (c.name.now, c.place)) code
 -- Its code, if it has one. A mistake of the command line has none, and nor has an unknown code.
 abbrev pub refusal_code : Refusal → Option (List ℕ × Option ℕ)
 refusal_code NoOption = None
+refusal_code (SalvagedLines task) = None
 refusal_code (Extraction extraction.Both) = None
 refusal_code (Extraction extraction.NoNumber) = None
 refusal_code (Extraction extraction.Memory) = Some (run_fault_code run.Memory)

@@ -8,7 +8,7 @@ ghost use Rattle.ssign.specs.CommandLine.{bare_app, explain_app, order_app, sign
 ghost use Rattle.ssign.specs.Explanation.{asked_of};
 ghost use Rattle.ssign.specs.SigningOptions.{AreVersions, Kept};
 ghost use Rattle.ssign.specs.CommandLine.{FlagIs, HasNumber, IsLocalApp, detail_of, form_of, limits_with, name_of};
-ghost use Rattle.ssign.specs.CommandLine.{order_in};
+ghost use Rattle.ssign.specs.CommandLine.{order_in, reading, with_reading};
 ghost use Rattle.ssign.specs.CommandLine.{payloads_of, report_form, reporting, text_of, with_commands, with_limits};
 ghost use Rattle.ssign.specs.declared.options.ahead.TheConstants as ahead;
 ghost use Rattle.ssign.specs.declared.options.answers.TheConstants as answers;
@@ -24,6 +24,7 @@ ghost use Rattle.ssign.specs.declared.options.max_messages.TheConstants as max_m
 ghost use Rattle.ssign.specs.declared.options.once.TheConstants as once;
 ghost use Rattle.ssign.specs.declared.options.pinned.TheConstants as pinned;
 ghost use Rattle.ssign.specs.declared.options.resume.TheConstants as resume;
+ghost use Rattle.ssign.specs.declared.options.salvage.TheConstants as salvage;
 ghost use Rattle.ssign.specs.declared.options.tally.TheConstants as tally;
 ghost use Rattle.ssign.specs.declared.options.unwrap.TheConstants as unwrap;
 ghost use Rattle.ssign.specs.declared.options.whole.TheConstants as whole;
@@ -40,7 +41,7 @@ use clap::error::ErrorKind;
 use clap::{ArgMatches, Command, Error};
 use ss_block::versions;
 use ss_frame::{Form, Limits};
-use ss_report::{Detail, Payloads, ReportForm};
+use ss_report::{Detail, Payloads, ReadOptions, ReportForm};
 use std::alloc::{AllocError, Global};
 
 /// The version of the program.
@@ -197,9 +198,10 @@ fn review<'a>(alloc: Global) -> Result<Command<'a>, AllocError>
         .arg(flag(alloc, options::tally::NAME, options::tally::HELP))?;
     let review = review.arg(file(alloc, options::counters::NAME, options::counters::HELP))?;
     let review = review.arg(file(alloc, options::from::NAME, options::from::HELP))?;
-    limited(
+    salvaging(
         alloc,
         review.arg(file(alloc, options::pinned::NAME, options::pinned::HELP))?,
+        options::salvage::REPORTED,
     )
 }
 
@@ -215,9 +217,10 @@ fn questions<'a>(alloc: Global) -> Result<Command<'a>, AllocError>
     )
     .arg(flag(alloc, options::json::NAME, options::json::HELP))?;
     let questions = questions.arg(flag(alloc, options::once::NAME, options::once::HELP))?;
-    limited(
+    salvaging(
         alloc,
         questions.arg(file(alloc, options::pinned::NAME, options::pinned::HELP))?,
+        options::salvage::LEFT_OUT,
     )
 }
 
@@ -237,9 +240,10 @@ fn extract<'a>(alloc: Global) -> Result<Command<'a>, AllocError>
         .arg(place(alloc))?;
     let extract = extract.arg(flag(alloc, options::lines_out::NAME, options::lines_out::HELP))?;
     let extract = extract.arg(flag(alloc, options::unwrap::NAME, options::unwrap::WRITTEN))?;
-    limited(
+    salvaging(
         alloc,
         extract.arg(file(alloc, options::pinned::NAME, options::pinned::HELP))?,
+        options::salvage::LEFT_OUT,
     )
 }
 
@@ -255,9 +259,10 @@ fn inspect<'a>(alloc: Global) -> Result<Command<'a>, AllocError>
     )
     .arg(flag(alloc, options::findings::NAME, options::findings::PLAIN))?;
     let inspect = inspect.arg(flag(alloc, options::json::NAME, options::json::HELP))?;
-    limited(
+    salvaging(
         alloc,
         inspect.arg(flag(alloc, options::unwrap::NAME, options::unwrap::SHOWN))?,
+        options::salvage::REPORTED,
     )
 }
 
@@ -308,9 +313,10 @@ fn counters<'a>(alloc: Global) -> Result<Command<'a>, AllocError>
     )
     .arg(file(alloc, options::answers::NAME, options::answers::CHECKED))?;
     let counters = counters.arg(flag(alloc, options::json::NAME, options::json::HELP))?;
-    limited(
+    salvaging(
         alloc,
         counters.arg(file(alloc, options::pinned::NAME, options::pinned::HELP))?,
+        options::salvage::LEFT_OUT,
     )
 }
 
@@ -325,9 +331,10 @@ fn carry<'a>(alloc: Global) -> Result<Command<'a>, AllocError>
         commands::carry::USAGE,
     )
     .arg(file(alloc, options::answers::NAME, options::answers::CHECKED))?;
-    limited(
+    salvaging(
         alloc,
         carry.arg(file(alloc, options::pinned::NAME, options::pinned::HELP))?,
+        options::salvage::LEFT_OUT,
     )
 }
 
@@ -349,6 +356,20 @@ fn over_log<'a>(alloc: Global, name: &'a str, about: &'a str, usage: &'a str) ->
     Command::new(alloc, name).about(about).override_usage(usage)
 }
 
+/// The command with the options that say how a stored log is read, which may be damaged.
+fn salvaging<'a>(
+    alloc: Global,
+    command: Command<'a>,
+    help: &'a str,
+) -> Result<Command<'a>, AllocError>
+    ensures { (app : App) → IsLocalApp command.entry app → IfOk result (λ c. IsLocalApp c (with_reading app)) }
+{
+    limited(
+        alloc,
+        command.arg(flag(alloc, options::salvage::NAME, help))?,
+    )
+}
+
 /// The command with the options that say how a log is read.
 fn limited<'a>(alloc: Global, command: Command<'a>) -> Result<Command<'a>, AllocError>
     ensures { (app : App) → IsLocalApp command.entry app → IfOk result (λ c. IsLocalApp c (with_limits app)) }
@@ -366,6 +387,16 @@ pub fn extract_conflict(alloc: Global) -> Result<Error, AllocError>
     extract(alloc)?.error(
         ErrorKind::ArgumentConflict,
         "the argument '--unlisted' cannot be used with '--place <N>'",
+    )
+}
+
+/// The mistake of a command that is to read lines on after damage.
+pub fn salvage_conflict(alloc: Global, task: Task) -> Result<Error, AllocError>
+    ensures { IfOk result (λ e. kind_of e ≡ ErrorKind.ArgumentConflict) }
+{
+    Order::Log(task).command(alloc, versions())?.error(
+        ErrorKind::ArgumentConflict,
+        "the argument '--salvage' cannot be used with '--lines'",
     )
 }
 
@@ -518,5 +549,26 @@ pub fn limits_of(matches: &ArgMatches<'_>) -> Option<Limits>
         Some(limits.lines())
     } else {
         Some(limits)
+    }
+}
+
+/// How a log is read: within these limits, and on after damage if `--salvage` is given. `None` exactly where it is given
+/// for a log of lines. A command without it reads nothing after damage.
+pub fn reading_of(limits: Limits, matches: &ArgMatches<'_>) -> Option<ReadOptions>
+    ensures value { (salvage_given : Bool) → FlagIs matches.now salvage.NAME.now salvage_given
+        → result ≡ reading limits salvage_given }
+    ensures limits { IfSome result (λ r. r.limits ≡ limits) }
+{
+    reading_with(limits, matches.get_flag(options::salvage::NAME))
+}
+
+/// How a log is read within these limits, with or without `--salvage`. `None` exactly for lines with it.
+fn reading_with(limits: Limits, salvage: bool) -> Option<ReadOptions>
+    ensures value { result ≡ reading limits salvage }
+    ensures limits { IfSome result (λ r. r.limits ≡ limits) }
+{
+    match (limits.form(), salvage) {
+        (Form::Lines, true) => None,
+        _ => Some(ReadOptions { limits, salvage }),
     }
 }

@@ -25,6 +25,7 @@ pub mod pri;
 pub mod procid;
 pub mod resume;
 pub mod rsid;
+pub mod salvage;
 pub mod stamp;
 pub mod tally;
 pub mod unlisted;

@@ -2,7 +2,9 @@
 ghost use Rattle.std.specs.Prelude.{◌≡◌, ◌≤◌, map, string_bytes};
 ghost use Rattle.ssign.specs.CommandLine.{AreMistaken, status_of};
 
-use crate::command_line::{Order, asked_code, command, extract_conflict, form_in, order_of};
+use crate::command_line::{
+    Order, asked_code, command, extract_conflict, form_in, order_of, salvage_conflict,
+};
 use crate::explanations::all_tables;
 use crate::extraction::ExtractionFault;
 use crate::first_octets::FirstOctets;
@@ -11,8 +13,8 @@ use crate::progress::Progress;
 use crate::refusal::Refusal;
 use crate::refusing::{REFUSED, Remark, Screen, refuse, refuse_code, refuse_words, remark_on};
 use crate::streams::run_streams;
-use clap::ArgMatches;
 use clap::error::ErrorKind;
+use clap::{ArgMatches, Error};
 use ss_frame::Form;
 use ss_report::{RunFault, Verdict};
 use std::alloc::AllocError;
@@ -133,17 +135,24 @@ fn report_mistake<R: Print + Eprint + Screen + AllocGlobal>(
     ensures { result ≡ 2 }
 {
     match refusal {
-        Refusal::Extraction(ExtractionFault::Both) => report_conflict(rt),
+        Refusal::SalvagedLines(task) => report_conflict(rt, salvage_conflict(rt.alloc(), task)),
+        Refusal::Extraction(ExtractionFault::Both) => {
+            report_conflict(rt, extract_conflict(rt.alloc()))
+        }
         Refusal::NoEntry => refuse_code(rt, all_tables(), asked_code(options).unwrap_or("")),
         _ => REFUSED,
     }
 }
 
-/// Reports that `--unlisted` and `--place` exclude each other, like other mistakes of the command line.
-fn report_conflict<R: Print + Eprint + Screen + AllocGlobal>(rt: &R) -> u8
+/// Reports that two options exclude each other, like other mistakes of the command line, or that there is no memory for
+/// it.
+fn report_conflict<R: Print + Eprint + Screen + AllocGlobal>(
+    rt: &R,
+    conflict: Result<Error, AllocError>,
+) -> u8
     ensures { result ≡ 2 }
 {
-    let Ok(fault) = extract_conflict(rt.alloc()) else {
+    let Ok(fault) = conflict else {
         return refuse(rt, &RunFault::Memory.code(), Remark::Nothing);
     };
     if fault.print(rt).is_err() {

@@ -4,6 +4,7 @@ ghost use Rattle.ssign.specs.Refusal.{code_seen, refusal_code};
 
 use crate::extraction::ExtractionFault;
 use crate::settings::SettingsFault;
+use crate::task::Task;
 use ss_answers::{AnswerFault, CounterFault, StartFault};
 use ss_octets::Code;
 use ss_report::RunFault;
@@ -14,6 +15,8 @@ use ss_signing::SignFault;
 pub enum Refusal {
     /// An option isn't there, or has no number in its range, which a parse by `command` doesn't let through.
     NoOption,
+    /// A log of lines is to be read on after damage, which is for frames alone. The command asks for this.
+    SalvagedLines(Task),
     /// The options don't name what is to be extracted.
     Extraction(ExtractionFault),
     /// The file of `--from` gives no counters.
@@ -44,7 +47,7 @@ impl Refusal {
         ensures { code_seen result ≡ refusal_code self }
     {
         match self {
-            Refusal::NoOption | Refusal::NoEntry => None,
+            Refusal::NoOption | Refusal::SalvagedLines(_) | Refusal::NoEntry => None,
             Refusal::Extraction(ExtractionFault::Both) => None,
             Refusal::Extraction(ExtractionFault::NoNumber) => None,
             Refusal::Extraction(ExtractionFault::Memory) => Some(RunFault::Memory.code()),

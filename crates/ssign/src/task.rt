@@ -7,12 +7,12 @@ ghost use Rattle.ss_report.specs.runs.Run.{Runs, Stops};
 ghost use Rattle.ss_report.specs.lines.Between.{end_counters};
 ghost use Rattle.ssign.specs.Task.{carrying, given, inspection_form, job_of};
 
-use ss_frame::{Form, Limits, Watched};
+use ss_frame::{Form, Watched};
 use ss_octets::Bytes;
 use ss_report::{
-    Detail, Extraction, InspectionForm, Payloads, ReportForm, Run, RunFault, Selection, Verdict,
-    run_counters, run_extract_as, run_inspect, run_questions_as, run_review_as, run_review_between,
-    run_review_whole,
+    Detail, Extraction, InspectionForm, Payloads, ReadOptions, ReportForm, Run, RunFault,
+    Selection, Verdict, run_counters, run_extract_as, run_inspect, run_questions_as, run_review_as,
+    run_review_between, run_review_whole,
 };
 use ss_review::{Counter, Judge};
 use std::alloc::Global;
@@ -66,8 +66,8 @@ pub struct TaskRequest<'c> {
     pub counters: Option<&'c [Counter]>,
     /// Which messages an extract writes, and in which form.
     pub extraction: Extraction,
-    /// In which form the log is stored, and how long it and its messages may be.
-    pub limits: Limits,
+    /// In which form the log is stored, how long it and its messages may be, and whether reading goes on after damage.
+    pub reading: ReadOptions,
 }
 
 /// Reads a log to its end, and writes what is asked of it in the form that is wanted. A whole review goes up to these
@@ -94,13 +94,13 @@ pub fn run_task<R: Read, W: Write, J: Judge + Drop>(
     ensures done { IfOk result
         (Runs (job_of (answers J.trusted J.valid judge) request.entry.reporting (given request.entry.known)
         (given request.entry.first) (given request.entry.counters) request.entry.extraction request.entry.task)
-        request.entry.limits
+        request.entry.reading
         (source_of R.remaining reader.old) (source_of R.remaining reader.new)
         (sink_of W.contents writer.old) (sink_of W.contents writer.new)) }
     ensures stopped { IfErr result
         (Stops (job_of (answers J.trusted J.valid judge) request.entry.reporting (given request.entry.known)
         (given request.entry.first) (given request.entry.counters) request.entry.extraction request.entry.task)
-        request.entry.limits
+        request.entry.reading
         (source_of R.remaining reader.old) (source_of R.remaining reader.new)
         (sink_of W.contents writer.old) (sink_of W.contents writer.new)) }
     ensures untouched { IfErr result (λ fault. fault ≢ RunFault.Write → writer.new ≡ writer.old) }
@@ -112,12 +112,12 @@ pub fn run_task<R: Read, W: Write, J: Judge + Drop>(
         first,
         counters,
         extraction,
-        limits,
+        reading,
     } = request;
     let run = Run {
         reader,
         writer,
-        limits,
+        options: reading,
         known,
         alloc,
     };

@@ -103,10 +103,11 @@ pub(crate) fn run_by<R: Read, W: Write>(
     let Run {
         reader,
         writer,
-        limits,
+        options,
         known,
         alloc,
     } = run;
+    let limits = options.limits;
     let trust = |payload: &[u8]| book.trusts(payload);
     let check = |payload: &[u8], octets: &[u8], sign: &[u8]| book.accepts(payload, octets, sign);
     let verifier = Verifier::new(book, trust, check);
@@ -118,7 +119,7 @@ pub(crate) fn run_by<R: Read, W: Write>(
             let run = Run {
                 reader,
                 writer,
-                limits,
+                options,
                 known,
                 alloc,
             };
@@ -129,7 +130,7 @@ pub(crate) fn run_by<R: Read, W: Write>(
             let run = Run {
                 reader,
                 writer,
-                limits,
+                options,
                 known,
                 alloc,
             };

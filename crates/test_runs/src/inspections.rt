@@ -1,7 +1,7 @@
 //! Inspections of logs that cannot be read, over devices that fail, and where memory runs out: nothing is written then
 //! but by a write that failed.
 use ss_frame::{FrameFault, Limits, Watched};
-use ss_report::{InspectionForm, ReportForm, Run, RunFault, Verdict, run_inspect};
+use ss_report::{InspectionForm, ReadOptions, ReportForm, Run, RunFault, Verdict, run_inspect};
 use std::alloc::Global;
 use std::io::{ErrorKind, Read};
 use std::process::Abort;
@@ -56,7 +56,7 @@ fn inspect_over<R: Read>(
     let run = Run {
         reader: &mut reader,
         writer: &mut writer,
-        limits,
+        options: ReadOptions::undamaged(limits),
         known: None,
         alloc,
     };

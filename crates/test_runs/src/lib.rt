@@ -28,6 +28,8 @@ mod rows;
 #[cfg(test)]
 mod run;
 #[cfg(test)]
+mod salvaged;
+#[cfg(test)]
 mod shortfalls;
 #[cfg(test)]
 mod stops;

@@ -13,7 +13,7 @@ use ss_message::Field;
 use ss_octets::{Bytes, NoMemory};
 use ss_report::report_text::report_text;
 use ss_report::{
-    Detail, Notation, ReportForm, Run, RunFault, Verdict, run_counters, run_review_as,
+    Detail, Notation, ReadOptions, ReportForm, Run, RunFault, Verdict, run_counters, run_review_as,
     run_review_between, run_review_whole,
 };
 use ss_review::{
@@ -258,7 +258,7 @@ fn make(alloc: Global, kind: Kind) -> Result<Done, AllocError> {
     let run = Run {
         reader: &mut reader,
         writer: &mut writer,
-        limits: Limits::standard(),
+        options: ReadOptions::undamaged(Limits::standard()),
         known: None,
         alloc,
     };

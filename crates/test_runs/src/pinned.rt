@@ -10,8 +10,8 @@ use ss_frame::{Form, Watched};
 use ss_message::Field;
 use ss_octets::Bytes;
 use ss_report::{
-    Detail, Extraction, Notation, Payloads, ReportForm, Run, RunFault, Selection, Verdict,
-    run_counters, run_extract_as, run_questions_as, run_review_as, run_review_between,
+    Detail, Extraction, Notation, Payloads, ReadOptions, ReportForm, Run, RunFault, Selection,
+    Verdict, run_counters, run_extract_as, run_questions_as, run_review_as, run_review_between,
     run_review_whole,
 };
 use ss_review::{Counter, Counts, Verifier};
@@ -470,14 +470,14 @@ fn run_by<R: Read, W: Write>(
     let Run {
         reader,
         writer,
-        limits,
+        options,
         known,
         alloc,
     } = run;
     let run = Run {
         reader,
         writer,
-        limits,
+        options,
         known,
         alloc,
     };
@@ -531,7 +531,7 @@ fn made_of(
     let run = Run {
         reader: &mut reader,
         writer: &mut writer,
-        limits: limits_of(Form::Frames),
+        options: ReadOptions::undamaged(limits_of(Form::Frames)),
         known: match row.known {
             Some(_) => Some(payloads.as_slice()),
             None => None,

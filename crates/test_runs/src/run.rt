@@ -1,7 +1,7 @@
 //! A run over octets, and what it wrote.
 use crate::book::{Job, Who, book_of, run_by, signed_texts};
 use ss_frame::{Form, Limits, Watched};
-use ss_report::{Run, RunFault, Verdict};
+use ss_report::{ReadOptions, Run, RunFault, Verdict};
 use std::alloc::{AllocError, Global};
 use std::io::Read;
 use test_devices::Paper;
@@ -47,7 +47,7 @@ pub(crate) fn run<R: Read + Drop>(
     let run = Run {
         reader: &mut reader,
         writer: &mut writer,
-        limits,
+        options: ReadOptions::undamaged(limits),
         known: None,
         alloc,
     };

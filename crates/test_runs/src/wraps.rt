@@ -3,8 +3,8 @@ use crate::book::Yes;
 use ss_frame::{Form, Limits, Watched};
 use ss_octets::put_number;
 use ss_report::{
-    ExtractFault, Extraction, InspectionForm, ReportForm, Run, RunFault, Selection, Verdict,
-    run_extract_as, run_inspect,
+    ExtractFault, Extraction, InspectionForm, ReadOptions, ReportForm, Run, RunFault, Selection,
+    Verdict, run_extract_as, run_inspect,
 };
 use ss_review::Places;
 use std::alloc::{AllocError, Global};
@@ -125,7 +125,7 @@ fn extract(
     let run = Run {
         reader: &mut reader,
         writer: &mut writer,
-        limits: Limits::standard(),
+        options: ReadOptions::undamaged(Limits::standard()),
         known: None,
         alloc,
     };
@@ -140,7 +140,7 @@ fn inspect(alloc: Global, log: &[u8], form: InspectionForm) -> (Result<Verdict, 
     let run = Run {
         reader: &mut reader,
         writer: &mut writer,
-        limits: Limits::standard(),
+        options: ReadOptions::undamaged(Limits::standard()),
         known: None,
         alloc,
     };

@@ -89,7 +89,7 @@ lines_beside (p ∷ ps) =
 
 pub counters_are_the_logs : CountersAreTheLogs
 unfolding counter_lines_with counters_given
-counters_are_the_logs known says log tail =
+counters_are_the_logs known says log ending =
     let pairs = zip (report_by known says (contents (notes log))).sessions (counted_by known says (blocks (notes log))) in
     let count = sum_by how_many (report_by known says (contents (notes log))).sessions in
     sym (counters_are Plain known says log)

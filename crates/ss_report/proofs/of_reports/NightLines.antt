@@ -1,5 +1,5 @@
 -- The lines of a report between the counters of a night.
-use Rattle.std.proofs.Common.{◌≡◌, ℕ, ◌+◌, ◌<◌, Bool, true, false, List, [], ◌∷◌, ◌++◌, length, get_or, take, map, flat_map, filter, Option, Some, None, refl, sym, ap, ◌∙◌, subst, append-nil, append_assoc, arith}
+use Rattle.std.proofs.Common.{◌≡◌, ℕ, ◌+◌, ◌<◌, Bool, true, false, List, [], ◌∷◌, ◌++◌, length, get_or, take, map, flat_map, filter, Option, refl, sym, ap, ◌∙◌, arith}
 use Rattle.std.specs.Prelude.{zip, min, not, if◌then◌else◌}
 use Rattle.std.proofs.lemmas.List.{map-append, take_all}
 use Rattle.std.proofs.lemmas.Slice.Zip.{length-zip, get_or-zip}
@@ -8,7 +8,7 @@ use Rattle.ss_review.specs.declared.counted.counter.Counter.{Counter}
 use Rattle.ss_review.specs.declared.counted.shortfall.Shortfall.{Shortfall}
 use Rattle.ss_review.specs.declared.report.group_report.GroupReport.{GroupReport}
 use Rattle.ss_review.specs.declared.report.session_report.SessionReport.{SessionReport}
-use Rattle.ss_between.specs.Between.{NumberRun, absent_left, beyond_of, early, early_of, is_idle, shortfall_left}
+use Rattle.ss_between.specs.Between.{absent_left, beyond_of, early_of, is_idle, shortfall_left}
 use Rattle.ss_report.specs.declared.lines.detail.Detail.{Detail}
 use Rattle.ss_report.specs.declared.lines.outside.Side.TheVariants as sides
 use Rattle.ss_report.specs.lines.Lines.{ReportLine}

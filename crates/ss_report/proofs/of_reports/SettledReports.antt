@@ -1,5 +1,5 @@
 -- A verdict is that of the report, of its end, and of what is missing beside it.
-use Rattle.std.proofs.Common.{◌≡◌, ℕ, Bool, true, false, List, [], ◌∷◌, ◌++◌, ◌&&◌, length, map, flat_map, Option, Some, None, refl, ap, ◌∙◌, arith}
+use Rattle.std.proofs.Common.{◌≡◌, ℕ, Bool, true, false, List, [], ◌∷◌, ◌++◌, ◌&&◌, length, map, flat_map, Option, Some, None, refl, ap, ◌∙◌, append_assoc, arith}
 use Rattle.std.specs.Prelude.{zip}
 use Rattle.std.specs.List.{list_all}
 use Rattle.std.proofs.lemmas.List.{length-map}
@@ -31,10 +31,12 @@ use Rattle.ss_review.specs.report.Verdict.{is_clean, is_joined, is_listed, is_no
 use Rattle.ss_review.specs.sessions.Sessions.{sessions}
 use Rattle.ss_review.specs.sessions.Verified.{Answers}
 use Rattle.ss_report.specs.declared.lines.detail.Detail.TheVariants as details
-use Rattle.ss_report.specs.lines.Lines.{UnlistedLine, RefusedLine, EndLine, entry_line, group_lines, session_lines, spoilt_place_line, tail_lines, single_lines, other_lines, lines}
+use Rattle.ss_report.specs.lines.Lines.{UnlistedLine, RefusedLine, EndLine, entry_line, group_lines, session_lines, damage_line, ending_lines, spoilt_place_line, tail_lines, single_lines, other_lines, lines}
 use Rattle.ss_report.specs.lines.Settled.{is_settled}
 use Rattle.ss_report.specs.lines.Whole.{absent_lines, lines_beside, lines_with, missing_line, shortfall_lines, tail_line, whole_verdict_by}
-use Rattle.ss_report.specs.Verdict.{report_verdict, verdict_of}
+use Rattle.ss_report.specs.Verdict.{is_clean_ending, is_clean_tail, report_verdict, verdict_of}
+use Rattle.ss_report.specs.declared.log.ending.Damage.{Damage}
+use Rattle.ss_report.specs.declared.log.ending.Ending.{Ending}
 use Rattle.ss_report.specs.VerdictLaws.{is_complete, is_nothing_short, verdict_where, VerdictsAreOfReports}
 
 -- ---- the lines of a report
@@ -78,13 +80,19 @@ settled_spoilt : (ps : List SpoiltPlace) → list_all is_settled (map spoilt_pla
 settled_spoilt [] = refl
 settled_spoilt (p ∷ ps) = refl
 
-abbrev is_clean_end : Tail → Bool
-is_clean_end tails.Clean = true
-is_clean_end (tails.Torn pos) = false
+settled_damaged : (ds : List Damage) → list_all is_settled (map damage_line ds) ≡ is_none ds
+settled_damaged [] = refl
+settled_damaged (d ∷ ds) = refl
 
-settled_end : (tail : Tail) (count : ℕ) → list_all is_settled (tail_lines tail ++ EndLine count ∷ []) ≡ is_clean_end tail
-settled_end tails.Clean count = refl
-settled_end (tails.Torn pos) count = refl
+settled_tail : (tail : Tail) (count : ℕ) → list_all is_settled (tail_lines tail ++ EndLine count ∷ []) ≡ is_clean_tail tail
+settled_tail tails.Clean count = refl
+settled_tail (tails.Torn pos) count = refl
+
+settled_end : (ending : Ending) (count : ℕ) → list_all is_settled (ending_lines details.Itemized ending ++ EndLine count ∷ []) ≡ is_clean_ending ending
+settled_end ending count =
+    ap (list_all is_settled) (append_assoc (map damage_line ending.damaged) (tail_lines ending.tail) (EndLine count ∷ []))
+    ∙ list_all-append is_settled (map damage_line ending.damaged) (tail_lines ending.tail ++ EndLine count ∷ [])
+    ∙ (λ i. settled_damaged ending.damaged i && settled_tail ending.tail count i)
 
 settled_single : (r : Report) → list_all is_settled (single_lines details.Itemized r) ≡ ((is_none r.unlisted && is_none r.refused) && is_none r.spoilt)
 unfolding single_lines
@@ -93,32 +101,31 @@ settled_single r =
     ∙ (λ i. list_all-append is_settled (map UnlistedLine r.unlisted) (map RefusedLine r.refused) i && settled_spoilt r.spoilt i)
     ∙ (λ i. (settled_unlisted r.unlisted i && settled_refused r.refused i) && is_none r.spoilt)
 
-settled_others : (r : Report) (tail : Tail) → list_all is_settled (other_lines details.Itemized r tail) ≡ (((is_none r.unlisted && is_none r.refused) && is_none r.spoilt) && is_clean_end tail)
+settled_others : (r : Report) (ending : Ending) → list_all is_settled (other_lines details.Itemized r ending) ≡ (((is_none r.unlisted && is_none r.refused) && is_none r.spoilt) && is_clean_ending ending)
 unfolding other_lines
-settled_others r tail =
-    list_all-append is_settled (single_lines details.Itemized r) (tail_lines tail ++ EndLine r.count ∷ [])
-    ∙ (λ i. settled_single r i && settled_end tail r.count i)
+settled_others r ending =
+    list_all-append is_settled (single_lines details.Itemized r) (ending_lines details.Itemized ending ++ EndLine r.count ∷ [])
+    ∙ (λ i. settled_single r i && settled_end ending r.count i)
 
-settled_lines : (r : Report) (tail : Tail)
-    → list_all is_settled (lines details.Itemized r tail) ≡ (list_all is_whole r.sessions && (((is_none r.unlisted && is_none r.refused) && is_none r.spoilt) && is_clean_end tail))
+settled_lines : (r : Report) (ending : Ending)
+    → list_all is_settled (lines details.Itemized r ending) ≡ (list_all is_whole r.sessions && (((is_none r.unlisted && is_none r.refused) && is_none r.spoilt) && is_clean_ending ending))
 unfolding lines
-settled_lines r tail =
-    list_all-append is_settled (flat_map (session_lines details.Itemized) r.sessions) (other_lines details.Itemized r tail)
-    ∙ (λ i. settled_sessions r.sessions i && settled_others r tail i)
+settled_lines r ending =
+    list_all-append is_settled (flat_map (session_lines details.Itemized) r.sessions) (other_lines details.Itemized r ending)
+    ∙ (λ i. settled_sessions r.sessions i && settled_others r ending i)
 
-verdict_by : (w u r s : Bool) (tail : Tail) → verdict_of (w && (((u && r) && s) && is_clean_end tail)) ≡ verdict_where (w && u && r && s) tail
-verdict_by false u r s tail = refl
-verdict_by true false r s tail = refl
-verdict_by true true false s tail = refl
-verdict_by true true true false tail = refl
-verdict_by true true true true tails.Clean = refl
-verdict_by true true true true (tails.Torn pos) = refl
+verdict_by : (w u r s : Bool) (ending : Ending) → verdict_of (w && (((u && r) && s) && is_clean_ending ending)) ≡ verdict_where (w && u && r && s) ending
+verdict_by false u r s ending = refl
+verdict_by true false r s ending = refl
+verdict_by true true false s ending = refl
+verdict_by true true true false ending = refl
+verdict_by true true true true ending = refl
 
-plain : (r : Report) (tail : Tail) → report_verdict r tail ≡ verdict_where (is_clean r) tail
+plain : (r : Report) (ending : Ending) → report_verdict r ending ≡ verdict_where (is_clean r) ending
 unfolding is_clean
-plain r tail =
-    ap verdict_of (settled_lines r tail)
-    ∙ verdict_by (list_all is_whole r.sessions) (is_none r.unlisted) (is_none r.refused) (is_none r.spoilt) tail
+plain r ending =
+    ap verdict_of (settled_lines r ending)
+    ∙ verdict_by (list_all is_whole r.sessions) (is_none r.unlisted) (is_none r.refused) (is_none r.spoilt) ending
 
 -- ---- what is missing beside it
 
@@ -156,32 +163,31 @@ settled_absent : (fs : List Shortfall) → list_all is_settled (flat_map absent_
 settled_absent [] = refl
 settled_absent (f ∷ fs) = refl
 
-settled_whole : (r : Report) (short : LogShortfalls) (tail : Tail) → length r.sessions ≡ length short.known
-    → list_all is_settled (lines_with details.Itemized r short tail)
-    ≡ (((list_all is_whole r.sessions && list_all is_complete short.known) && is_none short.absent) && (((is_none r.unlisted && is_none r.refused) && is_none r.spoilt) && is_clean_end tail))
+settled_whole : (r : Report) (short : LogShortfalls) (ending : Ending) → length r.sessions ≡ length short.known
+    → list_all is_settled (lines_with details.Itemized r short ending)
+    ≡ (((list_all is_whole r.sessions && list_all is_complete short.known) && is_none short.absent) && (((is_none r.unlisted && is_none r.refused) && is_none r.spoilt) && is_clean_ending ending))
 unfolding lines_with
-settled_whole r short tail e =
+settled_whole r short ending e =
     let known = flat_map (lines_beside details.Itemized) (zip r.sessions short.known) in
-    list_all-append is_settled (known ++ flat_map absent_lines short.absent) (other_lines details.Itemized r tail)
-    ∙ (λ i. list_all-append is_settled known (flat_map absent_lines short.absent) i && settled_others r tail i)
-    ∙ (λ i. (settled_beside r.sessions short.known e i && settled_absent short.absent i) && (((is_none r.unlisted && is_none r.refused) && is_none r.spoilt) && is_clean_end tail))
+    list_all-append is_settled (known ++ flat_map absent_lines short.absent) (other_lines details.Itemized r ending)
+    ∙ (λ i. list_all-append is_settled known (flat_map absent_lines short.absent) i && settled_others r ending i)
+    ∙ (λ i. (settled_beside r.sessions short.known e i && settled_absent short.absent i) && (((is_none r.unlisted && is_none r.refused) && is_none r.spoilt) && is_clean_ending ending))
 
-whole_by : (w u r s k a : Bool) (tail : Tail)
-    → verdict_of (((w && k) && a) && (((u && r) && s) && is_clean_end tail)) ≡ verdict_where ((w && u && r && s) && (k && a)) tail
-whole_by false u r s k a tail = refl
-whole_by true false r s false a tail = refl
-whole_by true true false s false a tail = refl
-whole_by true true true false false a tail = refl
-whole_by true true true true false a tail = refl
-whole_by true false r s true false tail = refl
-whole_by true false r s true true tail = refl
-whole_by true true false s true false tail = refl
-whole_by true true false s true true tail = refl
-whole_by true true true false true false tail = refl
-whole_by true true true false true true tail = refl
-whole_by true true true true true false tail = refl
-whole_by true true true true true true tails.Clean = refl
-whole_by true true true true true true (tails.Torn pos) = refl
+whole_by : (w u r s k a : Bool) (ending : Ending)
+    → verdict_of (((w && k) && a) && (((u && r) && s) && is_clean_ending ending)) ≡ verdict_where ((w && u && r && s) && (k && a)) ending
+whole_by false u r s k a ending = refl
+whole_by true false r s false a ending = refl
+whole_by true true false s false a ending = refl
+whole_by true true true false false a ending = refl
+whole_by true true true true false a ending = refl
+whole_by true false r s true false ending = refl
+whole_by true false r s true true ending = refl
+whole_by true true false s true false ending = refl
+whole_by true true false s true true ending = refl
+whole_by true true true false true false ending = refl
+whole_by true true true false true true ending = refl
+whole_by true true true true true false ending = refl
+whole_by true true true true true true ending = refl
 
 -- a report and what is missing beside it have as many sessions, which are those of the blocks
 as_many_of : (says : Answers) (counters : List Counter) (log : Contents)
@@ -201,14 +207,14 @@ as_many : (known : Option (List (List ℕ))) (says : Answers) (counters : List C
 as_many None says counters log = as_many_of says counters (contents (notes log))
 as_many (Some ps) says counters log = as_many_of says counters (pinned_contents says ps (contents (notes log)))
 
-whole : (known : Option (List (List ℕ))) (says : Answers) (counters : List Counter) (log : List (List ℕ)) (tail : Tail)
-    → whole_verdict_by known says counters log tail ≡ verdict_where (is_clean (report_by known says (contents (notes log))) && is_nothing_short (shortfalls_by known says log counters)) tail
+whole : (known : Option (List (List ℕ))) (says : Answers) (counters : List Counter) (log : List (List ℕ)) (ending : Ending)
+    → whole_verdict_by known says counters log ending ≡ verdict_where (is_clean (report_by known says (contents (notes log))) && is_nothing_short (shortfalls_by known says log counters)) ending
 unfolding is_clean
-whole known says counters log tail =
+whole known says counters log ending =
     let r = report_by known says (contents (notes log)) in
     let short = shortfalls_by known says log counters in
-    ap verdict_of (settled_whole r short tail (as_many known says counters log))
-    ∙ whole_by (list_all is_whole r.sessions) (is_none r.unlisted) (is_none r.refused) (is_none r.spoilt) (list_all is_complete short.known) (is_none short.absent) tail
+    ap verdict_of (settled_whole r short ending (as_many known says counters log))
+    ∙ whole_by (list_all is_whole r.sessions) (is_none r.unlisted) (is_none r.refused) (is_none r.spoilt) (list_all is_complete short.known) (is_none short.absent) ending
 
 pub verdicts_are_of_reports : VerdictsAreOfReports
 verdicts_are_of_reports = record { plain = plain; whole = whole }

@@ -17,11 +17,13 @@ use Rattle.ss_review.specs.report.Extract.{place_listed, listed_places}
 use Rattle.ss_report.specs.declared.lines.detail.Detail.TheVariants as details
 use Rattle.ss_report.specs.declared.lines.listed.PlacesSoFar.{PlacesSoFar}
 use Rattle.ss_report.specs.log.Writing.{Writes}
-use Rattle.ss_report.specs.lines.Lines.{ReportLine, UnlistedLine, RefusedLine, EndLine, entry_line, group_lines, session_lines, spoilt_place_line, tail_lines, single_lines, other_lines, lines}
+use Rattle.ss_report.specs.lines.Lines.{ReportLine, UnlistedLine, RefusedLine, EndLine, entry_line, group_lines, session_lines, damage_line, ending_lines, spoilt_place_line, tail_lines, single_lines, other_lines, lines}
 use Rattle.ss_report.specs.lines.Taken.{TakesAll}
 use Rattle.ss_report.specs.lines.Settled.{is_settled}
 use Rattle.ss_report.specs.lines.Listed.{place_in, KeepsPlace}
 use Rattle.ss_report.proofs.of_writing.Writings.{writes_nothing, writes_then}
+use Rattle.ss_report.specs.declared.log.ending.Damage.{Damage}
+use Rattle.ss_report.specs.declared.log.ending.Ending.{Ending}
 
 -- ---- a writer: their octets
 
@@ -93,9 +95,19 @@ none_spoilt : (ps : List SpoiltPlace) → filter_map place_in (map spoilt_place_
 none_spoilt [] = refl
 none_spoilt (p ∷ ps) = none_spoilt ps
 
-none_at_end : (tail : Tail) (count : ℕ) → filter_map place_in (tail_lines tail ++ EndLine count ∷ []) ≡ []
-none_at_end tails.Clean count = refl
-none_at_end (tails.Torn pos) count = refl
+none_damaged : (ds : List Damage) → filter_map place_in (map damage_line ds) ≡ []
+none_damaged [] = refl
+none_damaged (d ∷ ds) = none_damaged ds
+
+none_at_tail : (tail : Tail) (count : ℕ) → filter_map place_in (tail_lines tail ++ EndLine count ∷ []) ≡ []
+none_at_tail tails.Clean count = refl
+none_at_tail (tails.Torn pos) count = refl
+
+none_at_end : (ending : Ending) (count : ℕ) → filter_map place_in (ending_lines details.Itemized ending ++ EndLine count ∷ []) ≡ []
+none_at_end ending count =
+    ap (filter_map place_in) (append_assoc (map damage_line ending.damaged) (tail_lines ending.tail) (EndLine count ∷ []))
+    ∙ filter_map-append place_in (map damage_line ending.damaged) (tail_lines ending.tail ++ EndLine count ∷ [])
+    ∙ (λ i. none_damaged ending.damaged i ++ none_at_tail ending.tail count i)
 
 none_single : (r : Report) → filter_map place_in (single_lines details.Itemized r) ≡ []
 unfolding single_lines
@@ -104,20 +116,20 @@ none_single r =
     ∙ (λ i. filter_map-append place_in (map UnlistedLine r.unlisted) (map RefusedLine r.refused) i ++ none_spoilt r.spoilt i)
     ∙ (λ i. (none_unlisted r.unlisted i ++ none_refused r.refused i) ++ [])
 
-none_behind : (r : Report) (tail : Tail) → filter_map place_in (other_lines details.Itemized r tail) ≡ []
+none_behind : (r : Report) (ending : Ending) → filter_map place_in (other_lines details.Itemized r ending) ≡ []
 unfolding other_lines
-none_behind r tail =
-    filter_map-append place_in (single_lines details.Itemized r) (tail_lines tail ++ EndLine r.count ∷ [])
-    ∙ (λ i. none_single r i ++ none_at_end tail r.count i)
+none_behind r ending =
+    filter_map-append place_in (single_lines details.Itemized r) (ending_lines details.Itemized ending ++ EndLine r.count ∷ [])
+    ∙ (λ i. none_single r i ++ none_at_end ending r.count i)
 
 -- the lines of a report list its messages
-pub places_in_lines : (r : Report) (tail : Tail) → filter_map place_in (lines details.Itemized r tail) ≡ listed_places r
+pub places_in_lines : (r : Report) (ending : Ending) → filter_map place_in (lines details.Itemized r ending) ≡ listed_places r
 unfolding lines
-places_in_lines r tail =
-    filter_map-append place_in (flat_map (session_lines details.Itemized) r.sessions) (other_lines details.Itemized r tail)
-    ∙ (λ i. of_sessions r.sessions i ++ none_behind r tail i)
+places_in_lines r ending =
+    filter_map-append place_in (flat_map (session_lines details.Itemized) r.sessions) (other_lines details.Itemized r ending)
+    ∙ (λ i. of_sessions r.sessions i ++ none_behind r ending i)
     ∙ append-nil (listed_places r)
 
-pub all_kept : (a b : PlacesSoFar) (r : Report) (tail : Tail) → TakesAll KeepsPlace a b (lines details.Itemized r tail) → b.failed ≡ false → a.places.items ≡ [] → b.places.items ≡ listed_places r
-all_kept a b r tail taken ready none =
-    (kept_from a b (lines details.Itemized r tail) taken ready).1 ∙ ap (λ xs. xs ++ filter_map place_in (lines details.Itemized r tail)) none ∙ places_in_lines r tail
+pub all_kept : (a b : PlacesSoFar) (r : Report) (ending : Ending) → TakesAll KeepsPlace a b (lines details.Itemized r ending) → b.failed ≡ false → a.places.items ≡ [] → b.places.items ≡ listed_places r
+all_kept a b r ending taken ready none =
+    (kept_from a b (lines details.Itemized r ending) taken ready).1 ∙ ap (λ xs. xs ++ filter_map place_in (lines details.Itemized r ending)) none ∙ places_in_lines r ending

@@ -1,10 +1,10 @@
 -- Records that are written field by field.
-use Rattle.std.proofs.Common.{List, ℕ, ◌++◌, [], ◌∷◌, sym, append-nil}
+use Rattle.std.proofs.Common.{List, ℕ, ◌++◌, [], sym, append-nil}
 use Rattle.std.proofs.lemmas.Grind.{flat_map-append}
 use Rattle.ss_frame.specs.Watched.{Sink}
 use Rattle.ss_report.specs.declared.notation.Notation.{Notation}
 use Rattle.ss_report.specs.log.Writing.{Writes}
-use Rattle.ss_report.specs.records.Record.{Value, Record, field}
+use Rattle.ss_report.specs.records.Record.{Value, field}
 use Rattle.ss_report.specs.records.Written.{head_in, field_in, fields_in, end_in, written}
 use Rattle.ss_report.proofs.of_writing.Writings.{writes_nothing, writes_then, writes_same}
 

@@ -1,7 +1,7 @@
 -- The forms of a report's output.
 use Rattle.std.specs.Prelude.{ℕ, Bool, true, false, ◌&&◌, if◌then◌else◌, List, [], flat_map}
-use Rattle.ss_frame.specs.declared.step.Tail.{Tail}
 use Rattle.ss_review.specs.declared.report.report.Report.{Report}
+use Rattle.ss_report.specs.declared.log.ending.Ending.{Ending}
 use Rattle.ss_report.specs.declared.forms.report_form.ReportForm.{ReportForm}
 use Rattle.ss_report.specs.declared.forms.report_form.ReportForm.TheVariants as forms
 use Rattle.ss_report.specs.declared.notation.Notation.{Notation}
@@ -37,9 +37,9 @@ line_as form line =
     if has_findings_alone form && is_ok line then [] else written (notation_of form) (record_of line)
 
 -- the whole report
-abbrev pub report_as : ReportForm → Detail → Report → Tail → List ℕ
-report_as form detail report tail = flat_map (line_as form) (lines detail report tail)
+abbrev pub report_as : ReportForm → Detail → Report → Ending → List ℕ
+report_as form detail report ending = flat_map (line_as form) (lines detail report ending)
 
 -- the text of the report
-abbrev pub report_lines : Report → Tail → List ℕ
-report_lines report tail = report_as forms.Text details.Itemized report tail
+abbrev pub report_lines : Report → Ending → List ℕ
+report_lines report ending = report_as forms.Text details.Itemized report ending

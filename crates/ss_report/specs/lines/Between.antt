@@ -4,7 +4,6 @@
 use Rattle.std.specs.Prelude.{ℕ, ◌+◌, nat_lt, nat_le, Bool, if◌then◌else◌, Option, Some, None}
 use Rattle.std.specs.Prelude.{List, [], ◌++◌, map, filter, flat_map}
 use Rattle.std.specs.List.{list_all, zip}
-use Rattle.ss_frame.specs.declared.step.Tail.{Tail}
 use Rattle.ss_block.specs.declared.block.Group.{Group}
 use Rattle.ss_block.specs.declared.session.Session.{Session}
 use Rattle.ss_review.specs.declared.counted.counter.Counter.{Counter}
@@ -22,6 +21,7 @@ use Rattle.ss_review.specs.pinned.Stands.{shortfalls_by}
 use Rattle.ss_review.specs.report.Report.{report}
 use Rattle.ss_between.specs.Between.{NumberRun, SessionBetween, session_between, absent_left, is_idle, shortfall_left}
 use Rattle.ss_between.specs.Between.{number_at, numbers, runs, runs_from}
+use Rattle.ss_report.specs.declared.log.ending.Ending.{Ending}
 use Rattle.ss_report.specs.declared.lines.detail.Detail.{Detail}
 use Rattle.ss_report.specs.declared.lines.detail.Detail.TheVariants as details
 use Rattle.ss_report.specs.declared.lines.outside.OpenRun.{OpenRun}
@@ -59,20 +59,20 @@ lines_of_absent first f =
 
 -- all lines of a report, with what is missing of its sessions, and then of absent ones, between these counters
 unfoldable pub lines_between :
-    Detail → (first : List Counter) → (second : Option (List Counter)) → Report → LogShortfalls → Tail
+    Detail → (first : List Counter) → (second : Option (List Counter)) → Report → LogShortfalls → Ending
     → List ReportLine
-lines_between detail first second report short tail =
+lines_between detail first second report short ending =
     flat_map (lines_of_night detail first second) (zip report.sessions short.known)
     ++ flat_map absent_lines (absent_left first short.absent)
-    ++ other_lines detail report tail
+    ++ other_lines detail report ending
 
 -- ---- the verdict
 
 -- clean where none of these lines leaves anything to look into
 abbrev pub verdict_between :
-    (first : List Counter) → (second : Option (List Counter)) → Report → LogShortfalls → Tail → Verdict
-verdict_between first second report short tail =
-    verdict_of (list_all is_settled (lines_between details.Itemized first second report short tail))
+    (first : List Counter) → (second : Option (List Counter)) → Report → LogShortfalls → Ending → Verdict
+verdict_between first second report short ending =
+    verdict_of (list_all is_settled (lines_between details.Itemized first second report short ending))
 
 -- ---- of a log
 
@@ -85,23 +85,23 @@ end_counters (Some counters) = counters
 -- beforehand, or without any
 abbrev pub between_lines_by :
     Option (List (List ℕ)) → Detail → Answers → (first : List Counter) → (second : Option (List Counter))
-    → List (List ℕ) → Tail → List ReportLine
-between_lines_by known detail says first second messages tail =
+    → List (List ℕ) → Ending → List ReportLine
+between_lines_by known detail says first second messages ending =
     lines_between detail first second (report_by known says (contents (notes messages)))
-    (shortfalls_by known says messages (end_counters second)) tail
+    (shortfalls_by known says messages (end_counters second)) ending
 
 abbrev pub between_verdict_by :
     Option (List (List ℕ)) → Answers → (first : List Counter) → (second : Option (List Counter)) → List (List ℕ)
-    → Tail → Verdict
-between_verdict_by known says first second messages tail =
+    → Ending → Verdict
+between_verdict_by known says first second messages ending =
     verdict_between first second (report_by known says (contents (notes messages)))
-    (shortfalls_by known says messages (end_counters second)) tail
+    (shortfalls_by known says messages (end_counters second)) ending
 
 -- the verdict without any
 abbrev pub between_verdict :
-    Answers → (first : List Counter) → (second : Option (List Counter)) → List (List ℕ) → Tail → Verdict
-between_verdict says first second messages tail =
-    verdict_between first second (report says messages) (shortfalls_of says messages (end_counters second)) tail
+    Answers → (first : List Counter) → (second : Option (List Counter)) → List (List ℕ) → Ending → Verdict
+between_verdict says first second messages ending =
+    verdict_between first second (report says messages) (shortfalls_of says messages (end_counters second)) ending
 
 -- ---- the numbers outside of a night, one by one
 

@@ -1,7 +1,7 @@
 -- The lines of a report as data, in the order in which every form of it has them: one for each thing, or tallies. Those
 -- of missing signature blocks, of tails and of absent sessions come if they are asked for (`Whole.antt`), and so do
 -- those of numbers that lie outside of a night (`Between.antt`).
-use Rattle.std.specs.Prelude.{ℕ, List, [], ◌∷◌, ◌++◌, length, map, flat_map}
+use Rattle.std.specs.Prelude.{ℕ, ◌==◌, if◌then◌else◌, List, [], ◌∷◌, ◌++◌, length, map, flat_map}
 use Rattle.ss_frame.specs.declared.step.Tail.{Tail}
 use Rattle.ss_frame.specs.declared.step.Tail.TheVariants as tails
 use Rattle.ss_block.specs.declared.block.Group.{Group}
@@ -15,6 +15,9 @@ use Rattle.ss_review.specs.declared.report.group_report.GroupReport.{GroupReport
 use Rattle.ss_review.specs.declared.report.session_report.SessionState.{SessionState}
 use Rattle.ss_review.specs.declared.report.session_report.SessionReport.{SessionReport}
 use Rattle.ss_review.specs.declared.report.report.Report.{Report}
+use Rattle.ss_report.specs.log.Log.{octets_in}
+use Rattle.ss_report.specs.declared.log.ending.Damage.{Damage}
+use Rattle.ss_report.specs.declared.log.ending.Ending.{Ending}
 use Rattle.ss_report.specs.declared.lines.detail.Detail.{Detail}
 use Rattle.ss_report.specs.declared.lines.detail.Detail.TheVariants as details
 use Rattle.ss_report.specs.declared.lines.tally.Tally.{Tally}
@@ -40,6 +43,8 @@ pub data ReportLine : Type 0 where
   UnlistedCountLine : (count : ℕ) → ReportLine
   RefusedCountLine : (count : ℕ) → ReportLine
   SpoiltCountLine : (count : ℕ) → ReportLine
+  DamagedLine : (place offset size : ℕ) → ReportLine
+  DamagedCountLine : (count octets : ℕ) → ReportLine
   TornLine : (offset : ℕ) → ReportLine
   EndLine : (count : ℕ) → ReportLine
 
@@ -65,6 +70,22 @@ abbrev pub tail_lines : Tail → List ReportLine
 tail_lines tails.Clean = []
 tail_lines (tails.Torn pos) = TornLine pos ∷ []
 
+abbrev pub damage_line : Damage → ReportLine
+damage_line d = DamagedLine d.place d.offset d.length
+
+-- how many stretches are damaged, and how many octets they have, if any is
+abbrev pub damage_count : List Damage → List ReportLine
+damage_count ds = if length ds == 0 then [] else DamagedCountLine (length ds) (octets_in ds) ∷ []
+
+-- what is damaged
+abbrev pub damage_lines : Detail → List Damage → List ReportLine
+damage_lines details.Itemized ds = map damage_line ds
+damage_lines details.Tally ds = damage_count ds
+
+-- what is damaged, and the torn end
+abbrev pub ending_lines : Detail → Ending → List ReportLine
+ending_lines detail ending = damage_lines detail ending.damaged ++ tail_lines ending.tail
+
 -- those of single messages
 unfoldable pub single_lines : Detail → Report → List ReportLine
 single_lines details.Itemized report =
@@ -74,12 +95,12 @@ single_lines details.Tally report =
     ∷ SpoiltCountLine (length report.spoilt) ∷ []
 
 -- those after the lines of the sessions
-unfoldable pub other_lines : Detail → Report → Tail → List ReportLine
-other_lines detail report tail = single_lines detail report ++ (tail_lines tail ++ EndLine report.count ∷ [])
+unfoldable pub other_lines : Detail → Report → Ending → List ReportLine
+other_lines detail report ending = single_lines detail report ++ (ending_lines detail ending ++ EndLine report.count ∷ [])
 
 -- all of a report without missing signature blocks
-unfoldable pub lines : Detail → Report → Tail → List ReportLine
-lines detail report tail = flat_map (session_lines detail) report.sessions ++ other_lines detail report tail
+unfoldable pub lines : Detail → Report → Ending → List ReportLine
+lines detail report ending = flat_map (session_lines detail) report.sessions ++ other_lines detail report ending
 
 -- the line that the code hands on, which refers to its session
 abbrev pub seen : Line → ReportLine
@@ -99,5 +120,7 @@ seen (line.Spoilt place cause) = SpoiltLine place cause
 seen (line.UnlistedCount count) = UnlistedCountLine count
 seen (line.RefusedCount count) = RefusedCountLine count
 seen (line.SpoiltCount count) = SpoiltCountLine count
+seen (line.Damaged place offset size) = DamagedLine place offset size
+seen (line.DamagedCount count octets) = DamagedCountLine count octets
 seen (line.Torn offset) = TornLine offset
 seen (line.End count) = EndLine count

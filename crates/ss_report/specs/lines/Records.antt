@@ -6,11 +6,11 @@ use Rattle.ss_review.specs.declared.report.session_report.SessionState.{SessionS
 use Rattle.ss_review.specs.declared.report.session_report.SessionState.TheVariants as states
 use Rattle.ss_report.specs.declared.lines.tally.Tally.{Tally}
 use Rattle.ss_report.specs.records.Record.{Value, Number, Word, Record, field}
-use Rattle.ss_report.specs.records.Fields.{session_fields, group_fields, cause_word}
+use Rattle.ss_report.specs.records.Fields.{session_fields, group_fields, cause_word, stretch_fields}
 use Rattle.ss_report.specs.lines.Lines.{ReportLine, SessionLine, OkLine, GapLine, HoleLine, TailLine, BlocksLine}
 use Rattle.ss_report.specs.lines.Lines.{EarlyLine, BeyondLine, AbsentLine, TallyLine}
 use Rattle.ss_report.specs.lines.Lines.{UnlistedLine, RefusedLine, SpoiltLine, UnlistedCountLine, RefusedCountLine}
-use Rattle.ss_report.specs.lines.Lines.{SpoiltCountLine, TornLine, EndLine}
+use Rattle.ss_report.specs.lines.Lines.{SpoiltCountLine, DamagedLine, DamagedCountLine, TornLine, EndLine}
 
 abbrev pub state_word : SessionState → List ℕ
 state_word states.Joined = codes "joined"
@@ -48,6 +48,8 @@ kind_of (SpoiltLine place cause) = codes "spoilt"
 kind_of (UnlistedCountLine count) = codes "unlisted-count"
 kind_of (RefusedCountLine count) = codes "refused-count"
 kind_of (SpoiltCountLine count) = codes "spoilt-count"
+kind_of (DamagedLine place offset size) = codes "damaged"
+kind_of (DamagedCountLine count octets) = codes "damaged-count"
 kind_of (TornLine offset) = codes "torn"
 kind_of (EndLine count) = codes "end"
 
@@ -77,6 +79,9 @@ fields_of (SpoiltLine place cause) =
 fields_of (UnlistedCountLine count) = field (codes "count") (Number count)
 fields_of (RefusedCountLine count) = field (codes "count") (Number count)
 fields_of (SpoiltCountLine count) = field (codes "count") (Number count)
+fields_of (DamagedLine place offset size) = stretch_fields place offset size
+fields_of (DamagedCountLine count octets) =
+    field (codes "count") (Number count) ++ field (codes "octets") (Number octets)
 fields_of (TornLine offset) = field (codes "offset") (Number offset)
 fields_of (EndLine count) = field (codes "count") (Number count)
 

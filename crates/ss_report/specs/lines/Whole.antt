@@ -3,7 +3,6 @@
 -- kept elsewhere, messages of each group are missing, and sessions of which the log has no block.
 use Rattle.std.specs.Prelude.{ℕ, List, ◌∷◌, ◌++◌, map, flat_map, Option}
 use Rattle.std.specs.List.{list_all, zip}
-use Rattle.ss_frame.specs.declared.step.Tail.{Tail}
 use Rattle.ss_block.specs.declared.session.Session.{Session}
 use Rattle.ss_review.specs.declared.counted.counter.Counter.{Counter}
 use Rattle.ss_review.specs.declared.counted.missing.MissingRun.{MissingRun}
@@ -21,6 +20,7 @@ use Rattle.ss_review.specs.keep.Contents.{contents}
 use Rattle.ss_review.specs.keep.Notes.{notes}
 use Rattle.ss_review.specs.pinned.Pinned.{report_by}
 use Rattle.ss_review.specs.pinned.Stands.{shortfalls_by}
+use Rattle.ss_report.specs.declared.log.ending.Ending.{Ending}
 use Rattle.ss_report.specs.declared.lines.detail.Detail.{Detail}
 use Rattle.ss_report.specs.declared.lines.detail.Detail.TheVariants as details
 use Rattle.ss_report.specs.lines.Lines.{ReportLine, TailLine, BlocksLine, AbsentLine, session_lines, other_lines}
@@ -49,30 +49,30 @@ abbrev pub absent_lines : Shortfall → List ReportLine
 absent_lines f = AbsentLine f.session ∷ shortfall_lines f
 
 -- all lines of a report, with what is missing of its sessions, and then of absent ones
-unfoldable pub lines_with : Detail → Report → LogShortfalls → Tail → List ReportLine
-lines_with detail report short tail =
+unfoldable pub lines_with : Detail → Report → LogShortfalls → Ending → List ReportLine
+lines_with detail report short ending =
     flat_map (lines_beside detail) (zip report.sessions short.known) ++ flat_map absent_lines short.absent
-    ++ other_lines detail report tail
+    ++ other_lines detail report ending
 
 -- ---- the verdict
 
 -- clean where no line of the report, or of what is missing beside it, leaves anything to look into
-abbrev pub verdict_with : Report → LogShortfalls → Tail → Verdict
-verdict_with report short tail = verdict_of (list_all is_settled (lines_with details.Itemized report short tail))
+abbrev pub verdict_with : Report → LogShortfalls → Ending → Verdict
+verdict_with report short ending = verdict_of (list_all is_settled (lines_with details.Itemized report short ending))
 
 -- ---- of a log
 
 -- the lines with what is missing of the sessions of a log, and up to these counters, by the payloads that are known
 -- beforehand, or without any
 abbrev pub whole_lines_by :
-    Option (List (List ℕ)) → Detail → Answers → List Counter → List (List ℕ) → Tail → List ReportLine
-whole_lines_by known detail says counters messages tail =
+    Option (List (List ℕ)) → Detail → Answers → List Counter → List (List ℕ) → Ending → List ReportLine
+whole_lines_by known detail says counters messages ending =
     lines_with detail (report_by known says (contents (notes messages))) (shortfalls_by known says messages counters)
-    tail
+    ending
 
-abbrev pub whole_verdict_by : Option (List (List ℕ)) → Answers → List Counter → List (List ℕ) → Tail → Verdict
-whole_verdict_by known says counters messages tail =
-    verdict_with (report_by known says (contents (notes messages))) (shortfalls_by known says messages counters) tail
+abbrev pub whole_verdict_by : Option (List (List ℕ)) → Answers → List Counter → List (List ℕ) → Ending → Verdict
+whole_verdict_by known says counters messages ending =
+    verdict_with (report_by known says (contents (notes messages))) (shortfalls_by known says messages counters) ending
 
 -- Each GBC below the greatest of a session, and below its counter, is that of a verified signature block, or missing,
 -- and never both.

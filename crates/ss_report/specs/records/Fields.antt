@@ -29,6 +29,12 @@ known_session_fields (Some s) = session_fields s
 unfoldable pub group_fields : Group → List (List ℕ × Value)
 group_fields g = field (codes "sg") (Number g.sg) ++ field (codes "spri") (Number g.spri)
 
+-- a damaged stretch: how many messages stand before it, the offset of its first octet, and how many it has
+unfoldable pub stretch_fields : (place offset size : ℕ) → List (List ℕ × Value)
+stretch_fields place offset size =
+    field (codes "place") (Number place) ++ field (codes "offset") (Number offset)
+    ++ field (codes "length") (Number size)
+
 -- the word of the cause, S1 to S9
 abbrev pub cause_word : Spoil → List ℕ
 cause_word spoils.BothBlocks = codes "S1"

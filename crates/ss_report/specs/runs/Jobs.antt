@@ -1,8 +1,7 @@
--- The runs over a log: what each writes of its messages and its tail, and its verdict. Those that review go by the
+-- The runs over a log: what each writes of its messages and its ending, and its verdict. Those that review go by the
 -- payloads that are known beforehand, where some are given (`Pinned.antt` of `ss_review`).
 use Rattle.std.specs.Prelude.{true, false, ℕ, Option, None, List, flat_map}
 use Rattle.ss_frame.specs.Frame.{frames, units_in}
-use Rattle.ss_frame.specs.Limits.{Allowance}
 use Rattle.ss_frame.specs.Watched.{Source, Sink}
 use Rattle.ss_review.specs.keep.Notes.{notes}
 use Rattle.ss_review.specs.keep.Contents.{blocks, contents}
@@ -25,6 +24,7 @@ use Rattle.ss_report.specs.runs.Counters.{counter_lines}
 use Rattle.ss_report.specs.Verdict.{end_verdict, report_verdict}
 use Rattle.ss_report.specs.runs.Extraction.{is_reviewed, messages_at, refusal, selected, selected_verdict, shown}
 use Rattle.ss_report.specs.runs.Run.{Job, Runs, nothing}
+use Rattle.ss_report.specs.declared.log.read_options.ReadOptions.{ReadOptions}
 use Rattle.ss_report.specs.declared.runs.extraction.Extraction.{Extraction}
 use Rattle.ss_report.specs.declared.forms.inspection_form.InspectionForm.{InspectionForm}
 use Rattle.ss_report.specs.declared.forms.report_form.ReportForm.{ReportForm}
@@ -38,7 +38,7 @@ use Rattle.ss_report.specs.declared.verdict.verdict.Verdict.{Verdict}
 abbrev pub inspecting : InspectionForm → Job
 inspecting form = record {
   output = inspection form;
-  verdict = λ messages tail. end_verdict tail;
+  verdict = λ messages ending. end_verdict ending;
   reviews = false;
   refusal = nothing;
 }
@@ -46,8 +46,8 @@ inspecting form = record {
 -- the text of the report
 abbrev pub reviewing : Answers → Job
 reviewing says = record {
-  output = λ messages tail. report_lines (report says messages) tail;
-  verdict = λ messages tail. report_verdict (report says messages) tail;
+  output = λ messages ending. report_lines (report says messages) ending;
+  verdict = λ messages ending. report_verdict (report says messages) ending;
   reviews = true;
   refusal = nothing;
 }
@@ -55,8 +55,8 @@ reviewing says = record {
 -- the report in a form, with the verdict of the whole report
 abbrev pub reviewing_as : ReportForm → Detail → (known : Option (List (List ℕ))) → Answers → Job
 reviewing_as form detail known says = record {
-  output = λ messages tail. report_as form detail (report_by known says (contents (notes messages))) tail;
-  verdict = λ messages tail. report_verdict (report_by known says (contents (notes messages))) tail;
+  output = λ messages ending. report_as form detail (report_by known says (contents (notes messages))) ending;
+  verdict = λ messages ending. report_verdict (report_by known says (contents (notes messages))) ending;
   reviews = true;
   refusal = nothing;
 }
@@ -65,8 +65,8 @@ reviewing_as form detail known says = record {
 abbrev pub reviewing_whole :
     ReportForm → Detail → List Counter → (known : Option (List (List ℕ))) → Answers → Job
 reviewing_whole form detail counters known says = record {
-  output = λ messages tail. flat_map (line_as form) (whole_lines_by known detail says counters messages tail);
-  verdict = λ messages tail. whole_verdict_by known says counters messages tail;
+  output = λ messages ending. flat_map (line_as form) (whole_lines_by known detail says counters messages ending);
+  verdict = λ messages ending. whole_verdict_by known says counters messages ending;
   reviews = true;
   refusal = nothing;
 }
@@ -77,8 +77,8 @@ abbrev pub reviewing_between :
     ReportForm → Detail → (first : List Counter) → (second : Option (List Counter))
     → (known : Option (List (List ℕ))) → Answers → Job
 reviewing_between form detail first second known says = record {
-  output = λ messages tail. flat_map (line_as form) (between_lines_by known detail says first second messages tail);
-  verdict = λ messages tail. between_verdict_by known says first second messages tail;
+  output = λ messages ending. flat_map (line_as form) (between_lines_by known detail says first second messages ending);
+  verdict = λ messages ending. between_verdict_by known says first second messages ending;
   reviews = true;
   refusal = nothing;
 }
@@ -86,8 +86,8 @@ reviewing_between form detail first second known says = record {
 -- what a review asks of a signature scheme, with each payload in each question about it, or once
 abbrev pub asking_as : Notation → Payloads → (known : Option (List (List ℕ))) → Job
 asking_as notation payloads known = record {
-  output = λ messages tail. questions_as notation payloads known (blocks (notes messages));
-  verdict = λ messages tail. end_verdict tail;
+  output = λ messages ending. questions_as notation payloads known (blocks (notes messages));
+  verdict = λ messages ending. end_verdict ending;
   reviews = true;
   refusal = nothing;
 }
@@ -99,10 +99,10 @@ asking notation = asking_as notation payloads.InEach None
 -- the counters of the joined sessions
 abbrev pub counting : Notation → (known : Option (List (List ℕ))) → Answers → Job
 counting notation known says = record {
-  output = λ messages tail.
+  output = λ messages ending.
       counter_lines notation says (blocks_by known says (blocks (notes messages)))
       (report_by known says (contents (notes messages)));
-  verdict = λ messages tail. end_verdict tail;
+  verdict = λ messages ending. end_verdict ending;
   reviews = true;
   refusal = nothing;
 }
@@ -111,9 +111,9 @@ counting notation known says = record {
 -- that the log hasn't is refused, and a message that is no line of the form
 abbrev pub extracting_as : Extraction → (known : Option (List (List ℕ))) → Answers → Job
 extracting_as e known says = record {
-  output = λ messages tail.
+  output = λ messages ending.
       units_in e.form (messages_at (shown e.unwrap messages) (selected e.selection known says messages));
-  verdict = λ messages tail. selected_verdict e.selection known says messages tail;
+  verdict = λ messages ending. selected_verdict e.selection known says messages ending;
   reviews = is_reviewed e.selection;
   refusal = refusal e known says;
 }
@@ -121,23 +121,23 @@ extracting_as e known says = record {
 -- the messages that the report lists, in its order, as octet-counted frames
 abbrev pub extracting : Answers → Job
 extracting says = record {
-  output = λ messages tail. frames (extract messages (report says messages));
-  verdict = λ messages tail. report_verdict (report says messages) tail;
+  output = λ messages ending. frames (extract messages (report says messages));
+  verdict = λ messages ending. report_verdict (report says messages) ending;
   reviews = true;
   refusal = nothing;
 }
 
 -- a review that succeeds, and its report lists what is announced
-pub record Reviews (says : Answers) (limits : Allowance) (before after : Source) (was is : Sink) (verdict : Verdict) :
+pub record Reviews (says : Answers) (options : ReadOptions) (before after : Source) (was is : Sink) (verdict : Verdict) :
     Type 0 where
-  pub run : Runs (reviewing says) limits before after was is verdict
+  pub run : Runs (reviewing says) options before after was is verdict
   pub listed : ListsWhatIsAnnounced says run.messages (report says run.messages)
 
 -- The same of a review in a form, by payloads that are known beforehand: what is announced is that of another log, of
 -- which the same is reported. Without such payloads it is the log itself.
 pub record ReviewsAs (form : ReportForm) (detail : Detail) (known : Option (List (List ℕ))) (says : Answers)
-    (limits : Allowance) (before after : Source) (was is : Sink) (verdict : Verdict) : Type 0 where
-  pub run : Runs (reviewing_as form detail known says) limits before after was is verdict
+    (options : ReadOptions) (before after : Source) (was is : Sink) (verdict : Verdict) : Type 0 where
+  pub run : Runs (reviewing_as form detail known says) options before after was is verdict
   pub other : List (List ℕ)
   pub stands : StandsFor known says run.messages other
   pub listed : ListsWhatIsAnnounced says other (report says other)
@@ -145,9 +145,9 @@ pub record ReviewsAs (form : ReportForm) (detail : Detail) (known : Option (List
 -- the same of a review in a form with what is missing of each session's signature blocks, and of all up to these
 -- counters
 pub record ReviewsWhole (form : ReportForm) (detail : Detail) (counters : List Counter)
-    (known : Option (List (List ℕ))) (says : Answers) (limits : Allowance) (before after : Source) (was is : Sink)
+    (known : Option (List (List ℕ))) (says : Answers) (options : ReadOptions) (before after : Source) (was is : Sink)
     (verdict : Verdict) : Type 0 where
-  pub run : Runs (reviewing_whole form detail counters known says) limits before after was is verdict
+  pub run : Runs (reviewing_whole form detail counters known says) options before after was is verdict
   pub other : List (List ℕ)
   pub stands : StandsFor known says run.messages other
   pub listed : ListsWhatIsAnnounced says other (report says other)
@@ -158,9 +158,9 @@ pub record ReviewsWhole (form : ReportForm) (detail : Detail) (counters : List C
 -- the same of a review of one night in a form, which leaves out of what is missing up to the second counters what lies
 -- below the first ones
 pub record ReviewsBetween (form : ReportForm) (detail : Detail) (first : List Counter) (second : Option (List Counter))
-    (known : Option (List (List ℕ))) (says : Answers) (limits : Allowance) (before after : Source) (was is : Sink)
+    (known : Option (List (List ℕ))) (says : Answers) (options : ReadOptions) (before after : Source) (was is : Sink)
     (verdict : Verdict) : Type 0 where
-  pub run : Runs (reviewing_between form detail first second known says) limits before after was is verdict
+  pub run : Runs (reviewing_between form detail first second known says) options before after was is verdict
   pub other : List (List ℕ)
   pub stands : StandsFor known says run.messages other
   pub listed : ListsWhatIsAnnounced says other (report says other)

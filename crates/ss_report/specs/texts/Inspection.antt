@@ -3,7 +3,6 @@
 -- the octets in it are.
 use Rattle.std.specs.Prelude.{ℕ, ◌+◌, Bool, true, false, ◌&&◌, if◌then◌else◌, List, [], ◌∷◌, ◌++◌, codes}
 use Rattle.std.specs.Prelude.{length, Option, Some, None}
-use Rattle.ss_frame.specs.declared.step.Tail.{Tail}
 use Rattle.ss_message.specs.declared.fault.Part.{Part}
 use Rattle.ss_message.specs.declared.fault.Part.TheVariants as parts
 use Rattle.ss_block.specs.declared.block.Group.{Group}
@@ -18,6 +17,7 @@ use Rattle.ss_report.specs.records.Fields.{known_session_fields, group_fields, c
 use Rattle.ss_report.specs.records.Written.{written}
 use Rattle.ss_report.specs.forms.Forms.{notation_of, has_findings_alone}
 use Rattle.ss_report.specs.texts.Ending.{end_lines}
+use Rattle.ss_report.specs.declared.log.ending.Ending.{Ending}
 use Rattle.ss_report.specs.declared.notation.Notation.{Notation}
 use Rattle.ss_report.specs.declared.forms.inspection_form.InspectionForm.{InspectionForm}
 use Rattle.ss_report.specs.declared.forms.report_form.ReportForm.{ReportForm}
@@ -117,6 +117,6 @@ message_lines form place [] = []
 message_lines form place (m ∷ ms) = message_line form place m ++ message_lines form (place + 1) ms
 
 -- the whole text
-unfoldable pub inspection : InspectionForm → List (List ℕ) → Tail → List ℕ
-inspection form messages tail =
-    message_lines form 0 messages ++ end_lines (notation_of form.lines) tail (length messages)
+unfoldable pub inspection : InspectionForm → List (List ℕ) → Ending → List ℕ
+inspection form messages ending =
+    message_lines form 0 messages ++ end_lines (notation_of form.lines) ending (length messages)

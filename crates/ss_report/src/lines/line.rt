@@ -94,6 +94,17 @@ pub(crate) enum Line<'r> {
     SpoiltCount {
         count: u64,
     },
+    /// Octets of the log of which no message is read: from this offset on, so many, after so many messages.
+    Damaged {
+        place: u32,
+        offset: u64,
+        length: u64,
+    },
+    /// How many damaged stretches the log has, and how many octets they have together.
+    DamagedCount {
+        count: u64,
+        octets: u128,
+    },
     /// The log breaks off in a frame or line, which begins at this octet.
     Torn {
         offset: u64,

@@ -7,6 +7,7 @@ use crate::lines::detail::Detail;
 use crate::lines::line::Line;
 use crate::lines::visitor::LineVisitor;
 use crate::lines::walk::walk_lines;
+use crate::log::ending::Ending;
 use ss_frame::Tail;
 use ss_octets::NoMemory;
 use ss_review::{Places, Report};
@@ -20,7 +21,8 @@ pub(crate) fn listed_places(alloc: Global, report: &Report) -> Result<Places, No
         places: Vec::new(alloc),
         failed: false,
     };
-    walk_lines(&Listing, &mut so_far, report, Tail::Clean, Detail::Itemized);
+    let ending = Ending::undamaged(alloc, Tail::Clean);
+    walk_lines(&Listing, &mut so_far, report, &ending, Detail::Itemized);
     let PlacesSoFar { places, failed } = so_far;
     if failed {
         return Err(NoMemory);

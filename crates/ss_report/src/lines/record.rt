@@ -11,7 +11,7 @@ ghost use Rattle.ss_report.specs.records.Written.{fields_in, written};
 use crate::lines::line::Line;
 use crate::lines::tally::Tally;
 use crate::notation::Notation;
-use crate::records::fields::{put_group, put_session, put_spoilt};
+use crate::records::fields::{put_group, put_session, put_spoilt, put_stretch};
 use crate::records::record::{begin, end, put};
 use crate::records::value::Value;
 use ss_block::{Group, Session};
@@ -49,6 +49,8 @@ fn kind_of(line: Line<'_>) -> &'static [u8]
         Line::UnlistedCount { .. } => b"unlisted-count",
         Line::RefusedCount { .. } => b"refused-count",
         Line::SpoiltCount { .. } => b"spoilt-count",
+        Line::Damaged { .. } => b"damaged",
+        Line::DamagedCount { .. } => b"damaged-count",
         Line::Torn { .. } => b"torn",
         Line::End { .. } => b"end",
     }
@@ -108,6 +110,12 @@ fn put_fields<W: Write>(writer: &mut Watched<W>, notation: Notation, line: Line<
         Line::UnlistedCount { count }
         | Line::RefusedCount { count }
         | Line::SpoiltCount { count } => put(writer, notation, b"count", Value::Number(count)),
+        Line::Damaged {
+            place,
+            offset,
+            length,
+        } => put_stretch(writer, notation, u64::from(place), offset, length),
+        Line::DamagedCount { count, octets } => put_stretches(writer, notation, count, octets),
         Line::Torn { offset } => put(writer, notation, b"offset", Value::Number(offset)),
         Line::End { count } => put(writer, notation, b"count", Value::Number(u64::from(count))),
     }
@@ -273,4 +281,14 @@ fn put_counts<W: Write>(writer: &mut Watched<W>, notation: Notation, tally: Tall
     put(writer, notation, b"holes", Value::Wide(tally.holes));
     put(writer, notation, b"first", Value::Number(tally.first));
     put(writer, notation, b"last", Value::Number(tally.last));
+}
+
+/// Writes how many stretches are damaged, and how many octets they have.
+#[tactic(auto, using(crate::proofs::of_writing::Records::fields_then))]
+fn put_stretches<W: Write>(writer: &mut Watched<W>, notation: Notation, count: u64, octets: u128)
+    ensures { Writes (sink_of W.contents writer.old) (sink_of W.contents writer.new) (fields_in notation
+        (field (codes "count") (Number count) ++ field (codes "octets") (Number octets))) }
+{
+    put(writer, notation, b"count", Value::Number(count));
+    put(writer, notation, b"octets", Value::Wide(octets));
 }

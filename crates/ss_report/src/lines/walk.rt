@@ -3,12 +3,13 @@ ghost use Rattle.std.specs.Prelude.{◌≡◌, ◌++◌, ◌∷◌, [], map, fla
 ghost use Rattle.ss_report.specs.lines.Taken.{TakesAll};
 ghost use Rattle.ss_report.specs.lines.Lines.{UnlistedLine, RefusedLine, EndLine};
 ghost use Rattle.ss_report.specs.lines.Lines.{entry_line, group_lines, session_lines, spoilt_place_line, single_lines};
-ghost use Rattle.ss_report.specs.lines.Lines.{tail_lines, other_lines, lines, seen};
+ghost use Rattle.ss_report.specs.lines.Lines.{tail_lines, ending_lines, damage_lines, damage_count, damage_line, other_lines, lines, seen};
 
 use crate::lines::detail::Detail;
 use crate::lines::line::Line;
 use crate::lines::tally::Tally;
 use crate::lines::visitor::LineVisitor;
+use crate::log::ending::{Damage, Ending, octets_of};
 use ss_block::{Group, Session};
 use ss_frame::Tail;
 use ss_review::{Entry, GroupReport, Report, SessionReport, SpoiltPlace};
@@ -19,13 +20,13 @@ pub(crate) fn walk_lines<S, V: LineVisitor<S>>(
     visitor: &V,
     into: &mut S,
     report: &Report,
-    tail: Tail,
+    ending: &Ending,
     detail: Detail,
 )
-    ensures { TakesAll (V.takes visitor.now) into.old into.new (lines detail report.now tail) }
+    ensures { TakesAll (V.takes visitor.now) into.old into.new (lines detail report.now ending.now) }
 {
     walk_sessions(visitor, into, report.sessions.as_slice(), detail);
-    walk_others(visitor, into, report, tail, detail);
+    walk_others(visitor, into, report, ending, detail);
 }
 
 /// Hands on the lines that come after those of the sessions.
@@ -34,13 +35,13 @@ pub(crate) fn walk_others<S, V: LineVisitor<S>>(
     visitor: &V,
     into: &mut S,
     report: &Report,
-    tail: Tail,
+    ending: &Ending,
     detail: Detail,
 )
-    ensures { TakesAll (V.takes visitor.now) into.old into.new (other_lines detail report.now tail) }
+    ensures { TakesAll (V.takes visitor.now) into.old into.new (other_lines detail report.now ending.now) }
 {
     walk_singles(visitor, into, report, detail);
-    walk_end(visitor, into, tail, report.count);
+    walk_end(visitor, into, ending, report.count, detail);
 }
 
 /// Hands on the lines of single messages, or their counts.
@@ -226,12 +227,68 @@ fn walk_spoilts<S, V: LineVisitor<S>>(visitor: &V, into: &mut S, spoilts: &[Spoi
     }
 }
 
-/// Hands on the torn end, if there is one, and the count of the messages.
-fn walk_end<S, V: LineVisitor<S>>(visitor: &V, into: &mut S, tail: Tail, count: u32)
-    ensures { TakesAll (V.takes visitor.now) into.old into.new (tail_lines tail ++ EndLine count ∷ []) }
+/// Hands on what the log holds beside its messages, and the count of these.
+fn walk_end<S, V: LineVisitor<S>>(
+    visitor: &V,
+    into: &mut S,
+    ending: &Ending,
+    count: u32,
+    detail: Detail,
+)
+    ensures { TakesAll (V.takes visitor.now) into.old into.new (ending_lines detail ending.now ++ EndLine count ∷ []) }
 {
-    walk_tail(visitor, into, tail);
+    walk_ending(visitor, into, ending, detail);
     visitor.visit(into, Line::End { count });
+}
+
+/// Hands on what is damaged, and the torn end, if there is one.
+fn walk_ending<S, V: LineVisitor<S>>(visitor: &V, into: &mut S, ending: &Ending, detail: Detail)
+    ensures { TakesAll (V.takes visitor.now) into.old into.new (ending_lines detail ending.now) }
+{
+    walk_damage(visitor, into, ending.damaged.as_slice(), detail);
+    walk_tail(visitor, into, ending.tail);
+}
+
+/// Hands on what is damaged, or how much.
+fn walk_damage<S, V: LineVisitor<S>>(visitor: &V, into: &mut S, damaged: &[Damage], detail: Detail)
+    ensures { TakesAll (V.takes visitor.now) into.old into.new (damage_lines detail damaged.now) }
+{
+    match detail {
+        Detail::Itemized => walk_damaged(visitor, into, damaged),
+        Detail::Tally => walk_damaged_count(visitor, into, damaged),
+    }
+}
+
+/// Hands on a line for each damaged stretch.
+fn walk_damaged<S, V: LineVisitor<S>>(visitor: &V, into: &mut S, damaged: &[Damage])
+    ensures { TakesAll (V.takes visitor.now) into.old into.new (map damage_line damaged.now) }
+{
+    for stretch in damaged {
+        let Damage {
+            place,
+            offset,
+            length,
+        } = *stretch;
+        visitor.visit(
+            into,
+            Line::Damaged {
+                place,
+                offset,
+                length,
+            },
+        );
+    }
+}
+
+/// Hands on how many stretches are damaged, if any is.
+fn walk_damaged_count<S, V: LineVisitor<S>>(visitor: &V, into: &mut S, damaged: &[Damage])
+    ensures { TakesAll (V.takes visitor.now) into.old into.new (damage_count damaged.now) }
+{
+    let count = damaged.len() as u64;
+    if count != 0 {
+        let octets = octets_of(damaged);
+        visitor.visit(into, Line::DamagedCount { count, octets });
+    }
 }
 
 /// Hands on the line of a torn end, if the log has one.

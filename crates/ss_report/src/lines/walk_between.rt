@@ -30,12 +30,12 @@ pub(crate) fn walk_lines_between<S, V: LineVisitor<S>>(
     detail: Detail,
 )
     ensures { TakesAll (V.takes visitor.now) into.old into.new
-        (lines_between detail night.now.first night.now.second whole.now.report whole.now.short whole.now.tail) }
+        (lines_between detail night.now.first night.now.second whole.now.report whole.now.short whole.now.ending) }
 {
     let WholeReport {
         report,
         short,
-        tail,
+        ending,
     } = whole;
     walk_sessions(
         visitor,
@@ -46,7 +46,7 @@ pub(crate) fn walk_lines_between<S, V: LineVisitor<S>>(
         detail,
     );
     walk_absent(visitor, into, short.absent.as_slice(), &night.first);
-    walk_others(visitor, into, report, *tail, detail);
+    walk_others(visitor, into, report, ending, detail);
 }
 
 /// Hands on the lines of the sessions, each with those of what is missing of it.

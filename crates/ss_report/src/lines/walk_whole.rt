@@ -22,12 +22,12 @@ pub(crate) fn walk_lines_with<S, V: LineVisitor<S>>(
     detail: Detail,
 )
     ensures { TakesAll (V.takes visitor.now) into.old into.new
-        (lines_with detail whole.now.report whole.now.short whole.now.tail) }
+        (lines_with detail whole.now.report whole.now.short whole.now.ending) }
 {
     let WholeReport {
         report,
         short,
-        tail,
+        ending,
     } = whole;
     walk_sessions(
         visitor,
@@ -37,7 +37,7 @@ pub(crate) fn walk_lines_with<S, V: LineVisitor<S>>(
         detail,
     );
     walk_absent(visitor, into, short.absent.as_slice());
-    walk_others(visitor, into, report, *tail, detail);
+    walk_others(visitor, into, report, ending, detail);
 }
 
 /// Hands on the lines of the sessions, each with those of what is missing of it.

@@ -15,7 +15,8 @@ use crate::lines::walk::walk_lines;
 use crate::lines::walk_between::walk_lines_between;
 use crate::lines::walk_whole::walk_lines_with;
 use crate::lines::whole::WholeReport;
-use ss_frame::{Tail, Watched};
+use crate::log::ending::Ending;
+use ss_frame::Watched;
 use ss_review::Report;
 use std::io::Write;
 
@@ -34,18 +35,18 @@ impl<W: Write> LineVisitor<Watched<W>> for Writing {
     }
 }
 
-/// Writes a report on a log with this end, in a form and a detail. Nothing is allocated.
+/// Writes a report on a log with this ending, in a form and a detail. Nothing is allocated.
 pub(crate) fn write_report_as<W: Write>(
     writer: &mut Watched<W>,
     report: &Report,
-    tail: Tail,
+    ending: &Ending,
     form: ReportForm,
     detail: Detail,
 )
     ensures { Writes (sink_of W.contents writer.old) (sink_of W.contents writer.new)
-        (report_as form detail report.now tail) }
+        (report_as form detail report.now ending.now) }
 {
-    walk_lines(&Writing { form }, writer, report, tail, detail);
+    walk_lines(&Writing { form }, writer, report, ending, detail);
 }
 
 /// Writes a report, in a form and a detail, with what is missing beside it. Nothing is allocated.
@@ -56,7 +57,7 @@ pub(crate) fn write_whole_as<W: Write>(
     detail: Detail,
 )
     ensures { Writes (sink_of W.contents writer.old) (sink_of W.contents writer.new)
-        (flat_map (line_as form) (lines_with detail whole.now.report whole.now.short whole.now.tail)) }
+        (flat_map (line_as form) (lines_with detail whole.now.report whole.now.short whole.now.ending)) }
 {
     walk_lines_with(&Writing { form }, writer, whole, detail);
 }
@@ -72,7 +73,7 @@ pub(crate) fn write_between_as<W: Write>(
 )
     ensures { Writes (sink_of W.contents writer.old) (sink_of W.contents writer.new)
         (flat_map (line_as form) (lines_between detail night.now.first night.now.second
-        whole.now.report whole.now.short whole.now.tail)) }
+        whole.now.report whole.now.short whole.now.ending)) }
 {
     walk_lines_between(&Writing { form }, writer, whole, night, detail);
 }

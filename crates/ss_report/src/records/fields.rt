@@ -5,7 +5,7 @@ ghost use Rattle.ss_report.specs.log.Writing.{Writes};
 ghost use Rattle.ss_report.specs.records.Record.{field, Number, Word, Text};
 ghost use Rattle.ss_report.specs.records.Written.{fields_in};
 ghost use Rattle.ss_report.specs.records.Fields.{field_word, session_fields, known_session_fields, group_fields};
-ghost use Rattle.ss_report.specs.records.Fields.{cause_word};
+ghost use Rattle.ss_report.specs.records.Fields.{cause_word, stretch_fields};
 
 use crate::notation::Notation;
 use crate::records::record::put;
@@ -86,6 +86,23 @@ pub(crate) fn put_spoilt<W: Write>(
         b"cause",
         Value::Word(word_of_cause(cause)),
     );
+}
+
+/// Writes where a damaged stretch stands, and how long it is.
+#[tactic(auto, using(crate::proofs::of_writing::Records::three_fields), unfolding(crate::specs::records::Fields::stretch_fields))]
+pub(crate) fn put_stretch<W: Write>(
+    writer: &mut Watched<W>,
+    notation: Notation,
+    place: u64,
+    offset: u64,
+    length: u64,
+)
+    ensures { Writes (sink_of W.contents writer.old) (sink_of W.contents writer.new)
+        (fields_in notation (stretch_fields place offset length)) }
+{
+    put(writer, notation, b"place", Value::Number(place));
+    put(writer, notation, b"offset", Value::Number(offset));
+    put(writer, notation, b"length", Value::Number(length));
 }
 
 /// The word of the cause, S1 to S9.

@@ -1,8 +1,8 @@
 //! What a run makes of a log before it writes.
 ghost use Rattle.std.specs.Prelude.{◌≡◌, ℕ, List, false, MatchResult};
-ghost use Rattle.ss_frame.specs.Limits.{Allowance};
 ghost use Rattle.ss_frame.specs.Watched.{Source, Sink, has_failed, sink_of};
 ghost use Rattle.ss_report.specs.log.Writing.{Writes};
+ghost use Rattle.ss_report.specs.declared.log.read_options.ReadOptions.{ReadOptions};
 ghost use Rattle.ss_report.specs.runs.Run.{Job, Makes, Runs, FailsToWrite};
 
 use crate::fault::RunFault;
@@ -23,14 +23,14 @@ impl Outcome {
     /// was written then is a prefix of the output.
     pub(crate) fn write<W: Write>(&self, writer: &mut Watched<W>) -> Result<Verdict, RunFault>
         requires { has_failed writer.old ≡ false }
-        ensures { (job : Job) (limits : Allowance) (before after : Source)
-            → Makes job limits before after self.now.output.items self.now.verdict
+        ensures { (job : Job) (options : ReadOptions) (before after : Source)
+            → Makes job options before after self.now.output.items self.now.verdict
             → MatchResult result
             (λ verdict.
-            Runs job limits before after (sink_of W.contents writer.old) (sink_of W.contents writer.new) verdict)
+            Runs job options before after (sink_of W.contents writer.old) (sink_of W.contents writer.new) verdict)
             (λ fault.
             (fault ≡ RunFault.Write)
-            × FailsToWrite job limits before after (sink_of W.contents writer.old)
+            × FailsToWrite job options before after (sink_of W.contents writer.old)
             (sink_of W.contents writer.new)) }
     {
         write_whole(writer, self.output.as_slice())?;
@@ -44,11 +44,11 @@ pub(crate) fn end_run<W: Write>(
     writer: &mut Watched<W>,
     verdict: Verdict,
 ) -> Result<Verdict, RunFault>
-    ensures { (job : Job) (limits : Allowance) (before after : Source) (was : Sink) (output : List ℕ)
-        → Makes job limits before after output verdict → Writes was (sink_of W.contents writer.old) output
+    ensures { (job : Job) (options : ReadOptions) (before after : Source) (was : Sink) (output : List ℕ)
+        → Makes job options before after output verdict → Writes was (sink_of W.contents writer.old) output
         → MatchResult result
-        (λ told. Runs job limits before after was (sink_of W.contents writer.new) told)
-        (λ fault. (fault ≡ RunFault.Write) × FailsToWrite job limits before after was (sink_of W.contents writer.new)) }
+        (λ told. Runs job options before after was (sink_of W.contents writer.new) told)
+        (λ fault. (fault ≡ RunFault.Write) × FailsToWrite job options before after was (sink_of W.contents writer.new)) }
 {
     end_text(writer)?;
     Ok(verdict)

@@ -1,5 +1,6 @@
 //! What a run over a log takes.
-use ss_frame::{Limits, Watched};
+use crate::log::read_options::ReadOptions;
+use ss_frame::Watched;
 use ss_octets::Bytes;
 use std::alloc::Global;
 
@@ -12,8 +13,8 @@ pub struct Run<'r, R, W> {
     pub reader: &'r mut Watched<R>,
     /// Where the output goes. It hasn't failed.
     pub writer: &'r mut Watched<W>,
-    /// In which form the log is stored, and how long it and its messages may be.
-    pub limits: Limits,
+    /// In which form the log is stored, how long it and its messages may be, and whether reading goes on after damage.
+    pub options: ReadOptions,
     /// The payloads by which sessions are joined, if they are known beforehand: each a whole payload block, as its
     /// originator sends it in pieces (RFC 5848, section 5.3). A session that one of them claims is joined by it, and
     /// certificate blocks that don't speak for it are refused (`Reviewer::conclude_by`). An inspection doesn't look at

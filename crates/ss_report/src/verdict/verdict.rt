@@ -1,6 +1,6 @@
 //! Whether a run over a log found anything.
 ghost use Rattle.std.specs.Prelude.{◌≡◌};
-ghost use Rattle.ss_report.specs.Verdict.{end_verdict, report_verdict, verdict_of};
+ghost use Rattle.ss_report.specs.Verdict.{end_verdict, is_clean_tail, report_verdict, verdict_of};
 ghost use Rattle.ss_report.specs.lines.Whole.{verdict_with};
 ghost use Rattle.ss_report.specs.lines.Between.{verdict_between};
 
@@ -11,6 +11,7 @@ use crate::lines::walk::walk_lines;
 use crate::lines::walk_between::walk_lines_between;
 use crate::lines::walk_whole::walk_lines_with;
 use crate::lines::whole::WholeReport;
+use crate::log::ending::Ending;
 use ss_frame::Tail;
 use ss_review::Report;
 
@@ -18,36 +19,42 @@ use ss_review::Report;
 #[derive(Clone, Copy, Debug, PartialEq, Eq)]
 pub enum Verdict {
     /// Of a review: each announced message is listed, each stored message is listed or a verified block, each session
-    /// is joined, and the log has a clean end. Of a review that reports what is missing: nothing is missing either. Of
+    /// is joined, nothing is damaged, and the log has a clean end. Of a review that reports what is missing: nothing is missing either. Of
     /// a review of one night: nothing is missing of it, and nothing is announced outside of it. Of an inspection, of
-    /// questions and of counters: the log has a clean end.
+    /// questions and of counters: nothing is damaged, and the log has a clean end.
     Clean,
     /// One of these conditions doesn't hold.
     Findings,
 }
 
-/// Whether the log has a clean end.
-pub(crate) fn end_verdict(tail: Tail) -> Verdict
-    ensures { result ≡ end_verdict tail }
+/// Whether nothing of the log is damaged, and its end is clean.
+pub(crate) fn end_verdict(ending: &Ending) -> Verdict
+    ensures { result ≡ end_verdict ending.now }
+{
+    verdict_of(ending.damaged.as_slice().is_empty() && is_clean_tail(ending.tail))
+}
+
+fn is_clean_tail(tail: Tail) -> bool
+    ensures { result ≡ is_clean_tail tail }
 {
     match tail {
-        Tail::Clean => Verdict::Clean,
-        Tail::Torn { .. } => Verdict::Findings,
+        Tail::Clean => true,
+        Tail::Torn { .. } => false,
     }
 }
 
-/// Whether no line of a report on a log with this end leaves anything to look into.
-pub(crate) fn report_verdict(report: &Report, tail: Tail) -> Verdict
-    ensures { result ≡ report_verdict report.now tail }
+/// Whether no line of a report on a log with this ending leaves anything to look into.
+pub(crate) fn report_verdict(report: &Report, ending: &Ending) -> Verdict
+    ensures { result ≡ report_verdict report.now ending.now }
 {
     let mut settled = true;
-    walk_lines(&Settling, &mut settled, report, tail, Detail::Itemized);
+    walk_lines(&Settling, &mut settled, report, ending, Detail::Itemized);
     verdict_of(settled)
 }
 
 /// Whether no line of a report, and of what is missing beside it, leaves anything to look into.
 pub(crate) fn verdict_with(whole: &WholeReport) -> Verdict
-    ensures { result ≡ verdict_with whole.now.report whole.now.short whole.now.tail }
+    ensures { result ≡ verdict_with whole.now.report whole.now.short whole.now.ending }
 {
     let mut settled = true;
     walk_lines_with(&Settling, &mut settled, whole, Detail::Itemized);
@@ -58,7 +65,7 @@ pub(crate) fn verdict_with(whole: &WholeReport) -> Verdict
 /// night.
 pub(crate) fn verdict_between(whole: &WholeReport, night: &Night<'_>) -> Verdict
     ensures { result
-        ≡ verdict_between night.now.first night.now.second whole.now.report whole.now.short whole.now.tail }
+        ≡ verdict_between night.now.first night.now.second whole.now.report whole.now.short whole.now.ending }
 {
     let mut settled = true;
     walk_lines_between(&Settling, &mut settled, whole, night, Detail::Itemized);

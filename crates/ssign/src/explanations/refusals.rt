@@ -8,13 +8,14 @@ pub static REFUSALS: [Explanation; 32] = [
         text: "F1 OFFSET: the octet there can't stand in the length of a frame. A length begins with 1 to 9, goes on \
             with digits, and ends with a space. At offset 0 the log is usually one message a line: use --lines. \
             Further on, something stands between two frames, such as a line feed, or a length is wrong: look at the \
-            octets there.",
+            octets there. With --salvage reading goes on after them.",
     },
     Explanation {
         code: "F2",
         text: "F2 OFFSET: a message is longer than --max-len allows. In frames this is the offset of the digit that \
             makes the length too great; in lines, of the first octet too many. Raise --max-len, up to 1048576. If the \
-            log is frames and not lines, leave --lines out.",
+            log is frames and not lines, leave --lines out. If the length is wrong, use --salvage: reading goes on \
+            after it.",
     },
     Explanation {
         code: "F3",

@@ -4,7 +4,7 @@ use super::Explanation;
 
 /// Words of a verdict, lines of a report, states of a session, lines of an inspection, and lines of answers, plans and
 /// questions.
-pub static WORDS: [Explanation; 44] = [
+pub static WORDS: [Explanation; 46] = [
     Explanation {
         code: "verified",
         text: "Of a block: its session is joined, and its own signature is valid under the session's payload. Only \
@@ -124,6 +124,15 @@ pub static WORDS: [Explanation; 44] = [
             in another way than RFC 5848: compare it with what the sender sends.",
     },
     Explanation {
+        code: "damaged",
+        text: "Only ssign review and ssign inspect write this line, with --salvage. Some octets of the log make no \
+            frame that is beyond doubt, so they were left out. The line has three numbers: how many messages stand \
+            before these octets, the offset of the first, and how many they are. They were changed or put in, or \
+            other octets were lost there. Messages may stand among them, and signature blocks: look for gap and hole \
+            lines, and with --whole for blocks lines. Compare them with another copy of the log. If the whole log is \
+            damaged, it may be no log of frames: see whether it is compressed, or needs --lines.",
+    },
+    Explanation {
         code: "unlisted-count",
         text: "Only ssign review --tally writes this line: how many stored messages no number lists. If it isn't 0, \
             run ssign review --findings. It has an unlisted line for each of them.",
@@ -139,9 +148,16 @@ pub static WORDS: [Explanation; 44] = [
             it isn't 0, run ssign review --findings. It has a spoilt line for each of them.",
     },
     Explanation {
+        code: "damaged-count",
+        text: "Only ssign review --tally writes this line, with --salvage, and only if the log is damaged: how many \
+            damaged stretches it has, and how many octets these have together. Run ssign review --findings \
+            --salvage. It has a damaged line for each of them.",
+    },
+    Explanation {
         code: "torn",
         text: "The log breaks off in the frame or line that begins at this octet. What stands before it was read. The \
-            log was cut off, or is still being written. Get the rest, and run again.",
+            log was cut off, or is still being written. Get the rest, and run again. If messages stand after it, a \
+            length is wrong: with --salvage reading goes on after that.",
     },
     Explanation {
         code: "end",

@@ -7,7 +7,7 @@ ghost use Rattle.ssign.specs.Refusal.{is_before_run, is_failed_write};
 ghost use Rattle.ssign.specs.Task.{given, job_of};
 
 use crate::command_line::{
-    answers_file, counters_file, from_file, limits_of, pinned_file, reporting_of,
+    answers_file, counters_file, from_file, limits_of, pinned_file, reading_of, reporting_of,
 };
 use crate::extraction::extraction_of;
 use crate::given_files::{GivenFiles, answers_in, counters_in, payloads_in};
@@ -46,8 +46,13 @@ pub fn run_log<F: GivenFiles, R: Read, W: Write>(
     ensures unread { IfErr result (λ refusal. is_before_run refusal ≡ true → reader.new ≡ reader.old) }
     ensures untouched { IfErr result (λ refusal. is_failed_write refusal ≡ false → writer.new ≡ writer.old) }
 {
-    let Some(limits) = limits_of(options) else {
-        return Err(Refusal::NoOption);
+    let limits = match limits_of(options) {
+        Some(limits) => limits,
+        None => return Err(Refusal::NoOption),
+    };
+    let reading = match reading_of(limits, options) {
+        Some(reading) => reading,
+        None => return Err(Refusal::SalvagedLines(task)),
     };
     let extraction = match extraction_of(alloc, options) {
         Ok(extraction) => extraction,
@@ -76,7 +81,7 @@ pub fn run_log<F: GivenFiles, R: Read, W: Write>(
         first: items_of(&first),
         counters: items_of(&counters),
         extraction,
-        limits,
+        reading,
     };
     match run_answered(alloc, reader, writer, request, answers) {
         Ok(verdict) => Ok(verdict),
@@ -107,13 +112,13 @@ fn run_answered<R: Read, W: Write>(
     ensures done { IfOk result
         (Runs (job_of (said_by answers) request.entry.reporting (given request.entry.known)
         (given request.entry.first) (given request.entry.counters) request.entry.extraction request.entry.task)
-        request.entry.limits
+        request.entry.reading
         (source_of R.remaining reader.old) (source_of R.remaining reader.new)
         (sink_of W.contents writer.old) (sink_of W.contents writer.new)) }
     ensures stopped { IfErr result
         (Stops (job_of (said_by answers) request.entry.reporting (given request.entry.known)
         (given request.entry.first) (given request.entry.counters) request.entry.extraction request.entry.task)
-        request.entry.limits
+        request.entry.reading
         (source_of R.remaining reader.old) (source_of R.remaining reader.new)
         (sink_of W.contents writer.old) (sink_of W.contents writer.new)) }
     ensures untouched { IfErr result (λ fault. fault ≢ RunFault.Write → writer.new ≡ writer.old) }

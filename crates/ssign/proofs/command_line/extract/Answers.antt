@@ -8,4 +8,4 @@ returns c =
     let three = with_argument c.in_ok-extract-2.ensures two c.place.ensures.rule c.place.ensures.local in
     let four = with_argument c.in_ok-extract-3.ensures three c.flag-2.ensures.rule c.flag-2.ensures.local in
     let five = with_argument c.in_ok-extract-4.ensures four c.flag-3.ensures.rule c.flag-3.ensures.local in
-    c.limited.ensures _ (with_argument c.in_ok-arg-2.ensures five c.file-2.ensures.rule c.file-2.ensures.local)
+    c.salvaging.ensures _ (with_argument c.in_ok-arg-2.ensures five c.file-2.ensures.rule c.file-2.ensures.local)

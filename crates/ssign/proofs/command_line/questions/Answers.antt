@@ -5,4 +5,4 @@ pub returns : goal.returns
 returns c =
     let one = with_argument c.in_ok-questions.ensures c.over_log.ensures c.flag.ensures.rule c.flag.ensures.local in
     let two = with_argument c.in_ok-questions-2.ensures one c.flag-2.ensures.rule c.flag-2.ensures.local in
-    c.limited.ensures _ (with_argument c.in_ok-arg.ensures two c.file.ensures.rule c.file.ensures.local)
+    c.salvaging.ensures _ (with_argument c.in_ok-arg.ensures two c.file.ensures.rule c.file.ensures.local)

@@ -10,4 +10,4 @@ returns c =
     let five = with_argument c.in_ok-review-3.ensures four c.flag-4.ensures.rule c.flag-4.ensures.local in
     let six = with_argument c.in_ok-review-4.ensures five c.file-2.ensures.rule c.file-2.ensures.local in
     let seven = with_argument c.in_ok-review-5.ensures six c.file-3.ensures.rule c.file-3.ensures.local in
-    c.limited.ensures _ (with_argument c.in_ok-arg-3.ensures seven c.file-4.ensures.rule c.file-4.ensures.local)
+    c.salvaging.ensures _ (with_argument c.in_ok-arg-3.ensures seven c.file-4.ensures.rule c.file-4.ensures.local)

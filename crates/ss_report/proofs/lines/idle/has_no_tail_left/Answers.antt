@@ -1,4 +1,4 @@
-use Rattle.std.proofs.Common.{refl, sym}
+use Rattle.std.proofs.Common.{sym}
 use Rattle.ss_between.specs.Between.{own_tail_left}
 use Rattle.ss_report.proofs.of_reports.IdleSessions.{none_more, some_left}
 use Rattle.ss_report.proofs.lines.idle.has_no_tail_left.Goals as goal

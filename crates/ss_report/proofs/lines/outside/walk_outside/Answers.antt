@@ -1,4 +1,3 @@
-use Rattle.std.proofs.Common.{List}
 use Rattle.ss_report.specs.lines.Between.{is_outside, outside_line}
 use Rattle.ss_report.proofs.of_reports.OutsideLines.{entries_done, entries_go_on}
 use Rattle.ss_report.proofs.lines.outside.walk_outside.Goals as goal

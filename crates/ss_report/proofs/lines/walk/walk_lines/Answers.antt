@@ -9,4 +9,4 @@ returns g c =
     let takes = g.V.LineVisitor.takes c.args.visitor.now in
     let report = c.args.report.now in
     let sessions = rw c.as_slice.ensures at c.walk_sessions.ensures in
-    lines_then takes _ _ _ (flat_map (session_lines c.args.detail) report.sessions) (other_lines c.args.detail report c.args.tail) sessions c.walk_others.ensures
+    lines_then takes _ _ _ (flat_map (session_lines c.args.detail) report.sessions) (other_lines c.args.detail report c.args.ending.now) sessions c.walk_others.ensures

@@ -1,4 +1,3 @@
-use Rattle.std.proofs.Common.{refl}
 use Rattle.ss_between.specs.Between.{shortfall_left}
 use Rattle.ss_report.specs.lines.Lines.{AbsentLine}
 use Rattle.ss_report.specs.lines.Whole.{shortfall_lines}

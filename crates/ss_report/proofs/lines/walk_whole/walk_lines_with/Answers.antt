@@ -16,4 +16,4 @@ returns g c =
     let sessions = rw (c.as_slice.ensures, c.as_slice-2.ensures) at c.walk_sessions.ensures in
     let others = rw c.as_slice-3.ensures at c.walk_absent.ensures in
     let both = lines_then takes _ _ _ known absent sessions others in
-    lines_then takes _ _ _ (known ++ absent) (other_lines c.args.detail report c.args.whole.now.tail) both c.walk_others.ensures
+    lines_then takes _ _ _ (known ++ absent) (other_lines c.args.detail report c.args.whole.now.ending) both c.walk_others.ensures

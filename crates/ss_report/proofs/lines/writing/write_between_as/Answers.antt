@@ -8,4 +8,4 @@ pub returns : goal.returns
 returns g c =
     let whole = c.args.whole.now in
     let night = c.args.night.now in
-    all_written (sink_of g.W.Write.contents) (line_as c.args.form) _ _ (lines_between c.args.detail night.first night.second whole.report whole.short whole.tail) c.walk_lines_between.ensures
+    all_written (sink_of g.W.Write.contents) (line_as c.args.form) _ _ (lines_between c.args.detail night.first night.second whole.report whole.short whole.ending) c.walk_lines_between.ensures

@@ -6,4 +6,4 @@ use Rattle.ss_report.proofs.lines.writing.write_report_as.Goals as goal
 
 pub returns : goal.returns
 returns g c =
-    all_written (sink_of g.W.Write.contents) (line_as c.args.form) _ _ (lines c.args.detail c.args.report.now c.args.tail) c.walk_lines.ensures
+    all_written (sink_of g.W.Write.contents) (line_as c.args.form) _ _ (lines c.args.detail c.args.report.now c.args.ending.now) c.walk_lines.ensures

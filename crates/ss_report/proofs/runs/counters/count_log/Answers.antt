@@ -19,7 +19,7 @@ returns-clause-made g c =
     let found : counted.counted ≡ counted_by known says (blocks (notes fed.messages)) = c.in_ok-report.ensures.counted (notes fed.messages) fed.keeps in (
       λ notation. record {
         messages = fed.messages;
-        tail = c.in_ok-reviewer.field-0.tail;
+        ending = c.in_ok-reviewer.field-0.ending;
         reading = fed.reading;
         no_read_failed = fed.no_read_failed;
         unrefused = refl;

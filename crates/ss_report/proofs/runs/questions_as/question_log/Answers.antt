@@ -17,7 +17,7 @@ returns-clause-made g c = λ notation.
     let asked : questions_shared sessions ≡ questions_by known bs = c.in_ok-sessions.ensures.asked (notes fed.messages) fed.keeps in
     record {
       messages = fed.messages;
-      tail = c.in_ok-questioner.field-0.tail;
+      ending = c.in_ok-questioner.field-0.ending;
       reading = fed.reading;
       no_read_failed = fed.no_read_failed;
       unrefused = refl;

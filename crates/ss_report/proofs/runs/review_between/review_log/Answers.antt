@@ -17,4 +17,4 @@ returns g c =
     let counted : found.counted ≡ counted_by known says (blocks (notes fed.messages)) = c.in_ok-report.ensures.counted (notes fed.messages) fed.keeps in
     let reviewed = reviewed_by c.logs_are_reviewed.ensures c.pinned_reports_are_of_logs.ensures known says fed.messages found.report found.counted told counted in
     let short = rw (c.end_counters-ends.ensures, c.as_slice-sessions.ensures, c.as_slice.ensures) at c.in_ok-short.ensures in
-    λ form detail. makes_between form detail c.args.first.now _ known says _ _ _ fed.messages c.in_ok-reviewer.field-0.tail fed.reading fed.no_read_failed found.report found.counted _ _ _ _ told counted (short reviewed) c.in_ok-night.ensures.0 c.in_ok-night.ensures.1 c.verdict_between-verdict.ensures
+    λ form detail. makes_between form detail c.args.first.now _ known says _ _ _ fed.messages c.in_ok-reviewer.field-0.ending fed.reading fed.no_read_failed found.report found.counted _ _ _ _ told counted (short reviewed) c.in_ok-night.ensures.0 c.in_ok-night.ensures.1 c.verdict_between-verdict.ensures

@@ -1,7 +1,6 @@
 use Rattle.std.proofs.Common.{ℕ, List, Option, Result, Ok, Err, refl}
 use Rattle.std.specs.Borrow.{Bor}
 use Rattle.std.specs.Prelude.{IfOk, option_map}
-use Rattle.ss_frame.specs.Limits.{Allowance}
 use Rattle.ss_frame.specs.Watched.{Source, Sink, source_of, sink_of}
 use Rattle.ss_review.specs.sessions.Verified.{Answers, answers}
 use Rattle.ss_review.specs.Laws.{ReportsListWhatIsAnnounced}
@@ -26,12 +25,13 @@ use Rattle.ss_report.proofs.of_reports.PinnedLogs.{stands_for}
 use Rattle.ss_report.proofs.of_reading.Answered.{runs_if_ok, stops_if_err, fails_by_write}
 use Rattle.ss_report.proofs.runs.review_between.run_review_between.Goals.{in-Ok, in-Err}
 use Rattle.ss_report.proofs.runs.review_between.run_review_between.Goals as goal
+use Rattle.ss_report.specs.declared.log.read_options.ReadOptions.{ReadOptions}
 
 -- a review that succeeds lists what is announced, as each report does
-reviews_if_ok : (form : ReportForm) (detail : Detail) (first : List Counter) (second : Option (List Counter)) (known : Option (List (List ℕ))) (says : Answers) (limits : Allowance) (before after : Source) (was is : Sink) (r : Result Verdict RunFault)
+reviews_if_ok : (form : ReportForm) (detail : Detail) (first : List Counter) (second : Option (List Counter)) (known : Option (List (List ℕ))) (says : Answers) (options : ReadOptions) (before after : Source) (was is : Sink) (r : Result Verdict RunFault)
     → ReportsListWhatIsAnnounced → PinnedReportsAreOfLogs → CountedOrMissing → EveryNumberIsTold → EveryBlockIsTold
-    → IfOk r (Runs (reviewing_between form detail first second known says) limits before after was is) → IfOk r (ReviewsBetween form detail first second known says limits before after was is)
-reviews_if_ok form detail first second known says limits before after was is (Ok verdict) law pinned missing number block ran =
+    → IfOk r (Runs (reviewing_between form detail first second known says) options before after was is) → IfOk r (ReviewsBetween form detail first second known says options before after was is)
+reviews_if_ok form detail first second known says options before after was is (Ok verdict) law pinned missing number block ran =
     let counters = end_counters second in
     let stands = stands_for pinned known says ran.messages in
     let log = stands.0 in
@@ -44,15 +44,15 @@ reviews_if_ok form detail first second known says limits before after was is (Ok
       numbers_told = number says log counters;
       blocks_told = block says log counters;
     }
-reviews_if_ok form detail first second known says limits before after was is (Err fault) law pinned missing number block ran = tt
+reviews_if_ok form detail first second known says options before after was is (Err fault) law pinned missing number block ran = tt
 
 -- a run that fails before anything is written
-stops_of : (job : Job) (limits : Allowance) (before after : Source) (was is : Sink) (fault : RunFault) → StopsRun job.reviews limits before after fault → Stops job limits before after was is fault
-stops_of job limits before after was is (run.Frame fault) stopped = stopped
-stops_of job limits before after was is (run.Review fault) stopped = stopped
-stops_of job limits before after was is run.Memory stopped = stopped
-stops_of job limits before after was is run.Write stopped = absurd stopped
-stops_of job limits before after was is (run.Extract fault) stopped = absurd stopped
+stops_of : (job : Job) (options : ReadOptions) (before after : Source) (was is : Sink) (fault : RunFault) → StopsRun job.reviews options before after fault → Stops job options before after was is fault
+stops_of job options before after was is (run.Frame fault) stopped = stopped
+stops_of job options before after was is (run.Review fault) stopped = stopped
+stops_of job options before after was is run.Memory stopped = stopped
+stops_of job options before after was is run.Write stopped = absurd stopped
+stops_of job options before after was is (run.Extract fault) stopped = absurd stopped
 
 pub returns-clause-reviewed : goal.returns-clause-reviewed
 returns-clause-reviewed g c = elim c.match-review_log.branch [
@@ -75,7 +75,7 @@ returns-clause-stopped g c = elim c.match-review_log.branch [
       let before = source_of g.R.Read.remaining c.args.run.reader.now in
       let after = source_of g.R.Read.remaining c.review_log.new.reader in
       let was = sink_of g.W.Write.contents c.args.run.writer.now in
-      rw (w.result-is, w.writer-is) (stops_of job c.args.run.limits before after was was w.in-Err.fault w.in-Err.ensures)
+      rw (w.result-is, w.writer-is) (stops_of job c.args.run.options before after was was w.in-Err.fault w.in-Err.ensures)
 ]
 
 pub returns-clause-untouched : goal.returns-clause-untouched

@@ -1,6 +1,5 @@
 use Rattle.std.proofs.Common.{ℕ, List, Option, Result, Ok, Err}
 use Rattle.std.specs.Prelude.{IfOk}
-use Rattle.ss_frame.specs.Limits.{Allowance}
 use Rattle.ss_frame.specs.Watched.{Source, Sink}
 use Rattle.ss_review.specs.sessions.Verified.{Answers}
 use Rattle.ss_review.specs.Laws.{ReportsListWhatIsAnnounced}
@@ -21,12 +20,13 @@ use Rattle.ss_report.specs.runs.Jobs.{ReviewsWhole, reviewing_whole}
 use Rattle.ss_report.proofs.of_reports.PinnedLogs.{stands_for}
 use Rattle.ss_report.proofs.of_reading.Answered.{runs_if_ok, stops_if_err, fails_by_write}
 use Rattle.ss_report.proofs.runs.review_whole.run_review_whole.Goals as goal
+use Rattle.ss_report.specs.declared.log.read_options.ReadOptions.{ReadOptions}
 
 -- a review that succeeds lists what is announced, as each report does
-reviews_if_ok : (form : ReportForm) (detail : Detail) (counters : List Counter) (known : Option (List (List ℕ))) (says : Answers) (limits : Allowance) (before after : Source) (was is : Sink) (r : Result Verdict RunFault)
+reviews_if_ok : (form : ReportForm) (detail : Detail) (counters : List Counter) (known : Option (List (List ℕ))) (says : Answers) (options : ReadOptions) (before after : Source) (was is : Sink) (r : Result Verdict RunFault)
     → ReportsListWhatIsAnnounced → PinnedReportsAreOfLogs → CountedOrMissing → EveryNumberIsTold → EveryBlockIsTold
-    → IfOk r (Runs (reviewing_whole form detail counters known says) limits before after was is) → IfOk r (ReviewsWhole form detail counters known says limits before after was is)
-reviews_if_ok form detail counters known says limits before after was is (Ok verdict) law pinned missing number block ran =
+    → IfOk r (Runs (reviewing_whole form detail counters known says) options before after was is) → IfOk r (ReviewsWhole form detail counters known says options before after was is)
+reviews_if_ok form detail counters known says options before after was is (Ok verdict) law pinned missing number block ran =
     let stands = stands_for pinned known says ran.messages in
     let log = stands.0 in
     record {
@@ -38,7 +38,7 @@ reviews_if_ok form detail counters known says limits before after was is (Ok ver
       numbers_told = number says log counters;
       blocks_told = block says log counters;
     }
-reviews_if_ok form detail counters known says limits before after was is (Err fault) law pinned missing number block ran = tt
+reviews_if_ok form detail counters known says options before after was is (Err fault) law pinned missing number block ran = tt
 
 pub returns-clause-reviewed : goal.returns-clause-reviewed
 returns-clause-reviewed g c =

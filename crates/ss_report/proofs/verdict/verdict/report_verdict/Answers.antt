@@ -7,4 +7,4 @@ use Rattle.ss_report.proofs.verdict.verdict.report_verdict.Goals as goal
 
 pub returns : goal.returns
 returns c =
-    c.verdict_of.ensures ∙ ap verdict_of (all_settled _ (lines details.Itemized c.args.report.now c.args.tail) c.walk_lines.ensures)
+    c.verdict_of.ensures ∙ ap verdict_of (all_settled _ (lines details.Itemized c.args.report.now c.args.ending.now) c.walk_lines.ensures)

@@ -9,4 +9,4 @@ pub returns : goal.returns
 returns c =
     let whole = c.args.whole.now in
     let night = c.args.night.now in
-    c.verdict_of.ensures ∙ ap verdict_of (all_settled _ (lines_between details.Itemized night.first night.second whole.report whole.short whole.tail) c.walk_lines_between.ensures)
+    c.verdict_of.ensures ∙ ap verdict_of (all_settled _ (lines_between details.Itemized night.first night.second whole.report whole.short whole.ending) c.walk_lines_between.ensures)

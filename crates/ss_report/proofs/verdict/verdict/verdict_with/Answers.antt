@@ -7,4 +7,4 @@ use Rattle.ss_report.proofs.verdict.verdict.verdict_with.Goals as goal
 
 pub returns : goal.returns
 returns c =
-    c.verdict_of.ensures ∙ ap verdict_of (all_settled _ (lines_with details.Itemized c.args.whole.now.report c.args.whole.now.short c.args.whole.now.tail) c.walk_lines_with.ensures)
+    c.verdict_of.ensures ∙ ap verdict_of (all_settled _ (lines_with details.Itemized c.args.whole.now.report c.args.whole.now.short c.args.whole.now.ending) c.walk_lines_with.ensures)
