@@ -15,7 +15,8 @@ Each check states a bound of its own:
   a review                      so many octets for each octet of the log
   joiners                       so many octets for each octet that is stated, and for each joiner of its own
   answers                       where all lines have one payload, far less than where each has its own of that length
-  reading on after damage       a window of three messages and 64 octets, and 24 octets for each damaged stretch, three times
+  reading on after damage       a window of three messages and 64 octets, and 24 octets and its line for each damaged
+                                stretch, three times
   an originator                 no more for 10,000 messages than for 2,000, for an input of the same length: what it
                                 keeps are the hashes of the messages that are pending, and its payload
 
@@ -23,6 +24,7 @@ The last line is `room: N passed, M failed`.
 """
 import argparse
 import base64
+import itertools
 import subprocess
 import sys
 import tempfile
@@ -36,6 +38,8 @@ KIB = 1 << 10
 BUFFERS = 80 * KIB
 # what two runs of one size may differ by: a list that grew at another time
 SLACK = 4 * KIB
+# a large block is counted in whole pages
+PAGE = 4 * KIB
 HASH_PAIR = 52
 # a damaged stretch that is kept, and the window in which what comes next is looked at
 STRETCH = 24
@@ -146,7 +150,9 @@ def damaged(bench, ssign):
     """What is kept of a damaged log beside its messages: a window, however long the log is, and each stretch."""
     for command in ("inspect", "review"):
         for count, longest in ((100, 65_536), (MOST, 65_536), (MOST, 100), (100, 1_048_576)):
-            pairs = [frames([b"<13>1 - - - - - - %d" % it, b"<13>1 - - - - - - x"]) for it in range(count)]
+            pairs = [frames([b"<13>1 - - - - - - %d." % it, b"<13>1 - - - - - - x"]) for it in range(count)]
+            offsets = itertools.accumulate(map(len, pairs[:-1]), lambda so_far, it: so_far + it + 1, initial=0)
+            said = sum(len("damaged %d %d 1\n" % (2 * it, offset)) for it, offset in enumerate(offsets))
             words = [ssign, command, "--max-len", str(longest)]
             end = lambda said: said.endswith(b"\nend %d\n" % (2 * count))
             status = int(command == "review")
@@ -154,8 +160,9 @@ def damaged(bench, ssign):
             whole = bench.peak([*words, "--salvage"], b"".join(pairs), end, status=status)
             read_on = bench.peak([*words, "--salvage"], b"X".join([b"", *pairs]), end, status=1)
             what = "%s of %d messages of at most %d octets" % (command, 2 * count, longest)
-            bench.check(what + ", read on", whole, plain + WINDOWS * longest + WINDOW_MORE + SLACK)
-            bench.check(what + ", a damaged stretch before every two", read_on, whole + GROWN * STRETCH * count + SLACK)
+            bench.check(what + ", read on", whole, plain + WINDOWS * longest + WINDOW_MORE + PAGE + SLACK)
+            bench.check(what + ", a damaged stretch before every two", read_on,
+                        whole + GROWN * (STRETCH * count + said) + SLACK)
 
 
 # ---- payloads
