@@ -456,6 +456,13 @@ verify swapped/night-3.frames
 finds 'verify: only certificates are left' 1 "  swapped/night-3.frames: shorter, it has $(stat -c %s swapped/night-3.frames) octets, and entry 3 has $s3" \
     '  swapped/night-3.frames: numbers, entry 3 has numbers 1 to 4 of SG 0, SPRI 0, and here are no numbers'
 holds 'verify: what is missing is named by the counters of the entry' grep -Fq '4 messages up to the counters are missing' out
+# a night in which an octet was lost: all its other messages are judged
+sed '0,/ two/s/ two/ tw/' nights/night-3.frames >swapped/night-3.frames
+verify swapped/night-3.frames
+finds 'verify: a damaged night' 1 '    missing: number 2' "  swapped/night-3.frames: shorter, it has $((s3 - 1)) octets, and entry 3 has $s3"
+holds 'verify: a damaged night: the verdict' grep -q '^Verdict: FINDINGS: .*; 1 stretch of the log is damaged ([0-9]* octets); 1 difference from the manifest\.' out
+verify --from-manifest swapped/night-3.frames
+finds 'verify: a damaged night of a session that goes on' 1 '    missing: number 2'
 verify nights/night-2.frames nights/night-2.frames
 finds 'verify: a log twice' 1 '  nights/night-2.frames: twice, entry 2 is of nights/night-2.frames too'
 verify nights/night-3.frames --manifest-last "$third"
