@@ -217,7 +217,7 @@ found = list(joiner.texts((4000, at + 1, b"%d" % (at % 10)) for at in range(4000
 sys.exit(found != [b"0123456789" * 400] or joiner.is_cut)
 END
 
-# ---- a block that claims to come after all that is verified may be the signer's own, damaged
+# ---- a block that claims to come after all that is verified may be the signer's own, changed
 # harmed CODE <LOG: the log with these changes of `messages`, whose blocks of signatures are at the places `blocks`; `spoil` damages a SIGN
 harmed() {
     python3 -B -c 'import sys
@@ -236,13 +236,13 @@ harmed 'at = blocks[-1]; messages[at - 1:] = [spoil(messages[at])]' <signed >log
 keys verify "${key[@]}" --ignore-strangers log
 holds 'the last block, damaged, and its messages gone: status 1' test "$status" = 1
 holds 'the last block, damaged, and its messages gone: the verdict' test "$(verdict)" = "FINDINGS: of 9 announced messages 9 are present and unchanged; \
-1 block is unverified; 1 of these may be the signer's last one, damaged, so it isn't ignored."
+1 block is unverified; 1 of these may be the signer's last one, changed, so it isn't ignored."
 holds 'the last block, damaged, and its messages gone: its session' grep -qx "  1 block claims this session and isn't validly signed; it was left out, \
-and may be the signer's last one, damaged" out
+and may be the signer's last one, changed" out
 harmed 'a, b = blocks[-2:]; messages[a - 3:] = [spoil(messages[a]), spoil(messages[b])]' <signed >log
 keys verify "${key[@]}" --ignore-strangers log
 holds 'the last two blocks, damaged, and their messages gone' test "$status.$(verdict)" = "1.FINDINGS: of 6 announced messages 6 are present and unchanged; \
-2 blocks are unverified; 2 of these may be the signer's last ones, damaged, so they aren't ignored."
+2 blocks are unverified; 2 of these may be the signer's last ones, changed, so they aren't ignored."
 harmed 'messages.append(spoil(messages[blocks[-1]]))' <signed >log
 keys verify "${key[@]}" --ignore-strangers log
 holds 'a damaged copy of the last block: status 0' test "$status" = 0
@@ -311,7 +311,7 @@ harmed 'at = blocks[-1]; messages[at - 1:] = [messages[at].replace(b"RSID=\"1\""
 keys verify "${key[@]}" --ignore-strangers log
 holds 'the RSID of another session: status 1' test "$status" = 1
 holds 'the RSID of another session: the verdict' test "$(verdict)" = "FINDINGS: of 19 announced messages 19 are present and unchanged; \
-1 block is unverified; 1 of these may be the signer's last one, damaged, so it isn't ignored."
+1 block is unverified; 1 of these may be the signer's last one, changed, so it isn't ignored."
 signs brief one 3 --payload "$payload" --groups pri
 cat signed brief >log
 keys verify "${key[@]}" --ignore-strangers log

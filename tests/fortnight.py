@@ -224,6 +224,8 @@ DAMAGES = [
     Damage("one letter of it is changed", on(LAST, changed), "review", 1, "changed, it has the size of entry 14"),
     Damage("a message is taken out", on(LAST, edit_frames(lambda found: found.pop(5))), "review", 1, "shorter, it has"),
     Damage("a message is put in", on(LAST, edit_frames(lambda found: found.insert(5, b"5 <13>x"))), "review", 1, "longer, it has"),
+    Damage("an octet is taken out", on(LAST, lambda it: it[:99] + it[100:]), "review", 1, "shorter, it has"),
+    Damage("an octet is put in", on(LAST, lambda it: it[:1] + b"9" + it[1:]), "review", 1, "longer, it has"),
     Damage("two messages change places", on(LAST, edit_frames(swap)), "review", 1, "changed, it has the size of entry 14"),
     Damage("whoever has the key signs a changed log again", sign_anew, "review", 1, "entry 14"),
     Damage("the night wasn't signed", lambda house: (os.unlink(house.signed(LAST)), rewrite(

@@ -166,7 +166,7 @@ start=$(python3 -B "$root/tests/verdicts.py" last torn)
 size=$(stat -c %s torn)
 keys verify --key keys/public-key.pem torn second
 says 'a torn file in front' 1 '    unannounced: numbers 1 to 4 (4 messages); the blocks for them are missing or unverified' \
-    "Damaged: $((size - start)) octets from octet $start of torn on, after message 6 (message 6 of torn), are no message." \
+    "Damaged: $((size - start)) octets from octet $start of torn on, after 6 messages in all, are no message." \
     "Verdict: FINDINGS: of 6 announced messages 6 are present and unchanged; 4 numbers are unannounced; 4 stored messages are unlisted; 1 stretch of the log is damaged ($((size - start)) octets)."
 { tail -c 5 first && cat second; } >going-on
 keys verify --key keys/public-key.pem --json torn going-on
@@ -178,7 +178,7 @@ says 'a torn file behind' 1 "Torn: the log breaks off in the message that begins
 printf 'x' | cat second - >bad
 keys verify --key keys/public-key.pem first bad
 size=$(stat -c %s second)
-says 'no frame in the second file' 1 "Damaged: 1 octet from octet $size of bad on, after message 15 (message 8 of bad), is no message." \
+says 'no frame in the second file' 1 "Damaged: 1 octet from octet $size of bad on, after 15 messages in all, is no message." \
     'Verdict: FINDINGS: of 10 announced messages 10 are present and unchanged; 1 stretch of the log is damaged (1 octet).'
 keys verify --key keys/public-key.pem - - <signed
 refuses 'standard input twice' "ssign-keys: standard input, \`-\`, can be given only once"
@@ -237,9 +237,9 @@ says 'the tail cut off behind a block' 0 'Verdict: All 8 announced messages are 
 for kind in length shorter zeros between before behind; do
     read -r start length < <(python3 -B "$root/tests/verdicts.py" harm "$kind" signed 2>&1 >stored)
     octets=$([[ $length == 1 ]] && echo '1 octet' || echo "$length octets") are=$([[ $length == 1 ]] && echo is || echo are)
-    where='after message 8 of the log'
+    where='after 8 messages'
     [[ $kind != before ]] || where='before the first message'
-    [[ $kind != behind ]] || where='after message 15 of the log'
+    [[ $kind != behind ]] || where='after 15 messages'
     line="Damaged: $octets from octet $start on, $where, $are no message."
     damaged="1 stretch of the log is damaged ($octets)."
     keys verify --key keys/public-key.pem stored
@@ -264,7 +264,7 @@ says 'damage is no block of a stranger' 1 "$line"
 # octets were put into a message: so many as its length says are another message, and the last ones are none
 read -r start length < <(python3 -B "$root/tests/verdicts.py" harm longer signed 2>&1 >stored)
 keys verify --key keys/public-key.pem stored
-says 'damaged: longer' 1 '    missing: number 6' "Damaged: 7 octets from octet $((start + length - 7)) on, after message 9 of the log, are no message." \
+says 'damaged: longer' 1 '    missing: number 6' "Damaged: 7 octets from octet $((start + length - 7)) on, after 9 messages, are no message." \
     "    likely 7 damaged octets from octet $((start + length - 7)) on" \
     'Verdict: FINDINGS: of 10 announced messages 9 are present and unchanged, 1 is missing; 1 stored message is unlisted; 1 stretch of the log is damaged (7 octets).'
 holds 'damaged: longer: the message beside it is as likely' grep -q '^    likely place 8: <86>1 2026-01-15T09:15:07.3\\x00\\x00' out
@@ -782,10 +782,10 @@ holds 'another limit: what is said' grep -qx 'ssign-keys: signed: the log goes o
 keys verify --key keys/public-key.pem too-long
 long='are no message; they begin like a frame of 66,000 octets, and --max-len 65536 allows none so long.'
 size=$(stat -c %s signed)
-says 'a block that is too long' 1 "Damaged: 66,006 octets from octet $size on, after message 15 of the log, $long"
+says 'a block that is too long' 1 "Damaged: 66,006 octets from octet $size on, after 15 messages, $long"
 keys verify --key keys/public-key.pem signed too-long
 says 'a block that is too long, in the second log' 1 \
-    "Damaged: 66,006 octets from octet $size of too-long on, after message 30 (message 15 of too-long), $long"
+    "Damaged: 66,006 octets from octet $size of too-long on, after 30 messages in all, $long"
 keys verify --key keys/public-key.pem --max-len 66000 too-long
 says 'it is none where it may be so long' 1 "Verdict: FINDINGS: of 10 announced messages 10 are present and unchanged; 1 stored message is unlisted. \
 1 message holds \"[ssign\" but can't be read as a block: it stands at place 15, M1 at its octet 0."

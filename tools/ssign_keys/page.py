@@ -258,7 +258,7 @@ class Page(StretchVisitor):
             return
         log = self._reviewed.log
         for it in self._reviewed.survey.damage.longest(MOST_ROWS):
-            self._add("damaged", self._octet(it.offset), "", named(f"{grouped(it.length, 'octet')} {after_words(log, it)}"))
+            self._add("damaged", self._octet(it.offset), "", named(f"{grouped(it.length, 'octet')}, {after_words(log, it)}"))
 
     def torn(self, offset: int) -> None:
         """Adds a row."""

@@ -1,6 +1,6 @@
 """Blocks that claim a session, and aren't validly signed: strangers can write any number of them.
 
-A block of the originator that was damaged looks the same. Where it left a gap in the numbers or GBCs of its session, that is reported.
+A block of the originator that was changed looks the same. Where it left a gap in the numbers or GBCs of its session, that is reported.
 One that was after all that is verified leaves none: so a block that claims to be that is never ignored, whichever RSID it has.
 Somebody may also have changed what it claims, GBC and all: then only counters show that it is gone, as where it was taken out. A
 certificate block that the same key signed for an older session looks the same too: it has no fragment of this session's payload.
@@ -49,17 +49,17 @@ def words_of(claims: Claims) -> str:
     late = claims.late
     if claims.blocks == 1:
         said = "1 block claims this session and isn't validly signed; it was left out"
-        return f"{said}, and may be the signer's last one, damaged" if late else f"{said} and changes nothing"
+        return f"{said}, and may be the signer's last one, changed" if late else f"{said} and changes nothing"
     said = f"{claims.blocks:,} blocks claim this session and aren't validly signed; they were left out"
-    return f"{said}, and {late:,} of them may be the signer's last {'one' if late == 1 else 'ones'}, damaged" if late else \
+    return f"{said}, and {late:,} of them may be the signer's last {'one' if late == 1 else 'ones'}, changed" if late else \
         f"{said} and change nothing"
 
 
 def late_words(count: int) -> str:
     """The words of a verdict about so many that aren't ignored; nothing where there is none."""
     if count < 2:
-        return "1 of these may be the signer's last one, damaged, so it isn't ignored" if count else ""
-    return f"{count:,} of these may be the signer's last ones, damaged, so they aren't ignored"
+        return "1 of these may be the signer's last one, changed, so it isn't ignored" if count else ""
+    return f"{count:,} of these may be the signer's last ones, changed, so they aren't ignored"
 
 
 def ignored_words(count: int) -> str:
@@ -107,7 +107,7 @@ def names_of(session: Session) -> Names:
 def reached(reach: Reach, joined: Set[Session]) -> Tuple[Dict[Names, int], Dict[Tuple[Names, int, int], int]]:
     """The greatest GBC, and the last number of each group, that verified blocks of all joined sessions with the same names reach.
 
-    Which of these sessions a damaged block is of isn't known: its RSID may be what was damaged.
+    Which of these sessions a changed block is of isn't known: its RSID may be what was changed.
     """
     greatest = dict.fromkeys(joined, -1)
     lasts: Dict[Tuple[Names, int, int], List[int]] = {}

@@ -156,16 +156,10 @@ def place_words(log: Log, place: int) -> str:
     return f"place {place}" if len(log.parts) == 1 else f"place {place} (place {place - part.place} of {shown_name(part.name)})"
 
 
-def message_words(log: Log, number: int) -> str:
-    """Which message of the log, counted from 1, also in its file where there are several."""
-    part = log.part_of_place(number - 1)
-    return str(number) if len(log.parts) == 1 else f"{number} (message {number - part.place} of {shown_name(part.name)})"
-
-
 def after_words(log: Log, it: Damaged) -> str:
-    """What is known of damaged octets: after which message they stand, and that they are none."""
-    whole = " of the log" if len(log.parts) == 1 else ""
-    where = f"after message {message_words(log, it.place)}{whole}" if it.place else "before the first message"
+    """What is known of damaged octets: after how many messages they stand, and that they are none."""
+    in_all = " in all" if len(log.parts) > 1 else ""
+    where = f"after {grouped(it.place, 'message')}{in_all}" if it.place else "before the first message"
     length = frame_at(read_at(log.file, it.offset, LENGTH), 0)[1]
     long = f"; they begin like a frame of {length:,} octets, and --max-len {log.longest} allows none so long" \
         if length > log.longest else ""

@@ -62,7 +62,7 @@ class Facts:
 
     @property
     def late(self) -> int:
-        """How many of them may be the signer's last ones, damaged."""
+        """How many of them may be the signer's last ones, changed."""
         return sum(it.late for it in self.strangers.values())
 
     @property

@@ -477,7 +477,7 @@ def refuse_one_pipe(begin: Optional[List[str]], counters: Optional[List[str]], l
 
 def find_missing(program: str, arguments: argparse.Namespace, workplace: Workplace, progress: Progress) -> Missing:
     """Refuses what can't be asked, before the log is read: by an older ssign, or up to a bad counters file."""
-    # a damaged block is to be ignored only where no GBC is missing
+    # a changed block is to be ignored only where no GBC is missing
     words = ["--whole"] if arguments.whole or arguments.ignore_strangers else []
     missing = Missing(words, None)
     if words and not (arguments.begin or arguments.counters):
