@@ -175,6 +175,8 @@ class Verification:
         # of the octets that were read for this check, before anything else is put after them
         self._stamps = check_stamps(arguments, missing.digest, None if listed is None else listed.digest, workplace)
         log = self._log = open_log(arguments.logs, named_form, workplace, progress, arguments.max_expanded)
+        if named_form is None and log.are_lines and are_damaged_frames(log, program, arguments, workplace, progress):
+            log.are_lines = False
         warn_of_form(log)
         if listed is not None:
             missing = add_counters(missing, listed.look(log), program, workplace, progress)
@@ -417,6 +419,14 @@ class Verifier:
 
     def _reading(self, phase: str) -> Callable[[], None]:
         return lambda: self._progress.show(phase, self._log.position(), self._log.size, "octets")
+
+
+def are_damaged_frames(log: Log, program: str, arguments: argparse.Namespace, workplace: Workplace, progress: Progress) -> bool:
+    """Whether a log begins as lines do, but has no whole line first, and frames can be read in it: its first length is damaged."""
+    line = log.walk().front(0)
+    if len(log.parts) > 1 or not log.size or line is not None and line[1] <= longest(arguments):
+        return False
+    return salvage(log, program, [SALVAGE, *log_words(arguments, False)], workplace, progress).messages > 0
 
 
 def is_detailed(arguments: argparse.Namespace) -> bool:
