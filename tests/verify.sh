@@ -289,7 +289,8 @@ keys verify --key keys/public-key.pem stored
 says 'damaged: a front as of lines' 1 'Damaged: 1 octet from octet 0 on, before the first message, is no message.' \
     'Verdict: FINDINGS: of 10 announced messages 10 are present and unchanged; 1 stretch of the log is damaged (1 octet).'
 keys verify --key keys/public-key.pem --lines stored
-says 'damaged: a front as of lines, read as lines' 1 'Torn: the log breaks off in the message that begins at octet 0 of stored'
+says 'damaged: a front as of lines, and --lines' 1 \
+    'Torn: the log breaks off in the message that begins at octet 0 of stored'
 printf '<13>1 - h a - - - no frame' >stored
 keys verify --key keys/public-key.pem stored
 says 'a front of a line, and no frame' 1 'Torn: the log breaks off in the message that begins at octet 0 of stored'

@@ -421,8 +421,9 @@ class Verifier:
         return lambda: self._progress.show(phase, self._log.position(), self._log.size, "octets")
 
 
-def are_damaged_frames(log: Log, program: str, arguments: argparse.Namespace, workplace: Workplace, progress: Progress) -> bool:
-    """Whether a log begins as lines do, but has no whole line first, and frames can be read in it: its first length is damaged."""
+def are_damaged_frames(log: Log, program: str, arguments: argparse.Namespace, workplace: Workplace,
+                       progress: Progress) -> bool:
+    """Whether a log begins as lines do, has no whole line first, and has frames: then its first length is damaged."""
     line = log.walk().front(0)
     if len(log.parts) > 1 or not log.size or line is not None and line[1] <= longest(arguments):
         return False
