@@ -291,6 +291,9 @@ says 'damaged: a front as of lines' 1 'Damaged: 1 octet from octet 0 on, before 
 keys verify --key keys/public-key.pem --lines stored
 says 'damaged: a front as of lines, and --lines' 1 \
     'Torn: the log breaks off in the message that begins at octet 0 of stored'
+keys verify --key keys/public-key.pem stored signed
+refuses 'damaged: a front as of lines, and another log' "ssign-keys: stored: this is one message a line, and signed isn't: \
+check logs of two forms one by one, or name the form of all with --lines or --frames"
 printf '<13>1 - h a - - - no frame' >stored
 keys verify --key keys/public-key.pem stored
 says 'a front of a line, and no frame' 1 'Torn: the log breaks off in the message that begins at octet 0 of stored'
