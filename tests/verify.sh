@@ -283,7 +283,11 @@ holds 'many stretches: the longest ten' test "$(sed -n 's/^Damaged: \([0-9]*\) o
 says 'many stretches' 1 '  and 4 more stretches, none of them longer; all 14 have 105 octets'
 holds 'many stretches: the verdict' grep -q '^Verdict: FINDINGS: of 10 announced messages 10 are present and unchanged; .*; 14 stretches of the log are damaged (105 octets)\.$' out
 as_reviewed 'many stretches' stored
-# an octet in front of the first length: the log begins as lines do, and no line is in it
+# octets in front of the first length: the log begins as lines do, and no line is a block
+{ printf '<\n' && cat signed; } >stored
+keys verify --key keys/public-key.pem stored
+says 'damaged: a line in front' 1 'Damaged: 2 octets from octet 0 on, before the first message, are no message.' \
+    'Verdict: FINDINGS: of 10 announced messages 10 are present and unchanged; 1 stretch of the log is damaged (2 octets).'
 { printf '<' && cat signed; } >stored
 keys verify --key keys/public-key.pem stored
 says 'damaged: a front as of lines' 1 'Damaged: 1 octet from octet 0 on, before the first message, is no message.' \

@@ -3,6 +3,7 @@ from __future__ import annotations
 
 import argparse
 import os
+import re
 import subprocess
 from itertools import chain
 from typing import TYPE_CHECKING, BinaryIO, Callable, Iterator, List, NamedTuple, Optional, Tuple, Union
@@ -58,6 +59,8 @@ if TYPE_CHECKING:
 
 # A form that isn't asked for, and what is shown in it, is loaded where it is made: all of them take a fifth of a start.
 TOOL = "ssign-keys"
+# what each block that is a line begins with (RFC 5424, section 6)
+HEAD = re.compile(rb"<[0-9]{1,3}>[0-9]")
 
 
 def add_arguments(parser: argparse.ArgumentParser) -> None:
@@ -423,11 +426,10 @@ class Verifier:
 
 def are_damaged_frames(log: Log, program: str, arguments: argparse.Namespace, workplace: Workplace,
                        progress: Progress) -> bool:
-    """Whether a log begins as lines do, has no whole line first, and has frames: then its first length is damaged."""
-    line = log.walk().front(0)
-    if len(log.parts) > 1 or not log.size or line is not None and line[1] <= longest(arguments):
+    """Whether a log begins as lines do, has no block among them, and blocks as frames: then its first length is damaged."""
+    if len(log.parts) > 1 or any(HEAD.match(it) and len(it) - 1 <= longest(arguments) for it in log.walk().candidates()):
         return False
-    return salvage(log, program, [SALVAGE, *log_words(arguments, False)], workplace, progress).messages > 0
+    return salvage(log, program, [SALVAGE, *log_words(arguments, False)], workplace, progress).blocks > 0
 
 
 def is_detailed(arguments: argparse.Namespace) -> bool:
