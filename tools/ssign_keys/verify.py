@@ -429,7 +429,11 @@ def are_damaged_frames(log: Log, program: str, arguments: argparse.Namespace, wo
     """Whether a log begins as lines do, has no block among them, and blocks as frames: then its first length is damaged."""
     if len(log.parts) > 1 or any(HEAD.match(it) and len(it) - 1 <= longest(arguments) for it in log.walk().candidates()):
         return False
-    return salvage(log, program, [SALVAGE, *log_words(arguments, False)], workplace, progress).blocks > 0
+    try:
+        return salvage(log, program, [SALVAGE, *log_words(arguments, False)], workplace, progress).blocks > 0
+    except Refused:
+        # whoever reads it as lines is refused too, or has an older ssign
+        return False
 
 
 def is_detailed(arguments: argparse.Namespace) -> bool:
