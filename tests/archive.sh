@@ -115,6 +115,13 @@ holds 'join: a picture: status' test "$status" = 2
 holds 'join: a picture' grep -qx "ssign-archive: at damaged/2 octet 0: unread, what follows in this file isn't reviewed: no frame begins there" err
 holds 'join: a picture: the messages of the others' cmp out <(cat split-whole/host,gate-4/log{,})
 rm -r damaged
+# messages as long as a piece that is read: no more of them wait than can be read otherwise before damage
+mkdir longest && python3 -B -c 'import sys
+for _ in range(96):
+    sys.stdout.buffer.write(b"1048576 <13>1 - h a - - - " + b"x" * (1048576 - 18))' >longest/log
+(ulimit -v 120000 && exec timeout "$patience" "$tool" join --max-len 1048576 longest >out 2>err)
+holds 'join: long messages, in little memory' cmp out longest/log
+rm -r longest
 
 # ---- reading, which needs none either
 zcat_all() {

@@ -445,6 +445,14 @@ finds 'verify: another night in its place' 1 '  swapped/night-3.frames: renamed,
 verify swapped/night-3.frames
 s3=$(stat -c %s nights/night-3.frames)
 finds 'verify: an emptied night' 1 "  swapped/night-3.frames: empty, entry 3 has $s3 octets"
+# an octet that was put into a message: all others are read, and compared with the entry
+sed 's/message two/message  two/' nights/night-3.frames >swapped/night-3.frames
+verify swapped/night-3.frames
+finds 'verify: a damaged night' 1 'Manifest manifest: 1 finding.' \
+    "  swapped/night-3.frames: longer, it has $((s3 + 1)) octets, and entry 3 has $s3" \
+    '    missing: number 2' '    numbers 1 to 4: 3 listed, 1 missing'
+holds 'verify: a damaged night: what is damaged' \
+    grep -q '^Damaged: 1 octet from octet [0-9]* on, after message [0-9]* of the log, is no message\.$' out
 # a night whose last block was cut off, with its messages: its counters show it
 python3 -B -c 'import sys
 sys.path.insert(0, sys.argv[1])

@@ -125,6 +125,8 @@ page stranger 1 --key other.pem signed
 python3 -B "$root/tests/verdicts.py" pieces changed.frames >pieces.frames
 page damaged 1 --key key.pem pieces.frames
 holds 'damaged octets stand beside a missing number' grep -q '[0-9] damaged octets from octet [0-9]* on' damaged.html
+{ cat signed && printf x; } >end.frames
+page damaged-end 1 --key key.pem end.frames
 head -c -2 first.frames >torn.frames
 page torn-between 1 --key key.pem torn.frames second.frames.gz
 page unsigned 1 --key key.pem unsigned.frames

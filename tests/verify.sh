@@ -283,6 +283,24 @@ holds 'many stretches: the longest ten' test "$(sed -n 's/^Damaged: \([0-9]*\) o
 says 'many stretches' 1 '  and 4 more stretches, none of them longer; all 14 have 105 octets'
 holds 'many stretches: the verdict' grep -q '^Verdict: FINDINGS: of 10 announced messages 10 are present and unchanged; .*; 14 stretches of the log are damaged (105 octets)\.$' out
 as_reviewed 'many stretches' stored
+# octets in front of the first length: the log begins as lines do, and no line is a block
+{ printf '<\n' && cat signed; } >stored
+keys verify --key keys/public-key.pem stored
+says 'damaged: a line in front' 1 'Damaged: 2 octets from octet 0 on, before the first message, are no message.' \
+    'Verdict: FINDINGS: of 10 announced messages 10 are present and unchanged; 1 stretch of the log is damaged (2 octets).'
+{ printf '<' && cat signed; } >stored
+keys verify --key keys/public-key.pem stored
+says 'damaged: a front as of lines' 1 'Damaged: 1 octet from octet 0 on, before the first message, is no message.' \
+    'Verdict: FINDINGS: of 10 announced messages 10 are present and unchanged; 1 stretch of the log is damaged (1 octet).'
+keys verify --key keys/public-key.pem --lines stored
+says 'damaged: a front as of lines, and --lines' 1 \
+    'Torn: the log breaks off in the message that begins at octet 0 of stored'
+keys verify --key keys/public-key.pem stored signed
+refuses 'damaged: a front as of lines, and another log' "ssign-keys: stored: this is one message a line, and signed isn't: \
+check logs of two forms one by one, or name the form of all with --lines or --frames"
+printf '<13>1 - h a - - - no frame' >stored
+keys verify --key keys/public-key.pem stored
+says 'a front of a line, and no frame' 1 'Torn: the log breaks off in the message that begins at octet 0 of stored'
 damage order
 says 'another order' 0 '    order: 1 listed message stands in front of the one with the number before, first number 4' \
     'Verdict: All 10 announced messages are present and unchanged, and each other stored message is a verified block. But the listed messages don'\''t stand in the order of their numbers.'

@@ -104,11 +104,10 @@ class Reader:
             held: List[Whole] = []
             given = 0
             for whole in passage.wholes():
-                if whole.messages > 1:
-                    yield from held
-                    given += sum(it.messages for it in held)
-                    held = []
                 held.append(whole)
+                while sum(it.messages for it in held[1:]) > 1:
+                    given += held[0].messages
+                    yield held.pop(0)
             if passage.is_whole:
                 yield from held
             else:

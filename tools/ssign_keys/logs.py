@@ -171,9 +171,9 @@ def open_log(names: Sequence[str], named_form: Optional[bool], workplace: Workpl
         with next(sources) as source:
             packed.append(spool_log(name, source, max_expanded, spool, workplace, progress))
     form = form_of_log(spool, starts, named_form)
+    form.refuse_odd()
     parts = measure(spool, starts, progress) if form.are_lines else [Part(name, start, 0) for name, start in starts]
     parts = [replace(part, packed=it) for part, it in zip(parts, packed)]
-    form.refuse_odd()
     return Log(spool, parts, form.are_lines, True)
 
 

@@ -29,7 +29,7 @@ class Extents(ReportVisitor):
 
     def __init__(self, counters: Optional[Counters], begin: Optional[Counters]) -> None:
         """The counters that the review was given, and those with which the night begins."""
-        # the report was surveyed before, so each line in it was asked for; one that was made with counters has more lines
+        # a report that was made with counters, or of a damaged log, has more lines
         super().__init__(True, Counters() if begin is None else counters, begin, True)
         self.reviewed = Reviewed({}, {}, {})
         self._first = 0

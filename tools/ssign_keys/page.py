@@ -252,7 +252,8 @@ class Page(StretchVisitor):
 
     def damaged(self, stretch: Damaged) -> None:
         """Draws damaged octets at the message after them, or at the last one, and adds the rows of the longest at once."""
-        self._places.take(stretch.place, stretch.place, "damaged")
+        at = min(stretch.place, self._places.last)
+        self._places.take(at, at, "damaged")
         self._counts["damaged"] = self.totals.damaged
         if self.totals.damaged > 1:
             return

@@ -14,6 +14,7 @@ from .workplace import Workplace
 SALVAGE = "--salvage"
 # the words of an inspection that are about no message, with how many fields follow each
 FIELDS = {b"damaged": 3, b"torn": 1, b"end": 1}
+BLOCKS = (b"signature", b"certificate")
 
 
 class Salvaged(NamedTuple):
@@ -23,6 +24,7 @@ class Salvaged(NamedTuple):
     messages: int
     torn: Optional[int]
     """The octet from which on it breaks off."""
+    blocks: int = 0
 
     @property
     def is_log(self) -> bool:
@@ -31,12 +33,14 @@ class Salvaged(NamedTuple):
 
 
 def salvaged(lines: Iterable[bytes]) -> Salvaged:
-    """What the lines of an inspection report. Those about messages aren't looked at."""
+    """What the lines of an inspection report. Of those about messages, blocks are counted."""
     damage = Damage()
     messages: Optional[int] = None
     torn: Optional[int] = None
+    blocks = 0
     for line in lines:
         word, *fields = line.rstrip(b"\n").split(b" ")
+        blocks += word in BLOCKS
         if word not in FIELDS:
             continue
         if len(fields) != FIELDS[word]:
@@ -53,7 +57,7 @@ def salvaged(lines: Iterable[bytes]) -> Salvaged:
                 raise wrong(f"ssign inspect has {fault}") from fault
     if messages is None:
         raise wrong("ssign inspect doesn't say how the log ends")
-    return Salvaged(damage, messages, torn)
+    return Salvaged(damage, messages, torn, blocks)
 
 
 def salvage(log: Log, program: str, words: Sequence[str], workplace: Workplace, progress: Progress) -> Salvaged:

@@ -3,6 +3,7 @@ from __future__ import annotations
 
 import argparse
 import os
+import re
 import subprocess
 from itertools import chain
 from typing import TYPE_CHECKING, BinaryIO, Callable, Iterator, List, NamedTuple, Optional, Tuple, Union
@@ -58,6 +59,8 @@ if TYPE_CHECKING:
 
 # A form that isn't asked for, and what is shown in it, is loaded where it is made: all of them take a fifth of a start.
 TOOL = "ssign-keys"
+# what each block that is a line begins with (RFC 5424, section 6)
+HEAD = re.compile(rb"<[0-9]{1,3}>[0-9]")
 
 
 def add_arguments(parser: argparse.ArgumentParser) -> None:
@@ -175,6 +178,8 @@ class Verification:
         # of the octets that were read for this check, before anything else is put after them
         self._stamps = check_stamps(arguments, missing.digest, None if listed is None else listed.digest, workplace)
         log = self._log = open_log(arguments.logs, named_form, workplace, progress, arguments.max_expanded)
+        if named_form is None and log.are_lines and are_damaged_frames(log, program, arguments, workplace, progress):
+            log.are_lines = False
         warn_of_form(log)
         if listed is not None:
             missing = add_counters(missing, listed.look(log), program, workplace, progress)
@@ -417,6 +422,18 @@ class Verifier:
 
     def _reading(self, phase: str) -> Callable[[], None]:
         return lambda: self._progress.show(phase, self._log.position(), self._log.size, "octets")
+
+
+def are_damaged_frames(log: Log, program: str, arguments: argparse.Namespace, workplace: Workplace,
+                       progress: Progress) -> bool:
+    """Whether a log begins as lines do, has no block among them, and blocks as frames: then its first length is damaged."""
+    if len(log.parts) > 1 or any(HEAD.match(it) and len(it) - 1 <= longest(arguments) for it in log.walk().candidates()):
+        return False
+    try:
+        return salvage(log, program, [SALVAGE, *log_words(arguments, False)], workplace, progress).blocks > 0
+    except Refused:
+        # whoever reads it as lines is refused too, or has an older ssign
+        return False
 
 
 def is_detailed(arguments: argparse.Namespace) -> bool:
