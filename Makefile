@@ -5,7 +5,7 @@
 #   make uninstall            takes away what `make install` put there
 #   make deb                  makes a Debian package in the folder BUILD
 #   make test                 runs the tests that need no more than the program; JOBS says how many at a time
-#   make pages                makes man/ and completions/ again, from what --help says
+#   make pages                makes man/, completions/ and the guide's codes again, from --help and explain
 #
 # DESTDIR is a scratch root in front of PREFIX. PYTHON is the interpreter for both tools; without it `env` finds one.
 

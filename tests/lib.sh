@@ -68,6 +68,12 @@ run() {
     status=$?
 }
 
+# words_of CODE: what the program explains of a refusal, without the name of its number, and the code: the end of a line of
+# `ssign-keys`.
+words_of() {
+    printf '%s (%s)' "$("$program" explain "$1" </dev/null | sed -E "s/^($1 or )?$1 [A-Z]+: //")" "$1"
+}
+
 # list_commands [COMMAND..]: sets the array `commands` to the commands that the program's help lists, in its order, but for
 # those that are named. So a check that goes over them misses none that was added. A help that lists none is a failed check.
 list_commands() {

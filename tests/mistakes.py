@@ -1,5 +1,6 @@
 #!/usr/bin/env python3
-"""Runs ssign-keys with the mistakes of a table, and compares all that it says with a sentence that was written by hand.
+"""Runs ssign-keys with the mistakes of a table, and compares all that it says with a sentence that was written by hand,
+or with the place and what `ssign explain` prints.
 
     mistakes.py PROGRAM
 
@@ -8,6 +9,7 @@ sentence have to be those of the table, and standard output has to be empty. PRO
 `mistakes: N passed, M failed`.
 """
 import os
+import re
 import subprocess
 import sys
 import tempfile
@@ -151,8 +153,15 @@ def write_logs():
     write("count-x", b"count x\n")
 
 
-def table():
+def explained(program, code):
+    """What `ssign explain` prints of a code, without the name of its number, and the code."""
+    text = subprocess.run([program, "explain", code], stdout=subprocess.PIPE, check=True, timeout=60).stdout.decode()
+    return re.sub("^(%s or )?%s [A-Z]+: " % (code, code), "", text.strip()) + " (%s)" % code
+
+
+def table(program):
     """The mistakes: the words, the log on standard input, and the sentence. The status is 2."""
+    many, blank, cut, form, none_of, is_block = (explained(program, code) for code in ("F5", "F9", "P1", "P2", "O2", "O3"))
     verify = [KEYS, "verify", "--key", "keys/public-key.pem"]
     sign = [KEYS, "sign", "--key", "keys/private-key.pem", "--rsid", "1"]
     length = len(LINE % b"a")
@@ -160,7 +169,6 @@ def table():
     hint = "this looks like one message a line: use --lines (F1)"
     unframed = "this looks like one message a line: leave --frames out (F1)"
     compressed = "it is compressed by %s: hand over its contents (`%s`) (F1)"
-    outdated = 'it is no TIMESTAMP such as 2026-01-15T09:15:07Z, and not - (P2)'
     warned = "warning: %s: this looks like octet-counted frames, and is read as lines\nssign-keys: "
     framed_too = "this looks like octet-counted frames: leave --lines out"
     wants = '--%s "%s": it has to be a number from %s'
@@ -189,12 +197,12 @@ def table():
             "standard input: the length of a frame is over --max-len 1048576 with its digit at octet 6: no message may be longer (F2)"
         yield at_end + ["--lines", "--max-len", "10", "frames"], b"", warned % "frames" + "frames: " + framed_too + " (F2)"
         yield at_end + ["--max-messages", "1", "lines"], b"", \
-            "lines: the log goes on at octet %d, after as many messages as --max-messages 1 allows: raise it, up to 10000000 (F5)" % (length + 1)
+            "lines: line 2, octet %d: %s" % (length + 1, many)
         yield at_end + ["--max-messages", "1", "frames"], b"", \
-            "frames: the log goes on at octet %d, after as many messages as --max-messages 1 allows: raise it, up to 10000000 (F5)" % frame
+            "frames: octet %d: %s" % (frame, many)
         yield at_end + ["--lines", "--max-messages", "1", "-"], b"3 abc\n3 abc\n", "standard input: " + framed_too + " (F5)"
         yield at_end + ["blank-line"], b"", \
-            "blank-line: line 2 is empty (octet %d), and a message has at least one octet: remove the line (F9)" % (length + 1)
+            "blank-line: line 2, octet %d: %s" % (length + 1, blank)
         yield at_end + ["--lines", "-"], b"3 abc\n\n", "standard input: " + framed_too + " (F9)"
         yield at_end + ["none"], b"", "the log none can't be read: No such file or directory"
         yield at_end + ["--max-len", "0", "lines"], b"", wants % ("max-len", "0", "1 to 1048576")
@@ -213,9 +221,9 @@ def table():
     yield verify + ["empty", "frames", "empty", "lines"], b"", both
     yield verify + ["lines", "old"], b"", both.replace("frames isn't", "old isn't")
     yield verify + ["lines", "blank-line"], b"", \
-        "blank-line: line 2 is empty (octet %d), and a message has at least one octet: remove the line (F9)" % (length + 1)
+        "blank-line: line 2, octet %d: %s" % (length + 1, blank)
     yield verify + ["--max-messages", "3", "frames", "-"], framed(LINE % b"c", LINE % b"d"), \
-        "standard input: the log goes on at octet %d, after as many messages as --max-messages 3 allows: raise it, up to 10000000 (F5)" % frame
+        "standard input: octet %d: %s" % (frame, many)
     yield verify + ["torn-frames", "lines"], b"", both.replace("frames isn't", "torn-frames isn't")
     yield verify + ["torn-lines", "lines"], b"", \
         "the log torn-lines breaks off in the message that begins at its octet %d, so the next log can't be read after it: " \
@@ -226,15 +234,13 @@ def table():
     # counters
     no_counters = "is empty, so it shows nothing: `ssign counters` writes a line for each joined session, so make it again " \
         "from a log that is whole"
-    bad_counters = "isn't as `ssign counters` writes it; an empty line, a CR, and a needless space or zero are wrong too (C1)"
+    bad_counters, cut_counters = explained(program, "C1"), explained(program, "C3")
     yield verify + ["--counters", "empty", "signed"], b"", "the counters file empty " + no_counters
     yield verify + ["--counters", "/dev/null", "signed"], b"", "the counters file /dev/null " + no_counters
     yield verify + ["--counters", "/dev/stdin", "signed"], b"", "the counters file /dev/stdin " + no_counters
     yield verify + ["--counters", "/dev/stdin", "signed"], b"end 0\n", "the counters file /dev/stdin " + no_counters
-    yield verify + ["--counters", "count-x", "signed"], b"", "the counters file count-x: line 1 " + bad_counters
-    yield verify + ["--counters", "/dev/stdin", "signed"], b"count h a p 1 1\n\n", "the counters file /dev/stdin: line 2 " + bad_counters
-    cut_counters = "it isn't whole, as where it was cut off: each part of it ends with a line `end N`, N is how many lines `count` " \
-        "stand in it, and it has 4294967295 octets at most (C3)"
+    yield verify + ["--counters", "count-x", "signed"], b"", "the counters file count-x: line 1: " + bad_counters
+    yield verify + ["--counters", "/dev/stdin", "signed"], b"count h a p 1 1\n\n", "the counters file /dev/stdin: line 2: " + bad_counters
     yield verify + ["--counters", "/dev/stdin", "signed"], b"count h a p 1 1\n", "the counters file /dev/stdin: " + cut_counters
     yield verify + ["--counters", "/dev/stdin", "signed"], b"count h a p 1 1\nend 2\n", "the counters file /dev/stdin: " + cut_counters
     yield verify + ["--counters", "none", "signed"], b"", "the counters file none can't be read: No such file or directory"
@@ -246,65 +252,32 @@ def table():
     yield sign + ["--max-len", "20", "long-frame"], b"", \
         "long-frame: the length of a frame is over --max-len 20 with its digit at octet %d: raise it, up to 1048576 (F2)" % (frame + 1)
     yield sign + ["torn-frames"], b"", \
-        "torn-frames: the log breaks off in the frame that begins at octet %d: get the rest, or keep what stands before (`head -c %d`) (P1)" % (frame, frame)
+        "torn-frames: octet %d: %s" % (frame, cut)
     yield sign + ["torn-lines"], b"", \
-        "torn-lines: the last line, from octet %d on, has no line feed: add it, or keep what stands before (`head -c %d`) (P1)" % (length + 1, length + 1)
-    yield sign + ["-"], LINE % b"a", "standard input: its one line has no line feed: add it (P1)"
+        "torn-lines: line 2, octet %d: %s" % (length + 1, cut)
+    yield sign + ["-"], LINE % b"a", "standard input: line 1, octet 0: " + cut
     yield sign + ["--lines", "frames"], b"", warned % "frames" + "frames: " + framed_too + " (P1)"
-    yield sign + ["-"], b"12", "standard input: the log breaks off in the frame that begins at octet 0: get the rest (P1)"
+    yield sign + ["-"], b"12", "standard input: octet 0: " + cut
     yield sign + ["no-5424"], b"", \
-        "no-5424: the message at place 1 isn't one of RFC 5424 (VERSION, at its octet 4): leave it out, or correct its sender (O2)"
+        "no-5424: place 1 (VERSION, at its octet 4): " + none_of
     yield sign + ["bad-host"], b"", \
-        "bad-host: the message at place 1 isn't one of RFC 5424 (HOSTNAME, at its octet 8): leave it out, or correct its sender (O2)"
+        "bad-host: place 1 (HOSTNAME, at its octet 8): " + none_of
     yield sign + ["--lines", "old"], b"", \
-        "old: the message at place 0 isn't one of RFC 5424 (PRI, at its octet 0): leave it out, or correct its sender (O2)"
-    yield sign + ["block"], b"", "block: the message at place 1 has an element ssign or ssign-cert, and blocks aren't signed again: " \
-        "sign the log without them (O3)"
-    yield sign + ["signed"], b"", "signed: the message at place 0 has an element ssign or ssign-cert, and blocks aren't signed again: " \
-        "sign the log without them (O3)"
+        "old: place 0 (PRI, at its octet 0): " + none_of
+    yield sign + ["block"], b"", "block: place 1: " + is_block
+    yield sign + ["signed"], b"", "signed: place 0: " + is_block
 
-    # texts of options
-    for option, field, longest in (("host", "HOSTNAME", 255), ("app", "APP-NAME", 48), ("procid", "PROCID", 128), ("msgid", "MSGID", 32)):
-        yield sign + ["--" + option, "my host", "lines"], b"", '--%s "my host": a space can\'t stand in it (P2)' % option
-        yield sign + ["--" + option, "", "lines"], b"", '--%s "": it is empty: - stands for no %s (P2)' % (option, field)
-        yield sign + ["--" + option, "b\u00fcro", "lines"], b"", '--%s "b\u00fcro": "\u00fc" can\'t stand in it, but visible ASCII alone (P2)' % option
-        yield sign + ["--" + option, "a\tb", "lines"], b"", '--%s "a\\x09b": "\\x09" can\'t stand in it, but visible ASCII alone (P2)' % option
-        yield sign + ["--" + option, "x" * (longest + 1), "lines"], b"", '--%s "%s": it has %d octets, and %s has at most %d (P2)' % (
-            option, "x" * min(60, longest + 1) + ".." * (longest >= 60), longest + 1, field, longest)
+    # texts of options: the first of several, in the order of ssign
+    for option, longest in (("host", 255), ("app", 48), ("procid", 128), ("msgid", 32)):
+        for text in ("my host", "", "b\u00fcro", "a\tb"):
+            yield sign + ["--" + option, text, "lines"], b"", '--%s "%s": %s' % (option, shown(text), form)
+        yield sign + ["--" + option, "x" * (longest + 1), "lines"], b"", '--%s "%s": %s' % (
+            option, "x" * min(60, longest + 1) + ".." * (longest >= 60), form)
         yield sign + ["--" + option, b"h\xff", "lines"], b"", '--%s "h\\xff": it isn\'t UTF-8' % option
-    yield sign + ["--stamp", "yesterday", "lines"], b"", '--stamp "yesterday": ' + outdated
-    yield sign + ["--stamp", "", "lines"], b"", '--stamp "": it is empty: - stands for no TIMESTAMP (P2)'
-    yield sign + ["--stamp", "2026-02-29T00:00:00Z", "lines"], b"", '--stamp "2026-02-29T00:00:00Z": 2026-02 has no day 29 (P2)'
-    yield sign + ["--stamp", "2026-13-01T00:00:00Z", "lines"], b"", '--stamp "2026-13-01T00:00:00Z": there is no month 13 (P2)'
-    yield sign + ["--stamp", "2026-01-01T24:00:00Z", "lines"], b"", '--stamp "2026-01-01T24:00:00Z": there is no time 24:00 (P2)'
-    yield sign + ["--stamp", "2026-01-01T23:59:60Z", "lines"], b"", \
-        '--stamp "2026-01-01T23:59:60Z": there is no second 60, since a TIMESTAMP has no leap second (P2)'
-    yield sign + ["--stamp", "2026-01-01T00:00:00+24:00", "lines"], b"", '--stamp "2026-01-01T00:00:00+24:00": there is no time zone +24:00 (P2)'
-    yield sign + ["--stamp", "2026-01-01 00:00:00Z", "lines"], b"", \
-        '--stamp "2026-01-01 00:00:00Z": T and Z are capitals, and T stands between date and time (P2)'
-    yield sign + ["--stamp", "2026-01-01T00:00:00", "lines"], b"", '--stamp "2026-01-01T00:00:00": it ends without its time zone, which is Z for UTC (P2)'
-    yield sign + ["--stamp", "2026-01-01T00:00:00.1234567Z", "lines"], b"", \
-        '--stamp "2026-01-01T00:00:00.1234567Z": a second has at most six decimals (P2)'
-    yield sign + ["--groups", "two", "lines"], b"", '--groups "two": "two" is no number: it has to be one, pri, or numbers such as 63,127,191 (P2)'
-    yield sign + ["--groups", "63,", "lines"], b"", '--groups "63,": "" is no number: it has to be one, pri, or numbers such as 63,127,191 (P2)'
-    yield sign + ["--groups", "063,191", "lines"], b"", '--groups "063,191": "063" has a leading zero (P2)'
-    yield sign + ["--groups", "63,192", "lines"], b"", '--groups "63,192": "192" is no PRI, which is 191 at most (P2)'
-    yield sign + ["--groups", "127,63,191", "lines"], b"", \
-        '--groups "127,63,191": 63 stands after 127, and each number has to be greater than the one before (P2)'
-    yield sign + ["--groups", "63,127", "lines"], b"", '--groups "63,127": its last number has to be 191, so that each PRI has a group (P2)'
-    text = 'it wants the text of the payload, and not the name of its file: --payload "$(cat %s)" (P2)'
-    yield sign + ["--payload", "keys/payload", "lines"], b"", '--payload "keys/payload": ' + text % "keys/payload"
-    yield sign + ["--payload", "", "lines"], b"", '--payload "": it is empty: leave it out, and sign makes one of the key (P2)'
-    yield sign + ["--payload", "none", "lines"], b"", '--payload "none": ' + text % "keys/payload"
-    yield sign + ["--payload", "my log", "lines"], b"", '--payload "my log": ' + text % "'my log'"
-    yield sign + ["--payload=--help", "lines"], b"", '--payload "--help": ' + text % "./--help"
-    yield sign + ["--payload", "now K S0VZ", "lines"], b"", '--payload "now K S0VZ": its first word isn\'t right: ' + outdated
-    yield sign + ["--payload", "- X S0VZ", "lines"], b"", '--payload "- X S0VZ": a letter C, P, K, N or U has to follow its TIMESTAMP and one space (P2)'
-    yield sign + ["--payload", "- K S0V", "lines"], b"", '--payload "- K S0V": its key is no strict base64, all on one line (P2)'
-    yield sign + ["--payload", "- K", "lines"], b"", '--payload "- K": the key in base64 has to follow the letter K and one space (P2)'
-    yield sign + ["--payload", "- N x", "lines"], b"", '--payload "- N x": nothing stands after the letter N (P2)'
-    # the first of several, in the order of ssign
-    yield sign + ["--msgid", "a b", "--stamp", "now", "--host", "", "lines"], b"", '--stamp "now": ' + outdated
+    for option, text in (("stamp", "yesterday"), ("stamp", ""), ("stamp", "2026-02-29T00:00:00Z"), ("groups", "two"), ("groups", "63,127"),
+                         ("payload", "keys/payload"), ("payload", ""), ("payload", "--help"), ("payload", "- N x")):
+        yield sign + ["--%s=%s" % (option, text), "lines"], b"", '--%s "%s": %s' % (option, text, form)
+    yield sign + ["--msgid", "a b", "--stamp", "now", "--host", "", "lines"], b"", '--stamp "now": ' + form
     for option, text, takes in (("rsid", "x", "0 to 9999999999"), ("rsid", "10000000000", "0 to 9999999999"), ("pri", "192", "0 to 191"),
                                 ("count", "0", "1 to 99"), ("count", "100", "1 to 99"), ("frag", "0", "1 to 9999"), ("copies", "10", "1 to 9"),
                                 ("copies", "", "1 to 9"), ("pri", "\x1b[2J", "0 to 191")):
@@ -323,7 +296,7 @@ def table():
         yield verify + ["--max-messages", "1", "frames", word], b"", \
             "%s: this is one message a line, and frames isn't: check logs of two forms one by one, or name the form of all " \
             "with --lines or --frames" % shown(word)
-        yield verify + ["--counters", word, "signed"], b"", "the counters file %s: line 1 %s" % (shown(word), bad_counters)
+        yield verify + ["--counters", word, "signed"], b"", "the counters file %s: line 1: %s" % (shown(word), bad_counters)
     yield verify + ["-dash"], b"", "the following arguments are required: LOG " + SEE % "verify" + "; the file -dash is named ./-dash"
 
     # the tools themselves
@@ -422,7 +395,7 @@ def main():
         subprocess.run("gzip -c frames | gzip -c >twice.gz", shell=True, check=True)
         with open("signed", "wb") as signed:
             subprocess.run([KEYS, "sign", "--key", "keys/private-key.pem", "--rsid", "1", "lines"], stdout=signed, check=True)
-        cases = list(table())
+        cases = list(table(program))
         for case in cases:
             tell(" ".join(it if isinstance(it, str) else repr(it) for it in case[0][1:]), check(case))
         print("mistakes: %d command lines, each on a terminal and without one" % len(cases))

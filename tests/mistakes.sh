@@ -1,7 +1,7 @@
 #!/usr/bin/env bash
-# What `ssign-keys` says of mistakes: one sentence with the file, the place and the option that helps, on a terminal and
-# without one. Whether a log is lines is told by its first octet, and the texts of options are judged as ssign does. See
-# mistakes.py, option_texts.py and log_forms.py.
+# What `ssign-keys` says of mistakes: one line with the file, the place, and what `ssign explain` prints or the option that
+# helps, on a terminal and without one. Whether a log is lines is told by its first octet, and whether a wrap has a
+# TIMESTAMP as ssign does. See mistakes.py, option_texts.py and log_forms.py.
 # shellcheck source=tests/lib.sh
 . "$(dirname -- "$0")/lib.sh"
 need_program

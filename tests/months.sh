@@ -199,7 +199,7 @@ refused 'two first counters' '--from can be given only once: put the files one a
 refused 'first counters of two kinds' "--from doesn't go with --from-manifest: a night begins at one of them" --from c3 --from-manifest --manifest manifest "$night"
 refused 'a night of no manifest' '--from-manifest begins at the counters of a manifest: name it with --manifest' --from-manifest "$night"
 echo 'count 1' >broken
-refused 'bad first counters' "the counters file broken: line 1 isn't as \`ssign counters\` writes it; an empty line, a CR, and a needless space or zero are wrong too (C1)" --from broken --counters c5 "$night"
+refused 'bad first counters' "the counters file broken: line 1: $(words_of C1)" --from broken --counters c5 "$night"
 refused 'first counters that are gone' "the counters file gone can't be read: No such file or directory" --from gone "$night"
 printf '#!/bin/sh\nfor it; do case $it in --from=*) echo "error: unexpected argument '"'--from'"' found" >&2; echo "For more information, try '"'--help'"'." >&2; exit 2 ;; esac; done\nexec %q "$@"\n' "$program" >old
 chmod +x old

@@ -296,6 +296,159 @@ expect 'where a link leads to a source' 0 'review' ''
 printf '\n' >>"$scratch/elsewhere.rt"
 none 'and the source that it leads to changed' "$own_is is $of_others, and $recorded_is is $of_others"
 
+# ---- The stamp, by which the answer holds until something that it rests on changes
+# without sha256sum nothing but the stamp can answer
+no_sum=$scratch/no_sum
+mkdir -- "$no_sum"
+cp -P -- "$tools"/* "$no_sum/" && rm -- "$no_sum/sha256sum"
+
+# at FOLDER: has what follows look at this copy.
+at() {
+    copy=$1
+    own=$copy/crates/ssign/out/ssign
+    recorded=$copy/release/ssign-x86_64-linux
+}
+
+# held WHAT OUTPUT: one check, that the stamp alone answers, with the recorded program or the one that prints its words.
+held() {
+    ssign "$no_sum" review </dev/null
+    expect "$1" 0 "$2" ''
+}
+
+# dated FILE COMMAND..: runs the command, and gives the file or folder its date back.
+dated() {
+    local date
+    date=$(date -r "$1" +@%s.%N)
+    "${@:2}"
+    touch -d "$date" -- "$1"
+}
+
+# as_before FILE: a copy of the file or folder, of its date, with one octet changed. It prints its name.
+as_before() {
+    local other=$scratch/other.$RANDOM
+    cp -a -- "$1" "$other"
+    if [[ -d $1 ]]; then
+        edit "$(find "$other" -path '*ss_frame/src/lib.rt' -o -path "$other/lib.rt")" '//!' '//?'
+    else
+        edit "$other" "${@:2}"
+    fi
+    printf '%s' "$other"
+}
+
+# trick WHAT BEFORE AFTER FAULT: after the first command a copy gets a stamp, and after the second one the copy is refused
+# for this fault. Each leaves sizes and dates as they are. A fault that is empty: the program that prints its words answers.
+tricks=()
+trick() {
+    tricks+=("$@")
+}
+export lib=crates/ss_frame/src/lib.rt
+source_changed="$recorded_is is $of_others"
+trick 'one octet of a source' : other_source "$source_changed"
+trick 'one octet of crates.txt' : 'edit crates.txt Each each' "$source_changed"
+trick 'a source more' : 'dated ${lib%/*} cp -p $lib ${lib%/*}/more.rt' "$source_changed"
+trick 'a source less' 'cp -p $lib ${lib%/*}/more.rt; write_text "$recorded" "$copy"' \
+    'dated ${lib%/*} rm ${lib%/*}/more.rt' "$source_changed"
+trick 'a source in the place of another' : 'other=$(as_before $lib //! //?); dated ${lib%/*} mv $other $lib' "$source_changed"
+trick 'a folder in the place of another' : 'other=$(as_before ${lib%/*})
+    dated crates/ss_frame eval "mv ${lib%/*} $scratch/gone.1; mv $other ${lib%/*}"' "$source_changed"
+trick 'all crates in the place of others' : 'other=$(as_before crates); dated . eval "mv crates $scratch/gone.2; mv $other crates"' \
+    "$source_changed"
+trick 'a source by another name of its file' 'ln $lib $scratch/alias' 'edit $scratch/alias //! //?' "$source_changed"
+trick 'a source that a link leads to' 'cp -p $lib $scratch/led; ln -sf $scratch/led $lib' 'edit $scratch/led //! //?' "$source_changed"
+trick 'a first folder of definitions' 'rm -r crates/ss_frame/specs; write_text "$recorded" "$copy"' \
+    'dated crates/ss_frame cp -a crates/ss_block/specs crates/ss_frame/specs' "$source_changed"
+wrong_sum="$recorded_is hasn't the SHA-256 that its text gives"
+trick 'one octet of the program' : 'edit "$recorded" "\177ELF" "#!LF"' "$wrong_sum"
+trick 'a program in its place' : 'other=$(as_before "$recorded" "\177ELF" "#!LF"); dated release mv $other "$recorded"' "$wrong_sum"
+trick 'one octet of the text' : 'edit "$recorded.txt" "sources " "sources-"' "$recorded_is has a text that isn't as release/describe.sh writes it"
+trick 'no text' : 'dated release rm "$recorded.txt"' "$recorded_is has no text beside it"
+trick 'a program that may not be executed' : 'chmod a-x "$recorded"' "$recorded_is may not be executed (chmod +x)"
+trick 'another judge' : 'echo "echo is bad; exit 1" >release/fault.sh' "$recorded_is is bad"
+trick 'a program that was built' : 'dated crates/ssign put_echo' ''
+trick 'a copy of all' : 'cp -a . $scratch/stamped/all; at $scratch/stamped/all; other_source' "$source_changed"
+
+# put_echo: puts a program that prints its words into the copy, as one that was built there.
+put_echo() {
+    put_built
+    cp -- "$(type -P echo)" "$own"
+    write_text "$own" "$copy"
+}
+
+mkdir -- "$scratch/stamped"
+for ((i = 0; i < ${#tricks[@]}; i += 4)); do
+    at "$scratch/stamped/$i"
+    cp -a -- "$with_release" "$copy"
+    (cd -- "$copy" && eval "${tricks[i + 1]}")
+done
+for more in built limited many odd another; do
+    cp -a -- "$with_release" "$scratch/stamped/$more"
+done
+at "$scratch/stamped/built"
+put_echo
+# what changed just now could change once more at the same time, so the answer isn't kept yet
+at "$scratch/copy"
+for ((i = 0; i < 10; i++)); do
+    with_record
+    ssign "$tools" review </dev/null
+    other_source
+    ssign "$tools" review </dev/null
+    holds "a change just after a run, $i" test "$status" = 2
+done
+holds 'so no stamp is left' test ! -e "$copy/release/stamp"
+sleep 3
+for ((i = 0; i < ${#tricks[@]}; i += 4)); do
+    at "$scratch/stamped/$i"
+    ssign "$tools" review </dev/null
+    held "${tricks[i]}: a stamp" 'end 0'
+    cd -- "$copy" && eval "${tricks[i + 2]}"
+    if [[ ${tricks[i + 3]} ]]; then
+        none "${tricks[i]}" "${tricks[i + 3]}"
+    else
+        ssign "$tools" review </dev/null
+        expect "${tricks[i]}" 0 'review' ''
+    fi
+done
+cd -- "$root" || exit 1
+at "$scratch/stamped/built"
+ssign "$tools" --which </dev/null
+expect 'a stamp of the one that was built here' 0 "$own" ''
+held 'it answers' 'review'
+ssign "$no_sum" --which </dev/null
+expect 'and for --which' 0 "$own" ''
+rm -- "$own"
+ssign "$tools" review </dev/null
+expect 'it goes: the recorded one' 0 'end 0' ''
+none_read="$recorded_is cannot be read"
+at "$scratch/stamped/odd"
+stamp=$copy/release/stamp
+ssign "$tools" review </dev/null
+cp -- "$stamp" "$scratch/whole"
+sed -E "s/ ([0-9]+)(\.[0-9]+ [^ ]*lib.rt)\$/ 9\1\2/" "$scratch/whole" >"$scratch/later"
+for text in '' 'end' "$(<"$scratch/later")" "$(head -n -1 -- "$scratch/whole")" "$(tail -n +2 -- "$scratch/whole")"; do
+    printf '%s' "$text" >"$stamp"
+    ssign "$no_sum" review </dev/null
+    expect "a stamp of ${#text} octets, as one with a clock set back, is none" 2 '' \
+        "ssign: no program is run: $none_read; ./ssign --build proves and builds one"
+done
+for kind in 'mkdir' 'mkfifo' 'ln -s nowhere'; do
+    rm -f -- "$stamp"
+    $kind "$stamp"
+    ssign "$tools" review </dev/null
+    expect "$kind in its place" 0 'end 0' ''
+    rm -rf -- "$stamp"
+done
+at "$scratch/stamped/many"
+for ((i = 0; i < 8; i++)); do
+    PATH=$tools bash "$copy/ssign" --which </dev/null >"$scratch/which.$i" 2>&1 &
+done
+wait
+for ((i = 0; i < 8; i++)); do
+    holds "eight at once, $i" test "$(<"$scratch/which.$i")" = "$recorded"
+done
+holds 'one stamp is left' test "$(cd -- "$copy/release" && echo stamp*)" = stamp
+held 'and it answers' 'end 0'
+at "$scratch/copy"
+
 # ---- A recorded program that isn't one, or whose text isn't whole, is never run
 # gate WORD..: runs tests/release.sh of the copy with these settings, on the program of this test.
 gate() {
@@ -392,6 +545,18 @@ holds 'it answers within 5 s' test "$took" -lt 5000
 find "$clone" | sort >"$scratch/after"
 holds 'nothing is written there' cmp -- "$scratch/before" "$scratch/after"
 chmod -R u+w -- "$clone"
+# the owner's stamp answers for another user too
+at "$scratch/stamped/another"
+chmod 711 -- "$scratch/stamped"
+(umask 077 && PATH=$tools bash "$copy/ssign" review </dev/null >"$scratch/out")
+"${as_another[@]}" env -i PATH="$no_sum" "$BASH" "$copy/ssign" review </dev/null >"$scratch/out" 2>"$scratch/err"
+status=$?
+expect 'a stamp that another user left' 0 'end 0' ''
+other_source
+"${as_another[@]}" env -i PATH="$tools" "$BASH" "$copy/ssign" review </dev/null >"$scratch/out" 2>"$scratch/err"
+status=$?
+expect 'and after a change' 2 '' "ssign: no program is run: $recorded_is is $of_others; ./ssign --build proves and builds one"
+at "$scratch/copy"
 
 # ---- --build
 fresh
@@ -674,9 +839,10 @@ limited() {
     expect "$1: status" 2 'SOME TEXT' 'ssign: W1'
     holds "$1: what fits" cmp -- "$scratch/front" "$scratch/out"
 }
-with_record
-ssign "$tools" --version </dev/null
+at "$scratch/stamped/limited"
 limited 'a file size limit, the recorded program'
+holds 'a stamp that does not fit is none' test "$(cd -- "$copy/release" && echo stamp*)" = 'stamp*'
+at "$scratch/copy"
 built
 limited 'a file size limit, a program of one'\''s own'
 

@@ -463,7 +463,7 @@ holds 'a newer ssign: its words' cmp <(sed 's|=/.*/answers |=answers |' called) 
         'review --answers=answers --whole --max-len=9999 --salvage')
 printf '#!/bin/sh\necho "ssign: F4" >&2\nexit 2\n' >older
 keys verify --key keys/public-key.pem --whole --ssign ./older stored
-refuses 'a refusal is no want of --whole' "ssign-keys: stored: there isn't enough memory for a message: give the program more memory (F4)"
+refuses 'a refusal is no want of --whole' "ssign-keys: stored: ssign refuses with a code that it doesn't explain (F4)"
 # shellcheck disable=SC2016
 printf '#!/bin/sh\nkill -9 $$\n' >older
 keys verify --key keys/public-key.pem --whole --ssign ./older stored
@@ -702,7 +702,7 @@ refuses 'an empty log, and counters without a line' "ssign-keys: the counters fi
 
 # counters that are refused, before the log is read
 bad_counters() {
-    printf "ssign-keys: the counters file counters: line %d isn't as \`ssign counters\` writes it; an empty line, a CR, and a needless space or zero are wrong too (C1)" "$1"
+    printf 'ssign-keys: the counters file counters: line %d: %s' "$1" "$(words_of C1)"
 }
 for form in '' --json --raw; do
     kept '1 3' '1 0 0 11' '1 0 0 0'
@@ -717,8 +717,7 @@ keys verify --key keys/public-key.pem --counters counters none
 refuses 'an empty line of counters' "$(bad_counters 3)"
 kept '1 3' '1 0 0 11' && head -n 1 counters >cut-off
 keys verify --key keys/public-key.pem --counters cut-off none
-refuses 'counters that were cut off' "ssign-keys: the counters file cut-off: it isn't whole, as where it was cut off: each part of it ends with a line \`end N\`, N is how many \
-lines \`count\` stand in it, and it has 4294967295 octets at most (C3)"
+refuses 'counters that were cut off' "ssign-keys: the counters file cut-off: $(words_of C3)"
 kept $'1 3\r'
 keys verify --key keys/public-key.pem --counters counters signed
 refuses 'counters with CR' "$(bad_counters 1)"
@@ -794,7 +793,7 @@ python3 -B "$root/tests/verdicts.py" terminal "$keys_program" verify --key keys/
 holds 'a refusal on a terminal: the same sentence' limited out
 holds 'a refusal on a terminal: nothing else' test "$(wc -l <out) $(tail -n 1 out)" = '2 status 2'
 keys verify --key keys/public-key.pem --max-messages 3 signed
-holds 'another limit: what is said' grep -qx 'ssign-keys: signed: the log goes on at octet [0-9]*, after as many messages as --max-messages 3 allows: raise it, up to 10000000 (F5)' err
+holds 'another limit: what is said' grep -qx "ssign-keys: signed: octet [0-9]*: $(words_of F5)" err
 # a message that may be a block and is too long: the octets are those of the whole log, not of its blocks
 { cat signed && printf '66000 %066000d' 0 | sed 's/ 0000000/ [ssign /'; } >too-long
 keys verify --key keys/public-key.pem too-long
@@ -876,12 +875,12 @@ done
 keys sign --key keys/public-key.pem --rsid 1 signed
 holds 'a public key to sign with: status 2' test "$status" = 2
 keys sign "${words[@]}" --rsid 1 signed
-refuses 'a log that is signed already' "ssign-keys: signed: the message at place 0 has an element ssign or ssign-cert, and blocks aren't signed again: sign the log without them (O3)"
+refuses 'a log that is signed already' "ssign-keys: signed: place 0: $(words_of O3)"
 keys sign "${words[@]}" --rsid -1 "$ten"
 holds 'a number that ssign refuses: status 2' test "$status" = 2
 holds 'a number that ssign refuses: nothing on standard output' test ! -s out
 keys sign "${words[@]}" --rsid 1 --stamp never --lines "$ten"
-refuses 'a text that ssign refuses' 'ssign-keys: --stamp "never": it is no TIMESTAMP such as 2026-01-15T09:15:07Z, and not - (P2)'
+refuses 'a text that ssign refuses' "ssign-keys: --stamp \"never\": $(words_of P2)"
 keys sign "${words[@]}" --rsid 1 --rsid 2 --lines "$ten"
 holds 'an option twice: status 2' test "$status" = 2
 keys sign "${words[@]}" --rsid 1 --payload "$(<keys/payload)" --stamp - --pri 14 --procid 7 --msgid M --groups pri --frag 99 --copies 2 --lines - <"$ten"
@@ -892,7 +891,7 @@ says 'what they gave' 0 'Session: HOSTNAME gate, APP-NAME signer, PROCID 7, RSID
 timeout "$patience" "$keys_program" sign "${words[@]}" --rsid 1 --lines "$ten" >/dev/full 2>err
 holds 'a signed log to a full device: status 2' test "$?" = 2
 holds 'a signed log to a full device: what is said' \
-    cmp err <(echo "ssign-keys: standard output can't be written to its end: don't use what was written (W1)")
+    cmp err <(echo "ssign-keys: $(words_of W1)")
 
 # ---- signals: a program that waits is ended with ssign-keys
 # shellcheck disable=SC2016

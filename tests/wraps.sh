@@ -89,7 +89,7 @@ expect 'both options' 2 '' 'ssign-keys: --wrap and --set-aside: a message is sig
 holds 'both options: no file is left' test ! -e more
 { head -c 200 /dev/zero | tr '\0' x && echo; } >long.log
 keys sign --key keys/private-key.pem --rsid 1 --lines --max-len 205 --wrap long.log
-expect 'a wrap that is too long' 2 '' "ssign-keys: long.log: the message at place 0 can't be signed as it is, and its wrap would be longer than --max-len says: give a greater --max-len, up to 1048576, or use --set-aside (O11)"
+expect 'a wrap that is too long' 2 '' "ssign-keys: long.log: place 0: $(words_of O11)"
 printf 'no LF at the end' >torn.log
 keys sign --key keys/private-key.pem --rsid 1 --lines --wrap torn.log
 holds 'a torn log: refused' test "$status" = 2 -a ! -s out

@@ -44,7 +44,7 @@ class Command:
 
 @dataclass
 class Program:
-    """A program with its commands. `codes` are the words that its command `explain` knows."""
+    """A program with its commands. `codes` are the words that its command `explain` knows, each with its text."""
 
     name: str
     purpose: str
@@ -52,7 +52,7 @@ class Program:
     usage: str
     options: List[Option]
     commands: List[Command]
-    codes: List[str] = field(default_factory=list)
+    codes: Dict[str, str] = field(default_factory=dict)
 
 
 def ask(path: str, name: str, words: Sequence[str]) -> Tuple[str, str]:
@@ -151,10 +151,10 @@ def read_program(path: str, name: str) -> Program:
     commands = [read_command(path, name, it) for it, _ in rows if it not in ("help", "COMMAND")]
     options = options_of(parts)
     version = ask(path, name, ["--version"])[0].strip() if any(it.name == "--version" for it in options) else ""
-    codes: List[str] = []
+    codes: Dict[str, str] = {}
     if any(it.name == "explain" for it in commands):
         told = re.search(r"^The codes: (.*)$", ask(path, name, ["explain", "nothing"])[1], re.M)
         if told is None:
             raise Unreadable("explain names no codes")
-        codes = told[1].split()
+        codes = {it: ask(path, name, ["explain", it])[0].strip() for it in told[1].split()}
     return Program(name, purpose_of(parts), version, usage_of(parts), options, commands, codes)

@@ -1,10 +1,12 @@
-"""Says in words what ssign refuses with a code: which file, where in it, and which option helps."""
+"""Says in words what ssign refuses with a code: which file, where in it, and what ssign explains of the code."""
 from __future__ import annotations
 
 import argparse
 import re
-from typing import Callable, Dict, Iterator, NamedTuple, Optional, Tuple
+import subprocess
+from typing import Callable, Dict, NamedTuple, Optional, Tuple
 
+from .commands import PATIENCE
 from .faults import Fault
 from .likely import LINES, is_surely_framed, likely_cause, looks_framed
 from .logs import Log
@@ -21,8 +23,10 @@ FRONT = 512
 # what the options of numbers take
 RANGES = {"rsid": "0 to 9999999999", "pri": "0 to 191", "count": "1 to 99", "frag": "1 to 9999", "copies": "1 to 9",
           "max-len": "1 to 1048576", "max-messages": "1 to 10000000"}
-LIMITS = {"max-len": "65536", "max-messages": "10000000"}
-MOST_MEMORY = "give the program more memory"
+MAX_LEN = "65536"
+# the front of an explanation, `O6 or O6 PLACE: `, says what the number after a code is
+OPERAND = re.compile(r"(?:[A-Z][0-9]+ or )?[A-Z][0-9]+ (OFFSET|PLACE|LINE): ")
+UNEXPLAINED = "ssign refuses with a code that it doesn't explain"
 
 
 class Case(NamedTuple):
@@ -61,14 +65,10 @@ class Case(NamedTuple):
         """The first octets of the log that begins there."""
         return read_at(self.opened().file, offset, FRONT)
 
-    def limit(self, option: str) -> str:
-        """The value of an option that limits a log."""
-        given = getattr(self.arguments, option.replace("-", "_"), None)
-        return str(given[-1]) if given else LIMITS[option]
-
-    def is_framed(self, offset: int) -> bool:
-        """Whether a log that is read as lines begins like one of frames."""
-        return self.opened().are_lines and looks_framed(self.front(offset))
+    def line(self, start: int) -> int:
+        """The line in which the octet lies, in a log of lines that begins there."""
+        pieces = (read_at(self.opened().file, at, min(1 << 20, self.where - at)) for at in range(start, self.where, 1 << 20))
+        return 1 + sum(piece.count(b"\n") for piece in pieces)
 
 
 def named(name: str) -> str:
@@ -77,14 +77,44 @@ def named(name: str) -> str:
 
 
 def fault_of(refused: Refused, program: str, arguments: argparse.Namespace, log: Optional[Log]) -> Optional[Fault]:
-    """The sentence for a refusal, or None where ssign said words of its own, which were passed on."""
+    """The words for a refusal, or None where ssign said words of its own, which were passed on."""
     if refused.mistake is not None:
         return Fault(mistake(refused.mistake, arguments))
     if refused.code is None:
         return None
     case = Case(refused.where or 0, refused.where is not None, arguments, log, program)
-    sentence = SENTENCES.get(refused.code, unknown)
-    return Fault(f"{sentence(case)} ({refused.code})")
+    words = OWN[refused.code](case) if refused.code in OWN else None
+    return Fault(f"{words or explained(case, refused.code)} ({refused.code})")
+
+
+def explained(case: Case, code: str) -> str:
+    """Where it is, and what ssign explains of the code."""
+    try:
+        run = subprocess.run([case.program, "explain", code], stdin=subprocess.DEVNULL, stdout=subprocess.PIPE,
+                             stderr=subprocess.DEVNULL, timeout=PATIENCE, check=False)
+        text = run.stdout.decode("utf-8", "replace").strip() if run.returncode == 0 else ""
+    except (OSError, subprocess.SubprocessError):
+        text = ""
+    operand = OPERAND.match(text)
+    place = place_of(case, code, operand[1] if operand and case.has_place else "")
+    return f"{place}{text[operand.end():] if operand else text or UNEXPLAINED}"
+
+
+def place_of(case: Case, code: str, operand: str) -> str:
+    """The file that a refusal is about, and the place in it, up to a colon; nothing where it is about no file."""
+    if operand == "OFFSET":
+        name, octet, start = case.octet()
+        return f"{name}: line {case.line(start)}, octet {octet}: " if case.opened().are_lines else f"{name}: octet {octet}: "
+    if operand == "PLACE":
+        name, place = case.place()
+        part = part_that_fails(case.program, case.opened(), case.where) if code == "O2" else ""
+        return f"{name}: place {place}{part}: "
+    if code.startswith("C"):
+        return f"{counters_name(case)}: line {case.where}: " if operand == "LINE" else f"{counters_name(case)}: "
+    if code == "P2":
+        found = out_of_form(case.program, case.arguments)
+        return "" if found is None else f"--{found.option} {quoted(found.text)}: "
+    return "" if code.startswith("W") or code == "O1" else f"{case.name}: "
 
 
 def mistake(text: str, arguments: argparse.Namespace) -> str:
@@ -100,7 +130,7 @@ def mistake(text: str, arguments: argparse.Namespace) -> str:
         return f"--ver {quoted(given[-1])}: it has to be {VERSIONS}"
     foreign = not_utf8(arguments)
     if "UTF-8" in text and foreign is not None:
-        return f"--{foreign.option} {quoted(foreign.text)}: {foreign.why}"
+        return f"--{foreign.option} {quoted(foreign.text)}: it isn't UTF-8"
     if re.search("'--(resume|ahead)'", text):
         return f"this ssign has no {'--resume' if 'resume' in text else '--ahead'}, which --state needs: use a newer one"
     if "UTF-8" in text:
@@ -116,10 +146,26 @@ def warn_of_form(log: Log) -> None:
             notify(f"ssign-keys: warning: {named(part.name)}: this looks like octet-counted frames, and is read as lines")
 
 
-# ---- the log
+# ---- own words: a cause that ssign doesn't know, or options that ssign doesn't have
+
+def framed(case: Case) -> Optional[str]:
+    """F5 and F9: of frames that are read as lines."""
+    name, _, start = case.octet()
+    if case.opened().are_lines and looks_framed(case.front(start)):
+        return f"{name}: this looks like octet-counted frames: leave --lines out"
+    return None
+
+
+def broken_off(case: Case) -> Optional[str]:
+    """P1: of frames that are read as lines, or a file that is no log."""
+    name, octet, start = case.octet()
+    front = case.front(start)
+    cause = likely_cause(front) if octet == 0 and not case.opened().are_lines and b"\n" in front else None
+    return framed(case) if cause is None else f"{name}: {cause}"
+
 
 def bad_length(case: Case) -> str:
-    """F1."""
+    """F1. No option of ssign-keys reads on, as --salvage of ssign does."""
     name, octet, start = case.octet()
     walk = Walk(case.opened().file, False, start, case.where)
     while walk.step(1 << 20):
@@ -144,107 +190,14 @@ def spelled(octet: bytes) -> str:
 
 
 def too_long(case: Case) -> str:
-    """F2."""
-    name, octet, start = case.octet()
-    if case.is_framed(start):
-        return framed(name)
-    limit = case.limit("max-len")
+    """F2, with the limit that was given."""
+    name, octet, _ = case.octet()
+    given = getattr(case.arguments, "max_len", None)
+    limit = str(given[-1]) if given else MAX_LEN
     more = "raise it, up to 1048576" if limit != "1048576" else "no message may be longer"
     if case.opened().are_lines:
-        return f"{name}: the line goes on at octet {octet}, and has more octets than --max-len {limit} allows: {more}"
+        return framed(case) or f"{name}: the line goes on at octet {octet}, and has more octets than --max-len {limit} allows: {more}"
     return f"{name}: the length of a frame is over --max-len {limit} with its digit at octet {octet}: {more}"
-
-
-def framed(name: str) -> str:
-    """What is said of frames that are read as lines."""
-    return f"{name}: this looks like octet-counted frames: leave --lines out"
-
-
-def unreadable(case: Case) -> str:
-    """F3."""
-    return f"{case.name}: reading it failed: see that its disk is sound, and run again"
-
-
-def no_memory_for_log(case: Case) -> str:
-    """F4."""
-    return f"{case.name}: there isn't enough memory for a message: {MOST_MEMORY}"
-
-
-def too_many(case: Case) -> str:
-    """F5."""
-    name, octet, start = case.octet()
-    if case.is_framed(start):
-        return framed(name)
-    limit = case.limit("max-messages")
-    more = "raise it, up to 10000000" if limit != "10000000" else "cut the log into parts"
-    return f"{name}: the log goes on at octet {octet}, after as many messages as --max-messages {limit} allows: {more}"
-
-
-def empty_line(case: Case) -> str:
-    """F9."""
-    name, octet, start = case.octet()
-    if case.is_framed(start):
-        return framed(name)
-    number = 1 + sum(piece.count(b"\n") for piece in pieces(case.opened(), start, case.where))
-    return f"{name}: line {number} is empty (octet {octet}), and a message has at least one octet: remove the line"
-
-
-def pieces(log: Log, start: int, end: int) -> Iterator[bytes]:
-    """The octets from there to there, piece by piece."""
-    return (read_at(log.file, at, min(1 << 20, end - at)) for at in range(start, end, 1 << 20))
-
-
-def broken_off(case: Case) -> str:
-    """P1."""
-    name, octet, start = case.octet()
-    if case.is_framed(start):
-        return framed(name)
-    if case.opened().are_lines and octet == 0:
-        return f"{name}: its one line has no line feed: add it"
-    if case.opened().are_lines:
-        return f"{name}: the last line, from octet {octet} on, has no line feed: add it, or keep what stands before " \
-            f"(`head -c {octet}`)"
-    cause = likely_cause(case.front(start)) if octet == 0 and b"\n" in case.front(start) else None
-    if cause is not None:
-        return f"{name}: {cause}"
-    keep = f", or keep what stands before (`head -c {octet}`)" if octet else ""
-    return f"{name}: the log breaks off in the frame that begins at octet {octet}: get the rest{keep}"
-
-
-# ---- what is to be signed
-
-def text_out_of_form(case: Case) -> str:
-    """P2."""
-    found = out_of_form(case.arguments)
-    if found is None:
-        return "a text of --payload, --stamp, --groups, --host, --app, --procid or --msgid isn't in its form"
-    return f"--{found.option} {quoted(found.text)}: {found.why}"
-
-
-def payload_too_long(case: Case) -> str:
-    """O1."""
-    return "--payload: it has more than 99999999 octets: give a shorter one"
-
-
-def no_message(case: Case) -> str:
-    """O2."""
-    name, place = case.place()
-    part = part_that_fails(case.program, case.opened(), case.where)
-    return f"{name}: the message at place {place} isn't one of RFC 5424{part}: leave it out, or correct its sender"
-
-
-def is_block(case: Case) -> str:
-    """O3."""
-    name, place = case.place()
-    return f"{name}: the message at place {place} has an element ssign or ssign-cert, and blocks aren't signed again: " \
-        "sign the log without them"
-
-
-def long_wrap(case: Case) -> str:
-    """O11."""
-    name, place = case.place()
-    return f"{name}: the message at place {place} can't be signed as it is, and its wrap would be longer than --max-len says: " \
-        "give a greater --max-len, up to 1048576, or use --set-aside"
 
 
 def after(case: Case) -> str:
@@ -273,13 +226,6 @@ def used_up(case: Case) -> str:
     return f"{case.name}: its messages or blocks can't be counted up to 9999999999: sign the log in parts"
 
 
-def no_memory_to_sign(case: Case) -> str:
-    """O10."""
-    return f"{case.name}: there isn't enough memory to sign it: {MOST_MEMORY}, or sign the log in parts"
-
-
-# ---- answers, counters, and the run
-
 def own_answers(case: Case) -> str:
     """A1 and A2."""
     line = f", in line {case.where}" if case.has_place else ""
@@ -289,11 +235,6 @@ def own_answers(case: Case) -> str:
 def long_answers(case: Case) -> str:
     """A3."""
     return f"{case.name}: its signatures fill more than 4294967295 octets: take the log in parts"
-
-
-def no_memory_for_answers(case: Case) -> str:
-    """A4."""
-    return f"{case.name}: there isn't enough memory for its signatures: {MOST_MEMORY}, or take the log in parts"
 
 
 def state_name(case: Case) -> str:
@@ -310,28 +251,6 @@ def counters_name(case: Case) -> str:
     return f"the counters file {shown_name(given[0])}" if given else "the counters file"
 
 
-def bad_counter(case: Case) -> str:
-    """C1."""
-    return f"{counters_name(case)}: line {case.where} isn't as `ssign counters` writes it; an empty line, a CR, and a needless " \
-        "space or zero are wrong too"
-
-
-def unreadable_counters(case: Case) -> str:
-    """C2."""
-    return f"{counters_name(case)}: reading it failed"
-
-
-def cut_counters(case: Case) -> str:
-    """C3."""
-    return f"{counters_name(case)}: it isn't whole, as where it was cut off: each part of it ends with a line `end N`, N is how " \
-        "many lines `count` stand in it, and it has 4294967295 octets at most"
-
-
-def no_memory_for_counters(case: Case) -> str:
-    """C4."""
-    return f"{counters_name(case)}: there isn't enough memory for it: {MOST_MEMORY}"
-
-
 def no_session(case: Case) -> str:
     """C5."""
     return f"{counters_name(case)}: they have no session with these names and this RSID"
@@ -342,35 +261,15 @@ def other_group(case: Case) -> str:
     return f"{counters_name(case)}: the line `count` number {case.where} is of a group that --groups doesn't have"
 
 
-def no_memory_to_review(case: Case) -> str:
-    """V1."""
-    return f"{case.name}: there isn't enough memory to review it: {MOST_MEMORY}, or cut the log into parts"
-
-
-def unwritten(case: Case) -> str:
-    """W1."""
+def unwritten(case: Case) -> Optional[str]:
+    """W1, of a passing file."""
     if hasattr(case.arguments, "logs") or state_name(case):
         return "a passing file can't be written; TMPDIR names the folder for it"
-    return "standard output can't be written to its end: don't use what was written"
+    return None
 
 
-def no_memory_to_run(case: Case) -> str:
-    """W2."""
-    return f"there isn't enough memory for the run: {MOST_MEMORY}"
-
-
-def unknown(case: Case) -> str:
-    """A code that no sentence is known for."""
-    return "ssign refuses with a code: `ssign explain` says what it means"
-
-
-SENTENCES: Dict[str, Callable[[Case], str]] = {
-    "F1": bad_length, "F2": too_long, "F3": unreadable, "F4": no_memory_for_log, "F5": too_many, "F9": empty_line,
-    "P1": broken_off, "P2": text_out_of_form,
-    "O1": payload_too_long, "O2": no_message, "O3": is_block, "O6": no_seal, "O7": long_seal, "O8": used_up, "O9": used_up,
-    "O10": no_memory_to_sign, "O11": long_wrap,
-    "A1": own_answers, "A2": own_answers, "A3": long_answers, "A4": no_memory_for_answers,
-    "C1": bad_counter, "C2": unreadable_counters, "C3": cut_counters, "C4": no_memory_for_counters, "C5": no_session,
-    "C6": other_group,
-    "V1": no_memory_to_review, "W1": unwritten, "W2": no_memory_to_run,
+OWN: Dict[str, Callable[[Case], Optional[str]]] = {
+    "F1": bad_length, "F2": too_long, "F5": framed, "F9": framed, "P1": broken_off,
+    "O6": no_seal, "O7": long_seal, "O8": used_up, "O9": used_up,
+    "A1": own_answers, "A2": own_answers, "A3": long_answers, "C5": no_session, "C6": other_group, "W1": unwritten,
 }
