@@ -1,7 +1,7 @@
 """Completions for bash, zsh and fish, from the table of commands and options."""
 from __future__ import annotations
 
-from typing import List, Sequence
+from typing import Iterable, List, Sequence
 
 from .help import Command, Option, Program
 
@@ -154,14 +154,14 @@ def zsh_text(text: str) -> str:
     return "".join("\\" + it if it in "[]\\:" else it for it in brief(text))
 
 
-def zsh_action(option_or_kind: str, choices: Sequence[str], codes: Sequence[str]) -> str:
+def zsh_action(option_or_kind: str, choices: Sequence[str], codes: Iterable[str]) -> str:
     """What completes a value."""
     if choices:
         return f"({' '.join(choices)})"
     return {"files": "_files", "folders": "_files -/", "codes": f"({' '.join(codes)})"}.get(option_or_kind, " ")
 
 
-def zsh_option(option: Option, codes: Sequence[str]) -> str:
+def zsh_option(option: Option, codes: Iterable[str]) -> str:
     """An option as a specification of _arguments."""
     if option.short:
         return f"'(- *)'{{{option.short},{option.name}}}{quoted(f'[{zsh_text(option.text)}]')}"
