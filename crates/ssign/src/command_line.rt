@@ -13,7 +13,7 @@ ghost use Rattle.ssign.specs.CommandLine.{payloads_of, report_form, reporting, t
 
 use crate::arguments::option;
 use crate::asked::asked_of;
-use crate::commands::CommandRow;
+use crate::commands::{CommandRow, Note};
 use crate::extraction::form_out;
 use crate::options::{OptionRow, Value};
 use crate::signing::{Sending, Signing};
@@ -161,13 +161,10 @@ fn bare<'a>(alloc: Global) -> Command<'a>
 fn bare_of<'a>(alloc: Global, row: CommandRow) -> Command<'a>
     ensures { IsLocalApp result (new_app row.name.now) }
 {
-    let command = Command::new(alloc, row.name)
-        .about(row.about)
-        .override_usage(row.usage);
-    if row.examples.is_empty() {
-        command
-    } else {
-        command.after_help(row.examples)
+    let command = Command::new(alloc, row.name).about(row.about);
+    match row.note {
+        Note::Usage(usage) => command.override_usage(usage),
+        Note::Examples(examples) => command.after_help(examples),
     }
 }
 

@@ -5,6 +5,15 @@ use crate::options::{
     SALVAGE_REPORTED, SIGNING, TALLY, UNLISTED, UNWRAP, UNWRAP_SHOWN, WHOLE, WRAP,
 };
 
+/// What the help of a command has of its own.
+#[derive(Clone, Copy, Debug)]
+pub enum Note {
+    /// How it is called. This says where the log comes from, for whoever names it as an argument.
+    Usage(&'static str),
+    /// Examples.
+    Examples(&'static str),
+}
+
 /// A command.
 #[derive(Clone, Copy, Debug)]
 pub struct CommandRow {
@@ -12,10 +21,8 @@ pub struct CommandRow {
     pub name: &'static str,
     /// What the help says about it.
     pub about: &'static str,
-    /// How it is called.
-    pub usage: &'static str,
-    /// Examples below the help, if there are any.
-    pub examples: &'static str,
+    /// What its help has beside that.
+    pub note: Note,
     /// Its own options, in their order.
     pub options: &'static [OptionRow],
     /// Those after them that it shares.
@@ -26,8 +33,7 @@ pub struct CommandRow {
 pub const REVIEW: CommandRow = CommandRow {
     name: "review",
     about: "Reports which messages of the log on standard input are exactly those that their sender signed",
-    usage: "ssign review [OPTIONS] < FILE",
-    examples: "",
+    note: Note::Usage("ssign review [OPTIONS] < FILE"),
     options: &[
         ANSWERS,
         FINDINGS,
@@ -47,8 +53,7 @@ pub const QUESTIONS: CommandRow = CommandRow {
     name: "questions",
     about: "Writes lines that are questions: used as answers unchecked, they make any forged log pass. \
         A signature checker leaves out each line that it can't confirm; the rest are answers",
-    usage: "ssign questions [OPTIONS] < FILE",
-    examples: "",
+    note: Note::Usage("ssign questions [OPTIONS] < FILE"),
     options: &[JSON, ONCE, PINNED, SALVAGE],
     shared: &READING,
 };
@@ -57,8 +62,7 @@ pub const QUESTIONS: CommandRow = CommandRow {
 pub const EXTRACT: CommandRow = CommandRow {
     name: "extract",
     about: "Writes messages of the log as octet-counted frames: those that a review lists, or others",
-    usage: "ssign extract [OPTIONS] < FILE",
-    examples: "",
+    note: Note::Usage("ssign extract [OPTIONS] < FILE"),
     options: &[ANSWERS, UNLISTED, PLACE, LINES_OUT, UNWRAP, PINNED, SALVAGE],
     shared: &READING,
 };
@@ -67,8 +71,7 @@ pub const EXTRACT: CommandRow = CommandRow {
 pub const INSPECT: CommandRow = CommandRow {
     name: "inspect",
     about: "Writes what each message of the log is: plain, a block, or unparsed, and why",
-    usage: "ssign inspect [OPTIONS] < FILE",
-    examples: "",
+    note: Note::Usage("ssign inspect [OPTIONS] < FILE"),
     options: &[FINDINGS_PLAIN, JSON, UNWRAP_SHOWN, SALVAGE_REPORTED],
     shared: &READING,
 };
@@ -77,8 +80,7 @@ pub const INSPECT: CommandRow = CommandRow {
 pub const PLAN: CommandRow = CommandRow {
     name: "plan",
     about: "Writes what has to be signed for the log on standard input: a line want OCTETS for each block",
-    usage: "ssign plan --payload TEXT --rsid N [OPTIONS] < FILE",
-    examples: "",
+    note: Note::Usage("ssign plan --payload TEXT --rsid N [OPTIONS] < FILE"),
     options: &[RESUME, AHEAD, WRAP],
     shared: &SIGNING,
 };
@@ -87,8 +89,7 @@ pub const PLAN: CommandRow = CommandRow {
 pub const SIGN: CommandRow = CommandRow {
     name: "sign",
     about: "Writes the log on standard input with the blocks that sign it, as octet-counted frames",
-    usage: "ssign sign --answers FILE --payload TEXT --rsid N [OPTIONS] < FILE",
-    examples: "",
+    note: Note::Usage("ssign sign --answers FILE --payload TEXT --rsid N [OPTIONS] < FILE"),
     options: &[ANSWERS_SEALED, RESUME, WRAP, LINES_OUT],
     shared: &SIGNING,
 };
@@ -98,8 +99,7 @@ pub const COUNTERS: CommandRow = CommandRow {
     name: "counters",
     about: "Writes how far the signature blocks of the log reach: the next GBC of each joined session, \
         and the next number of each of its groups",
-    usage: "ssign counters [OPTIONS] < FILE",
-    examples: "",
+    note: Note::Usage("ssign counters [OPTIONS] < FILE"),
     options: &[ANSWERS, JSON, PINNED, SALVAGE],
     shared: &READING,
 };
@@ -109,8 +109,7 @@ pub const CARRY: CommandRow = CommandRow {
     name: "carry",
     about: "Writes what the review of the next log needs of this one, as octet-counted frames: for sessions that go on \
     from log to log",
-    usage: "ssign carry [OPTIONS] < FILE",
-    examples: "",
+    note: Note::Usage("ssign carry [OPTIONS] < FILE"),
     options: &[ANSWERS, PINNED, SALVAGE],
     shared: &READING,
 };
@@ -119,12 +118,13 @@ pub const CARRY: CommandRow = CommandRow {
 pub const EXPLAIN: CommandRow = CommandRow {
     name: "explain",
     about: "Explains a refusal or a word of the output: what it means, and what to do",
-    usage: "ssign explain <CODE>...",
-    examples: "Examples:
+    note: Note::Examples(
+        "Examples:
   ssign explain F1
   ssign explain 'ssign: F1 0'
   ssign explain gap
   ssign explain m8",
+    ),
     options: &[CODE],
     shared: &[],
 };
