@@ -4,12 +4,11 @@ ghost use Rattle.std.specs.Prelude.{map, option_and_then, option_map};
 ghost use Rattle.std.specs.Option.{SomeIff, is_some};
 ghost use Rattle.clap.specs.Words.{App, app_of, first_value, found_of, kind_of, matched_of, new_app, raw_values};
 ghost use Rattle.ss_frame.specs.Limits.{InRange};
-ghost use Rattle.ssign.specs.CommandLine.{bare_app, order_app, own_rules, shared_rules, ssign_app, with_rules};
+ghost use Rattle.ssign.specs.CommandLine.{FlagIs, HasNumber, IsLocalApp, bare_app, detail_of, form_of, limits_with};
+ghost use Rattle.ssign.specs.CommandLine.{name_of, order_app, order_in, own_rules, payloads_of, reading, report_form};
+ghost use Rattle.ssign.specs.CommandLine.{reporting, shared_rules, ssign_app, text_of, with_commands, with_rules};
 ghost use Rattle.ssign.specs.Explanation.{asked_of};
 ghost use Rattle.ssign.specs.Options.{AreVersions, Kept, rule_by};
-ghost use Rattle.ssign.specs.CommandLine.{FlagIs, HasNumber, IsLocalApp, detail_of, form_of, limits_with, name_of};
-ghost use Rattle.ssign.specs.CommandLine.{order_in, reading};
-ghost use Rattle.ssign.specs.CommandLine.{payloads_of, report_form, reporting, text_of, with_commands};
 
 use crate::arguments::option;
 use crate::asked::asked_of;

@@ -51,8 +51,8 @@ pub const REVIEW: CommandRow = CommandRow {
 /// `ssign questions`: the questions of a review to a signature scheme.
 pub const QUESTIONS: CommandRow = CommandRow {
     name: "questions",
-    about: "Writes lines that are questions: used as answers unchecked, they make any forged log pass. \
-        A signature checker leaves out each line that it can't confirm; the rest are answers",
+    about: "Writes lines that are questions: used as answers unchecked, they make any forged log pass. A signature \
+        checker leaves out each line that it can't confirm; the rest are answers",
     note: Note::Usage("ssign questions [OPTIONS] < FILE"),
     options: &[JSON, ONCE, PINNED, SALVAGE],
     shared: &READING,
@@ -97,8 +97,8 @@ pub const SIGN: CommandRow = CommandRow {
 /// `ssign counters`: how far the signature blocks reach.
 pub const COUNTERS: CommandRow = CommandRow {
     name: "counters",
-    about: "Writes how far the signature blocks of the log reach: the next GBC of each joined session, \
-        and the next number of each of its groups",
+    about: "Writes how far the signature blocks of the log reach: the next GBC of each joined session, and the next \
+        number of each of its groups",
     note: Note::Usage("ssign counters [OPTIONS] < FILE"),
     options: &[ANSWERS, JSON, PINNED, SALVAGE],
     shared: &READING,
@@ -107,8 +107,8 @@ pub const COUNTERS: CommandRow = CommandRow {
 /// `ssign carry`: what the review of the next log needs of this one.
 pub const CARRY: CommandRow = CommandRow {
     name: "carry",
-    about: "Writes what the review of the next log needs of this one, as octet-counted frames: for sessions that go on \
-    from log to log",
+    about: "Writes what the review of the next log needs of this one, as octet-counted frames: for sessions that go \
+        on from log to log",
     note: Note::Usage("ssign carry [OPTIONS] < FILE"),
     options: &[ANSWERS, PINNED, SALVAGE],
     shared: &READING,

@@ -77,7 +77,8 @@ const NUMBER: OptionRow = OptionRow {
 /// `--answers`: the file of what a signature checker or a signer answers.
 pub const ANSWERS: OptionRow = OptionRow {
     name: "answers",
-    help: "The file with the answers of a signature checker; without it no key is trusted, and no message counts as signed",
+    help: "The file with the answers of a signature checker; without it no key is trusted, and no message counts as \
+        signed",
     ..FILE
 };
 
@@ -111,7 +112,7 @@ pub const JSON: OptionRow = OptionRow {
 pub const WHOLE: OptionRow = OptionRow {
     name: "whole",
     help: "Also reports which signature blocks of each session are missing, by their counter GBC; each such line is \
-    a finding",
+        a finding",
     ..FLAG
 };
 
@@ -119,23 +120,23 @@ pub const WHOLE: OptionRow = OptionRow {
 pub const TALLY: OptionRow = OptionRow {
     name: "tally",
     help: "Writes one line a group with its counts, and how many messages are unlisted, refused and spoilt; the \
-    status stays as it is",
+        status stays as it is",
     ..FLAG
 };
 
 /// `--counters`: the file of how far the signature blocks reach (RFC 5848, sections 4.2.4 and 4.2.5).
 pub const COUNTERS: OptionRow = OptionRow {
     name: "counters",
-    help: "Also reports what is missing up to the counters of FILE, as ssign counters wrote them, and does what --whole \
-    does; each such line is a finding",
+    help: "Also reports what is missing up to the counters of FILE, as ssign counters wrote them, and does what \
+        --whole does; each such line is a finding",
     ..FILE
 };
 
 /// `--from`: the file of the counters at which a night begins (RFC 5848, sections 4.2.4 and 4.2.5).
 pub const FROM: OptionRow = OptionRow {
     name: "from",
-    help: "Reviews one night of a session that goes on: leaves out what is missing below the counters of FILE, reports \
-    announced numbers outside of the night, and does what --whole does",
+    help: "Reviews one night of a session that goes on: leaves out what is missing below the counters of FILE, \
+        reports announced numbers outside of the night, and does what --whole does",
     ..FILE
 };
 
@@ -159,7 +160,7 @@ pub const PLACE: OptionRow = OptionRow {
     value: Value::Numbers,
     range: (0, MOST_MESSAGES as i64 - 1),
     help: "Writes the message at place N instead, 0 to 9999999, of any kind and without a review; it may be given \
-    often",
+        often",
     ..FLAG
 };
 
@@ -186,8 +187,8 @@ pub const UNWRAP_SHOWN: OptionRow = OptionRow {
 /// `--pinned`: the file of the payloads that are known beforehand (RFC 5848, sections 5.3 and 7).
 pub const PINNED: OptionRow = OptionRow {
     name: "pinned",
-    help: "The file with a line trust PAYLOAD for each payload that is known beforehand; in a session that one of them \
-    claims, certificate blocks with another payload are refused and change nothing else",
+    help: "The file with a line trust PAYLOAD for each payload that is known beforehand; in a session that one of \
+        them claims, certificate blocks with another payload are refused and change nothing else",
     ..FILE
 };
 
@@ -207,24 +208,24 @@ pub const SALVAGE_REPORTED: OptionRow = OptionRow {
 /// `--resume`: the file of the counters at which an originator goes on (RFC 5848, sections 4.2.4 and 4.2.5).
 pub const RESUME: OptionRow = OptionRow {
     name: "resume",
-    help: "Goes on in the session at the counters of FILE, as ssign counters or ssign plan --ahead wrote them, and writes no \
-    certificate blocks",
+    help: "Goes on in the session at the counters of FILE, as ssign counters or ssign plan --ahead wrote them, and \
+        writes no certificate blocks",
     ..FILE
 };
 
 /// `--ahead`: the counters with which the signed log will end.
 pub const AHEAD: OptionRow = OptionRow {
     name: "ahead",
-    help: "Writes no plan, but the counters with which the signed log will end, for --resume; save them before anything is \
-    sealed or written",
+    help: "Writes no plan, but the counters with which the signed log will end, for --resume; save them before \
+        anything is sealed or written",
     ..FLAG
 };
 
 /// `--wrap`: a message that can't be signed is signed in a wrap, a message of its own (RFC 5424, section 6).
 pub const WRAP: OptionRow = OptionRow {
     name: "wrap",
-    help: "Signs a message that is none of RFC 5424, or is a block, in a wrap: a message with MSGID wrapped that holds all its \
-    octets; without it such a message is refused (O2, O3)",
+    help: "Signs a message that is none of RFC 5424, or is a block, in a wrap: a message with MSGID wrapped that \
+        holds all its octets; without it such a message is refused (O2, O3)",
     ..FLAG
 };
 
@@ -232,8 +233,8 @@ pub const WRAP: OptionRow = OptionRow {
 pub const PAYLOAD: OptionRow = OptionRow {
     name: "payload",
     need: Need::Required,
-    help: "The text of the payload block, not the name of its file, as in --payload \"$(cat keys/payload)\": a time stamp \
-    or -, the type of the key, and the key in base64, with one space between two",
+    help: "The text of the payload block, not the name of its file, as in --payload \"$(cat keys/payload)\": a time \
+        stamp or -, the type of the key, and the key in base64, with one space between two",
     ..TEXT
 };
 
@@ -309,7 +310,7 @@ pub const GROUPS: OptionRow = OptionRow {
     name: "groups",
     need: Need::Usual("one"),
     help: "Which messages share a signature group: one (all of them), pri (those of one PRI), or the highest PRI of \
-    each range, as in 63,127,191",
+        each range, as in 63,127,191",
     ..TEXT
 };
 
@@ -370,8 +371,8 @@ pub const CODE: OptionRow = OptionRow {
     name: "code",
     value: Value::Words,
     need: Need::Required,
-    help: "A refusal as it was printed, or its code (F1), a word of the output (gap, untrusted), or a cause (M8, S3), \
-    in letters of either case",
+    help: "A refusal as it was printed, or its code (F1), a word of the output (gap, untrusted), or a cause (M8, \
+        S3), in letters of either case",
     ..FLAG
 };
 
