@@ -16,9 +16,7 @@ use Rattle.ss_frame.specs.declared.limits.Form.TheVariants.{Frames, Lines}
 use Rattle.ssign.specs.declared.command_line.Order.{Order}
 use Rattle.ssign.specs.declared.command_line.Order.TheVariants.{Log, Sent, Explain}
 use Rattle.ssign.specs.declared.task.Reporting.{Reporting}
-use Rattle.ssign.specs.declared.task.Task.{Task}
 use Rattle.ssign.specs.declared.task.Task.TheVariants.{Review, Questions, Extract, Inspect, Counters, Carry}
-use Rattle.ssign.specs.declared.signing.Signing.{Signing}
 use Rattle.ssign.specs.declared.signing.Signing.TheVariants.{Plan, Sign}
 use Rattle.ssign.specs.Options.{AreVersions, Kept, flag_rule, place_rule, reading_rules, required_rule}
 use Rattle.ssign.specs.Options.{signing_rules, text_rule, words_rule}
