@@ -50,5 +50,7 @@ mistaken -1 review --lines -1
 mistaken --bogus review --bogus --max-len 5
 mistaken -x review --max-len -x
 mistaken -1 sign --rsid 1 --payload -1
+mistaken -x sign --rsid 1 --payload -x
+mistaken '- ' sign --rsid 1 --host '- N'
 
 finish

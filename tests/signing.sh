@@ -186,7 +186,7 @@ for option in '--stamp -' '--stamp 0000-01-01T00:00:00Z' '--stamp 9999-12-31T23:
     # shellcheck disable=SC2086,SC2090 # an option and its value
     both "$option" "${given[@]}" $option
 done
-for text in "$time N" "$time N " "$time C S0VZ" "$time P S0VZ" "$time U S0VZ" "$time K $(long 4000)"; do
+for text in "$time N" "$time N " "$time C S0VZ" "$time P S0VZ" "$time U S0VZ" "$time K $(long 4000)" '- N' '- K S0VZ'; do
     both "--payload '${text:0:40}'" --rsid 1 --payload "$text"
 done
 run plan "${given[@]}" --copies 9 <"$log"

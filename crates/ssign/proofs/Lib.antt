@@ -5,7 +5,6 @@ mod Readings
 mod FailedWrites
 mod CountedMessages
 mod FoundCommands
-mod OptionValues
 mod Flags
 mod Spaces
 mod ReadBounds

@@ -1,18 +1,15 @@
 -- What the clauses of `limits_of` give together.
-use Rattle.std.proofs.Common.{ℕ, Bool, Option, Some, None, ap}
+use Rattle.std.proofs.Common.{ℕ, Bool, Option, Some, None, ap, codes}
 use Rattle.std.specs.Prelude.{IfSome}
 use Rattle.std.specs.Option.{SomeIff}
 use Rattle.clap.specs.declared.parser.matches.ArgMatches.{ArgMatches}
 use Rattle.ss_frame.specs.Limits.{Allowance, InRange}
 use Rattle.ssign.specs.CommandLine.{FlagIs, HasNumber, limits_with}
 use Rattle.ssign.specs.LogOrder.{GivesLimits}
-use Rattle.ssign.specs.declared.options.lines.TheConstants as lines
-use Rattle.ssign.specs.declared.options.max_len.TheConstants as max_len
-use Rattle.ssign.specs.declared.options.max_messages.TheConstants as max_messages
 
 pub limits_given : (m : ArgMatches) (limits : Option Allowance)
-    → ((a b : ℕ) (lines_given : Bool) → HasNumber m max_len.NAME.now a → HasNumber m max_messages.NAME.now b → FlagIs m lines.NAME.now lines_given → SomeIff limits (InRange a b) (limits_with a b lines_given))
-    → IfSome limits (λ l. HasNumber m max_len.NAME.now l.max_len × HasNumber m max_messages.NAME.now l.max_messages)
+    → ((a b : ℕ) (lines_given : Bool) → HasNumber m (codes "max-len") a → HasNumber m (codes "max-messages") b → FlagIs m (codes "lines") lines_given → SomeIff limits (InRange a b) (limits_with a b lines_given))
+    → IfSome limits (λ l. HasNumber m (codes "max-len") l.max_len × HasNumber m (codes "max-messages") l.max_messages)
     → GivesLimits m limits
 limits_given m None value numbers = value
 limits_given m (Some l) value numbers = (

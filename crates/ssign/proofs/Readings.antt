@@ -1,5 +1,5 @@
 -- What the clauses of `limits_of` and `reading_of` give together.
-use Rattle.std.proofs.Common.{◌≡◌, Bool, true, false, Some, None, refl}
+use Rattle.std.proofs.Common.{◌≡◌, Bool, true, false, Some, None, codes, refl}
 use Rattle.clap.specs.declared.parser.matches.ArgMatches.{ArgMatches}
 use Rattle.ss_frame.specs.Limits.{Allowance}
 use Rattle.ss_frame.specs.declared.limits.Form.{Form}
@@ -7,7 +7,6 @@ use Rattle.ss_frame.specs.declared.limits.Form.TheVariants.{Frames, Lines}
 use Rattle.ss_report.specs.declared.log.read_options.ReadOptions.{ReadOptions}
 use Rattle.ssign.specs.CommandLine.{FlagIs, form_of, reading, reading_in}
 use Rattle.ssign.specs.LogOrder.{AreSalvagedLines, GivesLimits, IsReading}
-use Rattle.ssign.specs.declared.options.salvage.TheConstants as salvage
 
 -- a log is read on after damage as the flag says
 salvage_kept : (form : Form) (l : Allowance) (given : Bool) (r : ReadOptions) → Some r ≡ reading_in form l given → r.salvage ≡ given
@@ -29,7 +28,7 @@ both_given Lines l false lines_given same e = cc
 both_given Frames l salvage_given lines_given same e = cc
 
 pub reading_given : (m : ArgMatches) (l : Allowance) (r : ReadOptions) → GivesLimits m (Some l)
-    → ((salvage_given : Bool) → FlagIs m salvage.NAME.now salvage_given → Some r ≡ reading l salvage_given)
+    → ((salvage_given : Bool) → FlagIs m (codes "salvage") salvage_given → Some r ≡ reading l salvage_given)
     → r.limits ≡ l
     → IsReading m r
 reading_given m l r limits value same = record {
@@ -39,7 +38,7 @@ reading_given m l r limits value same = record {
 }
 
 pub salvaged_lines : (m : ArgMatches) (l : Allowance) → GivesLimits m (Some l)
-    → ((salvage_given : Bool) → FlagIs m salvage.NAME.now salvage_given → None ≡ reading l salvage_given)
+    → ((salvage_given : Bool) → FlagIs m (codes "salvage") salvage_given → None ≡ reading l salvage_given)
     → AreSalvagedLines m
 salvaged_lines m l limits value = λ salvage_given lines_given is_salvage is_lines.
     both_given l.form l salvage_given lines_given (limits.2 lines_given is_lines).1 (value salvage_given is_salvage)

@@ -1,6 +1,7 @@
 -- What the command line gives: its commands, the limits that its options spell, and the exit status of a run.
-use Rattle.std.specs.Prelude.{◌≡◌, ◌≢◌, ◌⊎◌, ℕ, Bool, true, false, List, [], ◌∷◌, Option, Some, None, Result, Ok}
-use Rattle.std.specs.Prelude.{Err, codes, find, map}
+use Rattle.std.specs.Prelude.{◌≡◌, ◌≢◌, ◌⊎◌, ◌==◌, ◌&&◌, ℕ, Bool, true, false, List, [], ◌∷◌, Option, Some, None, Result}
+use Rattle.std.specs.Prelude.{Ok, Err, codes, find, map}
+use Rattle.std.specs.List.{starts_with}
 use Rattle.std.specs.Str.{bytes_eq}
 use Rattle.std.specs.Str.Parse.{IsNumeral, digits_value, without_leading_plus}
 use Rattle.clap.specs.Words.{App, IsAmong, Kinds, Rule, app_of, fault_of, found_of, new_app, one_text}
@@ -12,40 +13,13 @@ use Rattle.clap.specs.declared.parser.matches.ArgMatches.{ArgMatches}
 use Rattle.ss_frame.specs.Limits.{Allowance}
 use Rattle.ss_frame.specs.declared.limits.Form.{Form}
 use Rattle.ss_frame.specs.declared.limits.Form.TheVariants.{Frames, Lines}
-use Rattle.ssign.specs.declared.commands.carry.TheConstants as carry
-use Rattle.ssign.specs.declared.commands.counters.TheConstants as counters
-use Rattle.ssign.specs.declared.commands.explain.TheConstants as explain
-use Rattle.ssign.specs.declared.commands.extract.TheConstants as extract
-use Rattle.ssign.specs.declared.commands.inspect.TheConstants as inspect
-use Rattle.ssign.specs.declared.commands.plan.TheConstants as plan
-use Rattle.ssign.specs.declared.commands.questions.TheConstants as questions
-use Rattle.ssign.specs.declared.commands.review.TheConstants as review
-use Rattle.ssign.specs.declared.commands.sign.TheConstants as sign
 use Rattle.ssign.specs.declared.command_line.Order.{Order}
 use Rattle.ssign.specs.declared.command_line.Order.TheVariants.{Log, Sent, Explain}
 use Rattle.ssign.specs.declared.task.Reporting.{Reporting}
-use Rattle.ssign.specs.declared.task.Task.{Task}
 use Rattle.ssign.specs.declared.task.Task.TheVariants.{Review, Questions, Extract, Inspect, Counters, Carry}
-use Rattle.ssign.specs.declared.signing.Signing.{Signing}
 use Rattle.ssign.specs.declared.signing.Signing.TheVariants.{Plan, Sign}
-use Rattle.ssign.specs.SigningOptions.{AreVersions, Kept, text_rule, with_signing_options}
-use Rattle.ssign.specs.declared.options.ahead.TheConstants as ahead
-use Rattle.ssign.specs.declared.options.answers.TheConstants as answers
-use Rattle.ssign.specs.declared.options.counters.TheConstants as counters_option
-use Rattle.ssign.specs.declared.options.findings.TheConstants as findings
-use Rattle.ssign.specs.declared.options.from.TheConstants as from
-use Rattle.ssign.specs.declared.options.json.TheConstants as json
-use Rattle.ssign.specs.declared.options.lines_out.TheConstants as lines_out
-use Rattle.ssign.specs.declared.options.once.TheConstants as once
-use Rattle.ssign.specs.declared.options.pinned.TheConstants as pinned
-use Rattle.ssign.specs.declared.options.resume.TheConstants as resume
-use Rattle.ssign.specs.declared.options.salvage.TheConstants as salvage
-use Rattle.ssign.specs.declared.options.tally.TheConstants as tally
-use Rattle.ssign.specs.declared.options.unlisted.TheConstants as unlisted
-use Rattle.ssign.specs.declared.options.unwrap.TheConstants as unwrap
-use Rattle.ssign.specs.declared.options.whole.TheConstants as whole
-use Rattle.ssign.specs.declared.options.wrap.TheConstants as wrap
-use Rattle.ssign.specs.LogOptions.{code_rule, flag_rule, limit_rules, place_rule}
+use Rattle.ssign.specs.Options.{AreVersions, Kept, flag_rule, place_rule, reading_rules, required_rule}
+use Rattle.ssign.specs.Options.{signing_rules, text_rule, words_rule}
 use Rattle.ss_report.specs.declared.forms.report_form.ReportForm.{ReportForm}
 use Rattle.ss_report.specs.declared.forms.report_form.ReportForm.TheVariants as forms
 use Rattle.ss_report.specs.declared.lines.detail.Detail.{Detail}
@@ -127,67 +101,52 @@ abbrev pub with_rules : App → List Rule → App
 with_rules app [] = app
 with_rules app (rule ∷ rules) = with_rules (with_rule app rule) rules
 
--- with the options that say how a log is read
-abbrev pub with_limits : App → App
-with_limits app = with_rules app limit_rules
-
--- with those that say how a stored log is read, which may be damaged
-abbrev pub with_reading : App → App
-with_reading app = with_limits (with_rule app (flag_rule salvage.NAME.now))
-
-abbrev pub task_name : Task → List ℕ
-task_name Review = review.NAME.now
-task_name Questions = questions.NAME.now
-task_name Extract = extract.NAME.now
-task_name Inspect = inspect.NAME.now
-task_name Counters = counters.NAME.now
-task_name Carry = carry.NAME.now
+abbrev pub name_of : Order → List ℕ
+name_of (Log Review) = codes "review"
+name_of (Log Questions) = codes "questions"
+name_of (Log Extract) = codes "extract"
+name_of (Log Inspect) = codes "inspect"
+name_of (Log Counters) = codes "counters"
+name_of (Log Carry) = codes "carry"
+name_of (Sent Plan) = codes "plan"
+name_of (Sent Sign) = codes "sign"
+name_of Explain = codes "explain"
 
 -- its own options, in their order
-abbrev pub task_rules : Task → List Rule
-task_rules Review =
-    text_rule answers.NAME.now ∷ flag_rule findings.NAME.now ∷ flag_rule json.NAME.now ∷ flag_rule whole.NAME.now
-    ∷ flag_rule tally.NAME.now ∷ text_rule counters_option.NAME.now ∷ text_rule from.NAME.now ∷ text_rule pinned.NAME.now
+abbrev pub own_rules : Order → List Rule
+own_rules (Log Review) =
+    text_rule (codes "answers") ∷ flag_rule (codes "findings") ∷ flag_rule (codes "json") ∷ flag_rule (codes "whole")
+    ∷ flag_rule (codes "tally") ∷ text_rule (codes "counters") ∷ text_rule (codes "from") ∷ text_rule (codes "pinned")
+    ∷ flag_rule (codes "salvage") ∷ []
+own_rules (Log Questions) =
+    flag_rule (codes "json") ∷ flag_rule (codes "once") ∷ text_rule (codes "pinned") ∷ flag_rule (codes "salvage") ∷ []
+own_rules (Log Extract) =
+    text_rule (codes "answers") ∷ flag_rule (codes "unlisted") ∷ place_rule ∷ flag_rule (codes "lines-out")
+    ∷ flag_rule (codes "unwrap") ∷ text_rule (codes "pinned") ∷ flag_rule (codes "salvage") ∷ []
+own_rules (Log Inspect) =
+    flag_rule (codes "findings") ∷ flag_rule (codes "json") ∷ flag_rule (codes "unwrap") ∷ flag_rule (codes "salvage")
     ∷ []
-task_rules Questions = flag_rule json.NAME.now ∷ flag_rule once.NAME.now ∷ text_rule pinned.NAME.now ∷ []
-task_rules Extract =
-    text_rule answers.NAME.now ∷ flag_rule unlisted.NAME.now ∷ place_rule ∷ flag_rule lines_out.NAME.now
-    ∷ flag_rule unwrap.NAME.now ∷ text_rule pinned.NAME.now ∷ []
-task_rules Inspect = flag_rule findings.NAME.now ∷ flag_rule json.NAME.now ∷ flag_rule unwrap.NAME.now ∷ []
-task_rules Counters = text_rule answers.NAME.now ∷ flag_rule json.NAME.now ∷ text_rule pinned.NAME.now ∷ []
-task_rules Carry = text_rule answers.NAME.now ∷ text_rule pinned.NAME.now ∷ []
+own_rules (Log Counters) =
+    text_rule (codes "answers") ∷ flag_rule (codes "json") ∷ text_rule (codes "pinned") ∷ flag_rule (codes "salvage")
+    ∷ []
+own_rules (Log Carry) =
+    text_rule (codes "answers") ∷ text_rule (codes "pinned") ∷ flag_rule (codes "salvage") ∷ []
+own_rules (Sent Plan) = text_rule (codes "resume") ∷ flag_rule (codes "ahead") ∷ flag_rule (codes "wrap") ∷ []
+own_rules (Sent Sign) =
+    text_rule (codes "answers") ∷ text_rule (codes "resume") ∷ flag_rule (codes "wrap") ∷ flag_rule (codes "lines-out")
+    ∷ []
+own_rules Explain = required_rule (words_rule (codes "code")) ∷ []
 
-abbrev pub task_app : Task → App
-task_app task = with_reading (with_rules (new_app (task_name task)) (task_rules task))
-
-abbrev pub signing_name : Signing → List ℕ
-signing_name Plan = plan.NAME.now
-signing_name Sign = sign.NAME.now
-
--- its own options, before those that say how a log is signed
-abbrev pub signing_rules : Signing → List Rule
-signing_rules Plan = text_rule resume.NAME.now ∷ flag_rule ahead.NAME.now ∷ flag_rule wrap.NAME.now ∷ []
-signing_rules Sign =
-    text_rule answers.NAME.now ∷ text_rule resume.NAME.now ∷ flag_rule wrap.NAME.now ∷ flag_rule lines_out.NAME.now ∷ []
+-- those after them that it shares
+abbrev pub shared_rules : Kept → Order → List Rule
+shared_rules versions (Log task) = reading_rules
+shared_rules versions (Sent signing) = signing_rules versions
+shared_rules versions Explain = []
 
 -- of the versions of blocks it takes those that are kept
-abbrev pub signing_app : Kept → Signing → App
-signing_app versions signing =
-    with_limits
-    (with_signing_options versions (with_rules (new_app (signing_name signing)) (signing_rules signing)))
-
-abbrev pub explain_app : App
-explain_app = with_rule (new_app explain.NAME.now) code_rule
-
-abbrev pub name_of : Order → List ℕ
-name_of (Log task) = task_name task
-name_of (Sent signing) = signing_name signing
-name_of Explain = explain.NAME.now
-
 abbrev pub order_app : Kept → Order → App
-order_app versions (Log task) = task_app task
-order_app versions (Sent signing) = signing_app versions signing
-order_app versions Explain = explain_app
+order_app versions order =
+    with_rules (with_rules (new_app (name_of order)) (own_rules order)) (shared_rules versions order)
 
 -- what the commands ask for, in their order
 abbrev pub orders : List Order
@@ -224,6 +183,10 @@ ssign_app versions = with_commands bare_app (map (order_app versions) orders)
 pub record IsLocalApp (command : Command) (app : App) : Type 0 where
   pub shape : app_of command ≡ app
   pub local : (out-Command command).has_globals ≡ false
+
+-- a word that begins with a hyphen and a space is a payload, if `--payload` stands in front of it
+abbrev pub is_payload : (option word : List ℕ) → Bool
+is_payload option word = bytes_eq option (codes "--payload") && starts_with (λ a b. a == b) word (codes "- ")
 
 -- ---- the exit status
 

@@ -1,10 +1,9 @@
-pub mod SigningOptions
+pub mod Options
 pub mod GivenFiles
 pub mod LogOrder
 pub mod SigningOrder
 pub mod Orders
 pub mod Refusal
-pub mod LogOptions
 pub mod CommandLine
 pub mod GroupsText
 pub mod Settings
@@ -19,4 +18,3 @@ pub mod MessageCount
 pub mod Progress
 pub mod ReadBack
 pub mod FaultText
-pub mod Names

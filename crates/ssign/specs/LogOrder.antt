@@ -1,5 +1,5 @@
 -- What a command over a log does, by its options and by the files that they name.
-use Rattle.std.specs.Prelude.{◌≡◌, ℕ, Bool, true, false, ◌||◌, List, Option, Some, None, Result, Ok, Err}
+use Rattle.std.specs.Prelude.{◌≡◌, ℕ, Bool, true, false, ◌||◌, List, Option, Some, None, Result, Ok, Err, codes}
 use Rattle.std.specs.Option.{is_some}
 use Rattle.clap.specs.Words.{first_value, found_of}
 use Rattle.clap.specs.declared.parser.matches.ArgMatches.{ArgMatches}
@@ -21,23 +21,6 @@ use Rattle.ssign.specs.declared.refusal.Refusal.{Refusal}
 use Rattle.ssign.specs.declared.refusal.Refusal.TheVariants as refusals
 use Rattle.ssign.specs.declared.task.Reporting.{Reporting}
 use Rattle.ssign.specs.declared.task.Task.{Task}
-use Rattle.ssign.specs.declared.options.answers.TheConstants as answers
-use Rattle.ssign.specs.declared.options.counters.TheConstants as counters
-use Rattle.ssign.specs.declared.options.findings.TheConstants as findings
-use Rattle.ssign.specs.declared.options.from.TheConstants as from
-use Rattle.ssign.specs.declared.options.json.TheConstants as json
-use Rattle.ssign.specs.declared.options.lines.TheConstants as lines
-use Rattle.ssign.specs.declared.options.lines_out.TheConstants as lines_out
-use Rattle.ssign.specs.declared.options.max_len.TheConstants as max_len
-use Rattle.ssign.specs.declared.options.max_messages.TheConstants as max_messages
-use Rattle.ssign.specs.declared.options.once.TheConstants as once
-use Rattle.ssign.specs.declared.options.pinned.TheConstants as pinned
-use Rattle.ssign.specs.declared.options.place.TheConstants as place
-use Rattle.ssign.specs.declared.options.salvage.TheConstants as salvage
-use Rattle.ssign.specs.declared.options.tally.TheConstants as tally
-use Rattle.ssign.specs.declared.options.unlisted.TheConstants as unlisted
-use Rattle.ssign.specs.declared.options.unwrap.TheConstants as unwrap
-use Rattle.ssign.specs.declared.options.whole.TheConstants as whole
 
 -- ---- what the options say
 
@@ -48,38 +31,38 @@ path_in m option = first_value (found_of m) option
 -- the limits: the numbers that two options spell, in their ranges, and the form by `--lines`; or there are none
 abbrev pub GivesLimits : ArgMatches → Option Allowance → Type 0
 GivesLimits m (Some l) =
-    HasNumber m max_len.NAME.now l.max_len × HasNumber m max_messages.NAME.now l.max_messages
-    × ((lines_given : Bool) → FlagIs m lines.NAME.now lines_given
+    HasNumber m (codes "max-len") l.max_len × HasNumber m (codes "max-messages") l.max_messages
+    × ((lines_given : Bool) → FlagIs m (codes "lines") lines_given
     → InRange l.max_len l.max_messages × (l.form ≡ form_of lines_given))
-GivesLimits m None = (a b : ℕ) (lines_given : Bool) → HasNumber m max_len.NAME.now a
-    → HasNumber m max_messages.NAME.now b → FlagIs m lines.NAME.now lines_given → ¬ InRange a b
+GivesLimits m None = (a b : ℕ) (lines_given : Bool) → HasNumber m (codes "max-len") a
+    → HasNumber m (codes "max-messages") b → FlagIs m (codes "lines") lines_given → ¬ InRange a b
 
 -- how a log is read: within these limits, and on after damage exactly with `--salvage`. `--lines` isn't given beside it.
 pub record IsReading (m : ArgMatches) (r : ReadOptions) : Type 0 where
   pub limits : GivesLimits m (Some r.limits)
-  pub salvaged : (salvage_given : Bool) → FlagIs m salvage.NAME.now salvage_given → r.salvage ≡ salvage_given
-  pub frames : FlagIs m salvage.NAME.now true → ¬ FlagIs m lines.NAME.now true
+  pub salvaged : (salvage_given : Bool) → FlagIs m (codes "salvage") salvage_given → r.salvage ≡ salvage_given
+  pub frames : FlagIs m (codes "salvage") true → ¬ FlagIs m (codes "lines") true
 
 -- both `--salvage` and `--lines` are given
 abbrev pub AreSalvagedLines : ArgMatches → Type 0
-AreSalvagedLines m = (salvage_given lines_given : Bool) → FlagIs m salvage.NAME.now salvage_given
-    → FlagIs m lines.NAME.now lines_given → (salvage_given ≡ true) × (lines_given ≡ true)
+AreSalvagedLines m = (salvage_given lines_given : Bool) → FlagIs m (codes "salvage") salvage_given
+    → FlagIs m (codes "lines") lines_given → (salvage_given ≡ true) × (lines_given ≡ true)
 
 -- what is to be extracted, or why the options don't name it
 abbrev pub IsExtraction : ArgMatches → Result Extraction ExtractionFault → Type 0
 IsExtraction m result = (unlisted_given lines_given unwrap_given : Bool)
-    → FlagIs m unlisted.NAME.now unlisted_given → FlagIs m lines_out.NAME.now lines_given
-    → FlagIs m unwrap.NAME.now unwrap_given
-    → GivesExtraction unlisted_given (texts_given m place.NAME.now) lines_given unwrap_given result
+    → FlagIs m (codes "unlisted") unlisted_given → FlagIs m (codes "lines-out") lines_given
+    → FlagIs m (codes "unwrap") unwrap_given
+    → GivesExtraction unlisted_given (texts_given m (codes "place")) lines_given unwrap_given result
 
 -- how a log is reported
 abbrev pub IsReporting : ArgMatches → Reporting → Type 0
 IsReporting m r = (findings_given json_given whole_given tally_given once_given unwrap_given : Bool)
-    → FlagIs m findings.NAME.now findings_given → FlagIs m json.NAME.now json_given
-    → FlagIs m whole.NAME.now whole_given → FlagIs m tally.NAME.now tally_given
-    → FlagIs m once.NAME.now once_given → FlagIs m unwrap.NAME.now unwrap_given
-    → r ≡ reporting findings_given json_given (whole_given || is_some (path_in m counters.NAME.now)
-    || is_some (path_in m from.NAME.now)) tally_given once_given unwrap_given
+    → FlagIs m (codes "findings") findings_given → FlagIs m (codes "json") json_given
+    → FlagIs m (codes "whole") whole_given → FlagIs m (codes "tally") tally_given
+    → FlagIs m (codes "once") once_given → FlagIs m (codes "unwrap") unwrap_given
+    → r ≡ reporting findings_given json_given (whole_given || is_some (path_in m (codes "counters"))
+    || is_some (path_in m (codes "from"))) tally_given once_given unwrap_given
 
 -- ---- what is asked
 
@@ -98,10 +81,10 @@ pub record IsAsked (files : Contents) (m : ArgMatches) (a : Asked) : Type 0 wher
   pub reading : IsReading m a.reading
   pub extraction : IsExtraction m (Ok a.extraction)
   pub reporting : IsReporting m a.reporting
-  pub first : Gives files.counters (path_in m from.NAME.now) (Ok a.first)
-  pub counters : Gives files.counters (path_in m counters.NAME.now) (Ok a.counters)
-  pub known : Gives files.payloads (path_in m pinned.NAME.now) (Ok a.known)
-  pub answers : Gives files.answers (path_in m answers.NAME.now) (Ok a.answers)
+  pub first : Gives files.counters (path_in m (codes "from")) (Ok a.first)
+  pub counters : Gives files.counters (path_in m (codes "counters")) (Ok a.counters)
+  pub known : Gives files.payloads (path_in m (codes "pinned")) (Ok a.known)
+  pub answers : Gives files.answers (path_in m (codes "answers")) (Ok a.answers)
 
 -- who answers for signatures: an answers file, or nobody
 abbrev pub said_by : Option (List Answer) → verified.Answers
@@ -132,17 +115,17 @@ abbrev pub IsFirstRefusal : Contents → ArgMatches → Refusal → Type 0
 IsFirstRefusal files m refusals.NoOption = GivesLimits m None
 IsFirstRefusal files m (refusals.Extraction fault) = HasReading m × IsExtraction m (Err fault)
 IsFirstRefusal files m (refusals.From fault) =
-    HasReading m × HasExtraction m × Gives files.counters (path_in m from.NAME.now) (Err fault)
+    HasReading m × HasExtraction m × Gives files.counters (path_in m (codes "from")) (Err fault)
 IsFirstRefusal files m (refusals.Counters fault) =
-    HasReading m × HasExtraction m × IsTaken files.counters (path_in m from.NAME.now)
-    × Gives files.counters (path_in m counters.NAME.now) (Err fault)
+    HasReading m × HasExtraction m × IsTaken files.counters (path_in m (codes "from"))
+    × Gives files.counters (path_in m (codes "counters")) (Err fault)
 IsFirstRefusal files m (refusals.Pinned fault) =
-    HasReading m × HasExtraction m × IsTaken files.counters (path_in m from.NAME.now)
-    × IsTaken files.counters (path_in m counters.NAME.now) × Gives files.payloads (path_in m pinned.NAME.now) (Err fault)
+    HasReading m × HasExtraction m × IsTaken files.counters (path_in m (codes "from"))
+    × IsTaken files.counters (path_in m (codes "counters")) × Gives files.payloads (path_in m (codes "pinned")) (Err fault)
 IsFirstRefusal files m (refusals.Answers fault) =
-    HasReading m × HasExtraction m × IsTaken files.counters (path_in m from.NAME.now)
-    × IsTaken files.counters (path_in m counters.NAME.now) × IsTaken files.payloads (path_in m pinned.NAME.now)
-    × Gives files.answers (path_in m answers.NAME.now) (Err fault)
+    HasReading m × HasExtraction m × IsTaken files.counters (path_in m (codes "from"))
+    × IsTaken files.counters (path_in m (codes "counters")) × IsTaken files.payloads (path_in m (codes "pinned"))
+    × Gives files.answers (path_in m (codes "answers")) (Err fault)
 IsFirstRefusal files m _ = ⊥
 
 -- A run over a log, with its verdict or the fault that stopped it, or the first refusal before it. `--salvage` beside

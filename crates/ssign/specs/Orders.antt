@@ -1,5 +1,6 @@
 -- What each command does, and its exit status.
-use Rattle.std.specs.Prelude.{◌≡◌, ℕ, List, [], Option, Some, None, Result, Ok, Err, find, option_and_then, unwrap_or}
+use Rattle.std.specs.Prelude.{◌≡◌, ℕ, List, [], Option, Some, None, Result, Ok, Err, codes, find, option_and_then}
+use Rattle.std.specs.Prelude.{unwrap_or}
 use Rattle.clap.specs.Words.{found_of, matched_of, raw_values}
 use Rattle.clap.specs.declared.parser.matches.ArgMatches.{ArgMatches}
 use Rattle.ss_frame.specs.Output.{WritesPrefix, WritesWhole}
@@ -16,11 +17,10 @@ use Rattle.ssign.specs.declared.command_line.Order.TheVariants.{Log, Sent, Expla
 use Rattle.ssign.specs.declared.explanations.Explanation.{Explanation}
 use Rattle.ssign.specs.declared.refusal.Refusal.{Refusal}
 use Rattle.ssign.specs.declared.refusal.Refusal.TheVariants as refusals
-use Rattle.ssign.specs.declared.options.code.TheConstants as code
 
 -- the code that is asked about, which is empty if no word names one
 abbrev pub code_in : ArgMatches → List ℕ
-code_in m = unwrap_or (option_and_then (λ found. asked_of (raw_values found)) (matched_of (found_of m) code.NAME.now)) []
+code_in m = unwrap_or (option_and_then (λ found. asked_of (raw_values found)) (matched_of (found_of m) (codes "code"))) []
 
 -- the first entry that has the code
 abbrev pub entry_in : List Explanation → ArgMatches → Option Explanation

@@ -1,5 +1,5 @@
 -- The remark on a refusal beside its explanation.
-use Rattle.std.specs.Prelude.{◌≡◌, ℕ, List, Option, Some, None}
+use Rattle.std.specs.Prelude.{◌≡◌, ℕ, List, Option, Some, None, codes}
 use Rattle.std.specs.Borrow.{Bor}
 use Rattle.clap.specs.Words.{first_value, found_of}
 use Rattle.clap.specs.declared.parser.matches.ArgMatches.{ArgMatches}
@@ -8,11 +8,6 @@ use Rattle.ssign.specs.LikelyCause.{run_cause, signing_cause}
 use Rattle.ssign.specs.LogOrder.{path_in}
 use Rattle.ssign.specs.Settings.{option_name}
 use Rattle.ssign.specs.declared.likely_cause.LikelyCause.{LikelyCause}
-use Rattle.ssign.specs.declared.options.answers.TheConstants as answers
-use Rattle.ssign.specs.declared.options.counters.TheConstants as counters
-use Rattle.ssign.specs.declared.options.from.TheConstants as from
-use Rattle.ssign.specs.declared.options.pinned.TheConstants as pinned
-use Rattle.ssign.specs.declared.options.resume.TheConstants as resume
 use Rattle.ssign.specs.declared.refusal.Refusal.{Refusal}
 use Rattle.ssign.specs.declared.refusal.Refusal.TheVariants as refusals
 use Rattle.ssign.specs.declared.refusing.Remark.{Remark}
@@ -40,12 +35,12 @@ NamesFile remark (Some path) given = (file : Bor (List ℕ)) × (given ≡ remar
 
 -- the file that was refused, the option whose text is out of its form, or the likely cause
 abbrev pub IsRemark : Refusal → ArgMatches → Form → List ℕ → Remark → Type 0
-IsRemark (refusals.From fault) m form octets remark = NamesFile FromFile (path_in m from.NAME.now) remark
-IsRemark (refusals.Counters fault) m form octets remark = NamesFile CountersFile (path_in m counters.NAME.now) remark
-IsRemark (refusals.Pinned fault) m form octets remark = NamesFile PinnedFile (path_in m pinned.NAME.now) remark
-IsRemark (refusals.Answers fault) m form octets remark = NamesFile AnswersFile (path_in m answers.NAME.now) remark
-IsRemark (refusals.Resume fault) m form octets remark = NamesFile ResumeFile (path_in m resume.NAME.now) remark
-IsRemark (refusals.Start fault) m form octets remark = NamesFile ResumeFile (path_in m resume.NAME.now) remark
+IsRemark (refusals.From fault) m form octets remark = NamesFile FromFile (path_in m (codes "from")) remark
+IsRemark (refusals.Counters fault) m form octets remark = NamesFile CountersFile (path_in m (codes "counters")) remark
+IsRemark (refusals.Pinned fault) m form octets remark = NamesFile PinnedFile (path_in m (codes "pinned")) remark
+IsRemark (refusals.Answers fault) m form octets remark = NamesFile AnswersFile (path_in m (codes "answers")) remark
+IsRemark (refusals.Resume fault) m form octets remark = NamesFile ResumeFile (path_in m (codes "resume")) remark
+IsRemark (refusals.Start fault) m form octets remark = NamesFile ResumeFile (path_in m (codes "resume")) remark
 IsRemark (refusals.Settings fault) m form octets remark = SaysOfSettings fault m remark
 IsRemark (refusals.Run fault) m form octets remark = remark ≡ cause_remark (run_cause fault form octets)
 IsRemark (refusals.Signing fault) m form octets remark = remark ≡ cause_remark (signing_cause fault form octets)

@@ -1,6 +1,6 @@
 -- What the options of a command that signs give: their numbers and texts, and the settings that these spell.
 use Rattle.std.specs.Prelude.{◌≡◌, ℕ, ◌≤◌, Bool, true, false, ◌&&◌, not, List, Option, Some, None, Result, Ok, Err}
-use Rattle.std.specs.Prelude.{nat_le, is_some, option_and_then, if◌then◌else◌}
+use Rattle.std.specs.Prelude.{codes, nat_le, is_some, option_and_then, if◌then◌else◌}
 use Rattle.clap.specs.Words.{first_value, found_of}
 use Rattle.clap.specs.declared.parser.matches.ArgMatches.{ArgMatches}
 use Rattle.ss_message.specs.Message.{is_field}
@@ -20,19 +20,6 @@ use Rattle.ssign.specs.declared.settings.SettingsFault.{SettingsFault}
 use Rattle.ssign.specs.declared.settings.SettingsFault.TheVariants.{OutOfForm, Memory}
 use Rattle.ssign.specs.declared.text_option.TextOption.{TextOption}
 use Rattle.ssign.specs.declared.text_option.TextOption.TheVariants.{Payload, Stamp, Groups, Host, App, Procid, Msgid}
-use Rattle.ssign.specs.declared.options.app.TheConstants as app
-use Rattle.ssign.specs.declared.options.copies.TheConstants as copies
-use Rattle.ssign.specs.declared.options.count.TheConstants as count
-use Rattle.ssign.specs.declared.options.frag.TheConstants as frag
-use Rattle.ssign.specs.declared.options.groups.TheConstants as groups
-use Rattle.ssign.specs.declared.options.host.TheConstants as host
-use Rattle.ssign.specs.declared.options.msgid.TheConstants as msgid
-use Rattle.ssign.specs.declared.options.payload.TheConstants as payload
-use Rattle.ssign.specs.declared.options.pri.TheConstants as pri
-use Rattle.ssign.specs.declared.options.procid.TheConstants as procid
-use Rattle.ssign.specs.declared.options.rsid.TheConstants as rsid
-use Rattle.ssign.specs.declared.options.stamp.TheConstants as stamp
-use Rattle.ssign.specs.declared.options.ver.TheConstants as ver
 
 -- ---- what the texts spell
 
@@ -82,13 +69,13 @@ settings_in c t = do
 -- ---- which text is out of its form
 
 abbrev pub option_name : TextOption → List ℕ
-option_name Payload = payload.NAME.now
-option_name Stamp = stamp.NAME.now
-option_name Groups = groups.NAME.now
-option_name Host = host.NAME.now
-option_name App = app.NAME.now
-option_name Procid = procid.NAME.now
-option_name Msgid = msgid.NAME.now
+option_name Payload = codes "payload"
+option_name Stamp = codes "stamp"
+option_name Groups = codes "groups"
+option_name Host = codes "host"
+option_name App = codes "app"
+option_name Procid = codes "procid"
+option_name Msgid = codes "msgid"
 
 -- the first option of a field of the header whose text is out of its form
 abbrev pub refused_field : Texts → Option TextOption
@@ -130,22 +117,22 @@ pub record HasNumberIn (matches : ArgMatches) (option : List ℕ) (least most n 
 
 -- the version and the numbers
 pub record HasChoices (matches : ArgMatches) (c : Choices) : Type 0 where
-  pub alg : option_and_then version_in (first_value (found_of matches) ver.NAME.now) ≡ Some c.alg
-  pub rsid : HasNumberIn matches rsid.NAME.now 0 9999999999 c.rsid
-  pub pri : HasNumberIn matches pri.NAME.now 0 191 c.pri
-  pub count : HasNumberIn matches count.NAME.now 1 99 c.count
-  pub frag : HasNumberIn matches frag.NAME.now 1 9999 c.frag
-  pub copies : HasNumberIn matches copies.NAME.now 1 9 c.copies
+  pub alg : option_and_then version_in (first_value (found_of matches) (codes "ver")) ≡ Some c.alg
+  pub rsid : HasNumberIn matches (codes "rsid") 0 9999999999 c.rsid
+  pub pri : HasNumberIn matches (codes "pri") 0 191 c.pri
+  pub count : HasNumberIn matches (codes "count") 1 99 c.count
+  pub frag : HasNumberIn matches (codes "frag") 1 9999 c.frag
+  pub copies : HasNumberIn matches (codes "copies") 1 9 c.copies
 
 -- the texts
 pub record HasTexts (matches : ArgMatches) (t : Texts) : Type 0 where
-  pub payload : first_value (found_of matches) payload.NAME.now ≡ Some t.payload.now
-  pub stamp : first_value (found_of matches) stamp.NAME.now ≡ Some t.stamp.now
-  pub host : first_value (found_of matches) host.NAME.now ≡ Some t.host.now
-  pub app : first_value (found_of matches) app.NAME.now ≡ Some t.app.now
-  pub procid : first_value (found_of matches) procid.NAME.now ≡ Some t.procid.now
-  pub msgid : first_value (found_of matches) msgid.NAME.now ≡ Some t.msgid.now
-  pub groups : first_value (found_of matches) groups.NAME.now ≡ Some t.groups.now
+  pub payload : first_value (found_of matches) (codes "payload") ≡ Some t.payload.now
+  pub stamp : first_value (found_of matches) (codes "stamp") ≡ Some t.stamp.now
+  pub host : first_value (found_of matches) (codes "host") ≡ Some t.host.now
+  pub app : first_value (found_of matches) (codes "app") ≡ Some t.app.now
+  pub procid : first_value (found_of matches) (codes "procid") ≡ Some t.procid.now
+  pub msgid : first_value (found_of matches) (codes "msgid") ≡ Some t.msgid.now
+  pub groups : first_value (found_of matches) (codes "groups") ≡ Some t.groups.now
 
 -- the settings, or that there are none, and the first option whose text is out of its form
 abbrev pub Gives : Choices → Texts → Result Settings SettingsFault → Type 0

@@ -1,5 +1,5 @@
 -- What `plan` and `sign` do, by their options and by the files that they name.
-use Rattle.std.specs.Prelude.{◌≡◌, ◌⊎◌, ℕ, Bool, true, List, Option, Some, None, Result, Ok, Err}
+use Rattle.std.specs.Prelude.{◌≡◌, ◌⊎◌, ℕ, Bool, true, List, Option, Some, None, Result, Ok, Err, codes}
 use Rattle.clap.specs.declared.parser.matches.ArgMatches.{ArgMatches}
 use Rattle.ss_block.specs.Writing.{head_session}
 use Rattle.ss_frame.specs.Limits.{Allowance}
@@ -28,11 +28,6 @@ use Rattle.ssign.specs.declared.signing.Sending.{Sending}
 use Rattle.ssign.specs.declared.signing.Signing.{Signing}
 use Rattle.ssign.specs.declared.start.StartRefusal.{StartRefusal}
 use Rattle.ssign.specs.declared.start.StartRefusal.TheVariants as starts
-use Rattle.ssign.specs.declared.options.ahead.TheConstants as ahead
-use Rattle.ssign.specs.declared.options.answers.TheConstants as answers
-use Rattle.ssign.specs.declared.options.lines_out.TheConstants as lines_out
-use Rattle.ssign.specs.declared.options.resume.TheConstants as resume
-use Rattle.ssign.specs.declared.options.wrap.TheConstants as wrap
 
 -- ---- what the options say
 
@@ -42,8 +37,8 @@ HasNoSettings m = (c : Choices) (t : Texts) → HasChoices m c → HasTexts m t 
 
 -- how a log is signed beside its settings
 abbrev pub IsSending : ArgMatches → Sending → Type 0
-IsSending m s = (ahead_given wrap_given lines_given : Bool) → FlagIs m ahead.NAME.now ahead_given
-    → FlagIs m wrap.NAME.now wrap_given → FlagIs m lines_out.NAME.now lines_given
+IsSending m s = (ahead_given wrap_given lines_given : Bool) → FlagIs m (codes "ahead") ahead_given
+    → FlagIs m (codes "wrap") wrap_given → FlagIs m (codes "lines-out") lines_given
     → s ≡ record { ahead = ahead_given; wrap = wrap_given; out = form_of lines_given }
 
 -- ---- where an originator goes on
@@ -76,8 +71,8 @@ pub record IsSent (files : Contents) (m : ArgMatches) (s : Sent) : Type 0 where
   pub limits : GivesLimits m (Some s.limits)
   pub settings : IsRead m (Ok s.settings)
   pub sending : IsSending m s.sending
-  pub start : GivesStart files (path_in m resume.NAME.now) s.settings.config (Ok s.start)
-  pub answers : Gives files.answers (path_in m answers.NAME.now) (Ok s.answers)
+  pub start : GivesStart files (path_in m (codes "resume")) s.settings.config (Ok s.start)
+  pub answers : Gives files.answers (path_in m (codes "answers")) (Ok s.answers)
 
 abbrev pub sent_job : Signing → Sent → Job
 sent_job signing s = signing_job signing s.sending (started s.start) s.settings s.answers
@@ -87,12 +82,12 @@ sent_job signing s = signing_job signing s.sending (started s.start) s.settings 
 -- the options give settings, and with these it is known where an originator starts
 abbrev pub HasStart : Contents → ArgMatches → Type 0
 HasStart files m = (s : Settings) × (start : Option Counters) × IsRead m (Ok s)
-    × GivesStart files (path_in m resume.NAME.now) s.config (Ok start)
+    × GivesStart files (path_in m (codes "resume")) s.config (Ok start)
 
 -- the options give settings, and with these there is no start, for this reason
 abbrev pub LacksStart : Contents → ArgMatches → StartRefusal → Type 0
 LacksStart files m fault = (s : Settings) × IsRead m (Ok s)
-    × GivesStart files (path_in m resume.NAME.now) s.config (Err fault)
+    × GivesStart files (path_in m (codes "resume")) s.config (Err fault)
 
 -- Why there is no run. The texts of the options are looked at first, and then the files of `--resume` and `--answers`, in
 -- this order: the first that gives nothing is the refusal.
@@ -102,7 +97,7 @@ IsFirstRefusal files m (refusals.Settings fault) = HasLimits m × IsRead m (Err 
 IsFirstRefusal files m (refusals.Resume fault) = HasLimits m × LacksStart files m (starts.File fault)
 IsFirstRefusal files m (refusals.Start fault) = HasLimits m × LacksStart files m (starts.Counters fault)
 IsFirstRefusal files m (refusals.Answers fault) =
-    HasLimits m × HasStart files m × Gives files.answers (path_in m answers.NAME.now) (Err fault)
+    HasLimits m × HasStart files m × Gives files.answers (path_in m (codes "answers")) (Err fault)
 IsFirstRefusal files m _ = ⊥
 
 -- A run that signs or plans, or the fault that stopped it, or the first refusal before it.

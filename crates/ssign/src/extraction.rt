@@ -1,14 +1,10 @@
 //! What the options of an extract ask for.
 ghost use Rattle.std.specs.Prelude.{◌≡◌, ◌≢◌, ◌<◌, ◌^◌, ◌↔◌, ℕ, Bool, List, Contains, map, option_map, None, Ok};
-ghost use Rattle.std.specs.Prelude.{IfOk, IfErr, IsErrOf};
+ghost use Rattle.std.specs.Prelude.{codes, IfOk, IfErr, IsErrOf};
 ghost use Rattle.std.specs.List.{AllByRecursion};
 ghost use Rattle.std.specs.List.Sorted.{IsStrictlyIncreasing};
 ghost use Rattle.ssign.specs.CommandLine.{FlagIs, form_of};
 ghost use Rattle.ssign.specs.Extraction.{AreInOrder, GivesExtraction, Selects, SpellNumbers, texts_given};
-ghost use Rattle.ssign.specs.declared.options.lines_out.TheConstants as lines_out;
-ghost use Rattle.ssign.specs.declared.options.place.TheConstants as place;
-ghost use Rattle.ssign.specs.declared.options.unlisted.TheConstants as unlisted;
-ghost use Rattle.ssign.specs.declared.options.unwrap.TheConstants as unwrap;
 ghost use Rattle.ssign.specs.declared.extraction.ExtractionFault.TheVariants.{Both, Memory, NoNumber};
 
 use crate::options;
@@ -39,17 +35,17 @@ impl<T: Drop> From<AllocFailed<T>> for ExtractionFault {
 
 /// What is to be extracted by the options. A command without them has the listed messages as frames, as they stand.
 pub fn extraction_of(alloc: Global, matches: &ArgMatches<'_>) -> Result<Extraction, ExtractionFault>
-    ensures { (unlisted_given lines unwrap_given : Bool) → FlagIs matches.now unlisted.NAME.now unlisted_given
-        → FlagIs matches.now lines_out.NAME.now lines → FlagIs matches.now unwrap.NAME.now unwrap_given
-        → GivesExtraction unlisted_given (texts_given matches.now place.NAME.now) lines unwrap_given result }
+    ensures { (unlisted_given lines unwrap_given : Bool) → FlagIs matches.now (codes "unlisted") unlisted_given
+        → FlagIs matches.now (codes "lines-out") lines → FlagIs matches.now (codes "unwrap") unwrap_given
+        → GivesExtraction unlisted_given (texts_given matches.now (codes "place")) lines unwrap_given result }
 {
     let selection = selection_of(
         alloc,
-        matches.get_strs(options::place::NAME),
-        matches.get_flag(options::unlisted::NAME),
+        matches.get_strs(options::PLACE.name),
+        matches.get_flag(options::UNLISTED.name),
     )?;
     let form = form_out(matches);
-    let unwrap = matches.get_flag(options::unwrap::NAME);
+    let unwrap = matches.get_flag(options::UNWRAP.name);
     Ok(Extraction {
         selection,
         form,
@@ -59,9 +55,9 @@ pub fn extraction_of(alloc: Global, matches: &ArgMatches<'_>) -> Result<Extracti
 
 /// The form in which messages are to be written.
 pub fn form_out(matches: &ArgMatches<'_>) -> Form
-    ensures { (lines : Bool) → FlagIs matches.now lines_out.NAME.now lines → result ≡ form_of lines }
+    ensures { (lines : Bool) → FlagIs matches.now (codes "lines-out") lines → result ≡ form_of lines }
 {
-    if matches.get_flag(options::lines_out::NAME) {
+    if matches.get_flag(options::LINES_OUT.name) {
         Form::Lines
     } else {
         Form::Frames

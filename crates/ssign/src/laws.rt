@@ -2,7 +2,6 @@
 ghost use Rattle.std.specs.Prelude.{◌≡◌, false, List, ℕ};
 ghost use Rattle.ssign.specs.declared.refuse_all.RefuseAll.{RefuseAll};
 ghost use Rattle.ssign.specs.CommandLine.{AreFoundByName};
-ghost use Rattle.ssign.specs.Names.{CommandsHaveTheirNames, OptionsHaveTheirNames};
 ghost use Rattle.ssign.specs.ReadBack.{CountersAreReadBack};
 
 use crate::refuse_all::RefuseAll;
@@ -19,12 +18,6 @@ pub fn nobody_is_trusted()
     ensures trusted { (judge : RefuseAll) (payload : List ℕ) → ⟦<RefuseAll as Judge>⟧.trusted judge payload ≡ false }
     ensures valid { (judge : RefuseAll) (payload octets signature : List ℕ) →
         ⟦<RefuseAll as Judge>⟧.valid judge payload octets signature ≡ false }
-{}
-
-/// The names of commands and options are those of the guide. All other clauses name the constants.
-pub fn names_are_given()
-    ensures commands { CommandsHaveTheirNames }
-    ensures options { OptionsHaveTheirNames }
 {}
 
 /// Each command is found by its name, and by no other text. So no two have one name.

@@ -1,6 +1,7 @@
 //! Reviews stored logs of signed syslog messages (RFC 5424, RFC 5848), and signs logs.
 #![tactic(auto)]
 
+mod arguments;
 mod asked;
 mod choices;
 mod command_line;
@@ -13,7 +14,6 @@ mod given_files;
 mod groups_text;
 pub mod laws;
 mod likely_cause;
-mod log_options;
 mod message_count;
 mod negatives;
 mod options;
@@ -25,7 +25,6 @@ mod refuse_all;
 mod refusing;
 mod settings;
 mod signing;
-mod signing_options;
 mod start;
 mod streams;
 mod task;

@@ -1,6 +1,6 @@
 //! The program: its command line and its exit statuses.
 ghost use Rattle.std.specs.Prelude.{◌≡◌, ◌≤◌, map, string_bytes};
-ghost use Rattle.ssign.specs.CommandLine.{AreMistaken, status_of};
+ghost use Rattle.ssign.specs.CommandLine.{AreMistaken, is_payload, status_of};
 
 use crate::command_line::{
     Order, asked_code, command, extract_conflict, form_in, order_of, salvage_conflict,
@@ -37,13 +37,27 @@ pub fn run<R: Input + Print + Eprint + Screen + Env + Files + Clock + AllocGloba
     }
 }
 
-/// The words that the program was given. `InvalidData` where one isn't UTF-8.
+/// The words that the program was given. A payload that begins with a hyphen and a space is joined to `--payload` in
+/// front of it, since `clap` would take it for an option. `InvalidData` where a word isn't UTF-8.
 fn words<R: Env + AllocGlobal>(rt: &R) -> io::Result<Vec<String>> {
-    let mut words = Vec::new(rt.alloc());
+    let mut words: Vec<String> = Vec::new(rt.alloc());
     for word in env::args(rt)? {
-        words.push(word).map_err(AllocError::from)?;
+        match words.last_mut() {
+            Some(option) if is_payload(option, &word) => {
+                option.push('=')?;
+                option.push_str(&word)?;
+            }
+            _ => words.push(word).map_err(AllocError::from)?,
+        }
     }
     Ok(words)
+}
+
+/// Whether a word is the value of `--payload`, which is the word in front of it: it begins with a hyphen and a space.
+fn is_payload(option: &str, word: &str) -> bool
+    ensures { result ≡ is_payload option.now word.now }
+{
+    option == "--payload" && word.as_bytes().starts_with(b"- ")
 }
 
 /// Runs the program with the words of its command line. It gives the exit status.

@@ -7,7 +7,7 @@ use crate::command_line::{answers_file, counters_file, from_file, pinned_file, r
 use crate::explain::explanation_of;
 use crate::explanations::{Tables, all_tables};
 use crate::likely_cause::{LikelyCause, run_cause, signing_cause};
-use crate::options::{answers, counters, from, pinned, resume};
+use crate::options::{ANSWERS, COUNTERS, FROM, PINNED, RESUME};
 use crate::refusal::Refusal;
 use crate::settings::SettingsFault;
 use crate::text_option::TextOption;
@@ -56,23 +56,23 @@ impl Display for Remark<'_> {
         match self {
             Remark::Nothing => Ok(()),
             Remark::AnswersFile(file) => {
-                writeln!(f, "The answers file is --{} {file:?}.", answers::NAME)
+                writeln!(f, "The answers file is --{} {file:?}.", ANSWERS.name)
             }
             Remark::CountersFile(file) => {
-                writeln!(f, "The counters file is --{} {file:?}.", counters::NAME)
+                writeln!(f, "The counters file is --{} {file:?}.", COUNTERS.name)
             }
             Remark::FromFile(file) => {
-                writeln!(f, "The counters file is --{} {file:?}.", from::NAME)
+                writeln!(f, "The counters file is --{} {file:?}.", FROM.name)
             }
             Remark::PinnedFile(file) => {
                 writeln!(
                     f,
                     "The file of known payloads is --{} {file:?}.",
-                    pinned::NAME
+                    PINNED.name
                 )
             }
             Remark::ResumeFile(file) => {
-                writeln!(f, "The counters file is --{} {file:?}.", resume::NAME)
+                writeln!(f, "The counters file is --{} {file:?}.", RESUME.name)
             }
             Remark::Text(option, text) => {
                 writeln!(f, "The option is --{} {text:?}.", option.name())?;

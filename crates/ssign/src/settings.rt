@@ -13,11 +13,11 @@ ghost use Rattle.ssign.specs.declared.settings.SettingsFault.TheVariants.{Memory
 use crate::choices::Choices;
 use crate::groups_text::grouping_of;
 use crate::options::{
-    app, copies, count, frag, groups, host, msgid, payload, pri, procid, rsid, stamp, ver,
+    APP, COPIES, COUNT, FRAG, GROUPS, HOST, MSGID, PAYLOAD, PRI, PROCID, RSID, STAMP, VER,
 };
 use crate::text_option::TextOption;
 use clap::ArgMatches;
-use ss_block::{Alg, Head, Payload};
+use ss_block::{Alg, Head, LAST_NUMBER, Payload};
 use ss_message::{Field, Stamp};
 use ss_octets::{Bytes, Code, NoMemory};
 use ss_origin::Config;
@@ -120,12 +120,12 @@ fn choices_of(matches: &ArgMatches<'_>) -> Option<Choices>
     ensures only { (c : Choices) → HasChoices matches.now c → IsSome result }
 {
     Some(Choices {
-        alg: Alg::of_version(matches.get_str(ver::NAME)?.as_bytes())?,
-        rsid: number_in(matches, rsid::NAME, rsid::MIN, rsid::MAX)?,
-        pri: number_in(matches, pri::NAME, pri::MIN, pri::MAX)? as u8,
-        count: number_in(matches, count::NAME, count::MIN, count::MAX)? as u8,
-        frag: number_in(matches, frag::NAME, frag::MIN, frag::MAX)? as u16,
-        copies: number_in(matches, copies::NAME, copies::MIN, copies::MAX)? as u8,
+        alg: Alg::of_version(matches.get_str(VER.name)?.as_bytes())?,
+        rsid: number_in(matches, RSID.name, 0, LAST_NUMBER)?,
+        pri: number_in(matches, PRI.name, 0, 191)? as u8,
+        count: number_in(matches, COUNT.name, 1, 99)? as u8,
+        frag: number_in(matches, FRAG.name, 1, 9_999)? as u16,
+        copies: number_in(matches, COPIES.name, 1, 9)? as u8,
     })
 }
 
@@ -135,13 +135,13 @@ fn texts_of<'a>(matches: &ArgMatches<'a>) -> Option<Texts<'a>>
     ensures only { (t : Texts) → HasTexts matches.now t → IsSome result }
 {
     Some(Texts {
-        payload: matches.get_str(payload::NAME)?,
-        stamp: matches.get_str(stamp::NAME)?,
-        host: matches.get_str(host::NAME)?,
-        app: matches.get_str(app::NAME)?,
-        procid: matches.get_str(procid::NAME)?,
-        msgid: matches.get_str(msgid::NAME)?,
-        groups: matches.get_str(groups::NAME)?,
+        payload: matches.get_str(PAYLOAD.name)?,
+        stamp: matches.get_str(STAMP.name)?,
+        host: matches.get_str(HOST.name)?,
+        app: matches.get_str(APP.name)?,
+        procid: matches.get_str(PROCID.name)?,
+        msgid: matches.get_str(MSGID.name)?,
+        groups: matches.get_str(GROUPS.name)?,
     })
 }
 
@@ -224,10 +224,10 @@ fn fitting_field(
 fn head_of(alloc: Global, choices: Choices, texts: &Texts<'_>) -> Result<Head, SettingsFault>
     ensures { HeadGives choices texts.now result }
 {
-    let host = fitting_field(alloc, texts.host, host::LONGEST, TextOption::Host)?;
-    let app = fitting_field(alloc, texts.app, app::LONGEST, TextOption::App)?;
-    let procid = fitting_field(alloc, texts.procid, procid::LONGEST, TextOption::Procid)?;
-    let msgid = fitting_field(alloc, texts.msgid, msgid::LONGEST, TextOption::Msgid)?;
+    let host = fitting_field(alloc, texts.host, 255, TextOption::Host)?;
+    let app = fitting_field(alloc, texts.app, 48, TextOption::App)?;
+    let procid = fitting_field(alloc, texts.procid, 128, TextOption::Procid)?;
+    let msgid = fitting_field(alloc, texts.msgid, 32, TextOption::Msgid)?;
     let Some(head) = Head::new(choices.pri, host, app, procid, msgid) else {
         unreachable!();
     };

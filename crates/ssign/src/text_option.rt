@@ -3,7 +3,7 @@ ghost use Rattle.std.specs.Prelude.{◌≡◌, option_map};
 ghost use Rattle.clap.specs.Words.{first_value, found_of};
 ghost use Rattle.ssign.specs.Settings.{option_name};
 
-use crate::options::{app, groups, host, msgid, payload, procid, stamp};
+use crate::options::{APP, GROUPS, HOST, MSGID, PAYLOAD, PROCID, STAMP};
 use clap::ArgMatches;
 
 /// An option of a command that signs, whose value is a text of its own form.
@@ -31,13 +31,13 @@ impl TextOption {
         ensures { result.now ≡ option_name self }
     {
         match self {
-            TextOption::Payload => payload::NAME,
-            TextOption::Stamp => stamp::NAME,
-            TextOption::Groups => groups::NAME,
-            TextOption::Host => host::NAME,
-            TextOption::App => app::NAME,
-            TextOption::Procid => procid::NAME,
-            TextOption::Msgid => msgid::NAME,
+            TextOption::Payload => PAYLOAD.name,
+            TextOption::Stamp => STAMP.name,
+            TextOption::Groups => GROUPS.name,
+            TextOption::Host => HOST.name,
+            TextOption::App => APP.name,
+            TextOption::Procid => PROCID.name,
+            TextOption::Msgid => MSGID.name,
         }
     }
 

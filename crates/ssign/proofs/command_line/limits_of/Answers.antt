@@ -1,4 +1,4 @@
-use Rattle.std.proofs.Common.{◌==◌, ◌≡◌, ◌∙◌, ◌<◌, ◌^◌, ℕ, Bool, true, false, List, [], ◌∷◌, Option, Some, None, Result, cond, drop, ap, refl, sym, arith}
+use Rattle.std.proofs.Common.{◌==◌, ◌≡◌, ◌∙◌, ◌<◌, ◌^◌, ℕ, Bool, true, false, List, [], ◌∷◌, Option, Some, None, Result, codes, cond, drop, ap, refl, sym, arith}
 use Rattle.std.specs.Prelude.{decimal}
 use Rattle.std.specs.Str.Parse.{IsNumeral, ParsesUnsigned, ExplainsUnsignedError, HasUnsignedDigitsIfOk, without_leading_plus}
 use Rattle.std.specs.declared.num.ParseIntError.{ParseIntError}
@@ -9,9 +9,6 @@ use Rattle.clap.specs.Words.{ReadsOne}
 use Rattle.clap.specs.declared.parser.matches.ArgMatches.{ArgMatches}
 use Rattle.ss_frame.specs.Limits.{InRange}
 use Rattle.ssign.specs.CommandLine.{HasNumber, SpellsNumber, text_of}
-use Rattle.ssign.specs.declared.options.lines.TheConstants as lines
-use Rattle.ssign.specs.declared.options.max_len.TheConstants as max_len
-use Rattle.ssign.specs.declared.options.max_messages.TheConstants as max_messages
 use Rattle.ssign.proofs.Flags.{flag_is}
 use Rattle.ssign.proofs.command_line.limits_of.Goals as goal
 
@@ -65,7 +62,7 @@ has_number m option v none value = by_text (text_of m option) refl
 pub returns-in_err-max_len-clause-value : goal.returns-in_err-max_len-clause-value
 returns-in_err-max_len-clause-value c = λ a b given has_a has_b flag.
     rw c.from_residual.ensures (λ (range : InRange a b).
-    let read = number_read c.args.matches.now max_len.NAME.now None a c.in_err-max_len.ensures.value has_a (omega (arith, range.at_most_a_mebibyte)) in
+    let read = number_read c.args.matches.now (codes "max-len") None a c.in_err-max_len.ensures.value has_a (omega (arith, range.at_most_a_mebibyte)) in
     absurd cc)
 
 pub returns-in_err-max_len-clause-decimal : goal.returns-in_err-max_len-clause-decimal
@@ -76,7 +73,7 @@ returns-in_err-max_len-clause-decimal c = λ a b given small_a small_b is_a is_b
 pub returns-in_err-max_messages-clause-value : goal.returns-in_err-max_messages-clause-value
 returns-in_err-max_messages-clause-value c = λ a b given has_a has_b flag.
     rw c.from_residual-in_err-max_messages.ensures (λ (range : InRange a b).
-    let read = number_read c.args.matches.now max_messages.NAME.now None b c.in_err-max_messages.ensures.value has_b (omega (arith, range.at_most_ten_million)) in
+    let read = number_read c.args.matches.now (codes "max-messages") None b c.in_err-max_messages.ensures.value has_b (omega (arith, range.at_most_ten_million)) in
     absurd cc)
 
 pub returns-in_err-max_messages-clause-decimal : goal.returns-in_err-max_messages-clause-decimal
@@ -87,8 +84,8 @@ returns-in_err-max_messages-clause-decimal c = λ a b given small_a small_b is_a
 pub returns-in_err-limits-clause-value : goal.returns-in_err-limits-clause-value
 returns-in_err-limits-clause-value c = λ a b given has_a has_b flag.
     let m = c.args.matches.now in
-    let same_a = number_is m max_len.NAME.now c.in_ok-max_len.max_len a c.in_ok-max_len.ensures.value has_a in
-    let same_b = number_is m max_messages.NAME.now c.in_ok-max_messages.max_messages b c.in_ok-max_messages.ensures.value has_b in
+    let same_a = number_is m (codes "max-len") c.in_ok-max_len.max_len a c.in_ok-max_len.ensures.value has_a in
+    let same_b = number_is m (codes "max-messages") c.in_ok-max_messages.max_messages b c.in_ok-max_messages.ensures.value has_b in
     rw (c.from_residual-in_err-limits.ensures, same_a, same_b) (λ range.
     let bad : false ≡ true = c.in_err-limits.ensures.valid.1 range in
     cc)
@@ -101,10 +98,10 @@ returns-in_err-limits-clause-decimal c = λ a b given small_a small_b is_a is_b.
 pub returns-then-get_flag-clause-value : goal.returns-then-get_flag-clause-value
 returns-then-get_flag-clause-value c = λ a b given has_a has_b flag.
     let m = c.args.matches.now in
-    let same_a = number_is m max_len.NAME.now c.in_ok-max_len.max_len a c.in_ok-max_len.ensures.value has_a in
-    let same_b = number_is m max_messages.NAME.now c.in_ok-max_messages.max_messages b c.in_ok-max_messages.ensures.value has_b in
+    let same_a = number_is m (codes "max-len") c.in_ok-max_len.max_len a c.in_ok-max_len.ensures.value has_a in
+    let same_b = number_is m (codes "max-messages") c.in_ok-max_messages.max_messages b c.in_ok-max_messages.ensures.value has_b in
     let same_form : given ≡ true =
-    flag_is m lines.NAME.now c.get_flag.result given c.get_flag.ensures.none c.get_flag.ensures.value c.get_flag.ensures.other flag ∙ c.if-get_flag.true in
+    flag_is m (codes "lines") c.get_flag.result given c.get_flag.ensures.none c.get_flag.ensures.value c.get_flag.ensures.other flag ∙ c.if-get_flag.true in
     let made = rw c.in_ok-limits.ensures.value at c.lines.ensures in
     rw (same_a, same_b, same_form) (c.in_ok-limits.ensures.valid.0 refl, made)
 
@@ -118,17 +115,17 @@ returns-then-get_flag-clause-numbers c =
     let m = c.args.matches.now in
     let made = rw c.in_ok-limits.ensures.value at c.lines.ensures in
     rw made (
-      has_number m max_len.NAME.now c.in_ok-max_len.max_len c.in_ok-max_len.ensures.none c.in_ok-max_len.ensures.value,
-      has_number m max_messages.NAME.now c.in_ok-max_messages.max_messages c.in_ok-max_messages.ensures.none c.in_ok-max_messages.ensures.value,
+      has_number m (codes "max-len") c.in_ok-max_len.max_len c.in_ok-max_len.ensures.none c.in_ok-max_len.ensures.value,
+      has_number m (codes "max-messages") c.in_ok-max_messages.max_messages c.in_ok-max_messages.ensures.none c.in_ok-max_messages.ensures.value,
     )
 
 pub returns-else-get_flag-clause-value : goal.returns-else-get_flag-clause-value
 returns-else-get_flag-clause-value c = λ a b given has_a has_b flag.
     let m = c.args.matches.now in
-    let same_a = number_is m max_len.NAME.now c.in_ok-max_len.max_len a c.in_ok-max_len.ensures.value has_a in
-    let same_b = number_is m max_messages.NAME.now c.in_ok-max_messages.max_messages b c.in_ok-max_messages.ensures.value has_b in
+    let same_a = number_is m (codes "max-len") c.in_ok-max_len.max_len a c.in_ok-max_len.ensures.value has_a in
+    let same_b = number_is m (codes "max-messages") c.in_ok-max_messages.max_messages b c.in_ok-max_messages.ensures.value has_b in
     let same_form : given ≡ false =
-    flag_is m lines.NAME.now c.get_flag.result given c.get_flag.ensures.none c.get_flag.ensures.value c.get_flag.ensures.other flag ∙ c.if-get_flag.false in
+    flag_is m (codes "lines") c.get_flag.result given c.get_flag.ensures.none c.get_flag.ensures.value c.get_flag.ensures.other flag ∙ c.if-get_flag.false in
     rw (same_a, same_b, same_form) (c.in_ok-limits.ensures.valid.0 refl, c.in_ok-limits.ensures.value)
 
 pub returns-else-get_flag-clause-decimal : goal.returns-else-get_flag-clause-decimal
@@ -140,6 +137,6 @@ pub returns-else-get_flag-clause-numbers : goal.returns-else-get_flag-clause-num
 returns-else-get_flag-clause-numbers c =
     let m = c.args.matches.now in
     rw c.in_ok-limits.ensures.value (
-      has_number m max_len.NAME.now c.in_ok-max_len.max_len c.in_ok-max_len.ensures.none c.in_ok-max_len.ensures.value,
-      has_number m max_messages.NAME.now c.in_ok-max_messages.max_messages c.in_ok-max_messages.ensures.none c.in_ok-max_messages.ensures.value,
+      has_number m (codes "max-len") c.in_ok-max_len.max_len c.in_ok-max_len.ensures.none c.in_ok-max_len.ensures.value,
+      has_number m (codes "max-messages") c.in_ok-max_messages.max_messages c.in_ok-max_messages.ensures.none c.in_ok-max_messages.ensures.value,
     )

@@ -3,7 +3,7 @@ use Rattle.clap.specs.Words.{App, IsAmong, app_of, fault_of, is_simple_and_free,
 use Rattle.clap.specs.declared.error.kind.ErrorKind.{ErrorKind}
 use Rattle.clap.proofs.OnLiterals.{clap_on_literals}
 use Rattle.ssign.specs.CommandLine.{ssign_app}
-use Rattle.ssign.specs.SigningOptions.{Kept}
+use Rattle.ssign.specs.Options.{Kept}
 use Rattle.ssign.proofs.program.run_words.Goals as goal
 
 -- clap reports each fault of the program's commands
